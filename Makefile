@@ -1,0 +1,38 @@
+# v7: see README.md. The command `rt` of the Rattle kit has to be on the PATH.
+PREFIX ?= /usr/local
+
+.PHONY: all demo test memory bench install clean
+
+all: build/v7
+
+SOURCES := crates.txt $(shell find crates -name out -prune -o -type f -print)
+
+# `rt run` proves the program, builds it and runs it once: on one small object, into nothing
+build/v7: $(SOURCES)
+	cd crates/v7 && rt run -- ld -s -o /dev/null $(CURDIR)/examples/a.o
+	mkdir -p build
+	cp crates/v7/out/v7 build/v7
+
+# links two small objects, and shows the 24 bytes of the program
+demo: build/v7
+	cd examples && ../build/v7 ld -s -o ../build/program a.o b.o
+	od -An -v -tx1 build/program
+
+# the gate: every proof from nothing, the edits that must fail, the tests, the program's stored run
+test:
+	rt ci
+
+# each test named memory_* or no_memory_*, with the first, the second, .. request for memory refused
+memory:
+	sh tests/memory.sh
+
+# times of the session on a large input
+bench:
+	cd crates/bench && rt run -- full
+
+install: build/v7
+	mkdir -p $(DESTDIR)$(PREFIX)/bin
+	cp build/v7 $(DESTDIR)$(PREFIX)/bin/v7
+
+clean:
+	rm -rf build

@@ -1,0 +1,11 @@
+pub mod SpellingLemmas
+pub mod FrontLemmas
+pub mod AlikeLemmas
+pub mod SpellsLemmas
+pub mod NameLemmas
+pub mod WordFaultLemmas
+pub mod PutsLemmas
+pub mod SymbolLemmas
+pub mod FilePutLemmas
+pub mod BodyLemmas
+pub mod ReadLemmas

@@ -1,0 +1,19 @@
+-- The laws of the format.
+use Rattle.std.specs.Prelude.{◌≡◌, ℕ, ◌<◌, List, ◌++◌, take, Ok}
+use Rattle.std.specs.List.{AllByRecursion}
+use Rattle.aout_core.specs.Contents.{Contents, IsSound}
+use Rattle.aout_core.specs.Spelling.{file_length, spelling}
+use Rattle.aout_core.specs.Front.{front}
+use Rattle.aout_core.specs.Spells.{Spells}
+
+abbrev pub SpellingLaw : Type 0
+SpellingLaw = (c : Contents) (rest : List ℕ) → IsSound c → front (spelling c ++ rest) ≡ Ok c
+
+-- the file that is read from bytes is sound, and the bytes up to its end spell it
+abbrev pub ReadingLaw : Type 0
+ReadingLaw = (bytes : List ℕ) (c : Contents) → AllByRecursion (λ (b : ℕ). b < 256) bytes → front bytes ≡ Ok c →
+    IsSound c × Spells (take (file_length c.header) bytes) c
+
+-- the same bytes spell one file
+abbrev pub OneFile : Type 0
+OneFile = (bytes : List ℕ) (c d : Contents) → IsSound c → IsSound d → Spells bytes c → Spells bytes d → c ≡ d

@@ -1,0 +1,12 @@
+pub mod Wires
+pub mod Words
+pub mod Names
+pub mod Contents
+pub mod Parts
+pub mod Spelling
+pub mod Spells
+pub mod Front
+pub mod Reading
+pub mod WellFormed
+pub mod Strip
+pub mod Laws

@@ -1,0 +1,16 @@
+-- What a clause says of a wire: its device, its latch, and what a write leaves behind.
+use Rattle.std.specs.Prelude.{◌≡◌, ℕ, List, ◌++◌, Bool, Option, Result, MatchResult}
+use Rattle.std.specs.Io.KnownBytes.{Appends}
+
+-- a device, and whether it has failed
+pub record Latched (D : Type 0) : Type 0 where
+  pub device : D
+  pub has_failed : Bool
+
+-- a front of the bytes went out
+abbrev pub AppendsFront : Option (List ℕ) → Option (List ℕ) → List ℕ → Type 0
+AppendsFront old new bytes = (front : List ℕ) × (rest : List ℕ) × (bytes ≡ front ++ rest) × Appends old new front
+
+-- all the bytes went out, or on a fault a front of them
+abbrev pub Puts : {T E : Type 0} → Result T E → Option (List ℕ) → Option (List ℕ) → List ℕ → Type 0
+Puts result old new bytes = MatchResult result (λ _. Appends old new bytes) (λ _. AppendsFront old new bytes)

@@ -1,0 +1,216 @@
+//! A file in memory.
+ghost use Rattle.std.specs.Prelude.{◌≡◌, ◌↔◌, ◌*◌, IsTrue};
+ghost use Rattle.aout_core.specs.Contents.{is_magic, has_whole_sizes};
+ghost use Rattle.aout_core.specs.declared.file.ReadFault.TheVariants.{Memory, Device};
+
+use crate::header::Header;
+use crate::reloc::Reloc;
+use crate::symbol::Symbol;
+use crate::wire::DeviceFault;
+use std::alloc::AllocError;
+use std::marker::Model;
+use thiserror::Error;
+
+/// The parts of a file, in their order; the relocation of text and of data has one word for each of their words.
+#[derive(Debug, Drop)]
+pub struct Parts {
+    pub header: Header,
+    pub text_words: Vec<u16>,
+    pub data_words: Vec<u16>,
+    pub text_reloc: Vec<Reloc>,
+    pub data_reloc: Vec<Reloc>,
+    pub symbols: Vec<Symbol>,
+}
+
+/// A file: parts that fit their header. Contracts see it as its header and lists.
+#[derive(Debug, Drop)]
+pub struct File {
+    parts: Parts,
+}
+
+impl Model for File {
+    ghost use Rattle.aout_core.specs.Contents.{Contents};
+
+    ghost Value = { Contents };
+
+    ghost use Rattle.aout_core.specs.Parts.{contents_of};
+    ghost use Rattle.aout_core.specs.Contents.{Fits};
+
+    ghost view = { λ a. contents_of a.parts };
+
+    ghost invariant = { λ a. Fits (contents_of a.parts) };
+}
+
+/// Whether a file may begin so: 0405, 0407, 0410 or 0411.
+pub(crate) fn is_magic(magic: u16) -> bool
+    ensures { result ≡ is_magic magic }
+{
+    magic == 0o405 || magic == 0o407 || magic == 0o410 || magic == 0o411
+}
+
+/// Whether text, data and bss have even sizes, and the symbol table one that 12 divides.
+pub(crate) fn has_whole_sizes(header: &Header) -> bool
+    ensures { result ≡ has_whole_sizes header.now }
+{
+    header.text_size % 2 == 0
+        && header.data_size % 2 == 0
+        && header.bss_size % 2 == 0
+        && header.symbol_size % 12 == 0
+}
+
+/// Whether so many words have this size in bytes.
+fn words_fit(len: usize, size: u16) -> bool
+    ensures { IsTrue result ↔ (2 * len ≡ size) }
+{
+    size % 2 == 0 && len == size as usize / 2
+}
+
+impl Parts {
+    ghost use Rattle.std.specs.Prelude.{◌≡◌, ◌↔◌, ◌*◌, IsTrue, length};
+    ghost use Rattle.aout_core.specs.Parts.{contents_of};
+    ghost use Rattle.aout_core.specs.Contents.{Fits, with_relocation};
+
+    /// Whether the parts make a file: the magic is one of the four, the sizes are whole, and each list is as long as
+    /// the header says; without relocation the lists of relocation words are empty.
+    pub fn fits(&self) -> bool
+        ensures { IsTrue result ↔ Fits (contents_of self.now) }
+    {
+        is_magic(self.header.magic) && has_whole_sizes(&self.header) && self.lists_fit()
+    }
+
+    fn lists_fit(&self) -> bool
+        ensures text { IsTrue result → 2 * length self.now.text_words.items ≡ self.now.header.text_size }
+        ensures datas { IsTrue result → 2 * length self.now.data_words.items ≡ self.now.header.data_size }
+        ensures first { IsTrue result → 2 * length self.now.text_reloc.items ≡ with_relocation self.now.header self.now.header.text_size }
+        ensures second { IsTrue result → 2 * length self.now.data_reloc.items ≡ with_relocation self.now.header self.now.header.data_size }
+        ensures table { IsTrue result → 12 * length self.now.symbols.items ≡ self.now.header.symbol_size }
+        ensures all { Fits (contents_of self.now) → IsTrue result }
+    {
+        let header = &self.header;
+        let relocated = header.flag == 0;
+        let text_reloc = if relocated { header.text_size } else { 0 };
+        let data_reloc = if relocated { header.data_size } else { 0 };
+        words_fit(self.text_words.len(), header.text_size)
+            && words_fit(self.data_words.len(), header.data_size)
+            && words_fit(self.text_reloc.len(), text_reloc)
+            && words_fit(self.data_reloc.len(), data_reloc)
+            && header.symbol_size % 12 == 0
+            && self.symbols.len() == header.symbol_size as usize / 12
+    }
+}
+
+// In the views a size is read for its range: it is a word, so the lists are short.
+impl File {
+    ghost use Rattle.std.specs.Prelude.{◌≡◌, ◌*◌, ◌^◌, ◌<◌, length};
+    ghost use Rattle.aout_core.specs.Parts.{contents_of};
+    ghost use Rattle.aout_core.specs.Contents.{Fits};
+
+    /// The file of these parts. `Parts::fits` tells whether they make one.
+    pub fn from_parts(parts: Parts) -> File
+        requires { Fits (contents_of parts) }
+        ensures { result ≡ contents_of parts }
+    {
+        File { parts }
+    }
+
+    /// The header. It is what says that the lists are as long as they are.
+    pub fn header(&self) -> &Header
+        ensures value { result.now ≡ self.now.header }
+        ensures fits { Fits self.now }
+    {
+        &self.parts.header
+    }
+
+    /// The words of the text.
+    pub fn text_words(&self) -> &[u16]
+        ensures value { result.now ≡ self.now.text_words }
+        ensures short { 2 * length result.now < 2 ^ 16 }
+    {
+        let _size = self.parts.header.text_size;
+        &self.parts.text_words
+    }
+
+    /// The words of the data.
+    pub fn data_words(&self) -> &[u16]
+        ensures value { result.now ≡ self.now.data_words }
+        ensures short { 2 * length result.now < 2 ^ 16 }
+    {
+        let _size = self.parts.header.data_size;
+        &self.parts.data_words
+    }
+
+    /// The relocation words of the text; none where the header's flag is on.
+    pub fn text_reloc(&self) -> &[Reloc]
+        ensures value { result.now ≡ self.now.text_reloc }
+        ensures short { 2 * length result.now < 2 ^ 16 }
+    {
+        let _size = self.parts.header.text_size;
+        &self.parts.text_reloc
+    }
+
+    /// The relocation words of the data; none where the header's flag is on.
+    pub fn data_reloc(&self) -> &[Reloc]
+        ensures value { result.now ≡ self.now.data_reloc }
+        ensures short { 2 * length result.now < 2 ^ 16 }
+    {
+        let _size = self.parts.header.data_size;
+        &self.parts.data_reloc
+    }
+
+    /// The symbol table, in its order.
+    pub fn symbols(&self) -> &[Symbol]
+        ensures value { result.now ≡ self.now.symbols }
+        ensures short { 12 * length result.now < 2 ^ 16 }
+    {
+        let _size = self.parts.header.symbol_size;
+        &self.parts.symbols
+    }
+
+    /// The parts back.
+    pub fn into_parts(self) -> Parts
+        ensures value { contents_of result ≡ self }
+        ensures fits { Fits (contents_of result) }
+    {
+        let File { parts } = self;
+        parts
+    }
+}
+
+/// Why no file was read.
+#[derive(Clone, Copy, Debug, PartialEq, Eq, Error)]
+pub enum ReadFault {
+    /// 1: fewer than 16 bytes.
+    #[error("short header")]
+    ShortHeader,
+    /// 2: the first word is none of 0405, 0407, 0410 and 0411.
+    #[error("bad magic number")]
+    BadMagic,
+    /// 3: an odd size of text, data or bss, or a symbol table that 12 does not divide.
+    #[error("odd size")]
+    OddSize,
+    /// 4: no room for what the header announces.
+    #[error("no memory")]
+    Memory,
+    /// 5: fewer bytes than the header announces.
+    #[error("truncated")]
+    Truncated,
+    /// 6: the device failed, in this call or before it.
+    #[error("read error")]
+    Device,
+}
+
+impl From<DeviceFault> for ReadFault {
+    ghost from_gives = { λ _ fault. fault ≡ Device };
+
+    fn from(_fault: DeviceFault) -> ReadFault {
+        ReadFault::Device
+    }
+}
+
+impl From<AllocError> for ReadFault {
+    ghost from_gives = { λ _ fault. fault ≡ Memory };
+
+    fn from(_error: AllocError) -> ReadFault {
+        ReadFault::Memory
+    }
+}

@@ -1,0 +1,31 @@
+//! Files of the a.out format of PDP-11 Unix: their parts, how they are spelt as bytes, and which of them are
+//! objects that a linker may take.
+//!
+//! Words have 16 bits and stand low byte first. The format is that of a.out(5); docs/FORMAT.md tells it whole.
+#![tactic(auto)]
+
+mod file;
+mod header;
+mod item;
+pub mod laws;
+mod name;
+mod object;
+mod reader;
+mod reloc;
+pub mod samples;
+mod strip;
+mod symbol;
+mod wire;
+mod word;
+mod writer;
+
+pub use file::{File, Parts, ReadFault};
+pub use header::Header;
+pub use name::Name;
+pub use object::{Object, ObjectFault};
+pub use reader::read_file;
+pub use reloc::{Kind, Reloc};
+pub use strip::strip_file;
+pub use symbol::{Segment, Symbol};
+pub use wire::{DeviceFault, Wire};
+pub use writer::write_file;

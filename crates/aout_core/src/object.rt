@@ -1,0 +1,133 @@
+//! A file that can be linked.
+ghost use Rattle.std.specs.Prelude.{◌≡◌, ◌+◌, ◌≤◌, ◌^◌, ◌↔◌, length, slice_get, Some, IfOk, IfErr, IsOk};
+ghost use Rattle.aout_core.specs.WellFormed.{first_bad_word, first_object_fault, is_wanted, word_fault, IsWellFormed};
+
+use crate::file::File;
+use crate::reloc::{Kind, Reloc};
+use crate::symbol::{Segment, Symbol};
+use std::marker::Model;
+use thiserror::Error;
+
+/// A well-formed file: magic 0407, with relocation, and each relocation word has a kind and, where it is that of an
+/// external, the number of an entry that is external and of type 0. Contracts see it as the file.
+#[derive(Debug, Drop)]
+pub struct Object {
+    checked: File,
+}
+
+impl Model for Object {
+    ghost use Rattle.aout_core.specs.Contents.{Contents};
+
+    ghost Value = { Contents };
+
+    ghost use Rattle.aout_core.specs.WellFormed.{IsWellFormed};
+
+    ghost view = { λ a. a.checked };
+
+    ghost invariant = { λ a. IsWellFormed a.checked };
+}
+
+/// Why a file is no object. An index counts the words of text and then of data, from 0.
+#[derive(Clone, Copy, Debug, PartialEq, Eq, Error)]
+pub enum ObjectFault {
+    /// 1: the magic is not 0407.
+    #[error("not an object")]
+    NotAnObject,
+    /// 2: the flag says that relocation was stripped.
+    #[error("no relocation")]
+    NoRelocation,
+    /// 3: the relocation word at this index has kind 012, 014 or 016.
+    #[error("bad relocation at word {0}")]
+    BadRelocation(u16),
+    /// 4: the relocation word at this index has kind 010 and a number that is not that of an external entry of type 0.
+    #[error("bad symbol number at word {0}")]
+    BadSymbolNumber(u16),
+}
+
+/// Whether the entry is one that a word may wait for.
+fn is_wanted(symbols: &[Symbol], number: usize) -> bool
+    ensures { result ≡ is_wanted (slice_get symbols.now number) }
+{
+    match symbols.get(number) {
+        Some(symbol) => symbol.is_external() && symbol.segment() == Segment::Undefined,
+        None => false,
+    }
+}
+
+/// What is wrong with the relocation word at an index, if anything is.
+fn word_fault(symbols: &[Symbol], index: u16, reloc: Reloc) -> Option<ObjectFault>
+    ensures { result ≡ word_fault symbols.now index reloc }
+{
+    match reloc.kind() {
+        None => Some(ObjectFault::BadRelocation(index)),
+        Some(Kind::External) if !is_wanted(symbols, reloc.number() as usize) => {
+            Some(ObjectFault::BadSymbolNumber(index))
+        }
+        Some(_) => None,
+    }
+}
+
+/// The first bad word of these, the first of which has index `start`.
+fn first_bad_word(symbols: &[Symbol], start: u16, relocs: &[Reloc]) -> Option<ObjectFault>
+    requires { start + length relocs.now ≤ 2 ^ 16 }
+    ensures { result ≡ first_bad_word symbols.now start relocs.now }
+{
+    for (n, reloc) in relocs.iter().enumerate() {
+        let fault = word_fault(symbols, start + n as u16, *reloc);
+        if fault.is_some() {
+            return fault;
+        }
+    }
+    None
+}
+
+impl Object {
+    /// The file as an object, or the file again and why it is none: the first that applies of `NotAnObject`,
+    /// `NoRelocation`, and the fault of the first bad word, text before data.
+    pub fn from_file(file: File) -> Result<Object, (File, ObjectFault)>
+        ensures object { IfOk result (λ object. object ≡ file) }
+        ensures well { IsOk result ↔ IsWellFormed file }
+        ensures fault { IfErr result (λ refused. first_object_fault file ≡ Some refused.1) }
+        ensures handed_back { IfErr result (λ refused. refused.0 ≡ file) }
+    {
+        match object_fault(&file) {
+            Some(fault) => Err((file, fault)),
+            None => Ok(Object { checked: file }),
+        }
+    }
+
+    /// The file.
+    pub fn file(&self) -> &File
+        ensures value { result.now ≡ self.now }
+        ensures well { IsWellFormed self.now }
+    {
+        &self.checked
+    }
+
+    /// The file back.
+    pub fn into_file(self) -> File
+        ensures value { result ≡ self }
+        ensures well { IsWellFormed result }
+    {
+        let Object { checked } = self;
+        checked
+    }
+}
+
+/// Why the file is no object, if it is none.
+fn object_fault(file: &File) -> Option<ObjectFault>
+    ensures { result ≡ first_object_fault file.now }
+{
+    let header = file.header();
+    if header.magic != 0o407 {
+        return Some(ObjectFault::NotAnObject);
+    }
+    if header.flag != 0 {
+        return Some(ObjectFault::NoRelocation);
+    }
+    let text = file.text_reloc();
+    match first_bad_word(file.symbols(), 0, text) {
+        Some(fault) => Some(fault),
+        None => first_bad_word(file.symbols(), text.len() as u16, file.data_reloc()),
+    }
+}

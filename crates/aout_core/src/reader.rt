@@ -1,0 +1,114 @@
+//! Reading a file.
+ghost use Rattle.std.specs.Prelude.{◌≡◌, ◌↔◌, ◌+◌, ◌≤◌, ◌++◌, ℕ, List, false, length, IfOk, IfSome, IsTrue};
+ghost use Rattle.aout_core.specs.Contents.{has_whole_sizes, with_relocation};
+ghost use Rattle.aout_core.specs.Parts.{contents_of};
+ghost use Rattle.aout_core.specs.Spelling.{file_length};
+ghost use Rattle.aout_core.specs.Front.{contents_in};
+ghost use Rattle.aout_core.specs.Reading.{HasRoom, IsBodyRead, IsFileHeader, IsHeaderRead, IsReadOf, LeavesAfter};
+
+use crate::file::{File, Parts, ReadFault, has_whole_sizes, is_magic};
+use crate::header::Header;
+use crate::item::take_items;
+use crate::wire::Wire;
+use std::alloc::{AllocError, Global};
+use std::io::Read;
+
+/// How many bytes of relocation there are for so many bytes of a segment.
+fn with_relocation(header: &Header, size: u16) -> usize
+    ensures value { result ≡ with_relocation header.now size }
+    ensures bound { result ≤ size }
+{
+    if header.flag == 0 { size as usize } else { 0 }
+}
+
+/// Empty parts with room for what the header announces.
+fn parts_with_room(alloc: Global, header: Header) -> Result<Parts, AllocError>
+    ensures { IfOk result (HasRoom header) }
+{
+    Ok(Parts {
+        header,
+        text_words: Vec::with_capacity(alloc, header.text_size as usize / 2)?,
+        data_words: Vec::with_capacity(alloc, header.data_size as usize / 2)?,
+        text_reloc: Vec::with_capacity(alloc, with_relocation(&header, header.text_size) / 2)?,
+        data_reloc: Vec::with_capacity(alloc, with_relocation(&header, header.data_size) / 2)?,
+        symbols: Vec::with_capacity(alloc, header.symbol_size as usize / 12)?,
+    })
+}
+
+/// Room for the bytes of a file behind its header.
+fn body_with_room(alloc: Global, header: &Header) -> Result<Vec<u8>, AllocError>
+    ensures { IfOk result (λ body. 16 + length body.items ≡ file_length header.now) }
+{
+    let segments = header.text_size as usize + header.data_size as usize;
+    let relocation = if header.flag == 0 { segments } else { 0 };
+    vec![in alloc; 0; segments + relocation + header.symbol_size as usize]
+}
+
+/// The parts that the bytes behind the header spell.
+#[tactic(auto, using(crate::proofs::BodyLemmas::by_length))]
+fn with_body(mut parts: Parts, body: &[u8]) -> Parts
+    requires room { HasRoom parts.header parts }
+    requires sizes { IsTrue (has_whole_sizes parts.header) }
+    requires long { 16 + length body.now ≡ file_length parts.header }
+    ensures { (start rest : List ℕ) → length start ≡ 16 → contents_of result ≡ contents_in parts.header (start ++ (body.now ++ rest)) }
+{
+    let header = parts.header;
+    let (text, rest) = body.split_at(header.text_size as usize);
+    let (data, rest) = rest.split_at(header.data_size as usize);
+    let (text_reloc, rest) = rest.split_at(with_relocation(&header, header.text_size));
+    let (data_reloc, table) = rest.split_at(with_relocation(&header, header.data_size));
+    take_items(text, &mut parts.text_words);
+    take_items(data, &mut parts.data_words);
+    take_items(text_reloc, &mut parts.text_reloc);
+    take_items(data_reloc, &mut parts.data_reloc);
+    take_items(table, &mut parts.symbols);
+    parts
+}
+
+/// Reads a header, and refuses one that no file has.
+fn read_header<R: Read>(wire: &mut Wire<R>) -> Result<Header, ReadFault>
+    ensures device { (result ≡ Err ReadFault.Device) ↔ IsTrue wire.new.has_failed }
+    ensures latched { IsTrue wire.old.has_failed → (wire.new ≡ wire.old) }
+    ensures value { IsHeaderRead (R.remaining wire.old.device) (R.remaining wire.new.device) result }
+{
+    let mut start = [0u8; 16];
+    if wire.fill(&mut start)? < 16 {
+        return Err(ReadFault::ShortHeader);
+    }
+    let header = Header::read(&start);
+    if !is_magic(header.magic) {
+        return Err(ReadFault::BadMagic);
+    }
+    if !has_whole_sizes(&header) {
+        return Err(ReadFault::OddSize);
+    }
+    Ok(header)
+}
+
+/// Reads what stands behind the header.
+fn read_body<R: Read>(alloc: Global, header: Header, wire: &mut Wire<R>) -> Result<File, ReadFault>
+    requires header { IsFileHeader header }
+    requires works { wire.old.has_failed ≡ false }
+    ensures device { (result ≡ Err ReadFault.Device) ↔ IsTrue wire.new.has_failed }
+    ensures value { IsBodyRead header (R.remaining wire.old.device) (R.remaining wire.new.device) result }
+{
+    let parts = parts_with_room(alloc, header)?;
+    let mut body = body_with_room(alloc, &header)?;
+    if wire.fill(&mut body)? < body.len() {
+        return Err(ReadFault::Truncated);
+    }
+    Ok(File::from_parts(with_body(parts, &body)))
+}
+
+/// Reads one file, and leaves what stands behind its symbols. Refusals come in this order: `ShortHeader` at an early
+/// end of the 16 bytes, `BadMagic`, `OddSize`, `Memory` for want of room, `Truncated` at an early end of the rest; and
+/// `Device` wherever the device failed, in this call or before it. A refused header leaves all behind its 16 bytes
+/// unread. (a.out(5); the refusals: own choice)
+pub fn read_file<R: Read>(alloc: Global, wire: &mut Wire<R>) -> Result<File, ReadFault>
+    ensures device { (result ≡ Err ReadFault.Device) ↔ IsTrue wire.new.has_failed }
+    ensures latched { IsTrue wire.old.has_failed → (wire.new ≡ wire.old) }
+    ensures front { IfSome (R.remaining wire.old.device) (λ bytes. IsReadOf result bytes × LeavesAfter result bytes (R.remaining wire.new.device)) }
+{
+    let header = read_header(wire)?;
+    read_body(alloc, header, wire)
+}

@@ -1,0 +1,76 @@
+//! The entries of the symbol table.
+ghost use Rattle.std.specs.Prelude.{◌≡◌};
+ghost use Rattle.aout_core.specs.WellFormed.{is_external, segment_of};
+ghost use Rattle.aout_core.specs.Spelling.{symbol_spelling};
+ghost use Rattle.aout_core.specs.Front.{symbol_in};
+
+use crate::name::Name;
+use crate::word::word_bytes;
+
+/// An entry of the symbol table, 12 bytes long. (a.out(5))
+#[derive(Clone, Copy, Debug, PartialEq, Eq)]
+pub struct Symbol {
+    pub name: Name,
+    /// The type word: 0 to 4 are undefined, absolute, text, data and bss, 024 a register, 037 a file name; 040 is
+    /// added for an external.
+    pub type_bits: u16,
+    /// An address; for an undefined external the size of a common in bytes, or 0.
+    pub value: u16,
+}
+
+/// What the type word of an entry speaks of.
+#[derive(Clone, Copy, Debug, PartialEq, Eq)]
+pub enum Segment {
+    Undefined,
+    Absolute,
+    TextSeg,
+    DataSeg,
+    BssSeg,
+    Other,
+}
+
+impl Symbol {
+    /// Whether other files see the name: bit 040 of the type word.
+    pub fn is_external(&self) -> bool
+        ensures { result ≡ is_external self.now }
+    {
+        self.type_bits / 0o40 % 2 == 1
+    }
+
+    /// The segment by the type word masked with 037: 0 to 4 in the order of `Segment`, any other `Other`.
+    pub fn segment(&self) -> Segment
+        ensures { result ≡ segment_of self.now }
+    {
+        match self.type_bits % 0o40 {
+            0 => Segment::Undefined,
+            1 => Segment::Absolute,
+            2 => Segment::TextSeg,
+            3 => Segment::DataSeg,
+            4 => Segment::BssSeg,
+            _ => Segment::Other,
+        }
+    }
+
+    /// The entry that 12 bytes spell; what stands behind a NUL in its name is left out.
+    pub(crate) fn from_bytes(bytes: &[u8; 12]) -> Symbol
+        ensures { result ≡ symbol_in bytes.now }
+    {
+        Symbol {
+            name: Name::from_bytes(&bytes[..8]),
+            type_bits: u16::from_le_bytes([bytes[8], bytes[9]]),
+            value: u16::from_le_bytes([bytes[10], bytes[11]]),
+        }
+    }
+
+    /// The 12 bytes that spell the entry, its name padded with NULs.
+    pub(crate) fn to_bytes(&self) -> [u8; 12]
+        ensures { result ≡ symbol_spelling self.now }
+    {
+        let [a, b, c, d, e, f, g, h] = self.name.to_padded();
+        let [type_low, type_high] = word_bytes(self.type_bits);
+        let [value_low, value_high] = word_bytes(self.value);
+        [
+            a, b, c, d, e, f, g, h, type_low, type_high, value_low, value_high,
+        ]
+    }
+}

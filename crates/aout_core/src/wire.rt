@@ -1,0 +1,150 @@
+//! A device with a latch that stays on once the device has failed.
+ghost use Rattle.std.specs.Prelude.{◌≡◌, ◌↔◌, ◌≤◌, ◌<◌, length, take, false, IfOk, IsErr, IsTrue};
+ghost use Rattle.std.specs.Io.{ReadsAtMost};
+ghost use Rattle.std.specs.Io.KnownBytes.{Consumes, IsAtEnd, Keeps, ReadConsumes};
+ghost use Rattle.aout_core.specs.Wires.{Puts};
+
+use std::io::{Read, Write};
+use std::marker::Model;
+use thiserror::Error;
+
+/// The device of a wire failed, in this call or before it.
+#[derive(Clone, Copy, Debug, PartialEq, Eq, Error)]
+#[error("device fault")]
+pub struct DeviceFault;
+
+/// A reader or a writer, and a latch: whether the device has failed.
+///
+/// The latch goes on where a call of the device answers an error of any kind, or where a write of some bytes takes
+/// none of them. A wire whose latch is on touches its device no more: each use of it answers `DeviceFault`. (own
+/// choice)
+#[derive(Drop)]
+pub struct Wire<D> {
+    device: D,
+    has_failed: bool,
+}
+
+impl<D> Model for Wire<D> {
+    ghost use Rattle.aout_core.specs.Wires.{Latched};
+
+    ghost Value = { Latched D };
+
+    ghost view = { λ w. record { device = w.device; has_failed = w.has_failed } };
+}
+
+impl<D> Wire<D> {
+    /// The device on a wire whose latch is off.
+    pub fn new(device: D) -> Wire<D>
+        ensures device { result.device ≡ device }
+        ensures latch { result.has_failed ≡ false }
+    {
+        Wire {
+            device,
+            has_failed: false,
+        }
+    }
+
+    /// Whether the latch is on. This is no use of the device.
+    pub fn failed(&self) -> bool
+        ensures { result ≡ self.now.has_failed }
+    {
+        self.has_failed
+    }
+
+    /// The device back, whatever the latch says.
+    pub fn into_inner(self) -> D
+        ensures { result ≡ self.device }
+    {
+        let Wire {
+            device,
+            has_failed: _,
+        } = self;
+        device
+    }
+}
+
+impl<R: Read> Wire<R> {
+    /// Reads some bytes to the front of `buf`, by one call of the device; 0 are read only at its end, or where `buf`
+    /// has no room.
+    pub fn read(&mut self, buf: &mut [u8]) -> Result<usize, DeviceFault>
+        ensures fault { IsErr result ↔ IsTrue self.new.has_failed }
+        ensures latched { IsTrue self.old.has_failed → (self.new ≡ self.old) }
+        ensures bound { ReadsAtMost result buf.new }
+        ensures bytes { ReadConsumes (R.remaining self.old.device) (R.remaining self.new.device) result buf.new }
+    {
+        if self.has_failed {
+            return Err(DeviceFault);
+        }
+        match self.device.read(buf) {
+            Ok(n) => Ok(n),
+            Err(_) => {
+                self.has_failed = true;
+                Err(DeviceFault)
+            }
+        }
+    }
+
+    /// Reads until `buf` is full or the device is at its end, and answers how many bytes were read.
+    pub fn fill(&mut self, buf: &mut [u8]) -> Result<usize, DeviceFault>
+        ensures fault { IsErr result ↔ IsTrue self.new.has_failed }
+        ensures latched { IsTrue self.old.has_failed → (self.new ≡ self.old) }
+        ensures bound { IfOk result (λ n. n ≤ length buf.new) }
+        ensures bytes { IfOk result (λ n. Consumes (R.remaining self.old.device) (R.remaining self.new.device) (take n buf.new)) }
+        ensures end { IfOk result (λ n. n < length buf.new → IsAtEnd (R.remaining self.new.device)) }
+    {
+        if self.has_failed {
+            return Err(DeviceFault);
+        }
+        let mut filled = 0;
+        while filled < buf.len() {
+            let n = self.read(&mut buf[filled..])?;
+            if n == 0 {
+                return Ok(filled);
+            }
+            filled += n;
+        }
+        Ok(filled)
+    }
+}
+
+impl<W: Write> Wire<W> {
+    /// Writes all the bytes, or on a fault a front of them. Writing no bytes is a use of the wire too.
+    pub fn put(&mut self, bytes: &[u8]) -> Result<(), DeviceFault>
+        ensures fault { IsErr result ↔ IsTrue self.new.has_failed }
+        ensures latched { IsTrue self.old.has_failed → (self.new ≡ self.old) }
+        ensures bytes { Puts result (W.contents self.old.device) (W.contents self.new.device) bytes.now }
+    {
+        if self.has_failed {
+            return Err(DeviceFault);
+        }
+        let mut rest = bytes;
+        while !rest.is_empty() {
+            match self.device.write(rest) {
+                Ok(0) | Err(_) => {
+                    self.has_failed = true;
+                    return Err(DeviceFault);
+                }
+                Ok(n) => rest = &rest[n..],
+            }
+        }
+        Ok(())
+    }
+
+    /// Has the device pass on what it may hold back.
+    pub fn flush(&mut self) -> Result<(), DeviceFault>
+        ensures fault { IsErr result ↔ IsTrue self.new.has_failed }
+        ensures latched { IsTrue self.old.has_failed → (self.new ≡ self.old) }
+        ensures bytes { Keeps (W.contents self.old.device) (W.contents self.new.device) }
+    {
+        if self.has_failed {
+            return Err(DeviceFault);
+        }
+        match self.device.flush() {
+            Ok(()) => Ok(()),
+            Err(_) => {
+                self.has_failed = true;
+                Err(DeviceFault)
+            }
+        }
+    }
+}
