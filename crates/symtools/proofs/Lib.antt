@@ -1,0 +1,5 @@
+mod PutsLemmas
+mod SortLemmas
+mod OrderLemmas
+mod DigitLemmas
+mod TextLemmas

@@ -1,0 +1,27 @@
+-- What a call on a wire leaves, by its answer, and a row of texts of which one more went out.
+use Rattle.std.proofs.Common.{◌≡◌, ℕ, ◌+◌, ◌<◌, List, [], ◌∷◌, ◌++◌, length, take, slice_index_or, Option, Result, Ok, Err, IsErr, IsTrue, is_ok, Bool, true, false, true≢false, refl, sym, ap, ◌∙◌, subst, append-nil}
+use Rattle.std.specs.List.{flat_map}
+use Rattle.std.specs.Io.KnownBytes.{Appends}
+use Rattle.std.proofs.KnownBytes.{Appends-trans}
+use Rattle.std.proofs.lemmas.Grind.{flat_map-append}
+use Rattle.std.proofs.lemmas.List.{take_more}
+use Rattle.aout_core.specs.Wires.{AppendsFront, Puts}
+
+-- what a fault leaves
+pub puts_err : {T E : Type 0} (r : Result T E) (a b : Option (List ℕ)) (bytes : List ℕ) → IsErr r → AppendsFront a b bytes → Puts r a b bytes
+puts_err (Ok x) a b bytes err out = absurd (true≢false (sym err))
+puts_err (Err e) a b bytes err out = out
+
+-- a call that answers a fault wherever the latch is on leaves it off on success
+pub not_failed : {T E : Type 0} (x : T) (e : E) (latch : Bool) → (IsTrue latch → Ok x ≡ Err e) → latch ≡ false
+not_failed x e true told = absurd (true≢false (ap is_ok (told refl)))
+not_failed x e false told = refl
+
+-- of a row of texts the one at place i went out too
+pub row_more : {A : Type 0} (spelling : A → List ℕ) (items : List A) (i : ℕ) (item : A) (a b c : Option (List ℕ)) → i < length items → item ≡ slice_index_or items i item →
+    Appends a b (flat_map spelling (take i items)) → Appends b c (spelling item) → Appends a c (flat_map spelling (take (i + 1) items))
+row_more spelling items i item a b c within is sent one =
+    let split : flat_map spelling (take i items) ++ spelling item ≡ flat_map spelling (take (i + 1) items) =
+    ap (λ l. flat_map spelling (take i items) ++ l) (ap spelling is ∙ sym (append-nil (spelling (slice_index_or items i item))))
+    ∙ sym (flat_map-append spelling (take i items) (slice_index_or items i item ∷ [])) ∙ ap (flat_map spelling) (sym (take_more items i item within)) in
+    subst (Appends a c) split (Appends-trans a b c _ _ sent one)

@@ -1,0 +1,48 @@
+use Rattle.std.proofs.Common.{◌++◌, ◌∷◌, [], if◌then◌else◌, length, subst, take_all, filter, ap, ◌∙◌}
+use Rattle.std.specs.List.{flat_map}
+use Rattle.std.specs.Io.KnownBytes.{Appends}
+use Rattle.aout_core.specs.Wires.{AppendsFront}
+use Rattle.symtools.specs.SymbolLines.{symbol_line}
+use Rattle.symtools.specs.NmLists.{is_shown, arranged}
+use Rattle.aout_core.proofs.PutsLemmas.{front_of_row}
+use Rattle.symtools.proofs.PutsLemmas.{not_failed, puts_err, row_more}
+use Rattle.symtools.proofs.TextLemmas.{listed, nm_text-listed}
+use Rattle.symtools.proofs.listing.nm.Goals as goal
+
+pub returns-in_err-list_file-clause-bytes : goal.returns-in_err-list_file-clause-bytes
+returns-in_err-list_file-clause-bytes g c =
+    let files = c.args.files.now in
+    let o = c.args.options in
+    let path = c.deref.ensures in
+    let table = c.symbols.ensures.value in
+    let headed = c.loop-path.invariant.1 in
+    let entry = subst (AppendsFront _ _)
+    (λ i. (if headed i then path i ++ 58 ∷ 10 ∷ [] else [])
+    ++ flat_map (λ s. (if o.each_line then path i ++ 58 ∷ [] else []) ++ symbol_line s) (arranged o (filter (is_shown o) (table i))))
+    c.in_err-list_file.ensures.bytes in
+    puts_err c.from_residual.result _ _ _ c.from_residual.ensures.0
+    (subst (AppendsFront _ _) (nm_text-listed o files)
+    (front_of_row (listed o (length files)) files c.loop-path.path-index c.loop-path-item.result _ _ _ c.loop-path-test.true c.loop-path-item.is c.loop-path.invariant.2 entry))
+
+pub loop-path-preserved : goal.loop-path-preserved
+loop-path-preserved g c =
+    let files = c.args.files.now in
+    let o = c.args.options in
+    let path = c.deref.ensures in
+    let table = c.symbols.ensures.value in
+    let headed = c.loop-path.invariant.1 in
+    let entry = subst (Appends _ _)
+    (λ i. (if headed i then path i ++ 58 ∷ 10 ∷ [] else [])
+    ++ flat_map (λ s. (if o.each_line then path i ++ 58 ∷ [] else []) ++ symbol_line s) (arranged o (filter (is_shown o) (table i))))
+    c.in_ok-list_file.ensures.bytes in (
+      not_failed _ _ _ c.in_ok-list_file.ensures.device.1,
+      headed,
+      row_more (listed o (length files)) files c.loop-path.path-index c.loop-path-item.result _ _ _ c.loop-path-test.true c.loop-path-item.is c.loop-path.invariant.2 entry,
+    )
+
+pub returns-clause-bytes : goal.returns-clause-bytes
+returns-clause-bytes g c =
+    let files = c.args.files.now in
+    let o = c.args.options in
+    let all = take_all c.loop-path.path-index files c.loop-path-test.false in
+    subst (Appends _ _) (ap (flat_map (listed o (length files))) all ∙ nm_text-listed o files) c.loop-path.invariant.2

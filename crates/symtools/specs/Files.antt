@@ -1,0 +1,7 @@
+-- Files by the bytes of their paths and by what they hold.
+use Rattle.std.specs.Prelude.{ℕ, List, map, string_bytes}
+use Rattle.std.specs.declared.string.String.{String}
+use Rattle.aout_core.specs.Contents.{Contents}
+
+abbrev pub by_bytes : {A : Type 0} → List (String A × Contents) → List (List ℕ × Contents)
+by_bytes files = map (λ f. (string_bytes f.0, f.1)) files

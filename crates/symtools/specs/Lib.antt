@@ -1,0 +1,4 @@
+pub mod SymbolLines
+pub mod NmLists
+pub mod SizeLines
+pub mod Files

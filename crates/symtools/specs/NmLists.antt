@@ -1,0 +1,54 @@
+-- The list that nm writes.
+use Rattle.std.specs.Prelude.{ℕ, Bool, not, ◌&&◌, ◌||◌, cond, eqb, nat_lt, if◌then◌else◌, List, [], ◌∷◌, ◌++◌, filter, reverse, length}
+use Rattle.std.specs.List.{flat_map}
+use Rattle.std.specs.Cmp.Lexicographic.{slice_cmp}
+use Rattle.std.specs.Ordering.{nat_cmp, is_lt}
+use Rattle.aout_core.specs.declared.symbol.Symbol.{Symbol}
+use Rattle.aout_core.specs.Contents.{Contents}
+use Rattle.aout_core.specs.WellFormed.{is_external}
+use Rattle.symtools.specs.declared.options.NmOptions.{NmOptions}
+use Rattle.symtools.specs.SymbolLines.{symbol_line, is_shown_undefined}
+
+-- with both filters, both hold
+abbrev pub is_shown : NmOptions → Symbol → Bool
+is_shown o s = (not o.external || is_external s) && (not o.undefined || is_shown_undefined s)
+
+abbrev pub name_before : Symbol → Symbol → Bool
+name_before s t = is_lt (slice_cmp nat_cmp s.name t.name)
+
+-- the smaller value, and at one value the smaller name
+abbrev pub value_before : Symbol → Symbol → Bool
+value_before s t = nat_lt s.value t.value || (eqb s.value t.value && name_before s t)
+
+-- in order, those that tie in the order of the table
+abbrev pub inserted : {A : Type 0} → (A → A → Bool) → A → List A → List A
+inserted before x [] = x ∷ []
+inserted before x (y ∷ ys) = cond (before y x) (y ∷ inserted before x ys) (x ∷ (y ∷ ys))
+
+abbrev pub in_order : {A : Type 0} → (A → A → Bool) → List A → List A
+in_order before [] = []
+in_order before (x ∷ xs) = inserted before x (in_order before xs)
+
+-- table order wins over all; else by value or by name, and reversed at last
+abbrev pub arranged : NmOptions → List Symbol → List Symbol
+arranged o ss =
+    if o.table_order then ss
+    else (let ordered : List Symbol = cond o.by_value (in_order value_before ss) (in_order name_before ss) in
+    if o.reverse then reverse ordered else ordered)
+
+abbrev pub shown : NmOptions → Contents → List Symbol
+shown o c = arranged o (filter (is_shown o) c.symbols)
+
+-- what stands before each line of a file
+abbrev pub line_front : NmOptions → List ℕ → List ℕ
+line_front o file = if o.each_line then file ++ 58 ∷ [] else []
+
+-- what stands above the lines of a file, one of so many
+abbrev pub heading : NmOptions → ℕ → List ℕ → List ℕ
+heading o files file = if not o.each_line && nat_lt 1 files then file ++ (58 ∷ 10 ∷ []) else []
+
+abbrev pub file_lines : NmOptions → ℕ → List ℕ → Contents → List ℕ
+file_lines o files file c = heading o files file ++ flat_map (λ s. line_front o file ++ symbol_line s) (shown o c)
+
+abbrev pub nm_text : NmOptions → List (List ℕ × Contents) → List ℕ
+nm_text o files = flat_map (λ f. file_lines o (length files) f.0 f.1) files

@@ -1,0 +1,42 @@
+//! Why lines did not go out.
+ghost use Rattle.std.specs.Prelude.{◌≡◌};
+ghost use Rattle.symtools.specs.declared.fault.ToolFault.TheVariants.{Memory, Device};
+
+use aout_core::DeviceFault;
+use std::alloc::{AllocError, AllocFailed};
+use thiserror::Error;
+
+/// Why not all lines went out.
+#[derive(Clone, Copy, Debug, PartialEq, Eq, Error)]
+pub enum ToolFault {
+    /// 1: no room for the entries that are to be put in order.
+    #[error("no memory")]
+    Memory,
+    /// 2: the device failed, in this call or before it.
+    #[error("write error")]
+    Device,
+}
+
+impl From<DeviceFault> for ToolFault {
+    ghost from_gives = { λ _ e. e ≡ Device };
+
+    fn from(_fault: DeviceFault) -> ToolFault {
+        ToolFault::Device
+    }
+}
+
+impl From<AllocError> for ToolFault {
+    ghost from_gives = { λ _ e. e ≡ Memory };
+
+    fn from(_error: AllocError) -> ToolFault {
+        ToolFault::Memory
+    }
+}
+
+impl<T: Drop> From<AllocFailed<T>> for ToolFault {
+    ghost from_gives = { λ _ e. e ≡ Memory };
+
+    fn from(_error: AllocFailed<T>) -> ToolFault {
+        ToolFault::Memory
+    }
+}

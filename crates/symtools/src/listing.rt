@@ -1,0 +1,135 @@
+//! The list of nm.
+ghost use Rattle.std.specs.Prelude.{◌≡◌, ◌↔◌, ◌++◌, ◌∷◌, [], false, if◌then◌else◌, IfErr, IfOk, OnOk, IsErr, IsTrue, Err, filter};
+ghost use Rattle.std.specs.List.{flat_map};
+ghost use Rattle.aout_core.specs.Wires.{Puts};
+ghost use Rattle.symtools.specs.Files.{by_bytes};
+ghost use Rattle.symtools.specs.SymbolLines.{symbol_line};
+ghost use Rattle.symtools.specs.NmLists.{is_shown, name_before, value_before, in_order, arranged, nm_text};
+ghost use Rattle.symtools.specs.declared.fault.ToolFault.TheVariants.{Memory, Device};
+
+use crate::fault::ToolFault;
+use crate::front::put_front;
+use crate::options::NmOptions;
+use crate::symbol_line::{is_shown_undefined, line};
+use aout_core::{DeviceFault, File, Symbol, Wire};
+use std::alloc::{AllocError, Global};
+use std::io::Write;
+
+/// The entries of each file's symbol table, a line each as `line` has it, in the order that the options ask for; the
+/// files stay in the order given. With several files, a line with the file and `:` stands above its lines, unless
+/// the options want the file before each line. (nm(1))
+///
+/// Errors: `Memory`, 1, where there is no room for the entries of a file; `Device`, 2, where the device failed, in
+/// this call or before it.
+pub fn nm<W: Write>(
+    alloc: Global,
+    files: &[(String, File)],
+    options: NmOptions,
+    out: &mut Wire<W>,
+) -> Result<(), ToolFault>
+    ensures device { (result ≡ Err Device) ↔ IsTrue out.new.has_failed }
+    ensures latched { IsTrue out.old.has_failed → (out.new ≡ out.old) }
+    ensures bytes { Puts result (W.contents out.old.device) (W.contents out.new.device) (nm_text options (by_bytes files.now)) }
+{
+    if out.failed() {
+        return Err(ToolFault::Device);
+    }
+    let is_headed = !options.each_line && files.len() > 1;
+    for (path, file) in files {
+        list_file(alloc, path, file.symbols(), options, is_headed, out)?;
+    }
+    Ok(())
+}
+
+/// The list of one file, with the file above it or not.
+fn list_file<W: Write>(
+    alloc: Global,
+    path: &str,
+    table: &[Symbol],
+    options: NmOptions,
+    is_headed: bool,
+    out: &mut Wire<W>,
+) -> Result<(), ToolFault>
+    requires { out.old.has_failed ≡ false }
+    ensures device { (result ≡ Err Device) ↔ IsTrue out.new.has_failed }
+    ensures bytes { Puts result (W.contents out.old.device) (W.contents out.new.device)
+        ((if is_headed then path.now ++ (58 ∷ 10 ∷ []) else [])
+        ++ flat_map (λ s. (if options.each_line then path.now ++ 58 ∷ [] else []) ++ symbol_line s) (arranged options (filter (is_shown options) table.now))) }
+{
+    let symbols = shown(alloc, table, options)?;
+    put_front(is_headed, path, b":\n", out)?;
+    put_lines(&symbols, path, options.each_line, out)?;
+    Ok(())
+}
+
+fn put_lines<W: Write>(
+    symbols: &[Symbol],
+    path: &str,
+    each_line: bool,
+    out: &mut Wire<W>,
+) -> Result<(), DeviceFault>
+    requires { out.old.has_failed ≡ false }
+    ensures fault { IsErr result ↔ IsTrue out.new.has_failed }
+    ensures bytes { Puts result (W.contents out.old.device) (W.contents out.new.device)
+        (flat_map (λ s. (if each_line then path.now ++ 58 ∷ [] else []) ++ symbol_line s) symbols.now) }
+{
+    for symbol in symbols {
+        put_front(each_line, path, b":", out)?;
+        line(symbol, out)?;
+    }
+    Ok(())
+}
+
+/// The entries that the options keep, in their order.
+fn shown(alloc: Global, table: &[Symbol], options: NmOptions) -> Result<Vec<Symbol>, ToolFault>
+    ensures ok { IfOk result (λ list. list.items ≡ arranged options (filter (is_shown options) table.now)) }
+    ensures err { IfErr result (λ e. e ≡ Memory) }
+{
+    let mut list = kept(alloc, table, options)?;
+    if options.table_order {
+        return Ok(list);
+    }
+    if options.by_value {
+        sort_by_value(&mut list)?;
+    } else {
+        sort_by_name(&mut list)?;
+    }
+    if options.reverse {
+        list.reverse();
+    }
+    Ok(list)
+}
+
+fn kept(alloc: Global, table: &[Symbol], options: NmOptions) -> Result<Vec<Symbol>, ToolFault>
+    ensures ok { IfOk result (λ list. list.items ≡ filter (is_shown options) table.now) }
+    ensures err { IfErr result (λ e. e ≡ Memory) }
+{
+    let mut list = Vec::new(alloc);
+    for symbol in table {
+        if is_shown(symbol, options) {
+            list.push(*symbol)?;
+        }
+    }
+    Ok(list)
+}
+
+fn is_shown(symbol: &Symbol, options: NmOptions) -> bool
+    ensures { result ≡ is_shown options symbol.now }
+{
+    (!options.external || symbol.is_external())
+        && (!options.undefined || is_shown_undefined(symbol))
+}
+
+/// Entries of one name keep their order.
+fn sort_by_name(list: &mut Vec<Symbol>) -> Result<(), AllocError>
+    ensures { OnOk result (list.new.items ≡ in_order name_before list.old.items) }
+{
+    list.sort_by_key(|symbol| symbol.name)
+}
+
+/// By name where the values are equal; entries of one value and name keep their order.
+fn sort_by_value(list: &mut Vec<Symbol>) -> Result<(), AllocError>
+    ensures { OnOk result (list.new.items ≡ in_order value_before list.old.items) }
+{
+    list.sort_by_key(|symbol| (symbol.value, symbol.name))
+}

@@ -1,0 +1,21 @@
+//! The options of nm.
+
+/// Which entries of a symbol table nm shows, and in which order. (nm(1))
+///
+/// With no option all entries are shown in the order of their names, compared by bytes; entries of one name stand in
+/// the order of the table.
+#[derive(Clone, Copy, Debug, Default, PartialEq, Eq)]
+pub struct NmOptions {
+    /// `-g`: external entries alone.
+    pub external: bool,
+    /// `-n`: by value, then by name.
+    pub by_value: bool,
+    /// `-o`: the file stands before each line, and not above its lines.
+    pub each_line: bool,
+    /// `-p`: in the order of the table, whatever `by_value` and `reverse` say. (own choice)
+    pub table_order: bool,
+    /// `-r`: the list from its end to its beginning.
+    pub reverse: bool,
+    /// `-u`: undefined entries alone, those of letter u or U.
+    pub undefined: bool,
+}

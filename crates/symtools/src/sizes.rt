@@ -1,0 +1,68 @@
+//! The lines of size.
+ghost use Rattle.std.specs.Prelude.{◌≡◌, ◌↔◌, ◌++◌, ◌∷◌, [], false, if◌then◌else◌, codes, IfErr, IsErr, IsTrue};
+ghost use Rattle.aout_core.specs.Wires.{Puts};
+ghost use Rattle.symtools.specs.Files.{by_bytes};
+ghost use Rattle.symtools.specs.SizeLines.{size_line, size_text};
+ghost use Rattle.symtools.specs.declared.fault.ToolFault.TheVariants.{Device};
+
+use crate::buffer::LineBuffer;
+use crate::fault::ToolFault;
+use crate::front::put_front;
+use aout_core::{DeviceFault, File, Header, Wire};
+use std::io::Write;
+
+/// A line for each file: the sizes of text, data and bss in bytes, and their sum in decimal and in octal, as
+/// `4+2+2 = 8b = 010b`; with several files, the file and `: ` stand in front. (own choice)
+///
+/// It takes no memory. Its only error is `Device`, 2: the device failed, in this call or before it.
+pub fn size<W: Write>(files: &[(String, File)], out: &mut Wire<W>) -> Result<(), ToolFault>
+    ensures fault { IsErr result ↔ IsTrue out.new.has_failed }
+    ensures device { IfErr result (λ e. e ≡ Device) }
+    ensures latched { IsTrue out.old.has_failed → (out.new ≡ out.old) }
+    ensures bytes { Puts result (W.contents out.old.device) (W.contents out.new.device) (size_text (by_bytes files.now)) }
+{
+    if out.failed() {
+        return Err(ToolFault::Device);
+    }
+    let is_named = files.len() > 1;
+    for (path, file) in files {
+        put_size(path, file.header(), is_named, out)?;
+    }
+    Ok(())
+}
+
+fn put_size<W: Write>(
+    path: &str,
+    header: &Header,
+    is_named: bool,
+    out: &mut Wire<W>,
+) -> Result<(), DeviceFault>
+    requires { out.old.has_failed ≡ false }
+    ensures fault { IsErr result ↔ IsTrue out.new.has_failed }
+    ensures bytes { Puts result (W.contents out.old.device) (W.contents out.new.device)
+        ((if is_named then path.now ++ codes ": " else []) ++ size_line header.now ++ 10 ∷ []) }
+{
+    put_front(is_named, path, b": ", out)?;
+    let text = line_text(header);
+    out.put(text.as_bytes())
+}
+
+fn line_text(header: &Header) -> LineBuffer
+    ensures { result ≡ size_line header.now ++ 10 ∷ [] }
+{
+    let sizes = [header.text_size, header.data_size, header.bss_size].map(u32::from);
+    let [text, data, bss] = sizes;
+    let sum = text + data + bss;
+    let mut line = LineBuffer::new();
+    line.push_number(text, 10);
+    line.push(b"+");
+    line.push_number(data, 10);
+    line.push(b"+");
+    line.push_number(bss, 10);
+    line.push(b" = ");
+    line.push_number(sum, 10);
+    line.push(b"b = 0");
+    line.push_number(sum, 8);
+    line.push(b"b\n");
+    line
+}

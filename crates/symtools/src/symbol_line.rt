@@ -1,0 +1,100 @@
+//! The nm line of one entry of a symbol table.
+ghost use Rattle.std.specs.Prelude.{◌≡◌, ◌↔◌, ◌≤◌, ◌+◌, ◌/◌, ◌%◌, IsErr, IsTrue};
+ghost use Rattle.aout_core.specs.Wires.{Puts};
+ghost use Rattle.aout_core.specs.WellFormed.{masked_type};
+ghost use Rattle.symtools.specs.SymbolLines.{octal_word, small_letter, letter, is_shown_undefined, value_column, symbol_line};
+
+use crate::buffer::LineBuffer;
+use aout_core::{DeviceFault, Symbol, Wire};
+use std::io::Write;
+
+/// The nm line of one entry, and a newline: value, space, letter, space, name. The value is six octal digits, or six
+/// blanks for the letters u and U. (nm(1))
+///
+/// The letter is by the type word masked with 037: 0 with value 0 is `u` and with another value `c`, 1 is `a`, 2 `t`,
+/// 3 `d`, 4 `b`, 024 `r`, 037 `f`, any other `a`. It is upper case for an external entry.
+pub fn line<W: Write>(symbol: &Symbol, out: &mut Wire<W>) -> Result<(), DeviceFault>
+    ensures fault { IsErr result ↔ IsTrue out.new.has_failed }
+    ensures latched { IsTrue out.old.has_failed → (out.new ≡ out.old) }
+    ensures bytes { Puts result (W.contents out.old.device) (W.contents out.new.device) (symbol_line symbol.now) }
+{
+    let text = line_text(symbol);
+    out.put(text.as_bytes())
+}
+
+fn line_text(symbol: &Symbol) -> LineBuffer
+    ensures { result ≡ symbol_line symbol.now }
+{
+    let mut text = LineBuffer::new();
+    text.push(&value_column(symbol));
+    text.push(&[b' ', letter(symbol), b' ']);
+    text.push(symbol.name.as_bytes());
+    text.push(b"\n");
+    text
+}
+
+/// The value, or blanks where it says nothing.
+fn value_column(symbol: &Symbol) -> [u8; 6]
+    ensures { result ≡ value_column symbol.now }
+{
+    if is_shown_undefined(symbol) {
+        *b"      "
+    } else {
+        octal_word(symbol.value)
+    }
+}
+
+/// Six octal digits.
+fn octal_word(word: u16) -> [u8; 6]
+    ensures { result ≡ octal_word word }
+{
+    [
+        octal_digit(word, 0o100000),
+        octal_digit(word, 0o10000),
+        octal_digit(word, 0o1000),
+        octal_digit(word, 0o100),
+        octal_digit(word, 0o10),
+        octal_digit(word, 1),
+    ]
+}
+
+fn octal_digit(word: u16, place: u16) -> u8
+    requires { 1 ≤ place }
+    ensures { result ≡ 48 + word / place % 8 }
+{
+    b'0' + (word / place % 8) as u8
+}
+
+/// Whether the letter of an entry is u or U.
+pub(crate) fn is_shown_undefined(symbol: &Symbol) -> bool
+    ensures { result ≡ is_shown_undefined symbol.now }
+{
+    matches!(letter(symbol), b'u' | b'U')
+}
+
+fn letter(symbol: &Symbol) -> u8
+    ensures { result ≡ letter symbol.now }
+{
+    let small = small_letter(symbol);
+    if symbol.is_external() {
+        small - (b'a' - b'A')
+    } else {
+        small
+    }
+}
+
+fn small_letter(symbol: &Symbol) -> u8
+    ensures letter { result ≡ small_letter (masked_type symbol.now) symbol.now.value }
+    ensures small { 97 ≤ result }
+{
+    match symbol.type_bits % 0o40 {
+        0 if symbol.value == 0 => b'u',
+        0 => b'c',
+        2 => b't',
+        3 => b'd',
+        4 => b'b',
+        0o24 => b'r',
+        0o37 => b'f',
+        _ => b'a',
+    }
+}
