@@ -1,0 +1,235 @@
+-- An image that takes in an object becomes the image of the objects with that one.
+use Rattle.std.proofs.Common.{◌≡◌, ℕ, zero, suc, ◌+◌, ◌*◌, ◌≤◌, ◌<◌, Bool, true, false, cond, ◌||◌, List, [], ◌∷◌, ◌++◌, map, length, Option, Some, None, refl, sym, ◌∙◌, ap, subst, arith, add-one, append_assoc, is_some}
+use Rattle.std.specs.Prelude.{bytes_eq, slice_get, slice_index_or, zip, filter, ⊤}
+use Rattle.std.specs.List.{AllByRecursion, flat_map}
+use Rattle.std.specs.Map.{keys_of}
+use Rattle.std.proofs.lemmas.Slice.Eq.{bytes_eq-Decides}
+use Rattle.aout_core.specs.declared.symbol.Symbol.{Symbol}
+use Rattle.aout_core.specs.declared.symbol.Segment.{Segment}
+use Rattle.aout_core.specs.declared.symbol.Segment.TheVariants as segments
+use Rattle.aout_core.specs.declared.reloc.Reloc.{Reloc}
+use Rattle.aout_core.specs.declared.reloc.Kind.{Kind}
+use Rattle.aout_core.specs.declared.reloc.Kind.TheVariants as kinds
+use Rattle.aout_core.specs.Contents.{Contents}
+use Rattle.aout_core.specs.Words.{plus, minus}
+use Rattle.aout_core.specs.WellFormed.{is_external, segment_of, kind_of, is_pc_relative, symbol_number, first_of, IsWellFormed}
+use Rattle.link_session.specs.declared.cell.Cell.{Cell}
+use Rattle.link_session.specs.declared.cell.Target.{Target}
+use Rattle.link_session.specs.declared.cell.Target.TheVariants as targets
+use Rattle.link_session.specs.declared.state.State.{State}
+use Rattle.link_session.specs.declared.state.State.TheVariants.{Defined, Wanted}
+use Rattle.link_session.specs.declared.own.Shifts.{Shifts}
+use Rattle.link_session.specs.Earlier.{with_earlier}
+use Rattle.link_session.specs.Starts.{total, shift, size_of}
+use Rattle.link_session.specs.Mentions.{Mention, mention, statement, mentions, mentions_in, externals_in, names_of, names_by_first_mention, new_names, externals, is_among, place_of}
+use Rattle.link_session.specs.States.{Definition, state, state_by, first_definition, wanted_size, multiple_names}
+use Rattle.link_session.specs.Cells.{Referent, to_segment, to_name, referent, referent_by, segment_target, name_target, name_in, target_of, target_shift, offset_in, if_pc, cell, words_of, cells_in, cells}
+use Rattle.link_session.specs.Image.{Image, named_states, image_by, image}
+use Rattle.link_session.specs.Sessions.{IsObject}
+use Rattle.link_session.specs.Additions.{Named, state_in, state_at, state_for, place_in, all_mentioned, all_clashes, bound_by, binding_at, binding, bound_or, settled, statement_by, mention_by, mentions_by, referred, own_cell, own_cells, next_shifts, next_mentions, next_named, joined_image}
+use Rattle.link_session.proofs.StateLemmas.{first_definition-append}
+use Rattle.link_session.proofs.MentionLemmas.{names_by_first_mention-append, is_among-externals}
+use Rattle.link_session.proofs.CellLemmas.{rebound, bound_at, bound, RefersAmong, AllReferAmong, cells_more}
+use Rattle.link_session.proofs.MarkLemmas.{awaited, bound-awaited, get_mapped}
+use Rattle.link_session.proofs.WellFormedLemmas.{objects_refer, all_map}
+use Rattle.link_session.proofs.UpdateLemmas.{image_own}
+use Rattle.link_session.proofs.MentionedLemmas.{keys-named_states, state_for-named_states, all_mentioned-named_states, all_clashes-named_states}
+use Rattle.link_session.proofs.TotalLemmas.{text_total, data_total}
+
+-- the cell, bound, if its name has a definition among later mentions
+abbrev pub rebinding : Option Definition → Cell → Option Cell
+rebinding None c = None
+rebinding (Some d) c = Some (record c { value = plus c.value d.1; target = segment_target d.0 })
+
+-- a cell that waits for an external waits for one of the names, without a definition
+abbrev pub WaitsAmong : List Mention → Target → Type 0
+WaitsAmong ms (targets.External i) = (name : List ℕ) × (slice_get (names_by_first_mention ms) i ≡ Some name) × (first_definition ms name ≡ None)
+WaitsAmong ms _ = ⊤
+
+segment_waits : (ms : List Mention) (segment : Segment) → WaitsAmong ms (segment_target segment)
+segment_waits ms segments.Undefined = tt
+segment_waits ms segments.Absolute = tt
+segment_waits ms segments.TextSeg = tt
+segment_waits ms segments.DataSeg = tt
+segment_waits ms segments.BssSeg = tt
+segment_waits ms segments.Other = tt
+
+get_place : (names : List (List ℕ)) (name : List ℕ) → is_among names name ≡ true → slice_get names (place_of name names) ≡ Some name
+get_place [] name h = absurd (cc)
+get_place (n ∷ ns) name h = by_test (bytes_eq name n) refl h (get_place ns name)
+  where
+    by_test : (t : Bool) → bytes_eq name n ≡ t → (t || is_among ns name) ≡ true → (is_among ns name ≡ true → slice_get ns (place_of name ns) ≡ Some name) →
+        slice_get (n ∷ ns) (cond t 0 (place_of name ns + 1)) ≡ Some name
+    by_test true e h rest = ap (λ (k : List ℕ). let o : Option (List ℕ) = Some k in o) (sym ((bytes_eq-Decides name n).0 e))
+    by_test false e h rest = rw add-one (rest h)
+
+referent_waits : (ms : List Mention) (q : Referent) → RefersAmong (names_of ms) q → WaitsAmong ms (target_of ms q)
+referent_waits ms (to_segment segment) h = segment_waits ms segment
+referent_waits ms (to_name name) h = by_definition (first_definition ms name) refl
+  where
+    by_definition : (d : Option Definition) → first_definition ms name ≡ d → WaitsAmong ms (name_target (state_by d (wanted_size ms name)) (place_of name (names_by_first_mention ms)))
+    by_definition (Some d) e = segment_waits ms d.0
+    by_definition None e = (name, get_place (names_by_first_mention ms) name (is_among-externals ms name ∙ h), e)
+
+pub all_append : {A : Type 0} (P : A → Type 0) (xs ys : List A) → AllByRecursion P xs → AllByRecursion P ys → AllByRecursion P (xs ++ ys)
+all_append P [] ys h k = k
+all_append P (x ∷ xs) ys h k = (h.0, all_append P xs ys h.1 k)
+
+-- so do all cells of the objects
+pub cells_wait : (ms : List Mention) (segment : Segment) (os : List Contents) → AllByRecursion (λ o. AllReferAmong (names_of ms) o (words_of segment o)) os →
+    AllByRecursion (λ c. WaitsAmong ms c.target) (cells ms segment os)
+cells_wait ms segment os h = from [] os h
+  where
+    of_words : (earlier : List Contents) (o : Contents) (words : List (ℕ × Reloc)) → AllReferAmong (names_of ms) o words →
+        AllByRecursion (λ c. WaitsAmong ms c.target) (map (λ wr. cell ms earlier o segment wr.0 wr.1) words)
+    of_words earlier o [] h = tt
+    of_words earlier o (wr ∷ words) h = (referent_waits ms (referent o wr.1) h.0, of_words earlier o words h.1)
+
+    from : (earlier rest : List Contents) → AllByRecursion (λ o. AllReferAmong (names_of ms) o (words_of segment o)) rest →
+        AllByRecursion (λ c. WaitsAmong ms c.target) (flat_map (λ p. cells_in ms segment p.0 p.1) (with_earlier earlier rest))
+    from earlier [] h = tt
+    from earlier (o ∷ rest) h =
+        all_append (λ c. WaitsAmong ms c.target) (cells_in ms segment earlier o) (flat_map (λ p. cells_in ms segment p.0 p.1) (with_earlier (earlier ++ o ∷ []) rest))
+        (of_words earlier o (words_of segment o) h.0) (from (earlier ++ o ∷ []) rest h.1)
+
+pub get_append : {A : Type 0} (xs ys : List A) (i : ℕ) (x : A) → slice_get xs i ≡ Some x → slice_get (xs ++ ys) i ≡ Some x
+get_append [] ys i x e = absurd (cc)
+get_append (z ∷ xs) ys zero x e = e
+get_append (z ∷ xs) ys (suc i) x e = get_append xs ys i x e
+
+index_get : (xs : List (List ℕ)) (i : ℕ) (x : List ℕ) → slice_get xs i ≡ Some x → slice_index_or xs i [] ≡ x
+index_get [] i x e = absurd (cc)
+index_get (z ∷ xs) zero x e = cc
+index_get (z ∷ xs) (suc i) x e = index_get xs i x e
+
+-- such a cell is bound by the states after more mentions just where one of these defines its name
+pub binding-awaited : (ms ns : List Mention) (c : Cell) → WaitsAmong ms c.target → binding (named_states (ms ++ ns)) c ≡ rebinding (awaited (names_by_first_mention ms) ns c.target) c
+binding-awaited ms ns c h = by_target c.target h
+  where
+    by_target : (t : Target) → WaitsAmong ms t → binding_at (named_states (ms ++ ns)) t c ≡ rebinding (awaited (names_by_first_mention ms) ns t) c
+    by_target targets.Absolute h = refl
+    by_target targets.TextSeg h = refl
+    by_target targets.DataSeg h = refl
+    by_target targets.BssSeg h = refl
+    by_target (targets.External i) h =
+        let more : slice_get (names_by_first_mention (ms ++ ns)) i ≡ Some h.0 =
+        ap (λ (l : List (List ℕ)). slice_get l i) (names_by_first_mention-append ms ns) ∙ get_append (names_by_first_mention ms) (new_names (names_of ms) (names_of ns)) i h.0 h.1 in
+        let at : state_at (named_states (ms ++ ns)) i ≡ state (ms ++ ns) h.0 =
+        ap state_in (get_mapped {B = List ℕ × State} (λ n. (n, state (ms ++ ns) n)) (names_by_first_mention (ms ++ ns)) i h.0 more) in
+        let first : first_definition (ms ++ ns) h.0 ≡ first_definition ns h.0 =
+        first_definition-append ms ns h.0 ∙ ap (λ (d : Option Definition). first_of d (first_definition ns h.0)) h.2 in
+        ap (λ (s : State). bound_by s c) (at ∙ ap (λ (d : Option Definition). state_by d (wanted_size (ms ++ ns) h.0)) first)
+        ∙ by_definition (first_definition ns h.0)
+        ∙ ap (λ (n : List ℕ). rebinding (first_definition ns n) c) (sym (index_get (names_by_first_mention ms) i h.0 h.1))
+      where
+        by_definition : (d : Option Definition) → bound_by (state_by d (wanted_size (ms ++ ns) h.0)) c ≡ rebinding d c
+        by_definition None = refl
+        by_definition (Some d) = refl
+
+settled-bound : (ms ns : List Mention) (c : Cell) → WaitsAmong ms c.target → settled (named_states (ms ++ ns)) c ≡ bound (names_by_first_mention ms) ns c
+settled-bound ms ns c h =
+    ap (λ (b : Option Cell). bound_or b c) (binding-awaited ms ns c h) ∙ by_definition (awaited (names_by_first_mention ms) ns c.target) ∙ sym (bound-awaited (names_by_first_mention ms) ns c)
+  where
+    by_definition : (d : Option Definition) → bound_or (rebinding d c) c ≡ rebound d c
+    by_definition None = refl
+    by_definition (Some d) = refl
+
+all_settled : (ms ns : List Mention) (cs : List Cell) → AllByRecursion (λ c. WaitsAmong ms c.target) cs → map (settled (named_states (ms ++ ns))) cs ≡ map (bound (names_by_first_mention ms) ns) cs
+all_settled ms ns [] h = refl
+all_settled ms ns (c ∷ cs) h = λ i. settled-bound ms ns c h.0 i ∷ all_settled ms ns cs h.1 i
+
+-- the cells that are settled are those of the same objects under more mentions
+pub cells_settled : (ms ns : List Mention) (segment : Segment) (os : List Contents) → AllByRecursion (λ o. AllReferAmong (names_of ms) o (words_of segment o)) os →
+    map (settled (named_states (ms ++ ns))) (cells ms segment os) ≡ cells (ms ++ ns) segment os
+cells_settled ms ns segment os h = all_settled ms ns (cells ms segment os) (cells_wait ms segment os h) ∙ sym (cells_more ms ns segment os h)
+
+-- what is added to the addresses of an object behind these
+abbrev shifts_behind : List Contents → Contents → Shifts
+shifts_behind os o = record { text = shift os o segments.TextSeg; «data» = shift os o segments.DataSeg; bss = shift os o segments.BssSeg }
+
+pub next_shifts-behind : (forced : List (List ℕ)) (os : List Contents) (o : Contents) → AllByRecursion IsObject os → next_shifts (image forced os) o ≡ shifts_behind os o
+next_shifts-behind forced os o h = λ i. record {
+  text = minus (text_total (mentions forced os) os h i) 0;
+  «data» = minus (data_total (mentions forced os) os h i) o.header.text_size;
+  bss = shift os o segments.BssSeg;
+}
+
+pub next_mentions-in : (forced : List (List ℕ)) (os : List Contents) (o : Contents) → AllByRecursion IsObject os → next_mentions (image forced os) o ≡ mentions_in os o
+next_mentions-in forced os o h = ap (λ (s : Shifts). mentions_by s o.symbols) (next_shifts-behind forced os o h) ∙ each (externals_in o)
+  where
+    says : (segment : Segment) (value : ℕ) → statement_by (shifts_behind os o) segment value ≡ statement os o segment value
+    says segments.Undefined value = refl
+    says segments.Absolute value = refl
+    says segments.TextSeg value = refl
+    says segments.DataSeg value = refl
+    says segments.BssSeg value = refl
+    says segments.Other value = refl
+
+    each : (ss : List Symbol) → map (mention_by (shifts_behind os o)) ss ≡ map (mention os o) ss
+    each [] = refl
+    each (s ∷ ss) = λ i. record { name = s.name; says = says (segment_of s) s.value i } ∷ each ss i
+
+pub next_named-states : (forced : List (List ℕ)) (os : List Contents) (o : Contents) → AllByRecursion IsObject os → next_named (image forced os) o ≡ named_states (mentions forced os ++ mentions_in os o)
+next_named-states forced os o h = ap (λ (ms : List Mention). all_mentioned (named_states (mentions forced os)) ms) (next_mentions-in forced os o h) ∙ all_mentioned-named_states (mentions forced os) (mentions_in os o)
+
+-- an object's own cell is the cell of the word
+own_cell-is : (ms : List Mention) (os : List Contents) (o : Contents) (segment : Segment) (w : ℕ) (r : Reloc) →
+    own_cell (named_states ms) o.symbols (shifts_behind os o) (shift os o segment) w r ≡ cell ms os o segment w r
+own_cell-is ms os o segment w r = λ i. record {
+  value = minus (plus w (by_kind (kind_of r) i).0) (if_pc r (shift os o segment));
+  target = (by_kind (kind_of r) i).1;
+  pc = is_pc_relative r;
+}
+  where
+    of_name : (name : List ℕ) → (let p : ℕ × Target = (offset_in (state_for (named_states ms) name), name_target (state_for (named_states ms) name) (place_in (named_states ms) name)) in p)
+        ≡ (target_shift ms os o (to_name name), target_of ms (to_name name))
+    of_name name = λ i. (offset_in (state_for-named_states ms name i), name_target (state_for-named_states ms name i) (place_of name (keys-named_states ms i)))
+
+    by_kind : (kind : Option Kind) → referred (named_states ms) o.symbols (shifts_behind os o) (symbol_number r) kind ≡ (target_shift ms os o (referent_by o (symbol_number r) kind), target_of ms (referent_by o (symbol_number r) kind))
+    by_kind None = refl
+    by_kind (Some kinds.Absolute) = refl
+    by_kind (Some kinds.TextSeg) = refl
+    by_kind (Some kinds.DataSeg) = refl
+    by_kind (Some kinds.BssSeg) = refl
+    by_kind (Some kinds.External) = of_name (name_in (slice_get o.symbols (symbol_number r)))
+
+own_cells-are : (ms : List Mention) (os : List Contents) (o : Contents) (segment : Segment) (words : List (ℕ × Reloc)) →
+    map (λ (wr : ℕ × Reloc). own_cell (named_states ms) o.symbols (shifts_behind os o) (shift os o segment) wr.0 wr.1) words ≡ map (λ wr. cell ms os o segment wr.0 wr.1) words
+own_cells-are ms os o segment [] = refl
+own_cells-are ms os o segment (wr ∷ words) = λ i. own_cell-is ms os o segment wr.0 wr.1 i ∷ own_cells-are ms os o segment words i
+
+pub well_formed : (os : List Contents) → AllByRecursion IsObject os → AllByRecursion IsWellFormed os
+well_formed os h = all_map IsObject IsWellFormed (λ o k. k.well) os h
+
+-- the law of the addition
+pub joined_image-is : (forced : List (List ℕ)) (os : List Contents) (o : Contents) → AllByRecursion IsObject os → joined_image (image forced os) o ≡ image forced (os ++ o ∷ [])
+joined_image-is forced os o h =
+    (λ i. record {
+      text_cells = map (settled (named i)) (image forced os).text_cells ++ own_cells (named i) o.symbols (shifts i) (shifts i).text o.text_words o.text_reloc;
+      data_cells = map (settled (named i)) (image forced os).data_cells ++ own_cells (named i) o.symbols (shifts i) (shifts i).data o.data_words o.data_reloc;
+      bss_total = (image forced os).bss_total + o.header.bss_size;
+      externals = named i;
+      multiples = clashes i;
+    })
+    ∙ (λ i. record {
+      text_cells = cells_settled (mentions forced os) (mentions_in os o) segments.TextSeg os (objects_refer forced segments.TextSeg os good) i ++ own_cells-are (mentions forced os ++ mentions_in os o) os o segments.TextSeg (words_of segments.TextSeg o) i;
+      data_cells = cells_settled (mentions forced os) (mentions_in os o) segments.DataSeg os (objects_refer forced segments.DataSeg os good) i ++ own_cells-are (mentions forced os ++ mentions_in os o) os o segments.DataSeg (words_of segments.DataSeg o) i;
+      bss_total = (image forced os).bss_total + o.header.bss_size;
+      externals = named_states (mentions forced os ++ mentions_in os o);
+      multiples = multiple_names (mentions forced os ++ mentions_in os o);
+    })
+    ∙ sym (image_own forced os o)
+  where
+    good : AllByRecursion IsWellFormed os
+    good = well_formed os h
+
+    named : next_named (image forced os) o ≡ named_states (mentions forced os ++ mentions_in os o)
+    named = next_named-states forced os o h
+
+    shifts : next_shifts (image forced os) o ≡ shifts_behind os o
+    shifts = next_shifts-behind forced os o h
+
+    clashes : (image forced os).multiples ++ all_clashes (image forced os).externals (next_mentions (image forced os) o) ≡ multiple_names (mentions forced os ++ mentions_in os o)
+    clashes =
+        ap (λ (xs : List Mention). multiple_names (mentions forced os) ++ all_clashes (named_states (mentions forced os)) xs) (next_mentions-in forced os o h)
+        ∙ sym (all_clashes-named_states (mentions forced os) (mentions_in os o))

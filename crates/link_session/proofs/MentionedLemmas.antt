@@ -1,0 +1,162 @@
+-- The names and states after the mentions of an object.
+use Rattle.std.proofs.Common.{◌≡◌, ℕ, zero, suc, ◌+◌, ◌<◌, ◌≤◌, Bool, true, false, cond, ◌||◌, List, [], ◌∷◌, ◌++◌, map, length, Option, Some, None, refl, sym, ◌∙◌, ap, arith, add-one, append_assoc, append-nil, length-append}
+use Rattle.std.specs.Prelude.{bytes_eq, slice_get}
+use Rattle.std.specs.Map.{keys_of}
+use Rattle.std.proofs.lemmas.List.{map-append, length-map}
+use Rattle.std.proofs.lemmas.Slice.Eq.{bytes_eq-Decides}
+use Rattle.indexmap.specs.IndexMap.{insert_entry}
+use Rattle.aout_core.specs.Contents.{Contents}
+use Rattle.link_session.specs.declared.state.State.{State}
+use Rattle.link_session.specs.declared.state.State.TheVariants.{Defined, Wanted}
+use Rattle.link_session.specs.Mentions.{Mention, is_among, new_names, names_of, names_by_first_mention, place_of}
+use Rattle.link_session.specs.States.{state, multiple_names}
+use Rattle.link_session.specs.Image.{named_states}
+use Rattle.link_session.specs.Undo.{with_state}
+use Rattle.link_session.specs.Updates.{updated, clashes}
+use Rattle.link_session.specs.Additions.{Named, state_in, state_at, state_for, place_in, mentioned, all_mentioned, all_clashes}
+use Rattle.link_session.proofs.MentionLemmas.{is_among-append, is_among-externals}
+use Rattle.link_session.proofs.UndoLemmas.{named-with_state}
+use Rattle.link_session.proofs.MarkLemmas.{named_named}
+use Rattle.link_session.proofs.UpdateLemmas.{unmentioned, externals_mention, multiples_mention}
+
+-- a name keeps its place and takes the state, or stands last
+pub insert_entry-is : (es : Named) (name : List ℕ) (s : State) → insert_entry bytes_eq es name s ≡ with_state es (place_in es name) s ++ cond (is_among (keys_of es) name) [] ((name, s) ∷ [])
+insert_entry-is [] name s = refl
+insert_entry-is (e ∷ es) name s = by_test (bytes_eq name e.0) (insert_entry-is es name s)
+  where
+    by_test : (t : Bool) → insert_entry bytes_eq es name s ≡ with_state es (place_in es name) s ++ cond (is_among (keys_of es) name) [] ((name, s) ∷ []) →
+        cond t ((e.0, s) ∷ es) (e ∷ insert_entry bytes_eq es name s)
+        ≡ with_state (e ∷ es) (cond t 0 (place_of name (keys_of es) + 1)) s ++ cond (t || is_among (keys_of es) name) [] ((name, s) ∷ [])
+    by_test true h = ap (λ (l : Named). (e.0, s) ∷ l) (sym (append-nil es))
+    by_test false h = rw add-one (ap (λ (l : Named). e ∷ l) h)
+
+abbrev pub next_state : Named → Mention → State
+next_state es m = updated (state_for es m.name) m.says
+
+pub mentioned-is : (es : Named) (m : Mention) → mentioned es m ≡ with_state es (place_in es m.name) (next_state es m) ++ cond (is_among (keys_of es) m.name) [] ((m.name, next_state es m) ∷ [])
+mentioned-is es m = insert_entry-is es m.name (next_state es m)
+
+pub keys-mentioned : (es : Named) (m : Mention) → keys_of (mentioned es m) ≡ keys_of es ++ cond (is_among (keys_of es) m.name) [] (m.name ∷ [])
+keys-mentioned es m =
+    ap keys_of (mentioned-is es m)
+    ∙ map-append (λ (e : List ℕ × State). e.0) (with_state es (place_in es m.name) (next_state es m)) (cond (is_among (keys_of es) m.name) [] ((m.name, next_state es m) ∷ []))
+    ∙ (λ i. named-with_state es (place_in es m.name) (next_state es m) i ++ last (is_among (keys_of es) m.name) i)
+  where
+    last : (t : Bool) → keys_of (cond t [] ((m.name, next_state es m) ∷ [])) ≡ cond t [] (m.name ∷ [])
+    last true = refl
+    last false = refl
+
+-- what is new depends only on which names are seen
+pub new_names-seen : (a b xs : List (List ℕ)) → ((n : List ℕ) → is_among a n ≡ is_among b n) → new_names a xs ≡ new_names b xs
+new_names-seen a b [] h = refl
+new_names-seen a b (x ∷ xs) h =
+    let rest : new_names (a ++ x ∷ []) xs ≡ new_names (b ++ x ∷ []) xs = new_names-seen (a ++ x ∷ []) (b ++ x ∷ []) xs more in
+    λ i. cond (h x i) (rest i) (x ∷ rest i)
+  where
+    more : (n : List ℕ) → is_among (a ++ x ∷ []) n ≡ is_among (b ++ x ∷ []) n
+    more n = is_among-append a (x ∷ []) n ∙ ap (λ (t : Bool). t || is_among (x ∷ []) n) (h n) ∙ sym (is_among-append b (x ∷ []) n)
+
+-- how many names there are after the mentions
+pub length-all_mentioned : (es : Named) (ms : List Mention) → length (all_mentioned es ms) ≡ length es + length (new_names (keys_of es) (names_of ms))
+length-all_mentioned es [] = omega arith
+length-all_mentioned es (m ∷ ms) =
+    length-all_mentioned (mentioned es m) ms
+    ∙ (λ i. keys_length i + length (new_names (keys-mentioned es m i) (names_of ms)))
+    ∙ by_test (is_among (keys_of es) m.name) refl
+  where
+    keys_length : length (mentioned es m) ≡ length es + length (cond (is_among (keys_of es) m.name) [] (m.name ∷ []))
+    keys_length =
+        sym (length-map (mentioned es m) (λ (e : List ℕ × State). e.0))
+        ∙ ap (λ (ns : List (List ℕ)). length ns) (keys-mentioned es m)
+        ∙ length-append (keys_of es) (cond (is_among (keys_of es) m.name) [] (m.name ∷ []))
+        ∙ ap (λ (n : ℕ). n + length (cond (is_among (keys_of es) m.name) [] (m.name ∷ []))) (length-map es (λ (e : List ℕ × State). e.0))
+
+    seen_twice : is_among (keys_of es) m.name ≡ true → (n : List ℕ) → is_among (keys_of es) n ≡ is_among (keys_of es ++ m.name ∷ []) n
+    seen_twice h n = by_name (bytes_eq n m.name) refl ∙ sym (is_among-append (keys_of es) (m.name ∷ []) n)
+      where
+        by_name : (t : Bool) → bytes_eq n m.name ≡ t → is_among (keys_of es) n ≡ (is_among (keys_of es) n || (t || false))
+        by_name true e = let same : n ≡ m.name = (bytes_eq-Decides n m.name).0 e in let known : is_among (keys_of es) n ≡ true = rw same h in rw known refl
+        by_name false e = or_false (is_among (keys_of es) n)
+          where
+            or_false : (t : Bool) → t ≡ (t || false)
+            or_false true = refl
+            or_false false = refl
+
+    by_test : (t : Bool) → is_among (keys_of es) m.name ≡ t →
+        (length es + length (cond t [] (m.name ∷ []))) + length (new_names (keys_of es ++ cond t [] (m.name ∷ [])) (names_of ms))
+        ≡ length es + length (cond t (new_names (keys_of es ++ m.name ∷ []) (names_of ms)) (m.name ∷ new_names (keys_of es ++ m.name ∷ []) (names_of ms)))
+    by_test true h =
+        let same : new_names (keys_of es ++ []) (names_of ms) ≡ new_names (keys_of es ++ m.name ∷ []) (names_of ms) =
+        rw append-nil (new_names-seen (keys_of es) (keys_of es ++ m.name ∷ []) (names_of ms) (seen_twice h)) in
+        let lengths = ap (λ (ns : List (List ℕ)). length ns) same in omega arith
+    by_test false h = omega arith
+
+-- the keys of names with states are the names
+pub keys-named_states : (ms : List Mention) → keys_of (named_states ms) ≡ names_by_first_mention ms
+keys-named_states ms = named_named (state ms) (names_by_first_mention ms)
+
+at_place : (f : List ℕ → State) (ns : List (List ℕ)) (name : List ℕ) → is_among ns name ≡ true → state_at (map {B = List ℕ × State} (λ n. (n, f n)) ns) (place_of name ns) ≡ f name
+at_place f [] name h = absurd (cc)
+at_place f (n ∷ ns) name h = by_test (bytes_eq name n) refl h (at_place f ns name)
+  where
+    by_test : (t : Bool) → bytes_eq name n ≡ t → (t || is_among ns name) ≡ true → (is_among ns name ≡ true → state_at (map {B = List ℕ × State} (λ k. (k, f k)) ns) (place_of name ns) ≡ f name) →
+        state_at ((n, f n) ∷ map {B = List ℕ × State} (λ k. (k, f k)) ns) (cond t 0 (place_of name ns + 1)) ≡ f name
+    by_test true e h rest = ap f (sym ((bytes_eq-Decides name n).0 e))
+    by_test false e h rest = rw add-one (rest h)
+
+behind_place : (f : List ℕ → State) (ns : List (List ℕ)) (name : List ℕ) → is_among ns name ≡ false → state_at (map {B = List ℕ × State} (λ n. (n, f n)) ns) (place_of name ns) ≡ Wanted 0
+behind_place f [] name h = refl
+behind_place f (n ∷ ns) name h = by_test (bytes_eq name n) h (behind_place f ns name)
+  where
+    by_test : (t : Bool) → (t || is_among ns name) ≡ false → (is_among ns name ≡ false → state_at (map {B = List ℕ × State} (λ k. (k, f k)) ns) (place_of name ns) ≡ Wanted 0) →
+        state_at ((n, f n) ∷ map {B = List ℕ × State} (λ k. (k, f k)) ns) (cond t 0 (place_of name ns + 1)) ≡ Wanted 0
+    by_test true h rest = absurd (cc)
+    by_test false h rest = rw add-one (rest h)
+
+-- the state found is the state of the name
+pub state_for-named_states : (ms : List Mention) (name : List ℕ) → state_for (named_states ms) name ≡ state ms name
+state_for-named_states ms name =
+    ap (λ (ns : List (List ℕ)). state_at (named_states ms) (place_of name ns)) (keys-named_states ms) ∙ by_test (is_among (names_by_first_mention ms) name) refl
+  where
+    by_test : (t : Bool) → is_among (names_by_first_mention ms) name ≡ t → state_at (named_states ms) (place_of name (names_by_first_mention ms)) ≡ state ms name
+    by_test true h = at_place (state ms) (names_by_first_mention ms) name h
+    by_test false h = behind_place (state ms) (names_by_first_mention ms) name h ∙ sym (unmentioned ms name (sym (is_among-externals ms name) ∙ h))
+
+abbrev one : List ℕ → State → Named
+one name s = (name, s) ∷ []
+
+-- one more mention
+mentioned-named_states : (ms : List Mention) (m : Mention) → mentioned (named_states ms) m ≡ named_states (ms ++ m ∷ [])
+mentioned-named_states ms m =
+    mentioned-is (named_states ms) m
+    ∙ (λ i. with_state (named_states ms) (place_of m.name (keys-named_states ms i)) (updated (state_for-named_states ms m.name i) m.says)
+    ++ cond (is_among (keys-named_states ms i) m.name) [] (one m.name (updated (state_for-named_states ms m.name i) m.says)))
+    ∙ ap (λ (l : Named). with_state (named_states ms) (place_of m.name (names_by_first_mention ms)) (updated (state ms m.name) m.says) ++ l) (last (is_among (names_by_first_mention ms) m.name) refl)
+    ∙ sym (externals_mention ms m)
+  where
+    says_alone : (s : State) → updated (Wanted 0) s ≡ s
+    says_alone (Defined segment offset) = refl
+    says_alone (Wanted size) = ap (λ (n : ℕ). Wanted n) (omega arith)
+
+    last : (t : Bool) → is_among (names_by_first_mention ms) m.name ≡ t →
+        cond t [] (one m.name (updated (state ms m.name) m.says)) ≡ cond (is_among (names_of ms) m.name) [] (one m.name m.says)
+    last true h = let known : is_among (names_of ms) m.name ≡ true = sym (is_among-externals ms m.name) ∙ h in rw known refl
+    last false h =
+        let unknown : is_among (names_of ms) m.name ≡ false = sym (is_among-externals ms m.name) ∙ h in
+        let said : updated (state ms m.name) m.says ≡ m.says = ap (λ (s : State). updated s m.says) (unmentioned ms m.name unknown) ∙ says_alone m.says in
+        rw (unknown, said) refl
+
+-- several more mentions
+pub all_mentioned-named_states : (ms ns : List Mention) → all_mentioned (named_states ms) ns ≡ named_states (ms ++ ns)
+all_mentioned-named_states ms [] = ap named_states (sym (append-nil ms))
+all_mentioned-named_states ms (n ∷ ns) =
+    ap (λ (es : Named). all_mentioned es ns) (mentioned-named_states ms n) ∙ all_mentioned-named_states (ms ++ n ∷ []) ns ∙ ap named_states (append_assoc ms (n ∷ []) ns)
+
+pub all_clashes-named_states : (ms ns : List Mention) → multiple_names (ms ++ ns) ≡ multiple_names ms ++ all_clashes (named_states ms) ns
+all_clashes-named_states ms [] = ap multiple_names (append-nil ms) ∙ sym (append-nil (multiple_names ms))
+all_clashes-named_states ms (n ∷ ns) =
+    ap multiple_names (sym (append_assoc ms (n ∷ []) ns))
+    ∙ all_clashes-named_states (ms ++ n ∷ []) ns
+    ∙ (λ i. (multiples_mention ms n ∙ ap (λ (s : State). multiple_names ms ++ cond (clashes s n.says) (n.name ∷ []) []) (sym (state_for-named_states ms n.name))) i
+    ++ all_clashes (sym (mentioned-named_states ms n) i) ns)
+    ∙ append_assoc (multiple_names ms) (cond (clashes (state_for (named_states ms) n.name) n.says) (n.name ∷ []) []) (all_clashes (mentioned (named_states ms) n) ns)

@@ -1,0 +1,83 @@
+-- The place of a name in an image, and the state there.
+use Rattle.std.proofs.Common.{◌≡◌, ℕ, zero, suc, ◌+◌, ◌<◌, ◌≤◌, ◌⊎◌, inl, inr, Bool, true, false, cond, not, List, [], ◌∷◌, length, position, Option, Some, None, refl, sym, ◌∙◌, ap, arith, add-one, nat_lt}
+use Rattle.std.specs.Prelude.{bytes_eq, slice_get, filter}
+use Rattle.std.specs.List.{position_or_len}
+use Rattle.std.specs.Map.{keys_of}
+use Rattle.std.proofs.lemmas.Bool.{le-ltb, lt-ltb, cases_lt}
+use Rattle.std.proofs.lemmas.List.{length-map}
+use Rattle.aout_core.specs.declared.symbol.Symbol.{Symbol}
+use Rattle.aout_core.specs.WellFormed.{is_external}
+use Rattle.link_session.specs.declared.state.State.{State}
+use Rattle.link_session.specs.declared.state.State.TheVariants.{Wanted}
+use Rattle.link_session.specs.Mentions.{place_of}
+use Rattle.link_session.specs.Undo.{with_state}
+use Rattle.link_session.specs.Additions.{Named, state_in, state_at, state_for, place_in}
+
+place_is : (name : List ℕ) (names : List (List ℕ)) → position_or_len (bytes_eq name) names ≡ place_of name names
+place_is name [] = refl
+place_is name (n ∷ ns) = by_test (bytes_eq name n) (place_is name ns)
+  where
+    by_test : (t : Bool) → position_or_len (bytes_eq name) ns ≡ place_of name ns → cond (not t) (1 + position_or_len (bytes_eq name) ns) 0 ≡ cond t 0 (place_of name ns + 1)
+    by_test true h = refl
+    by_test false h = omega arith
+
+pub place_of-le : (name : List ℕ) (names : List (List ℕ)) → place_of name names ≤ length names
+place_of-le name [] = omega arith
+place_of-le name (n ∷ ns) = by_test (bytes_eq name n) (place_of-le name ns)
+  where
+    by_test : (t : Bool) → place_of name ns ≤ length ns → cond t 0 (place_of name ns + 1) ≤ length (n ∷ ns)
+    by_test true h = omega arith
+    by_test false h = omega arith
+
+found : (name : List ℕ) (names : List (List ℕ)) (i : ℕ) → position (bytes_eq name) names ≡ Some i → place_of name names ≡ i
+found name names i e = by_order (cases_lt (position_or_len (bytes_eq name) names) (length names))
+  where
+    by_order : (position_or_len (bytes_eq name) names < length names) ⊎ (length names ≤ position_or_len (bytes_eq name) names) → place_of name names ≡ i
+    by_order (inl below) =
+        let test = lt-ltb (position_or_len (bytes_eq name) names) (length names) below in
+        let here : Some (position_or_len (bytes_eq name) names) ≡ Some i = rw test at e in
+        let same : position_or_len (bytes_eq name) names ≡ i = cc in
+        sym (place_is name names) ∙ same
+    by_order (inr above) =
+        let test = le-ltb (position_or_len (bytes_eq name) names) (length names) above in
+        absurd (let none : None ≡ Some i = rw test at e in cc)
+
+missing : (name : List ℕ) (names : List (List ℕ)) → position (bytes_eq name) names ≡ None → place_of name names ≡ length names
+missing name names e = by_order (cases_lt (position_or_len (bytes_eq name) names) (length names))
+  where
+    by_order : (position_or_len (bytes_eq name) names < length names) ⊎ (length names ≤ position_or_len (bytes_eq name) names) → place_of name names ≡ length names
+    by_order (inl below) =
+        let test = lt-ltb (position_or_len (bytes_eq name) names) (length names) below in
+        absurd (let none : Some (position_or_len (bytes_eq name) names) ≡ None = rw test at e in cc)
+    by_order (inr above) = omega (arith, place_is name names, place_of-le name names)
+
+-- a name that is found stands at its place
+pub found_place : (es : Named) (name : List ℕ) (i : ℕ) → Some i ≡ position (bytes_eq name) (keys_of es) → i ≡ place_in es name
+found_place es name i e = sym (found name (keys_of es) i (sym e))
+
+pub found_state : (es : Named) (name : List ℕ) (i : ℕ) (key : List ℕ) (state : State) → Some i ≡ position (bytes_eq name) (keys_of es) → slice_get es i ≡ Some (key, state) → state ≡ state_for es name
+found_state es name i key state e at = ap state_in (sym at) ∙ ap (state_at es) (found_place es name i e)
+
+behind : (es : Named) → slice_get es (length es) ≡ None
+behind [] = refl
+behind (e ∷ es) = behind es
+
+-- a name that is not found would stand last
+pub missing_place : (es : Named) (name : List ℕ) → None ≡ position (bytes_eq name) (keys_of es) → length es ≡ place_in es name
+missing_place es name e = sym (missing name (keys_of es) (sym e) ∙ length-map es (λ p. p.0))
+
+pub missing_state : (es : Named) (name : List ℕ) → None ≡ position (bytes_eq name) (keys_of es) → Wanted 0 ≡ state_for es name
+missing_state es name e = ap state_in (sym (behind es)) ∙ ap (state_at es) (missing_place es name e)
+
+pub with_state-behind : (es : Named) (i : ℕ) (s : State) → length es ≤ i → with_state es i s ≡ es
+with_state-behind [] i s h = refl
+with_state-behind (e ∷ es) zero s h = absurd (omega arith)
+with_state-behind (e ∷ es) (suc i) s h = ap (λ (l : Named). e ∷ l) (with_state-behind es i s (omega arith))
+
+pub filter_le : {A : Type 0} (p : A → Bool) (xs : List A) → length (filter p xs) ≤ length xs
+filter_le p [] = omega arith
+filter_le {A = A} p (x ∷ xs) = by_test (p x) (filter_le p xs)
+  where
+    by_test : (t : Bool) → length (filter p xs) ≤ length xs → length (cond t (x ∷ filter p xs) (filter p xs)) ≤ length (x ∷ xs)
+    by_test true h = omega arith
+    by_test false h = omega arith

@@ -1,0 +1,170 @@
+-- Sizes, limits and shifts read off an image.
+use Rattle.std.proofs.Common.{◌≡◌, ℕ, ◌+◌, ◌*◌, ◌≤◌, ◌<◌, Bool, true, false, cond, not, eqb, List, [], ◌∷◌, ◌++◌, map, length, Option, Some, None, refl, sym, ◌∙◌, ap, arith, length-append, eqb-true, nat_lt}
+use Rattle.std.specs.Prelude.{zip, min}
+use Rattle.std.specs.List.{flat_map, AllByRecursion}
+use Rattle.std.specs.Map.{keys_of}
+use Rattle.std.proofs.lemmas.Bool.{ltb-false, le-ltb}
+use Rattle.std.proofs.lemmas.List.{length-map, map-append}
+use Rattle.std.proofs.lemmas.List.Sums.{sum_by-append}
+use Rattle.std.proofs.lemmas.Slice.Zip.{length-zip}
+use Rattle.aout_core.specs.declared.symbol.Symbol.{Symbol}
+use Rattle.aout_core.specs.declared.symbol.Segment.{Segment}
+use Rattle.aout_core.specs.declared.symbol.Segment.TheVariants as segments
+use Rattle.aout_core.specs.declared.object.ObjectFault.{ObjectFault}
+use Rattle.aout_core.specs.declared.object.ObjectFault.TheVariants as faults
+use Rattle.aout_core.specs.declared.reloc.Reloc.{Reloc}
+use Rattle.aout_core.specs.Contents.{Contents, with_relocation}
+use Rattle.aout_core.specs.WellFormed.{is_external, segment_of, first_bad_word, IsWellFormed}
+use Rattle.link_session.specs.declared.entry.AddFault.{AddFault}
+use Rattle.link_session.specs.declared.entry.AddFault.TheVariants.{TextFull, DataFull, BssFull, NamesFull}
+use Rattle.link_session.specs.declared.state.State.{State}
+use Rattle.link_session.specs.declared.cell.Cell.{Cell}
+use Rattle.link_session.specs.Earlier.{with_earlier}
+use Rattle.link_session.specs.Starts.{total, size_of}
+use Rattle.link_session.specs.Mentions.{Mention, mentions, mentions_in, names_of, names_by_first_mention, new_names, externals, externals_in, mention, is_among}
+use Rattle.link_session.specs.States.{state}
+use Rattle.link_session.specs.Cells.{cells, cells_in, words_of, cell}
+use Rattle.link_session.specs.Image.{image}
+use Rattle.link_session.specs.Edits.{limit_passed, refusal}
+use Rattle.link_session.specs.Sessions.{IsObject}
+use Rattle.link_session.specs.Fields.{IsSmall}
+use Rattle.link_session.specs.Additions.{external_names, next_limit}
+use Rattle.link_session.proofs.MentionLemmas.{externals_push, is_among-externals}
+use Rattle.link_session.proofs.MentionedLemmas.{keys-named_states, new_names-seen}
+
+-- an object has its relocation words
+with_all : (o : Contents) → IsWellFormed o → (size : ℕ) → with_relocation o.header size ≡ size
+with_all o h size = by_tests (eqb o.header.magic 263) (eqb o.header.flag 0) h
+  where
+    by_tests : (a b : Bool) → cond (not a) (Some faults.NotAnObject) (cond (not b) (Some faults.NoRelocation) (first_bad_word o.symbols 0 (o.text_reloc ++ o.data_reloc))) ≡ None → cond b size 0 ≡ size
+    by_tests false b h = absurd (cc)
+    by_tests true false h = absurd (cc)
+    by_tests true true h = refl
+
+-- as many relocation words as words
+pub text_beside : (o : Contents) → IsObject o → length o.text_words ≡ length o.text_reloc
+text_beside o h = omega (arith, h.fits.text, h.fits.text_relocation, with_all o h.well o.header.text_size)
+
+pub data_beside : (o : Contents) → IsObject o → length o.data_words ≡ length o.data_reloc
+data_beside o h = omega (arith, h.fits.data, h.fits.data_relocation, with_all o h.well o.header.data_size)
+
+total-first : (segment : Segment) (o : Contents) (rest : List Contents) → total segment (o ∷ rest) ≡ size_of segment o + total segment rest
+total-first segment o rest = sum_by-append (size_of segment) (o ∷ []) rest ∙ omega arith
+
+both : (cs ds : List Cell) (m n : ℕ) → 2 * length cs ≡ m → 2 * length ds ≡ n → 2 * length (cs ++ ds) ≡ m + n
+both cs ds m n c d = omega (arith, length-append cs ds)
+
+module _ (ms : List Mention) where
+  text_length : (earlier : List Contents) (o : Contents) → IsObject o → 2 * length (cells_in ms segments.TextSeg earlier o) ≡ o.header.text_size
+  text_length earlier o h =
+      omega (arith, length-map (zip o.text_words o.text_reloc) (λ (wr : ℕ × Reloc). cell ms earlier o segments.TextSeg wr.0 wr.1), length-zip o.text_words o.text_reloc, text_beside o h, h.fits.text)
+
+  data_length : (earlier : List Contents) (o : Contents) → IsObject o → 2 * length (cells_in ms segments.DataSeg earlier o) ≡ o.header.data_size
+  data_length earlier o h =
+      omega (arith, length-map (zip o.data_words o.data_reloc) (λ (wr : ℕ × Reloc). cell ms earlier o segments.DataSeg wr.0 wr.1), length-zip o.data_words o.data_reloc, data_beside o h, h.fits.data)
+
+  -- two bytes for each cell
+  pub text_total : (os : List Contents) → AllByRecursion IsObject os → 2 * length (cells ms segments.TextSeg os) ≡ total segments.TextSeg os
+  text_total os h = from [] os h
+    where
+      from : (earlier rest : List Contents) → AllByRecursion IsObject rest → 2 * length (flat_map (λ p. cells_in ms segments.TextSeg p.0 p.1) (with_earlier earlier rest)) ≡ total segments.TextSeg rest
+      from earlier [] h = refl
+      from earlier (o ∷ rest) h =
+          both (cells_in ms segments.TextSeg earlier o) (flat_map (λ p. cells_in ms segments.TextSeg p.0 p.1) (with_earlier (earlier ++ o ∷ []) rest)) o.header.text_size (total segments.TextSeg rest) (text_length earlier o h.0) (from (earlier ++ o ∷ []) rest h.1)
+          ∙ sym (total-first segments.TextSeg o rest)
+
+  pub data_total : (os : List Contents) → AllByRecursion IsObject os → 2 * length (cells ms segments.DataSeg os) ≡ total segments.DataSeg os
+  data_total os h = from [] os h
+    where
+      from : (earlier rest : List Contents) → AllByRecursion IsObject rest → 2 * length (flat_map (λ p. cells_in ms segments.DataSeg p.0 p.1) (with_earlier earlier rest)) ≡ total segments.DataSeg rest
+      from earlier [] h = refl
+      from earlier (o ∷ rest) h =
+          both (cells_in ms segments.DataSeg earlier o) (flat_map (λ p. cells_in ms segments.DataSeg p.0 p.1) (with_earlier (earlier ++ o ∷ []) rest)) o.header.data_size (total segments.DataSeg rest) (data_length earlier o h.0) (from (earlier ++ o ∷ []) rest h.1)
+          ∙ sym (total-first segments.DataSeg o rest)
+
+total-push : (segment : Segment) (os : List Contents) (o : Contents) → total segment (os ++ o ∷ []) ≡ total segment os + size_of segment o
+total-push segment os o = sum_by-append (size_of segment) os (o ∷ []) ∙ omega arith
+
+abbrev limit : ℕ → ℕ → ℕ → ℕ → Option AddFault
+limit t d b n = cond (nat_lt 65534 t) (Some TextFull) (cond (nat_lt 65534 d) (Some DataFull) (cond (nat_lt 65534 b) (Some BssFull) (cond (nat_lt 65535 n) (Some NamesFull) None)))
+
+-- a limit is passed with one more object where its image says so
+pub refusal-next_limit : (forced : List (List ℕ)) (os : List Contents) (o : Contents) → AllByRecursion IsObject os → refusal forced os o ≡ next_limit (image forced os) o
+refusal-next_limit forced os o h = λ i. limit (text i) (datas i) (total-push segments.BssSeg os o i) (names i)
+  where
+    text : total segments.TextSeg (os ++ o ∷ []) ≡ 2 * length (image forced os).text_cells + o.header.text_size
+    text = total-push segments.TextSeg os o ∙ ap (λ (n : ℕ). n + o.header.text_size) (sym (text_total (mentions forced os) os h))
+
+    datas : total segments.DataSeg (os ++ o ∷ []) ≡ 2 * length (image forced os).data_cells + o.header.data_size
+    datas = total-push segments.DataSeg os o ∙ ap (λ (n : ℕ). n + o.header.data_size) (sym (data_total (mentions forced os) os h))
+
+    said : (ss : List Symbol) → names_of (map (mention os o) ss) ≡ map (λ (s : Symbol). s.name) ss
+    said [] = refl
+    said (s ∷ ss) = ap (λ (ns : List (List ℕ)). s.name ∷ ns) (said ss)
+
+    seen : (n : List ℕ) → is_among (names_of (mentions forced os)) n ≡ is_among (keys_of (image forced os).externals) n
+    seen n = sym (is_among-externals (mentions forced os) n) ∙ ap (λ (ns : List (List ℕ)). is_among ns n) (sym (keys-named_states (mentions forced os)))
+
+    new : new_names (names_of (mentions forced os)) (names_of (mentions_in os o)) ≡ new_names (keys_of (image forced os).externals) (external_names o.symbols)
+    new = ap (λ (ns : List (List ℕ)). new_names (names_of (mentions forced os)) ns) (said (externals_in o)) ∙ new_names-seen (names_of (mentions forced os)) (keys_of (image forced os).externals) (external_names o.symbols) seen
+
+    names : length (externals forced (os ++ o ∷ [])) ≡ length (image forced os).externals + length (new_names (keys_of (image forced os).externals) (external_names o.symbols))
+    names =
+        ap (λ (ns : List (List ℕ)). length ns) (externals_push forced os o)
+        ∙ length-append (externals forced os) (new_names (names_of (mentions forced os)) (names_of (mentions_in os o)))
+        ∙ (λ i. sym (length-map {B = List ℕ × State} (externals forced os) (λ n. (n, state (mentions forced os) n))) i + length (new i))
+
+-- no limit is passed
+pub record Within (t d b n : ℕ) : Type 0 where
+  pub text : t ≤ 65534
+  pub «data» : d ≤ 65534
+  pub bss : b ≤ 65534
+  pub names : n ≤ 65535
+
+pub within_limit : (t d b n : ℕ) → limit t d b n ≡ None → Within t d b n
+within_limit t d b n h = by_text (nat_lt 65534 t) refl h
+  where
+    by_names : Within t d b 0 → (u : Bool) → nat_lt 65535 n ≡ u → cond u (Some NamesFull) None ≡ None → Within t d b n
+    by_names w true e h = absurd (cc)
+    by_names w false e h = record { text = w.text; «data» = w.data; bss = w.bss; names = ltb-false 65535 n e }
+
+    by_bss : Within t d 0 0 → (u : Bool) → nat_lt 65534 b ≡ u → cond u (Some BssFull) (cond (nat_lt 65535 n) (Some NamesFull) None) ≡ None → Within t d b n
+    by_bss w true e h = absurd (cc)
+    by_bss w false e h = by_names (record { text = w.text; «data» = w.data; bss = ltb-false 65534 b e; names = omega arith }) (nat_lt 65535 n) refl h
+
+    by_data : Within t 0 0 0 → (u : Bool) → nat_lt 65534 d ≡ u → cond u (Some DataFull) (cond (nat_lt 65534 b) (Some BssFull) (cond (nat_lt 65535 n) (Some NamesFull) None)) ≡ None → Within t d b n
+    by_data w true e h = absurd (cc)
+    by_data w false e h = by_bss (record { text = w.text; «data» = ltb-false 65534 d e; bss = omega arith; names = omega arith }) (nat_lt 65534 b) refl h
+
+    by_text : (u : Bool) → nat_lt 65534 t ≡ u → cond u (Some TextFull) (cond (nat_lt 65534 d) (Some DataFull) (cond (nat_lt 65534 b) (Some BssFull) (cond (nat_lt 65535 n) (Some NamesFull) None))) ≡ None → Within t d b n
+    by_text true e h = absurd (cc)
+    by_text false e h = by_data (record { text = ltb-false 65534 t e; «data» = omega arith; bss = omega arith; names = omega arith }) (nat_lt 65534 d) refl h
+
+pub limit_within : (t d b n : ℕ) → Within t d b n → limit t d b n ≡ None
+limit_within t d b n w = rw (le-ltb 65534 t w.text, le-ltb 65534 d w.data, le-ltb 65534 b w.bss, le-ltb 65535 n w.names) refl
+
+-- the image of objects that pass no limit is small
+pub image_small : (forced : List (List ℕ)) (os : List Contents) → AllByRecursion IsObject os → limit_passed forced os ≡ None → IsSmall (image forced os)
+image_small forced os h none =
+    let w = within_limit (total segments.TextSeg os) (total segments.DataSeg os) (total segments.BssSeg os) (length (externals forced os)) none in record {
+      text = omega (arith, text_total (mentions forced os) os h, w.text);
+      «data» = omega (arith, data_total (mentions forced os) os h, w.data);
+      bss = w.bss;
+      names = omega (arith, length-map {B = List ℕ × State} (externals forced os) (λ n. (n, state (mentions forced os) n)), w.names);
+    }
+
+-- without their last object they pass none either
+pub within_before : (forced : List (List ℕ)) (os : List Contents) (o : Contents) → limit_passed forced (os ++ o ∷ []) ≡ None → limit_passed forced os ≡ None
+within_before forced os o none =
+    let w = within_limit (total segments.TextSeg (os ++ o ∷ [])) (total segments.DataSeg (os ++ o ∷ [])) (total segments.BssSeg (os ++ o ∷ [])) (length (externals forced (os ++ o ∷ []))) none in
+    limit_within (total segments.TextSeg os) (total segments.DataSeg os) (total segments.BssSeg os) (length (externals forced os)) (record {
+      text = omega (arith, total-push segments.TextSeg os o, w.text);
+      «data» = omega (arith, total-push segments.DataSeg os o, w.data);
+      bss = omega (arith, total-push segments.BssSeg os o, w.bss);
+      names = omega (
+        arith,
+        ap (λ (ns : List (List ℕ)). length ns) (externals_push forced os o),
+        length-append (externals forced os) (new_names (names_of (mentions forced os)) (names_of (mentions_in os o))),
+        w.names,
+      );
+    })

@@ -1,0 +1,6 @@
+use Rattle.std.proofs.Common.{sym, arith}
+use Rattle.link_session.proofs.PlaceLemmas.{with_state-behind}
+use Rattle.link_session.proofs.merged.put_state.Goals as goal
+
+pub returns-else-index-len : goal.returns-else-index-len
+returns-else-index-len c = sym (with_state-behind c.args.externals.now.entries c.args.index c.args.state (omega (arith, c.len.ensures.len)))

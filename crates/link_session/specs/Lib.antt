@@ -1,0 +1,15 @@
+pub mod Earlier
+pub mod Labelled
+pub mod ForcedNames
+pub mod Starts
+pub mod Mentions
+pub mod States
+pub mod Cells
+pub mod Image
+pub mod Edits
+pub mod Undo
+pub mod Bounds
+pub mod Updates
+pub mod Additions
+pub mod Sessions
+pub mod Fields

@@ -1,0 +1,52 @@
+-- What the calls of a session do to what it keeps.
+use Rattle.std.specs.Prelude.{◌≡◌, ℕ, ◌≤◌, List, [], ◌∷◌, ◌++◌, length, Option, Some, None, String, string_bytes}
+use Rattle.std.specs.List.{AllByRecursion}
+use Rattle.std.specs.declared.alloc.Global.{Global}
+use Rattle.aout_core.specs.Contents.{Contents, Fits}
+use Rattle.aout_core.specs.WellFormed.{IsWellFormed}
+use Rattle.link_session.specs.declared.entry.AddFault.{AddFault}
+use Rattle.link_session.specs.declared.entry.AddFault.TheVariants.{Memory}
+use Rattle.link_session.specs.declared.mark.Mark.{Mark}
+use Rattle.link_session.specs.Labelled.{Labelled, objects}
+use Rattle.link_session.specs.Undo.{undo, IsInside, Kept, image_of}
+use Rattle.link_session.specs.Bounds.{most_marks}
+
+-- a file that fits its header and is well formed
+pub record IsObject (o : Contents) : Type 0 where
+  pub fits : Fits o
+  pub well : IsWellFormed o
+
+-- no objects
+abbrev pub nothing_kept : List (List ℕ) → Kept
+nothing_kept forced = record { forced = forced; entries = []; journal = [] }
+
+abbrev pub labelled : String Global → Contents → Labelled
+labelled label object = record { label = string_bytes label; object = object }
+
+-- an object was put last, and its marks take it back: they lie inside the old image, and are no more than they need be
+pub record Adds (old new : Kept) (e : Labelled) : Type 0 where
+  pub forced : new.forced ≡ old.forced
+  pub entries : new.entries ≡ old.entries ++ e ∷ []
+  pub marks : List Mark
+  pub journal : new.journal ≡ old.journal ++ marks ∷ []
+  pub undoes : undo marks (image_of new) (image_of old) ≡ image_of old
+  pub inside : AllByRecursion (IsInside (image_of old)) marks
+  pub few : length marks ≤ most_marks old.forced (objects old.entries) e.object
+
+-- the last object was taken away, with its marks
+pub record Withdraws (old new : Kept) (e : Labelled) : Type 0 where
+  pub forced : new.forced ≡ old.forced
+  pub entries : old.entries ≡ new.entries ++ e ∷ []
+  pub marks : List Mark
+  pub journal : old.journal ≡ new.journal ++ marks ∷ []
+
+-- a limit is the cause where one is passed, and else want of memory
+abbrev pub IsCause : Option AddFault → AddFault → Type 0
+IsCause None cause = cause ≡ Memory
+IsCause (Some limit) cause = cause ≡ limit
+
+-- the marks of the object added last
+abbrev pub newest : List (List Mark) → List Mark
+newest [] = []
+newest (ks ∷ []) = ks
+newest (ks ∷ (ls ∷ more)) = newest (ls ∷ more)

@@ -1,0 +1,19 @@
+//! What an addition overwrote.
+use crate::cell::Cell;
+use crate::state::State;
+
+/// Where a cell stands: the index of its word in the merged text or data, from 0.
+#[derive(Clone, Copy, Debug, PartialEq, Eq)]
+pub enum Place {
+    InText(u16),
+    InData(u16),
+}
+
+/// What stood at a place before an addition overwrote it. (own choice)
+#[derive(Clone, Copy, Debug, PartialEq, Eq)]
+pub enum Mark {
+    /// A cell that was bound.
+    CellWas(Place, Cell),
+    /// The state of the external with this index.
+    StateWas(u16, State),
+}

@@ -1,0 +1,191 @@
+//! The mentions of external names.
+ghost use Rattle.std.specs.Prelude.{◌≡◌, ◌+◌, ◌*◌, ◌^◌, ◌≤◌, ◌<◌, ◌++◌, ◌&&◌, ◌∷◌, [], cond, nat_lt, filter, length, vec_len, vec_capacity};
+ghost use Rattle.indexmap.specs.IndexMap.{spare};
+ghost use Rattle.aout_core.specs.WellFormed.{is_external, segment_of};
+ghost use Rattle.link_session.specs.Mentions.{is_among};
+ghost use Rattle.link_session.specs.Updates.{updated, clashes};
+ghost use Rattle.link_session.specs.Additions.{definition_by_shift, mentioned, said, clash, state_mark, place_in, state_for, changes, statement_by, mentions_by, all_mentioned, state_marks, all_clashes};
+
+use crate::mark::Mark;
+use crate::merged::Externals;
+use crate::own::Shifts;
+use crate::state::State;
+use aout_core::{Name, Segment, Symbol};
+
+/// Whether the name is one of these.
+pub(crate) fn is_among(names: &[Name], name: &Name) -> bool
+    ensures { result ≡ is_among names.now name.now }
+{
+    names.iter().any(|known| name == known)
+}
+
+/// The place of a name and its state; one that is not there would stand last, wanted at no size.
+pub(crate) fn look_up(externals: &Externals, name: &Name) -> (usize, State)
+    ensures place { result.0 ≡ place_in externals.now.entries name.now }
+    ensures within { result.0 ≤ length externals.now.entries }
+    ensures state { result.1 ≡ state_for externals.now.entries name.now }
+{
+    match externals.get_full(name) {
+        Some((place, _, state)) => (place, *state),
+        None => (externals.len(), State::Wanted(0)),
+    }
+}
+
+/// What an entry says of its name.
+fn statement(symbol: &Symbol, shifts: &Shifts) -> State
+    ensures { result ≡ statement_by shifts.now (segment_of symbol.now) symbol.now.value }
+{
+    match symbol.segment() {
+        Segment::Undefined => State::Wanted(symbol.value),
+        Segment::Other => definition(Segment::Absolute, symbol.value, shifts),
+        segment => definition(segment, symbol.value, shifts),
+    }
+}
+
+fn definition(segment: Segment, value: u16, shifts: &Shifts) -> State
+    ensures { result ≡ definition_by_shift shifts.now segment value }
+{
+    State::Defined(segment, value.wrapping_add(shifts.of(segment)))
+}
+
+/// The state of a name that is mentioned once more.
+fn updated(was: State, says: State) -> State
+    ensures { result ≡ updated was says }
+{
+    match (was, says) {
+        (State::Wanted(size), State::Wanted(more)) => State::Wanted(size.max(more)),
+        (State::Wanted(_), State::Defined(segment, offset)) => State::Defined(segment, offset),
+        (State::Defined(segment, offset), _) => State::Defined(segment, offset),
+    }
+}
+
+/// Whether a mention changes the state.
+fn changes(was: State, says: State) -> bool
+    ensures { result ≡ changes was says }
+{
+    match (was, says) {
+        (State::Wanted(size), State::Wanted(more)) => size < more,
+        (State::Wanted(_), State::Defined(_, _)) => true,
+        (State::Defined(_, _), _) => false,
+    }
+}
+
+/// Whether a name that is defined is defined again, and otherwise.
+fn clashes(was: State, says: State) -> bool
+    ensures { result ≡ clashes was says }
+{
+    match (was, says) {
+        (State::Defined(segment, offset), State::Defined(again, place)) => {
+            !(again == segment && place == offset)
+        }
+        _ => false,
+    }
+}
+
+/// Marks the state of an earlier name that a mention changes. There is room for the mark.
+fn note_state(marks: &mut Vec<Mark>, kept: usize, place: usize, was: State, says: State)
+    requires small { kept ≤ 65535 }
+    requires room { vec_len marks.old < vec_capacity marks.old }
+    ensures marks { marks.new.items ≡ marks.old.items ++ cond (nat_lt place kept && changes was says) (Mark.StateWas place was ∷ []) [] }
+    ensures len { vec_len marks.new ≤ vec_len marks.old + 1 }
+    ensures capacity { vec_capacity marks.old ≤ vec_capacity marks.new }
+{
+    if place < kept && changes(was, says) {
+        marks.push(Mark::StateWas(place as u16, was)).unwrap();
+    }
+}
+
+/// Notes a name that is defined again, and otherwise. There is room for it.
+fn note_clash(multiples: &mut Vec<Name>, name: Name, was: State, says: State)
+    requires { vec_len multiples.old < vec_capacity multiples.old }
+    ensures names { multiples.new.items ≡ multiples.old.items ++ cond (clashes was says) (name ∷ []) [] }
+    ensures len { vec_len multiples.new ≤ vec_len multiples.old + 1 }
+    ensures capacity { vec_capacity multiples.old ≤ vec_capacity multiples.new }
+{
+    if clashes(was, says) {
+        multiples.push(name).unwrap();
+    }
+}
+
+/// Mentions a name. There is room for it.
+pub(crate) fn mention(externals: &mut Externals, name: Name, says: State)
+    requires { 0 < spare externals.old }
+    ensures names { externals.new.entries ≡ mentioned externals.old.entries (said name says) }
+    ensures left { spare externals.old ≤ spare externals.new + 1 }
+{
+    let (_, was) = look_up(externals, &name);
+    externals.insert(name, updated(was, says)).unwrap();
+}
+
+/// Enters an external entry of an object. There is room for it; `kept` names were there before the object.
+fn enter(
+    externals: &mut Externals,
+    multiples: &mut Vec<Name>,
+    marks: &mut Vec<Mark>,
+    kept: usize,
+    name: Name,
+    says: State,
+)
+    requires small { kept ≤ 65535 }
+    requires names_room { 0 < spare externals.old }
+    requires multiples_room { vec_len multiples.old < vec_capacity multiples.old }
+    requires marks_room { vec_len marks.old < vec_capacity marks.old }
+    ensures names { externals.new.entries ≡ mentioned externals.old.entries (said name says) }
+    ensures multiples { multiples.new.items ≡ multiples.old.items ++ clash externals.old.entries (said name says) }
+    ensures marks { marks.new.items ≡ marks.old.items ++ state_mark kept externals.old.entries (said name says) }
+    ensures names_left { spare externals.old ≤ spare externals.new + 1 }
+    ensures multiples_len { vec_len multiples.new ≤ vec_len multiples.old + 1 }
+    ensures multiples_capacity { vec_capacity multiples.old ≤ vec_capacity multiples.new }
+    ensures marks_len { vec_len marks.new ≤ vec_len marks.old + 1 }
+    ensures marks_capacity { vec_capacity marks.old ≤ vec_capacity marks.new }
+{
+    let (place, was) = look_up(externals, &name);
+    note_state(marks, kept, place, was, says);
+    note_clash(multiples, name, was, says);
+    externals.insert(name, updated(was, says)).unwrap();
+}
+
+/// How many of the entries are external.
+pub(crate) fn count_external(symbols: &[Symbol]) -> usize
+    requires { 12 * length symbols.now < 2 ^ 16 }
+    ensures { result ≡ length (filter is_external symbols.now) }
+{
+    let mut count = 0;
+    for symbol in symbols {
+        if symbol.is_external() {
+            count += 1;
+        }
+    }
+    count
+}
+
+/// Enters all external entries of an object, in order. There is room for them; `kept` names were there before.
+pub(crate) fn enter_all(
+    externals: &mut Externals,
+    multiples: &mut Vec<Name>,
+    marks: &mut Vec<Mark>,
+    kept: usize,
+    symbols: &[Symbol],
+    shifts: &Shifts,
+)
+    requires small { kept ≤ 65535 }
+    requires names_room { length (filter is_external symbols.now) ≤ spare externals.old }
+    requires multiples_room { vec_len multiples.old + length (filter is_external symbols.now) ≤ vec_capacity multiples.old }
+    requires marks_room { vec_len marks.old + length (filter is_external symbols.now) ≤ vec_capacity marks.old }
+    ensures names { externals.new.entries ≡ all_mentioned externals.old.entries (mentions_by shifts.now symbols.now) }
+    ensures multiples { multiples.new.items ≡ multiples.old.items ++ all_clashes externals.old.entries (mentions_by shifts.now symbols.now) }
+    ensures marks { marks.new.items ≡ marks.old.items ++ state_marks kept externals.old.entries (mentions_by shifts.now symbols.now) }
+{
+    for symbol in symbols {
+        if symbol.is_external() {
+            enter(
+                externals,
+                multiples,
+                marks,
+                kept,
+                symbol.name,
+                statement(symbol, shifts),
+            );
+        }
+    }
+}

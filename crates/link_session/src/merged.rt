@@ -1,0 +1,116 @@
+//! The merged image, and how an addition is taken back.
+ghost use Rattle.std.specs.Prelude.{◌≡◌, ◌*◌, ◌+◌, ◌-◌, ◌<◌, ◌≤◌, ◌∷◌, ◌++◌, [], length, take, slice_set};
+ghost use Rattle.link_session.specs.Fields.{image_in, sizes_of, cut_by};
+ghost use Rattle.link_session.specs.Undo.{put_back, put_all_back, with_state};
+
+use crate::cell::Cell;
+use crate::mark::{Mark, Place};
+use crate::state::State;
+use aout_core::Name;
+use indexmap::IndexMap;
+use std::alloc::Global;
+
+/// The external names by first mention, each with what is known of it.
+pub(crate) type Externals = IndexMap<Name, State>;
+
+/// The merged image of the objects so far.
+#[derive(Drop)]
+pub(crate) struct Merged {
+    pub(crate) text_cells: Vec<Cell>,
+    pub(crate) data_cells: Vec<Cell>,
+    pub(crate) bss_total: u16,
+    pub(crate) externals: Externals,
+    pub(crate) multiples: Vec<Name>,
+}
+
+/// The sizes of an image: what is behind them was added later.
+#[derive(Clone, Copy, Debug)]
+pub(crate) struct Sizes {
+    pub(crate) text_cells: usize,
+    pub(crate) data_cells: usize,
+    pub(crate) bss_total: u16,
+    pub(crate) externals: usize,
+    pub(crate) multiples: usize,
+}
+
+impl Merged {
+    /// The image of no objects.
+    pub(crate) fn new(alloc: Global) -> Merged
+        ensures text { (image_in result).text_cells ≡ [] }
+        ensures datas { (image_in result).data_cells ≡ [] }
+        ensures bss { result.bss_total ≡ 0 }
+        ensures names { (image_in result).externals ≡ [] }
+        ensures multiples { (image_in result).multiples ≡ [] }
+    {
+        Merged {
+            text_cells: Vec::new(alloc),
+            data_cells: Vec::new(alloc),
+            bss_total: 0,
+            externals: IndexMap::new(alloc),
+            multiples: Vec::new(alloc),
+        }
+    }
+
+    pub(crate) fn sizes(&self) -> Sizes
+        ensures { result ≡ sizes_of (image_in self.now) }
+    {
+        Sizes {
+            text_cells: self.text_cells.len(),
+            data_cells: self.data_cells.len(),
+            bss_total: self.bss_total,
+            externals: self.externals.len(),
+            multiples: self.multiples.len(),
+        }
+    }
+}
+
+/// Cuts the image to its earlier sizes.
+fn cut(image: &mut Merged, sizes: &Sizes)
+    ensures { image_in image.new ≡ cut_by sizes.now (image_in image.old) }
+{
+    image.text_cells.truncate(sizes.text_cells);
+    image.data_cells.truncate(sizes.data_cells);
+    image.bss_total = sizes.bss_total;
+    image.externals.truncate(sizes.externals);
+    image.multiples.truncate(sizes.multiples);
+}
+
+/// Puts back what a mark remembers.
+fn put_back(image: &mut Merged, mark: Mark)
+    ensures { image_in image.new ≡ put_back mark (image_in image.old) }
+{
+    match mark {
+        Mark::CellWas(Place::InText(index), cell) => put_cell(&mut image.text_cells, index, cell),
+        Mark::CellWas(Place::InData(index), cell) => put_cell(&mut image.data_cells, index, cell),
+        Mark::StateWas(index, state) => put_state(&mut image.externals, index, state),
+    }
+}
+
+fn put_cell(cells: &mut [Cell], index: u16, cell: Cell)
+    ensures { cells.new ≡ slice_set cells.old index cell }
+{
+    let index = index as usize;
+    if index < cells.len() {
+        cells[index] = cell;
+    }
+}
+
+fn put_state(externals: &mut Externals, index: u16, state: State)
+    ensures { externals.new.entries ≡ with_state externals.old.entries index state }
+{
+    let index = index as usize;
+    if index < externals.len() {
+        externals[index] = state;
+    }
+}
+
+/// Takes an addition back: the image is cut to its earlier sizes, and what the marks remember is put back, the last
+/// mark first. It is handed no object, and takes no memory.
+pub(crate) fn undo(image: &mut Merged, marks: &[Mark], sizes: &Sizes)
+    ensures { image_in image.new ≡ put_all_back marks.now (cut_by sizes.now (image_in image.old)) }
+{
+    cut(image, sizes);
+    for i in 0..marks.len() {
+        put_back(image, marks[marks.len() - 1 - i]);
+    }
+}

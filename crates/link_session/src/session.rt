@@ -1,0 +1,275 @@
+//! The session: the objects that are kept, their merged image, and the journal.
+ghost use Rattle.std.specs.Prelude.{◌≡◌, ◌*◌, ◌≤◌, ◌<◌, ◌++◌, ◌∷◌, [], None, Some, length, map, position, slice_get, bytes_eq, IfOk, IfErr, OnOk, OnErr, IfSome, IsNone, vec_len, vec_capacity};
+ghost use Rattle.std.specs.List.{AllByRecursion};
+ghost use Rattle.std.specs.Map.{keys_of};
+ghost use Rattle.indexmap.specs.IndexMap.{spare};
+ghost use Rattle.link_session.specs.Labelled.{objects};
+ghost use Rattle.link_session.specs.Mentions.{externals, forced_mention};
+ghost use Rattle.link_session.specs.Edits.{limit_passed, refusal};
+ghost use Rattle.link_session.specs.Undo.{image_of, IsJournal};
+ghost use Rattle.link_session.specs.Fields.{image_in, IsSmall};
+ghost use Rattle.link_session.specs.Additions.{all_mentioned, joined_image, next_limit, next_marks};
+ghost use Rattle.link_session.specs.Sessions.{nothing_kept, labelled, newest, Adds, Withdraws, IsCause, IsObject};
+
+use crate::cell::Cell;
+use crate::entry::{AddFault, AddRefused, Entry};
+use crate::forced::Forced;
+use crate::join::join;
+use crate::limits::limit_passed;
+use crate::mark::Mark;
+use crate::mention::mention;
+use crate::merged::{Externals, Merged, Sizes, undo};
+use crate::state::State;
+use aout_core::{Name, Object};
+use std::alloc::{AllocError, Global};
+use std::marker::Model;
+use thiserror::Error;
+
+/// No memory was found.
+#[derive(Clone, Copy, Debug, PartialEq, Eq, Error)]
+#[error("no memory")]
+pub struct Memory;
+
+impl From<AllocError> for Memory {
+    fn from(_: AllocError) -> Memory {
+        Memory
+    }
+}
+
+/// What the addition of one object overwrote, and the sizes of the image before it.
+#[derive(Drop)]
+pub(crate) struct Step {
+    pub(crate) marks: Vec<Mark>,
+    pub(crate) sizes: Sizes,
+}
+
+/// A list of objects, forced names before them, and the merged image of all, with a journal by which the object added
+/// last is taken out again. Contracts see it as the forced names, the objects and the journal: the image is a function
+/// of these. (ld(1); the journal is an own choice)
+#[derive(Drop)]
+pub struct Session {
+    forced: Forced,
+    entries: Vec<Entry>,
+    steps: Vec<Step>,
+    image: Merged,
+    alloc: Global,
+}
+
+impl Model for Session {
+    ghost use Rattle.link_session.specs.Undo.{Kept};
+
+    ghost Value = { Kept };
+
+    ghost use Rattle.std.specs.Prelude.{map};
+    ghost use Rattle.link_session.specs.Fields.{image_in, marks_in, IsSession};
+
+    ghost view = { λ s. record { forced = s.forced; entries = s.entries.items; journal = map marks_in s.steps.items } };
+
+    ghost invariant = { λ s. IsSession s.forced s.entries.items s.steps.items (image_in s.image) };
+}
+
+/// Mentions the forced names. There is room for them.
+fn force_names(externals: &mut Externals, names: &[Name])
+    requires { length names.now ≤ spare externals.old }
+    ensures { externals.new.entries ≡ all_mentioned externals.old.entries (map forced_mention names.now) }
+{
+    for name in names {
+        mention(externals, *name, State::Wanted(0));
+    }
+}
+
+impl Session {
+    /// A session of no objects and no forced names.
+    pub fn new(alloc: Global) -> Session
+        ensures { result ≡ nothing_kept [] }
+    {
+        Session {
+            forced: Forced::none(),
+            entries: Vec::new(alloc),
+            steps: Vec::new(alloc),
+            image: Merged::new(alloc),
+            alloc,
+        }
+    }
+
+    /// A session of no objects, whose first externals are the forced names, each wanted at no size. `Memory`: no room
+    /// for them.
+    pub fn with_forced(alloc: Global, forced: &Forced) -> Result<Session, Memory>
+        ensures { IfOk result (λ session. session ≡ nothing_kept forced.now) }
+    {
+        let names = forced.names();
+        let mut image = Merged::new(alloc);
+        image.externals.reserve(names.len())?;
+        force_names(&mut image.externals, names);
+        Ok(Session {
+            forced: *forced,
+            entries: Vec::new(alloc),
+            steps: Vec::new(alloc),
+            image,
+            alloc,
+        })
+    }
+
+    /// How many of the first externals are forced.
+    pub fn forced_count(&self) -> u16
+        ensures value { result ≡ length self.now.forced }
+        ensures few { result ≤ 64 }
+    {
+        self.forced.names().len() as u16
+    }
+
+    /// Puts an object last, and joins it to the merged image: words that refer to names which are defined, before or
+    /// now, are bound. The first that applies of the faults of `AddFault` refuses it; then nothing changes, and label
+    /// and object are handed back. (ld(1); the limits are an own choice)
+    pub fn add(&mut self, label: String, object: Object) -> Result<(), AddRefused>
+        ensures fits { OnOk result (refusal self.old.forced (objects self.old.entries) object ≡ None) }
+        ensures added { OnOk result (Adds self.old self.new (labelled label object)) }
+        ensures cause { IfErr result (λ refused. IsCause (refusal self.old.forced (objects self.old.entries) object) refused.cause) }
+        ensures unchanged { OnErr result (self.new ≡ self.old) }
+        ensures handed_back { IfErr result (λ refused. (refused.label ≡ label) × (refused.object ≡ object)) }
+    {
+        if let Some(cause) = limit_passed(&self.image, &object) {
+            return Err(AddRefused {
+                cause,
+                label,
+                object,
+            });
+        }
+        let sizes = self.image.sizes();
+        let joined = take_in(
+            &mut self.entries,
+            &mut self.steps,
+            &mut self.image,
+            &object,
+            self.alloc,
+        );
+        match joined {
+            Ok(marks) => {
+                self.steps.push(Step { marks, sizes }).unwrap();
+                self.entries.push(Entry::new(label, object)).unwrap();
+                Ok(())
+            }
+            Err(_) => {
+                let cause = AddFault::Memory;
+                Err(AddRefused {
+                    cause,
+                    label,
+                    object,
+                })
+            }
+        }
+    }
+
+    /// Takes the object added last out again, and answers its label and the object: the image is then that of the
+    /// others. `None` where no object is there. (own choice)
+    pub fn withdraw(&mut self) -> Option<(String, Object)>
+        ensures none { IsNone result → (self.old.entries ≡ []) × (self.new ≡ self.old) }
+        ensures last { IfSome result (λ last. Withdraws self.old self.new (labelled last.0 last.1)) }
+    {
+        let entry = self.entries.pop()?;
+        let step = self.steps.pop().unwrap();
+        undo(&mut self.image, &step.marks, &step.sizes);
+        Some(entry.into_parts())
+    }
+
+    /// The objects, in order, each with its label. Together they pass no limit.
+    pub fn entries(&self) -> &[Entry]
+        ensures value { result.now ≡ self.now.entries }
+        ensures objects { AllByRecursion IsObject (objects self.now.entries) }
+        ensures within { limit_passed self.now.forced (objects self.now.entries) ≡ None }
+    {
+        &self.entries
+    }
+
+    /// The cells of the merged text, in words.
+    pub fn text_cells(&self) -> &[Cell]
+        ensures value { result.now ≡ (image_of self.now).text_cells }
+        ensures short { 2 * length result.now ≤ 65534 }
+    {
+        &self.image.text_cells
+    }
+
+    /// The cells of the merged data, in words.
+    pub fn data_cells(&self) -> &[Cell]
+        ensures value { result.now ≡ (image_of self.now).data_cells }
+        ensures short { 2 * length result.now ≤ 65534 }
+    {
+        &self.image.data_cells
+    }
+
+    /// The size of the merged bss in bytes, without commons.
+    pub fn bss_total(&self) -> u16
+        ensures value { result ≡ (image_of self.now).bss_total }
+        ensures small { result ≤ 65534 }
+    {
+        self.image.bss_total
+    }
+
+    /// The external with this index, by first mention: its name, and what is known of it.
+    pub fn external(&self, index: u16) -> Option<(Name, State)>
+        ensures { result ≡ slice_get (image_of self.now).externals index }
+    {
+        match self.image.externals.get_index(index as usize) {
+            Some((name, state)) => Some((*name, *state)),
+            None => None,
+        }
+    }
+
+    /// How many externals there are.
+    pub fn external_count(&self) -> u16
+        ensures { result ≡ length (image_of self.now).externals }
+    {
+        self.image.externals.len() as u16
+    }
+
+    /// The index of an external name.
+    pub fn find(&self, name: &Name) -> Option<u16>
+        ensures { result ≡ position (bytes_eq name.now) (externals self.now.forced (objects self.now.entries)) }
+    {
+        match self.image.externals.get_index_of(name) {
+            Some(index) => Some(index as u16),
+            None => None,
+        }
+    }
+
+    /// The names that are defined more than once, and otherwise than at first: one for each such entry.
+    pub fn multiples(&self) -> &[Name]
+        ensures { result.now ≡ (image_of self.now).multiples }
+    {
+        &self.image.multiples
+    }
+
+    /// What the addition of the last object overwrote; empty without objects.
+    pub fn last_marks(&self) -> &[Mark]
+        ensures value { result.now ≡ newest self.now.journal }
+        ensures journal { IsJournal self.now.forced (objects self.now.entries) self.now.journal }
+    {
+        match self.steps.last() {
+            Some(step) => &step.marks,
+            None => &[],
+        }
+    }
+}
+
+/// Makes room for an object and its marks, and joins it to the image. An error changes nothing but room.
+fn take_in(
+    entries: &mut Vec<Entry>,
+    steps: &mut Vec<Step>,
+    image: &mut Merged,
+    object: &Object,
+    alloc: Global,
+) -> Result<Vec<Mark>, AllocError>
+    requires small { IsSmall (image_in image.old) }
+    requires fits { next_limit (image_in image.old) object.now ≡ None }
+    ensures entries { entries.new.items ≡ entries.old.items }
+    ensures steps { steps.new.items ≡ steps.old.items }
+    ensures entries_room { OnOk result (vec_len entries.new < vec_capacity entries.new) }
+    ensures steps_room { OnOk result (vec_len steps.new < vec_capacity steps.new) }
+    ensures image { OnOk result (image_in image.new ≡ joined_image (image_in image.old) object.now) }
+    ensures marks { IfOk result (λ marks. marks.items ≡ next_marks (image_in image.old) object.now) }
+    ensures err { OnErr result (image_in image.new ≡ image_in image.old) }
+{
+    entries.reserve(1)?;
+    steps.reserve(1)?;
+    join(image, object, alloc)
+}
