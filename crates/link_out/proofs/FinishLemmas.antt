@@ -1,0 +1,133 @@
+-- A link that no fault refuses.
+use Rattle.std.proofs.Common.{◌≡◌, ℕ, ◌+◌, ◌-◌, ◌*◌, Bool, true, false, cond, ◌||◌, List, [], map, length, Option, None, refl, ◌∙◌, ap, arith}
+use Rattle.std.specs.List.{AllByRecursion, list_any}
+use Rattle.aout_core.specs.declared.header.Header.{Header}
+use Rattle.aout_core.specs.Contents.{Contents, Fits}
+use Rattle.aout_core.specs.WellFormed.{IsWellFormed}
+use Rattle.aout_core.specs.declared.symbol.Segment.{Segment}
+use Rattle.aout_core.specs.declared.symbol.Segment.TheVariants.{TextSeg, DataSeg, BssSeg}
+use Rattle.link_session.specs.declared.cell.Cell.{Cell}
+use Rattle.link_session.specs.Starts.{total}
+use Rattle.link_session.specs.Mentions.{mentions}
+use Rattle.link_session.specs.Image.{named_states}
+use Rattle.link_session.specs.Cells.{cells}
+use Rattle.link_session.specs.Sessions.{IsObject}
+use Rattle.link_session.proofs.WellFormedLemmas.{all_map, objects_refer}
+use Rattle.link_out.specs.declared.options.Layout.{Layout}
+use Rattle.link_out.specs.declared.options.Layout.TheVariants.{Plain, Pure, Split}
+use Rattle.link_out.specs.declared.options.Keep.{Keep}
+use Rattle.link_out.specs.declared.options.Keep.TheVariants.{All, NotL, Externals, Nothing}
+use Rattle.link_out.specs.Choices.{Choices, option_fault}
+use Rattle.link_out.specs.Layouts.{Bases, data_base, magic_of}
+use Rattle.link_out.specs.Plans.{Plan, plan, commons_laid}
+use Rattle.link_out.specs.Words.{final_words}
+use Rattle.link_out.specs.Finals.{Final}
+use Rattle.link_out.specs.FromCells.{finals, word_of_cell, reloc_of_cell, is_far}
+use Rattle.link_out.specs.InOrder.{finals_from}
+use Rattle.link_out.specs.Tables.{table, final_relocs, has_far_in}
+use Rattle.link_out.specs.Reports.{entry_word}
+use Rattle.link_out.specs.Link.{linked_header, linked_file}
+use Rattle.link_out.specs.Passes.{IsPassed, header_for}
+use Rattle.link_out.proofs.FitLemmas as fit
+use Rattle.link_out.proofs.InOrderLemmas.{finals-in_order}
+use Rattle.link_out.proofs.ObjectLemmas.{linked_is_object}
+use Rattle.link_out.proofs.CellWordLemmas.{final_words-cells}
+use Rattle.link_out.proofs.CellRelocLemmas.{final_relocs-cells, has_far_in-cells}
+
+pub objects_fit : (p : Plan) (os : List Contents) → AllByRecursion IsObject os → Fits (linked_file p os)
+objects_fit p os h = fit.linked_fits p os (all_map IsObject fit.IsObject (λ o k. record { fits = k.fits; well_formed = k.well }) os h)
+
+pub well_formed : (os : List Contents) → AllByRecursion IsObject os → AllByRecursion IsWellFormed os
+well_formed os h = all_map IsObject IsWellFormed (λ o k. k.well) os h
+
+-- the header, from the bounds of the segments
+pub header-linked : (forced : List (List ℕ)) (os : List Contents) (o : Choices) →
+    (let p = plan forced os o in header_for o p.at (length (table p os)) (entry_word p o.entry) ≡ linked_header p os)
+header-linked forced os o =
+    let p = plan forced os o in
+    let «data» : (data_base o.layout (total TextSeg os) + total DataSeg os) - data_base o.layout (total TextSeg os) ≡ total DataSeg os = omega arith in
+    let end = data_base o.layout (total TextSeg os) + total DataSeg os in
+    let bss : (end + commons_laid o p.said + total BssSeg os) - end ≡ commons_laid o p.said + total BssSeg os = omega arith in
+    λ i. let h : Header = record {
+      magic = magic_of o.layout;
+      text_size = total TextSeg os;
+      data_size = «data» i;
+      bss_size = bss i;
+      symbol_size = 12 * length (table p os);
+      entry_point = entry_word p o.entry;
+      unused = 0;
+      flag = cond o.relocatable 0 1;
+    } in h
+
+-- the parts of a file are those of the link
+pub linked_parts : (p : Plan) (os : List Contents) (c : Contents) → c.header ≡ linked_header p os → c.text_words ≡ final_words p TextSeg os → c.data_words ≡ final_words p DataSeg os →
+    c.text_reloc ≡ cond p.choices.relocatable (final_relocs p os TextSeg) [] → c.data_reloc ≡ cond p.choices.relocatable (final_relocs p os DataSeg) [] → c.symbols ≡ table p os → c ≡ linked_file p os
+linked_parts p os c header text datas text_reloc data_reloc symbols =
+    λ i. let d : Contents = record {
+      header = header i;
+      text_words = text i;
+      data_words = datas i;
+      text_reloc = text_reloc i;
+      data_reloc = data_reloc i;
+      symbols = symbols i;
+    } in d
+
+-- with relocation the file is an object
+module _ (forced : List (List ℕ)) (os : List Contents) (good : AllByRecursion IsWellFormed os) where
+  kept_object : (layout : Layout) (relocatable : Bool) (keep : Keep) (entry : Option (List ℕ)) (force_commons : Bool) → option_fault layout relocatable keep ≡ None → relocatable ≡ true →
+      (let o : Choices = record { layout = layout; relocatable = relocatable; keep = keep; entry = entry; force_commons = force_commons } in IsWellFormed (linked_file (plan forced os o) os))
+  kept_object layout false keep entry force_commons h kept = absurd (cc)
+  kept_object layout true Nothing entry force_commons h kept = absurd (cc)
+  kept_object Pure true All entry force_commons h kept = absurd (cc)
+  kept_object Pure true NotL entry force_commons h kept = absurd (cc)
+  kept_object Pure true Externals entry force_commons h kept = absurd (cc)
+  kept_object Split true All entry force_commons h kept = absurd (cc)
+  kept_object Split true NotL entry force_commons h kept = absurd (cc)
+  kept_object Split true Externals entry force_commons h kept = absurd (cc)
+  kept_object Plain true All entry force_commons h kept = linked_is_object forced os All entry force_commons refl good
+  kept_object Plain true NotL entry force_commons h kept = linked_is_object forced os NotL entry force_commons refl good
+  kept_object Plain true Externals entry force_commons h kept = linked_is_object forced os Externals entry force_commons refl good
+
+  pub linked_object : (o : Choices) → option_fault o.layout o.relocatable o.keep ≡ None → o.relocatable ≡ true → IsWellFormed (linked_file (plan forced os o) os)
+  linked_object o h kept = kept_object o.layout o.relocatable o.keep o.entry o.force_commons h kept
+
+or_both : (a b : Bool) → (a || b) ≡ false → (a ≡ false) × (b ≡ false)
+or_both false b h = (refl, h)
+or_both true b h = absurd (cc)
+
+-- what is computed from the cells and the names in order is what the link has
+module _ (forced : List (List ℕ)) (os : List Contents) (o : Choices) where
+  abbrev planned : Plan
+  planned = plan forced os o
+
+  pub names_planned : (b : Bases) → b ≡ planned.at → finals_from o b 0 (named_states (mentions forced os)) ≡ finals planned
+  names_planned b h = ap (λ (x : Bases). finals_from o x 0 (named_states (mentions forced os))) h ∙ finals-in_order planned
+
+  pub words_planned : (segment : Segment) (b : Bases) (names : List Final) (cs : List Cell) → AllByRecursion IsObject os → b ≡ planned.at → names ≡ finals planned → cs ≡ cells (mentions forced os) segment os →
+      map (word_of_cell b names segment) cs ≡ final_words planned segment os
+  words_planned segment b names cs h at named image =
+      (λ i. map (word_of_cell (at i) (named i) segment) (image i)) ∙ final_words-cells planned segment os (objects_refer forced segment os (well_formed os h))
+
+  pub relocs_planned : (segment : Segment) (names : List Final) (locals : ℕ) (cs : List Cell) → AllByRecursion IsObject os → IsPassed planned os locals → names ≡ finals planned → cs ≡ cells (mentions forced os) segment os →
+      cond o.relocatable (map (reloc_of_cell names locals) cs) [] ≡ cond o.relocatable (final_relocs planned os segment) []
+  relocs_planned segment names locals cs h passed named image =
+      (λ i. cond o.relocatable (map (reloc_of_cell (named i) (passed.count i)) (image i)) [])
+      ∙ ap (λ rs. cond o.relocatable rs []) (final_relocs-cells planned segment os (objects_refer forced segment os (well_formed os h)))
+
+  far_planned : (segment : Segment) (names : List Final) (locals : ℕ) (cs : List Cell) → AllByRecursion IsObject os → IsPassed planned os locals → names ≡ finals planned → cs ≡ cells (mentions forced os) segment os →
+      list_any (λ (c : Cell). is_far names locals c.target) cs ≡ has_far_in planned os segment
+  far_planned segment names locals cs h passed named image =
+      (λ i. list_any (λ (c : Cell). is_far (named i) (passed.count i) c.target) (image i)) ∙ has_far_in-cells planned segment os (objects_refer forced segment os (well_formed os h))
+
+  pub near_text : (names : List Final) (locals : ℕ) (cs : List Cell) → AllByRecursion IsObject os → IsPassed planned os locals → names ≡ finals planned → cs ≡ cells (mentions forced os) TextSeg os → o.relocatable ≡ true →
+      list_any (λ (c : Cell). is_far names locals c.target) cs ≡ false
+  near_text names locals cs h passed named image kept =
+      far_planned TextSeg names locals cs h passed named image ∙ (or_both (has_far_in planned os TextSeg) (has_far_in planned os DataSeg) (passed.near kept)).0
+
+  pub near_data : (names : List Final) (locals : ℕ) (cs : List Cell) → AllByRecursion IsObject os → IsPassed planned os locals → names ≡ finals planned → cs ≡ cells (mentions forced os) DataSeg os → o.relocatable ≡ true →
+      list_any (λ (c : Cell). is_far names locals c.target) cs ≡ false
+  near_data names locals cs h passed named image kept =
+      far_planned DataSeg names locals cs h passed named image ∙ (or_both (has_far_in planned os TextSeg) (has_far_in planned os DataSeg) (passed.near kept)).1
+
+  pub header_planned : (b : Bases) (rows entry : ℕ) → b ≡ planned.at → rows ≡ length (table planned os) → entry ≡ entry_word planned o.entry → header_for o b rows entry ≡ linked_header planned os
+  header_planned b rows entry at many word = (λ i. header_for o (at i) (many i) (word i)) ∙ header-linked forced os o

@@ -1,0 +1,132 @@
+-- Commons, final names and undefined names, name by name.
+use Rattle.std.proofs.Common.{◌≡◌, ℕ, zero, suc, ◌+◌, ◌≤◌, Bool, true, false, cond, not, ◌&&◌, ◌||◌, List, [], ◌∷◌, ◌++◌, map, take, drop, length, Some, None, refl, sym, ◌∙◌, ap, arith, append_assoc, add-one}
+use Rattle.std.specs.Prelude.{bytes_eq, slice_get, filter}
+use Rattle.std.proofs.Math.Seq.{take-append_seam, drop-cons}
+use Rattle.std.proofs.lemmas.Option.{slice_get_within, get_or_from_slice_get}
+use Rattle.std.proofs.lemmas.List.Sums.{sum_by-append}
+use Rattle.link_session.specs.declared.state.State.{State}
+use Rattle.link_session.specs.declared.state.State.TheVariants.{Defined, Wanted}
+use Rattle.link_session.specs.Additions.{Named}
+use Rattle.link_session.specs.Image.{named_states}
+use Rattle.link_session.specs.Mentions.{Mention, is_among, new_names, names_of, names_by_first_mention, place_of}
+use Rattle.link_session.specs.States.{state}
+use Rattle.link_session.proofs.MentionLemmas.{is_among-append}
+use Rattle.link_session.proofs.UpdateLemmas.{own_name}
+use Rattle.link_out.specs.Choices.{Choices}
+use Rattle.link_out.specs.Layouts.{Bases}
+use Rattle.link_out.specs.Plans.{Plan, common_size, room_of, commons_total, common_offset}
+use Rattle.link_out.specs.Finals.{Final, final, final_by}
+use Rattle.link_out.specs.FromCells.{finals}
+use Rattle.link_out.specs.Reports.{is_undefined, reserved_names, undefined_names}
+use Rattle.link_out.specs.InOrder.{final_at, finals_from, room_in, is_missing, missing_in}
+
+-- names with their states
+abbrev named_by : List Mention → List (List ℕ) → Named
+named_by ms names = map {B = List ℕ × State} (λ n. (n, state ms n)) names
+
+-- the next of what is left
+pub drop_next : {A : Type 0} (xs : List A) (i : ℕ) (x : A) → slice_get xs i ≡ Some x → drop i xs ≡ x ∷ drop (i + 1) xs
+drop_next xs i x h =
+    drop-cons xs i x (slice_get_within xs i x h)
+    ∙ ap (λ z. z ∷ drop (suc i) xs) (get_or_from_slice_get xs i x x h)
+    ∙ ap (λ (k : ℕ). x ∷ drop k xs) (sym (add-one i))
+
+pub none_behind : {A : Type 0} (xs : List A) (i : ℕ) → slice_get xs i ≡ None → length xs ≤ i
+none_behind [] i h = omega arith
+none_behind (x ∷ xs) zero h = absurd (cc)
+none_behind (x ∷ xs) (suc i) h = let shorter = none_behind xs i h in omega arith
+
+pub room_next : (total : ℕ) (es : Named) (i : ℕ) (e : List ℕ × State) → slice_get es i ≡ Some e → total + room_in (drop i es) ≡ (total + common_size e.1) + room_in (drop (i + 1) es)
+room_next total es i e h = let next = ap room_in (drop_next es i e h) in omega arith
+
+pub finals_next : (o : Choices) (b : Bases) (before : List Final) (offset : ℕ) (es : Named) (i : ℕ) (e : List ℕ × State) → slice_get es i ≡ Some e →
+    before ++ finals_from o b offset (drop i es) ≡ (before ++ final_at o b offset e.0 e.1 ∷ []) ++ finals_from o b (offset + common_size e.1) (drop (i + 1) es)
+finals_next o b before offset es i e h =
+    ap (λ (rest : Named). before ++ finals_from o b offset rest) (drop_next es i e h)
+    ∙ sym (append_assoc before (final_at o b offset e.0 e.1 ∷ []) (finals_from o b (offset + common_size e.1) (drop (i + 1) es)))
+
+-- the room of all names
+room-named : (ms : List Mention) (names : List (List ℕ)) → room_in (named_by ms names) ≡ room_of ms names
+room-named ms [] = refl
+room-named ms (n ∷ ns) = ap (λ (k : ℕ). common_size (state ms n) + k) (room-named ms ns) ∙ sym (sum_by-append (λ m. common_size (state ms m)) (n ∷ []) ns ∙ omega arith)
+
+pub room-commons : (ms : List Mention) → room_in (named_states ms) ≡ commons_total ms
+room-commons ms = room-named ms (names_by_first_mention ms)
+
+-- a name stands behind those that it is not among
+place_behind : (before after : List (List ℕ)) (name : List ℕ) → is_among before name ≡ false → place_of name (before ++ name ∷ after) ≡ length before
+place_behind [] after name h = ap (λ (t : Bool). cond t 0 (place_of name after + 1)) (own_name name)
+place_behind (x ∷ xs) after name h = by_test (bytes_eq name x) h (place_behind xs after name)
+  where
+    by_test : (t : Bool) → (t || is_among xs name) ≡ false → (is_among xs name ≡ false → place_of name (xs ++ name ∷ after) ≡ length xs) →
+        cond t 0 (place_of name (xs ++ name ∷ after) + 1) ≡ length (x ∷ xs)
+    by_test true h rest = absurd (cc)
+    by_test false h rest = let shorter = rest h in omega arith
+
+-- a name with its commons before it
+final-at : (p : Plan) (name : List ℕ) (s : State) → final_at p.choices p.at (common_offset p.said name) name s ≡ final_by p name s
+final-at p name (Defined segment place) = refl
+final-at p name (Wanted size) = refl
+
+-- the commons before a name are those of the names before it
+offset_behind : (ms : List Mention) (before after : List (List ℕ)) (name : List ℕ) → is_among before name ≡ false → before ++ name ∷ after ≡ names_by_first_mention ms → common_offset ms name ≡ room_of ms before
+offset_behind ms before after name new all =
+    ap (λ (names : List (List ℕ)). room_of ms (take (place_of name names) names)) (sym all)
+    ∙ ap (λ (k : ℕ). room_of ms (take k (before ++ name ∷ after))) (place_behind before after name new)
+    ∙ ap (λ (names : List (List ℕ)). room_of ms names) (take-append_seam before (name ∷ after))
+
+room_more : (ms : List Mention) (before : List (List ℕ)) (name : List ℕ) → room_of ms (before ++ name ∷ []) ≡ room_of ms before + common_size (state ms name)
+room_more ms before name = sum_by-append (λ n. common_size (state ms n)) before (name ∷ []) ∙ omega arith
+
+-- what is not seen is not before
+not_before : (seen before : List (List ℕ)) (name : List ℕ) → (is_among before name ≡ true → is_among seen name ≡ true) → is_among seen name ≡ false → is_among before name ≡ false
+not_before seen before name h e = by_test (is_among before name) h
+  where
+    by_test : (t : Bool) → (t ≡ true → is_among seen name ≡ true) → t ≡ false
+    by_test true h = absurd (let yes = h refl in cc)
+    by_test false h = refl
+
+or_more : (a s x : Bool) → (a ≡ true → s ≡ true) → (a || x) ≡ true → (s || x) ≡ true
+or_more true s x h e = let yes = h refl in rw yes refl
+or_more false true x h e = refl
+or_more false false x h e = e
+
+or_still : (a s x : Bool) → (a ≡ true → s ≡ true) → a ≡ true → (s || x) ≡ true
+or_still a s x h e = let yes = h e in rw yes refl
+
+-- what becomes of the new names among these, where those before have so much room
+finals_new : (p : Plan) (seen before names : List (List ℕ)) → ((n : List ℕ) → is_among before n ≡ true → is_among seen n ≡ true) → before ++ new_names seen names ≡ names_by_first_mention p.said →
+    finals_from p.choices p.at (room_of p.said before) (named_by p.said (new_names seen names)) ≡ map (final p) (new_names seen names)
+finals_new p seen before [] within all = refl
+finals_new p seen before (x ∷ xs) within all =
+    by_test (is_among seen x) refl all
+    (finals_new p (seen ++ x ∷ []) before xs (λ n h. is_among-append seen (x ∷ []) n ∙ or_still (is_among before n) (is_among seen n) (is_among (x ∷ []) n) (within n) h))
+    (finals_new p (seen ++ x ∷ []) (before ++ x ∷ []) xs (λ n h. is_among-append seen (x ∷ []) n ∙ or_more (is_among before n) (is_among seen n) (is_among (x ∷ []) n) (within n) (sym (is_among-append before (x ∷ []) n) ∙ h)))
+  where
+    rest : List (List ℕ)
+    rest = new_names (seen ++ x ∷ []) xs
+
+    by_test : (t : Bool) → is_among seen x ≡ t → before ++ cond t rest (x ∷ rest) ≡ names_by_first_mention p.said →
+        (before ++ rest ≡ names_by_first_mention p.said → finals_from p.choices p.at (room_of p.said before) (named_by p.said rest) ≡ map (final p) rest) →
+        ((before ++ x ∷ []) ++ rest ≡ names_by_first_mention p.said → finals_from p.choices p.at (room_of p.said (before ++ x ∷ [])) (named_by p.said rest) ≡ map (final p) rest) →
+        finals_from p.choices p.at (room_of p.said before) (named_by p.said (cond t rest (x ∷ rest))) ≡ map (final p) (cond t rest (x ∷ rest))
+    by_test true e all same more = same all
+    by_test false e all same more =
+        let offset = offset_behind p.said before rest x (not_before seen before x (within x) e) all in
+        let head : final_at p.choices p.at (room_of p.said before) x (state p.said x) ≡ final p x =
+        ap (λ (k : ℕ). final_at p.choices p.at k x (state p.said x)) (sym offset) ∙ final-at p x (state p.said x) in
+        let tail : finals_from p.choices p.at (room_of p.said before + common_size (state p.said x)) (named_by p.said rest) ≡ map (final p) rest =
+        ap (λ (k : ℕ). finals_from p.choices p.at k (named_by p.said rest)) (sym (room_more p.said before x)) ∙ more (append_assoc before (x ∷ []) rest ∙ all) in
+        λ i. head i ∷ tail i
+
+-- what becomes of all names
+pub finals-in_order : (p : Plan) → finals_from p.choices p.at 0 (named_states p.said) ≡ finals p
+finals-in_order p = finals_new p [] [] (names_of p.said) (λ n h. h) refl
+
+-- undefined names
+missing-named : (ms : List Mention) (names : List (List ℕ)) → missing_in (named_by ms names) ≡ filter (λ n. is_undefined (state ms n) && not (is_among reserved_names n)) names
+missing-named ms [] = refl
+missing-named ms (n ∷ ns) = ap (λ (rest : List (List ℕ)). cond (is_missing n (state ms n)) (n ∷ rest) rest) (missing-named ms ns)
+
+pub missing-undefined : (ms : List Mention) → missing_in (named_states ms) ≡ undefined_names ms
+missing-undefined ms = missing-named ms (names_by_first_mention ms)

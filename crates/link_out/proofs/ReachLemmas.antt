@@ -1,0 +1,82 @@
+-- What is out of reach by the states of the names is so by what becomes of them.
+use Rattle.std.proofs.Common.{◌≡◌, ℕ, ◌+◌, Bool, true, false, cond, not, ◌&&◌, ◌||◌, eqb, List, length, Option, Some, None, refl, sym, ◌∙◌, ap}
+use Rattle.std.specs.Prelude.{slice_get, option_map, if◌then◌else◌}
+use Rattle.std.specs.List.{list_any, AllByRecursion}
+use Rattle.std.proofs.lemmas.Option.{slice_get-map}
+use Rattle.aout_core.specs.declared.symbol.Segment.{Segment}
+use Rattle.aout_core.specs.declared.symbol.Segment.TheVariants.{TextSeg, DataSeg, BssSeg}
+use Rattle.aout_core.specs.Contents.{Contents}
+use Rattle.aout_core.specs.WellFormed.{IsWellFormed}
+use Rattle.aout_core.specs.Words.{plus}
+use Rattle.link_session.specs.declared.cell.Cell.{Cell}
+use Rattle.link_session.specs.declared.cell.Target.{Target}
+use Rattle.link_session.specs.declared.cell.Target.TheVariants as targets
+use Rattle.link_session.specs.declared.state.State.{State}
+use Rattle.link_session.specs.declared.state.State.TheVariants.{Defined, Wanted}
+use Rattle.link_session.specs.Cells.{cells, words_of}
+use Rattle.link_session.specs.Image.{image, named_states}
+use Rattle.link_session.specs.Mentions.{names_by_first_mention, names_of}
+use Rattle.link_session.specs.Sessions.{IsObject}
+use Rattle.link_session.specs.States.{state}
+use Rattle.link_session.proofs.CellLemmas.{AllReferAmong}
+use Rattle.link_session.proofs.WellFormedLemmas.{objects_refer, all_map}
+use Rattle.link_out.specs.Choices.{Choices, lays_commons}
+use Rattle.link_out.specs.Finals.{bound_at, waiting, undefined_name, final, final_by}
+use Rattle.link_out.specs.FromCells.{bound_of, finals, is_far}
+use Rattle.link_out.specs.Plans.{Plan, plan, common_offset}
+use Rattle.link_out.specs.Tables.{waits_far, local_rows, has_far_in, has_far_word}
+use Rattle.link_out.specs.Reach.{kept_bound, kept_bound_of, is_out}
+use Rattle.link_out.proofs.CellRelocLemmas.{has_far_in-cells}
+
+module _ (p : Plan) (kept : p.choices.relocatable ≡ true) where
+  -- a name is bound by its state as it is in the end
+  bound_by : (name : List ℕ) (s : State) → kept_bound (lays_commons p.choices) s ≡ (final_by p name s).bound
+  bound_by name (Defined segment offset) = refl
+  bound_by name (Wanted size) = by_tests (eqb size 0) p.choices.relocatable (lays_commons p.choices) kept
+    where
+      by_tests : (t r l : Bool) → r ≡ true →
+          cond (not t && l) (Some BssSeg) None
+          ≡ (if t then (if r then waiting 0 else undefined_name p.at name) else (if l then bound_at BssSeg (plus p.at.data_end (common_offset p.said name)) else waiting size)).bound
+      by_tests true true l e = refl
+      by_tests false r true e = refl
+      by_tests false r false e = refl
+      by_tests true false l e = absurd (cc)
+
+  abbrev named : List ℕ → List ℕ × State
+  named n = (n, state p.said n)
+
+  bound_at_place : (i : ℕ) → kept_bound_of (lays_commons p.choices) (slice_get (named_states p.said) i) ≡ bound_of (slice_get (finals p) i)
+  bound_at_place i =
+      ap (kept_bound_of (lays_commons p.choices)) (slice_get-map named (names_by_first_mention p.said) i)
+      ∙ by_name (slice_get (names_by_first_mention p.said) i)
+      ∙ sym (ap bound_of (slice_get-map (final p) (names_by_first_mention p.said) i))
+    where
+      by_name : (o : Option (List ℕ)) → kept_bound_of (lays_commons p.choices) (option_map named o) ≡ bound_of (option_map (final p) o)
+      by_name None = refl
+      by_name (Some n) = bound_by n (state p.said n)
+
+  out_far : (locals : ℕ) (t : Target) → is_out (named_states p.said) (lays_commons p.choices) locals t ≡ is_far (finals p) locals t
+  out_far locals targets.Absolute = refl
+  out_far locals targets.TextSeg = refl
+  out_far locals targets.DataSeg = refl
+  out_far locals targets.BssSeg = refl
+  out_far locals (targets.External i) = ap (λ (b : Option Segment). waits_far b (locals + i)) (bound_at_place i)
+
+  out_far_in : (os : List Contents) (segment : Segment) (locals : ℕ) → locals ≡ length (local_rows p os) → AllByRecursion (λ o. AllReferAmong (names_of p.said) o (words_of segment o)) os →
+      list_any (λ (c : Cell). is_out (named_states p.said) (lays_commons p.choices) locals c.target) (cells p.said segment os) ≡ has_far_in p os segment
+  out_far_in os segment locals many refer =
+      (λ i. list_any (λ (c : Cell). is_out (named_states p.said) (lays_commons p.choices) (many i) c.target) (cells p.said segment os))
+      ∙ (λ i. list_any (λ (c : Cell). out_far (length (local_rows p os)) c.target i) (cells p.said segment os))
+      ∙ has_far_in-cells p segment os refer
+
+-- the words of a session's objects, from its cells of text and of data
+pub far_word : (forced : List (List ℕ)) (os : List Contents) (o : Choices) (locals : ℕ) (text datas : List Cell) (commons in_text in_data : Bool) → o.relocatable ≡ true →
+    locals ≡ length (local_rows (plan forced os o) os) → AllByRecursion IsObject os → commons ≡ lays_commons o → text ≡ (image forced os).text_cells → datas ≡ (image forced os).data_cells →
+    in_text ≡ list_any (λ (c : Cell). is_out (image forced os).externals commons locals c.target) text →
+    in_data ≡ list_any (λ (c : Cell). is_out (image forced os).externals commons locals c.target) datas → (in_text || in_data) ≡ has_far_word (plan forced os o) os
+far_word forced os o locals text datas commons in_text in_data kept many good laid t d far_text far_data =
+    let p = plan forced os o in
+    let well : AllByRecursion IsWellFormed os = all_map IsObject IsWellFormed (λ x h. h.well) os good in
+    (λ i. far_text i || far_data i)
+    ∙ (λ i. list_any (λ (c : Cell). is_out (image forced os).externals (laid i) locals c.target) (t i) || list_any (λ (c : Cell). is_out (image forced os).externals (laid i) locals c.target) (d i))
+    ∙ (λ i. out_far_in p kept os TextSeg locals many (objects_refer forced TextSeg os well) i || out_far_in p kept os DataSeg locals many (objects_refer forced DataSeg os well) i)

@@ -1,0 +1,172 @@
+-- The rows of the table, object by object and name by name, are those of the whole list.
+use Rattle.std.proofs.Common.{◌≡◌, ℕ, ◌+◌, ◌%◌, ◌<◌, Bool, true, false, List, [], ◌∷◌, ◌++◌, map, length, drop, refl, sym, subst, ◌∙◌, ap, arith, append_assoc, length-append, append-nil, drop-cons, drop_of_length-le, add-one, suc, ◌≤◌}
+use Rattle.std.specs.Prelude.{filter, cond, nat_lt, slice_get, Option, Some, None, IsNone, IsTrue, IfSome, ◌↔◌}
+use Rattle.std.specs.List.{flat_map}
+use Rattle.std.specs.Map.{keys_of}
+use Rattle.std.proofs.lemmas.Option.{slice_get-get_or, slice_get_within, get_or_from_slice_get}
+use Rattle.std.proofs.lemmas.List.{length-map}
+use Rattle.std.proofs.lemmas.List.Sums.{sum_by-append}
+use Rattle.aout_core.specs.declared.symbol.Symbol.{Symbol}
+use Rattle.aout_core.specs.declared.symbol.Segment.{Segment}
+use Rattle.aout_core.specs.declared.symbol.Segment.TheVariants as segments
+use Rattle.aout_core.specs.Contents.{Contents}
+use Rattle.aout_core.specs.Words.{plus, minus}
+use Rattle.aout_core.specs.WellFormed.{segment_of}
+use Rattle.link_session.specs.declared.state.State.{State}
+use Rattle.link_session.specs.Earlier.{with_earlier}
+use Rattle.link_session.specs.Labelled.{Labelled, objects}
+use Rattle.link_session.specs.Starts.{total, size_of}
+use Rattle.link_session.specs.Mentions.{names_by_first_mention}
+use Rattle.link_out.specs.declared.options.Keep.{Keep}
+use Rattle.link_out.specs.declared.options.Keep.TheVariants as keeps
+use Rattle.link_out.specs.declared.table.Starts.{Starts}
+use Rattle.link_out.specs.declared.table.Moves.{Moves}
+use Rattle.link_out.specs.Layouts.{Bases}
+use Rattle.link_out.specs.Finals.{Final, final}
+use Rattle.link_out.specs.FromCells.{finals}
+use Rattle.link_out.specs.Plans.{Plan}
+use Rattle.link_out.specs.Tables.{is_kept_local, moved_value, moved_local, local_rows, external_row, external_rows, rows_kept, table}
+use Rattle.link_out.specs.Rows.{starts_behind, next_starts, moves_at, value_moved, symbol_moved, rows_in, no_starts, rows_from, kept_count, row_for, rows_for}
+
+-- a start modulo 65,536 moves as the start does
+moved_from : (v b t own : ℕ) → plus v (plus b (minus (t % 65536) own)) ≡ plus v (plus b (minus t own))
+moved_from v b t own = omega arith
+
+module _ (b : Bases) (earlier : List Contents) (o : Contents) where
+  abbrev moves : Moves
+  moves = moves_at b (starts_behind earlier) o.header
+
+  value_moved-local : (segment : Segment) (v : ℕ) → value_moved moves segment v ≡ moved_value b earlier o segment v
+  value_moved-local segments.TextSeg v = omega arith
+  value_moved-local segments.DataSeg v = moved_from v b.data_start (total segments.DataSeg earlier) o.header.text_size
+  value_moved-local segments.BssSeg v = moved_from v b.bss_start (total segments.BssSeg earlier) (plus o.header.text_size o.header.data_size)
+  value_moved-local segments.Undefined v = refl
+  value_moved-local segments.Absolute v = refl
+  value_moved-local segments.Other v = refl
+
+  symbols_moved : (symbols : List Symbol) → map (symbol_moved moves) symbols ≡ map (moved_local b earlier o) symbols
+  symbols_moved [] = refl
+  symbols_moved (s ∷ ss) = λ i. record s { value = value_moved-local (segment_of s) s.value i } ∷ symbols_moved ss i
+
+next_total : (segment : Segment) (earlier : List Contents) (o : Contents) → plus (total segment earlier % 65536) (size_of segment o) ≡ total segment (earlier ++ o ∷ []) % 65536
+next_total segment earlier o = omega (arith, sum_by-append (size_of segment) earlier (o ∷ []))
+
+next_starts-behind : (earlier : List Contents) (o : Contents) → next_starts (starts_behind earlier) o.header ≡ starts_behind (earlier ++ o ∷ [])
+next_starts-behind earlier o = λ i. record {
+  text = next_total segments.TextSeg earlier o i;
+  «data» = next_total segments.DataSeg earlier o i;
+  bss = next_total segments.BssSeg earlier o i;
+}
+
+-- the kept locals, object by object
+pub rows_from-local_rows : (p : Plan) (os : List Contents) → rows_from p.at p.choices.keep no_starts os ≡ local_rows p os
+rows_from-local_rows p os = from [] os
+  where
+    from : (earlier os : List Contents) → rows_from p.at p.choices.keep (starts_behind earlier) os
+        ≡ flat_map (λ q. map (moved_local p.at q.0 q.1) (filter (is_kept_local p.choices.keep) q.1.symbols)) (with_earlier earlier os)
+    from earlier [] = refl
+    from earlier (o ∷ os) =
+        (λ i. symbols_moved p.at earlier o (filter (is_kept_local p.choices.keep) o.symbols) i ++ rows_from p.at p.choices.keep (next_starts-behind earlier o i) os)
+        ∙ ap (λ (l : List Symbol). map (moved_local p.at earlier o) (filter (is_kept_local p.choices.keep) o.symbols) ++ l) (from (earlier ++ o ∷ []) os)
+
+pub length-rows_from : (b : Bases) (keep : Keep) (s : Starts) (os : List Contents) → length (rows_from b keep s os) ≡ kept_count keep os
+length-rows_from b keep s [] = refl
+length-rows_from b keep s (o ∷ os) =
+    let m = moves_at b s o.header in
+    omega (arith, length-append (rows_in keep m o.symbols) (rows_from b keep (next_starts s o.header) os), length-map (filter (is_kept_local keep) o.symbols) (symbol_moved m), length-rows_from b keep (next_starts s o.header) os)
+
+pub length-local_rows : (p : Plan) (os : List Contents) → length (local_rows p os) ≡ kept_count p.choices.keep os
+length-local_rows p os = ap (λ (l : List Symbol). length l) (sym (rows_from-local_rows p os)) ∙ length-rows_from p.at p.choices.keep no_starts os
+
+-- the externals, name by name
+pub rows_for-external_rows : (p : Plan) → rows_for (names_by_first_mention p.said) (finals p) ≡ external_rows p
+rows_for-external_rows p = by_names (names_by_first_mention p.said)
+  where
+    by_names : (names : List (List ℕ)) → rows_for names (map (final p) names) ≡ map (external_row p) names
+    by_names [] = refl
+    by_names (n ∷ ns) = ap (λ (l : List Symbol). external_row p n ∷ l) (by_names ns)
+
+nothing_kept : (symbols : List Symbol) → filter (is_kept_local keeps.Nothing) symbols ≡ []
+nothing_kept [] = refl
+nothing_kept (s ∷ ss) = by_test (is_kept_local keeps.Nothing s) (no_local s) (nothing_kept ss)
+  where
+    no_local : (s : Symbol) → is_kept_local keeps.Nothing s ≡ false
+    no_local s = grind arith
+
+    by_test : (t : Bool) → t ≡ false → filter (is_kept_local keeps.Nothing) ss ≡ [] → cond t (s ∷ filter (is_kept_local keeps.Nothing) ss) (filter (is_kept_local keeps.Nothing) ss) ≡ []
+    by_test true e h = absurd (cc)
+    by_test false e h = h
+
+pub nothing_counted : (os : List Contents) → kept_count keeps.Nothing os ≡ 0
+nothing_counted [] = refl
+nothing_counted (o ∷ os) = omega (arith, ap (λ (l : List Symbol). length l) (nothing_kept o.symbols), nothing_counted os)
+
+-- with any other choice the rows are all kept
+pub rows_kept-others : (keep : Keep) (rows : List Symbol) → (keep ≡ keeps.Nothing → ⊥) → rows_kept keep rows ≡ rows
+rows_kept-others keeps.All rows h = refl
+rows_kept-others keeps.NotL rows h = refl
+rows_kept-others keeps.Externals rows h = refl
+rows_kept-others keeps.Nothing rows h = absurd (h refl)
+
+-- the list from a place on
+drop_at : {A : Type 0} (xs : List A) (i : ℕ) (x : A) → slice_get xs i ≡ Some x → drop i xs ≡ x ∷ drop (i + 1) xs
+drop_at {A = A} xs i x h =
+    rw add-one (drop-cons xs i x (slice_get_within xs i x h) ∙ ap (λ (y : A). y ∷ drop (suc i) xs) (get_or_from_slice_get xs i x x h))
+
+-- a place in the list holds something
+pub not_past : {A : Type 0} (xs : List A) (i : ℕ) → i < length xs → slice_get xs i ≡ None → ⊥
+not_past [] i within e = absurd (omega (arith, within))
+not_past (x ∷ xs) i within e = absurd (cc (slice_get-get_or (x ∷ xs) i x within, e))
+
+-- the rows of all objects, with none left
+pub rows_all : (p : Plan) (b : Bases) (keep : Keep) (s : Starts) (rows : List Symbol) (es : List Labelled) (i : ℕ) → p.choices.keep ≡ keep → p.at ≡ b → length es ≤ i →
+    rows_from b keep no_starts (objects es) ≡ rows ++ rows_from b keep s (objects (drop i es)) → rows ≡ local_rows p (objects es)
+rows_all p b keep s rows es i same at «end» so_far =
+    sym (append-nil rows)
+    ∙ ap (λ (left : List Labelled). rows ++ rows_from b keep s (objects left)) (sym (drop_of_length-le es «end»))
+    ∙ sym so_far
+    ∙ (λ j. rows_from (sym at j) (sym same j) no_starts (objects es))
+    ∙ rows_from-local_rows p (objects es)
+
+-- one more name
+rows_for-more : (es : List (List ℕ × State)) (fs : List Final) (i : ℕ) (e : List ℕ × State) (f : Final) → slice_get es i ≡ Some e → slice_get fs i ≡ Some f →
+    rows_for (keys_of (drop i es)) (drop i fs) ≡ row_for e.0 f ∷ rows_for (keys_of (drop (i + 1) es)) (drop (i + 1) fs)
+rows_for-more es fs i e f he hf = λ j. rows_for (keys_of (drop_at es i e he j)) (drop_at fs i f hf j)
+
+pub row_put : (es : List (List ℕ × State)) (fs : List Final) (i : ℕ) (e : List ℕ × State) (f : Final) (all rows more : List Symbol) → slice_get es i ≡ Some e → slice_get fs i ≡ Some f →
+    all ≡ rows ++ rows_for (keys_of (drop i es)) (drop i fs) → more ≡ rows ++ row_for e.0 f ∷ [] → all ≡ more ++ rows_for (keys_of (drop (i + 1) es)) (drop (i + 1) fs)
+row_put es fs i e f all rows more he hf so_far put =
+    let rest = rows_for (keys_of (drop (i + 1) es)) (drop (i + 1) fs) in
+    so_far
+    ∙ ap (λ (l : List Symbol). rows ++ l) (rows_for-more es fs i e f he hf)
+    ∙ sym (append_assoc rows (row_for e.0 f ∷ []) rest)
+    ∙ ap (λ (l : List Symbol). l ++ rest) (sym put)
+
+-- the whole table, of the locals and the externals
+pub table_whole : (p : Plan) (os : List Contents) (keep : Keep) (es : List (List ℕ × State)) (fs : List Final) (locals rows : List Symbol) → p.choices.keep ≡ keep → (keep ≡ keeps.Nothing → ⊥) →
+    locals ≡ local_rows p os → keys_of es ≡ names_by_first_mention p.said → fs ≡ finals p → rows ≡ locals ++ rows_for (keys_of es) fs → rows ≡ table p os
+table_whole p os keep es fs locals rows same others here names last put =
+    put
+    ∙ (λ i. here i ++ rows_for (names i) (last i))
+    ∙ ap (λ (l : List Symbol). local_rows p os ++ l) (rows_for-external_rows p)
+    ∙ sym (rows_kept-others p.choices.keep (local_rows p os ++ external_rows p) (λ e. others (sym same ∙ e)))
+
+-- how long the table is
+pub table_length : (p : Plan) (os : List Contents) (keep : Keep) (count : ℕ) → p.choices.keep ≡ keep → (keep ≡ keeps.Nothing → ⊥) → count ≡ length (names_by_first_mention p.said) →
+    length (table p os) ≡ kept_count keep os + count
+table_length p os keep count same others names =
+    ap (λ (l : List Symbol). length l) (rows_kept-others p.choices.keep (local_rows p os ++ external_rows p) (λ e. others (sym same ∙ e)))
+    ∙ length-append (local_rows p os) (external_rows p)
+    ∙ (λ i. length-local_rows p os i + length-map (names_by_first_mention p.said) (external_row p) i)
+    ∙ (λ i. kept_count (same i) os + sym names i)
+
+pub many_rows : (p : Plan) (os : List Contents) (keep : Keep) (count : ℕ) (r : Option ℕ) → p.choices.keep ≡ keep → (keep ≡ keeps.Nothing → ⊥) → count ≡ length (names_by_first_mention p.said) →
+    (IsNone r ↔ IsTrue (nat_lt 5461 (kept_count keep os + count))) → (IsNone r ↔ IsTrue (nat_lt 5461 (length (table p os))))
+many_rows p os keep count r same others names h = subst (λ (n : ℕ). IsNone r ↔ IsTrue (nat_lt 5461 n)) (sym (table_length p os keep count same others names)) h
+
+-- how many locals are kept
+pub locals_counted : (p : Plan) (os : List Contents) (keep : Keep) (r : Option ℕ) → p.choices.keep ≡ keep → IfSome r (λ n. n ≡ kept_count keep os) → IfSome r (λ n. n ≡ length (local_rows p os))
+locals_counted p os keep r same h = subst (λ (m : ℕ). IfSome r (λ n. n ≡ m)) (sym (length-local_rows p os ∙ ap (λ (k : Keep). kept_count k os) same)) h
+
+pub none_counted : (p : Plan) (os : List Contents) (keep : Keep) → p.choices.keep ≡ keep → keep ≡ keeps.Nothing → 0 ≡ length (local_rows p os)
+none_counted p os keep same nothing = sym (length-local_rows p os ∙ ap (λ (k : Keep). kept_count k os) (same ∙ nothing) ∙ nothing_counted os)

@@ -1,0 +1,18 @@
+use Rattle.std.proofs.Common.{◌∙◌}
+use Rattle.link_session.specs.Labelled.{objects}
+use Rattle.link_out.proofs.FinishLemmas.{names_planned}
+use Rattle.link_out.proofs.linker.finish.Goals as goal
+
+pub entry_address-address-requires : goal.entry_address-address-requires
+entry_address-address-requires c =
+    let s = c.args.session.now in
+    c.deref.ensures.value
+    ∙ c.in_ok-finals.ensures
+    ∙ names_planned s.forced (objects s.entries) c.args.options.now c.link_bases-bases.result c.link_bases-bases.ensures.value
+
+pub parts_of-requires-clause-finals : goal.parts_of-requires-clause-finals
+parts_of-requires-clause-finals c =
+    let s = c.args.session.now in
+    c.deref-2.ensures.value
+    ∙ c.in_ok-finals.ensures
+    ∙ names_planned s.forced (objects s.entries) c.args.options.now c.link_bases-bases.result c.link_bases-bases.ensures.value

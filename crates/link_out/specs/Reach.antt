@@ -1,0 +1,22 @@
+-- What is out of reach in a file with relocation, by the states of the names alone.
+use Rattle.std.specs.Prelude.{ℕ, ◌+◌, Bool, false, not, ◌&&◌, cond, eqb, List, Option, Some, None, slice_get}
+use Rattle.aout_core.specs.declared.symbol.Segment.{Segment}
+use Rattle.aout_core.specs.declared.symbol.Segment.TheVariants.{BssSeg}
+use Rattle.link_session.specs.declared.cell.Target.{Target}
+use Rattle.link_session.specs.declared.cell.Target.TheVariants.{External}
+use Rattle.link_session.specs.declared.state.State.{State}
+use Rattle.link_session.specs.declared.state.State.TheVariants.{Defined, Wanted}
+use Rattle.link_out.specs.Tables.{waits_far}
+
+-- the segment that a name is bound to, where commons are laid out or not
+abbrev pub kept_bound : Bool → State → Option Segment
+kept_bound commons (Defined segment offset) = Some segment
+kept_bound commons (Wanted size) = cond (not (eqb size 0) && commons) (Some BssSeg) None
+
+abbrev pub kept_bound_of : Bool → Option (List ℕ × State) → Option Segment
+kept_bound_of commons None = None
+kept_bound_of commons (Some e) = kept_bound commons e.1
+
+abbrev pub is_out : List (List ℕ × State) → Bool → ℕ → Target → Bool
+is_out es commons locals (External i) = waits_far (kept_bound_of commons (slice_get es i)) (locals + i)
+is_out es commons locals _ = false

@@ -1,0 +1,68 @@
+-- The rows of the symbol table as they follow from the objects' sizes and the final names in order.
+use Rattle.std.specs.Prelude.{ℕ, ◌%◌, ◌+◌, List, [], ◌∷◌, ◌++◌, map, filter, length}
+use Rattle.aout_core.specs.declared.header.Header.{Header}
+use Rattle.aout_core.specs.declared.symbol.Symbol.{Symbol}
+use Rattle.aout_core.specs.declared.symbol.Segment.{Segment}
+use Rattle.aout_core.specs.declared.symbol.Segment.TheVariants.{TextSeg, DataSeg, BssSeg}
+use Rattle.aout_core.specs.Contents.{Contents}
+use Rattle.aout_core.specs.Words.{plus, minus}
+use Rattle.aout_core.specs.WellFormed.{segment_of}
+use Rattle.link_session.specs.Starts.{total}
+use Rattle.link_out.specs.declared.options.Keep.{Keep}
+use Rattle.link_out.specs.declared.table.Starts.{Starts}
+use Rattle.link_out.specs.declared.table.Moves.{Moves}
+use Rattle.link_out.specs.Layouts.{Bases, base}
+use Rattle.link_out.specs.Finals.{Final, type_of}
+use Rattle.link_out.specs.Tables.{is_kept_local}
+
+-- where the segments of an object behind these start, modulo 65,536
+abbrev pub starts_behind : List Contents → Starts
+starts_behind earlier = record { text = total TextSeg earlier % 65536; «data» = total DataSeg earlier % 65536; bss = total BssSeg earlier % 65536 }
+
+abbrev pub no_starts : Starts
+no_starts = record { text = 0; «data» = 0; bss = 0 }
+
+abbrev pub next_starts : Starts → Header → Starts
+next_starts s h = record { text = plus s.text h.text_size; «data» = plus s.data h.data_size; bss = plus s.bss h.bss_size }
+
+-- how far the segments of an object move
+abbrev pub moves_at : Bases → Starts → Header → Moves
+moves_at b s h = record {
+  text = plus (base b TextSeg) s.text;
+  «data» = plus (base b DataSeg) (minus s.data h.text_size);
+  bss = plus (base b BssSeg) (minus s.bss (plus h.text_size h.data_size));
+}
+
+abbrev pub value_moved : Moves → Segment → ℕ → ℕ
+value_moved m TextSeg value = plus value m.text
+value_moved m DataSeg value = plus value m.data
+value_moved m BssSeg value = plus value m.bss
+value_moved m _ value = value
+
+abbrev pub symbol_moved : Moves → Symbol → Symbol
+symbol_moved m s = record s { value = value_moved m (segment_of s) s.value }
+
+-- the kept locals of one object
+abbrev pub rows_in : Keep → Moves → List Symbol → List Symbol
+rows_in keep m symbols = map (symbol_moved m) (filter (is_kept_local keep) symbols)
+
+-- the kept locals of objects that start here
+abbrev pub rows_from : Bases → Keep → Starts → List Contents → List Symbol
+rows_from b keep s [] = []
+rows_from b keep s (o ∷ os) = rows_in keep (moves_at b s o.header) o.symbols ++ rows_from b keep (next_starts s o.header) os
+
+-- how many locals are kept
+abbrev pub count_in : Keep → List Symbol → ℕ
+count_in keep symbols = length (filter (is_kept_local keep) symbols)
+
+abbrev pub kept_count : Keep → List Contents → ℕ
+kept_count keep [] = 0
+kept_count keep (o ∷ os) = count_in keep o.symbols + kept_count keep os
+
+-- the row of a name, and those of names
+abbrev pub row_for : List ℕ → Final → Symbol
+row_for name f = record { name = name; type_bits = type_of f.bound; value = f.written }
+
+abbrev pub rows_for : List (List ℕ) → List Final → List Symbol
+rows_for (n ∷ ns) (f ∷ fs) = row_for n f ∷ rows_for ns fs
+rows_for _ _ = []

@@ -1,0 +1,38 @@
+//! Runs of additions and withdrawals.
+use crate::linked::LinkFault;
+use aout_core::Object;
+use link_session::AddFault;
+use thiserror::Error;
+
+/// A change of what is kept.
+#[derive(Debug, Drop)]
+pub enum Edit {
+    /// This object, known by this label, is put last.
+    Add(String, Object),
+    /// The last object is taken away.
+    Withdraw,
+}
+
+/// The answer to an edit.
+#[derive(Debug, Drop)]
+pub enum Reply {
+    /// The object was put last.
+    Added,
+    /// The object was not added, for another cause than memory.
+    Refused(AddFault),
+    /// The object with this label was taken away.
+    Withdrew(String),
+    /// There was no object to take away.
+    Nothing,
+}
+
+/// Why a run gave no link.
+#[derive(Clone, Copy, Debug, PartialEq, Eq, Error)]
+pub enum RunFault {
+    /// 1: no room, in any step.
+    #[error("no memory")]
+    Memory,
+    /// 2: the link was refused, for another cause than memory.
+    #[error("{0}")]
+    Link(LinkFault),
+}

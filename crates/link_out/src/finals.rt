@@ -1,0 +1,145 @@
+//! What becomes of the external names.
+ghost use Rattle.std.specs.Prelude.{◌≡◌, ◌<◌, ◌≤◌, ◌+◌, ◌*◌, ◌%◌, bytes_eq, length, slice_get, Some, IfOk};
+ghost use Rattle.link_session.specs.Undo.{image_of};
+ghost use Rattle.link_out.specs.Finals.{bound_at, waiting, undefined_name};
+ghost use Rattle.link_out.specs.FromCells.{finals};
+ghost use Rattle.link_out.specs.InOrder.{final_at, finals_from, plan_of};
+
+use crate::layout::{Bases, common_size};
+use crate::options::Options;
+use crate::words::base_word;
+use aout_core::{Name, Segment};
+use link_session::{Session, State};
+use std::alloc::{AllocError, Global};
+use std::marker::Model;
+
+/// What becomes of a name: the segment that it is bound to, if it is bound, its address, and the value that is written.
+#[derive(Clone, Copy, Debug, PartialEq, Eq)]
+pub(crate) struct Final {
+    pub(crate) bound: Option<Segment>,
+    pub(crate) address: u16,
+    pub(crate) written: u16,
+}
+
+impl Model for Final {
+    ghost use Rattle.link_out.specs.Finals as spec;
+
+    ghost Value = { spec.Final };
+
+    ghost view = { λ a. record { bound = a.bound; address = a.address; written = a.written } };
+
+    ghost inverse = { λ v. record { bound = v.bound; address = v.address; written = v.written } };
+}
+
+/// A name that is bound.
+fn bound_at(segment: Segment, address: u16) -> Final
+    ensures { result ≡ bound_at segment address }
+{
+    Final {
+        bound: Some(segment),
+        address,
+        written: address,
+    }
+}
+
+/// A name that is not bound, and its size.
+fn waiting(size: u16) -> Final
+    ensures { result ≡ waiting size }
+{
+    Final {
+        bound: None,
+        address: 0,
+        written: size,
+    }
+}
+
+/// Whether a name has this spelling.
+pub(crate) fn is_named(name: &Name, text: &[u8]) -> bool
+    ensures { result ≡ bytes_eq name.now text.now }
+{
+    name.as_bytes() == text
+}
+
+/// What becomes of a name that nothing defines and that is no common.
+fn undefined_name(bases: &Bases, name: Name) -> Final
+    requires text { bases.now.text_end ≤ 65535 }
+    requires datas { bases.now.data_end ≤ 65535 }
+    requires bss { bases.now.bss_end ≤ 65535 }
+    ensures { result ≡ undefined_name bases.now name }
+{
+    if is_named(&name, b"_etext") {
+        bound_at(Segment::TextSeg, bases.text_end as u16)
+    } else if is_named(&name, b"_edata") {
+        bound_at(Segment::DataSeg, bases.data_end as u16)
+    } else if is_named(&name, b"_end") {
+        bound_at(Segment::BssSeg, bases.bss_end as u16)
+    } else {
+        waiting(0)
+    }
+}
+
+/// Where a common lies with so many bytes of commons before it.
+fn common_at(bases: &Bases, offset: u64) -> u16
+    requires datas { bases.now.data_end ≤ 65535 }
+    requires offset { offset ≤ 65535 * 65536 }
+    ensures { result ≡ (bases.now.data_end + offset) % 65536 }
+{
+    ((bases.data_end + offset) % 65_536) as u16
+}
+
+/// What becomes of a name in this state, with so many bytes of commons before it.
+pub(crate) fn final_at(
+    options: &Options,
+    bases: &Bases,
+    offset: u64,
+    name: Name,
+    state: State,
+) -> Final
+    requires text { bases.now.text_end ≤ 65535 }
+    requires datas { bases.now.data_end ≤ 65535 }
+    requires bss { bases.now.bss_end ≤ 65535 }
+    requires offset { offset ≤ 65535 * 65536 }
+    ensures { result ≡ final_at options.now bases.now offset name state }
+{
+    match state {
+        State::Defined(segment, place) => {
+            bound_at(segment, base_word(bases, segment).wrapping_add(place))
+        }
+        State::Wanted(0) if options.is_relocatable() => waiting(0),
+        State::Wanted(0) => undefined_name(bases, name),
+        State::Wanted(_) if options.lays_commons() => {
+            bound_at(Segment::BssSeg, common_at(bases, offset))
+        }
+        State::Wanted(size) => waiting(size),
+    }
+}
+
+/// An external: its name, and what is known of it.
+pub(crate) fn external_at(session: &Session, index: u16) -> (Name, State)
+    requires { index < length (image_of session.now).externals }
+    ensures { slice_get (image_of session.now).externals index ≡ Some (result.0, result.1) }
+{
+    session.external(index).unwrap()
+}
+
+/// What becomes of the externals, by first mention. An error: no room for them.
+pub(crate) fn finals_of(
+    alloc: Global,
+    session: &Session,
+    options: &Options,
+    bases: &Bases,
+) -> Result<Vec<Final>, AllocError>
+    requires text { bases.now.text_end ≤ 65535 }
+    requires datas { bases.now.data_end ≤ 65535 }
+    requires bss { bases.now.bss_end ≤ 65535 }
+    ensures { IfOk result (λ finals. finals.items ≡ finals_from options.now bases.now 0 (image_of session.now).externals) }
+{
+    let mut finals = Vec::with_capacity(alloc, session.external_count() as usize)?;
+    let mut offset = 0;
+    for index in 0..session.external_count() {
+        let (name, state) = external_at(session, index);
+        finals.push(final_at(options, bases, offset, name, state))?;
+        offset += common_size(state);
+    }
+    Ok(finals)
+}

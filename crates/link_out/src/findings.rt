@@ -1,0 +1,191 @@
+//! What is reported of a link.
+ghost use Rattle.std.specs.Prelude.{◌≡◌, ◌++◌, ◌∷◌, [], not, filter, bytes_eq, position, Some, IfOk, OnOk};
+ghost use Rattle.link_session.specs.Additions.{state_at};
+ghost use Rattle.link_session.specs.Labelled.{objects};
+ghost use Rattle.link_session.specs.Mentions.{mentions, externals, is_among};
+ghost use Rattle.link_session.specs.States.{state};
+ghost use Rattle.link_session.specs.Undo.{image_of};
+ghost use Rattle.link_out.specs.FromCells as from_cells;
+ghost use Rattle.link_out.specs.Entries.{text_address, text_address_at, entry_found, unfound};
+ghost use Rattle.link_out.specs.Reports.{is_undefined, reserved_names, reserved_taken, findings};
+ghost use Rattle.link_out.specs.InOrder.{is_missing, missing_in, plan_of};
+ghost use Rattle.link_out.specs.Outcomes.{findings_of};
+
+use crate::finals::{Final, external_at, is_named};
+use crate::linked::Report;
+use crate::options::Options;
+use crate::table::type_of;
+use aout_core::Name;
+use link_session::{Session, State};
+use std::alloc::{AllocError, Global};
+
+/// The type word of an external that is bound to text.
+const TEXT_EXTERNAL: u16 = 0o42;
+
+/// Whether a name is neither defined nor a common.
+fn is_undefined(state: State) -> bool
+    ensures { result ≡ is_undefined state }
+{
+    match state {
+        State::Defined(_, _) => false,
+        State::Wanted(size) => size == 0,
+    }
+}
+
+/// What is known of the external with this index.
+fn known_at(session: &Session, index: u16) -> State
+    ensures { result ≡ state_at (image_of session.now).externals index }
+{
+    match session.external(index) {
+        Some((_, state)) => state,
+        None => State::Wanted(0),
+    }
+}
+
+/// What is known of a name; one that nothing mentions is wanted at no size.
+fn state_of(session: &Session, name: &Name) -> State
+    ensures { result ≡ state (mentions session.now.forced (objects session.now.entries)) name.now }
+{
+    match session.find(name) {
+        Some(index) => known_at(session, index),
+        None => State::Wanted(0),
+    }
+}
+
+/// Puts a name last if it is defined, or a common.
+fn put_if_taken(names: &mut Vec<Name>, session: &Session, name: Name) -> Result<(), AllocError>
+    ensures { OnOk result (names.new.items ≡ names.old.items ++ filter (λ n. not (is_undefined (state (mentions session.now.forced (objects session.now.entries)) n))) (name ∷ [])) }
+{
+    if !is_undefined(state_of(session, &name)) {
+        names.push(name)?;
+    }
+    Ok(())
+}
+
+/// Those of the reserved names that the objects define, or make commons. An error: no room for them.
+fn reserved_taken(alloc: Global, session: &Session) -> Result<Vec<Name>, AllocError>
+    ensures { IfOk result (λ names. names.items ≡ reserved_taken (mentions session.now.forced (objects session.now.entries))) }
+{
+    let mut names = Vec::new(alloc);
+    put_if_taken(&mut names, session, Name::from_bytes(b"_etext"))?;
+    put_if_taken(&mut names, session, Name::from_bytes(b"_edata"))?;
+    put_if_taken(&mut names, session, Name::from_bytes(b"_end"))?;
+    Ok(names)
+}
+
+/// Whether a name is reserved.
+fn is_reserved(name: &Name) -> bool
+    ensures { result ≡ is_among reserved_names name.now }
+{
+    is_named(name, b"_etext") || (is_named(name, b"_edata") || is_named(name, b"_end"))
+}
+
+/// Whether a name is reported as undefined.
+fn is_missing(name: &Name, state: State) -> bool
+    ensures { result ≡ is_missing name.now state }
+{
+    is_undefined(state) && !is_reserved(name)
+}
+
+/// Puts a name last if it is reported as undefined.
+fn put_if_missing(names: &mut Vec<Name>, name: Name, state: State) -> Result<(), AllocError>
+    ensures { OnOk result (names.new.items ≡ names.old.items ++ missing_in ((name, state) ∷ [])) }
+{
+    if is_missing(&name, state) {
+        names.push(name)?;
+    }
+    Ok(())
+}
+
+/// The names that nothing defines, by first mention. An error: no room for them.
+fn missing(alloc: Global, session: &Session) -> Result<Vec<Name>, AllocError>
+    ensures { IfOk result (λ names. names.items ≡ missing_in (image_of session.now).externals) }
+{
+    let mut names = Vec::new(alloc);
+    for index in 0..session.external_count() {
+        let (name, state) = external_at(session, index);
+        put_if_missing(&mut names, name, state)?;
+    }
+    Ok(names)
+}
+
+/// The undefined names that are reported: none where relocation is kept. An error: no room for them.
+fn undefined_names(
+    alloc: Global,
+    session: &Session,
+    options: &Options,
+) -> Result<Vec<Name>, AllocError>
+    ensures { IfOk result (λ names. names.items ≡ (findings (plan_of session.now options.now)).undefined) }
+{
+    if options.is_relocatable() {
+        return Ok(Vec::new(alloc));
+    }
+    missing(alloc, session)
+}
+
+/// The address of a name that is bound to text.
+fn text_address(last: &Final) -> Option<u16>
+    ensures { result ≡ text_address (Some last.now) }
+{
+    if type_of(last.bound) == TEXT_EXTERNAL {
+        Some(last.address)
+    } else {
+        None
+    }
+}
+
+/// The address of a name that is an external and bound to text.
+fn address_in_text(session: &Session, finals: &[Final], name: &Name) -> Option<u16>
+    ensures { result ≡ text_address_at finals.now (position (bytes_eq name.now) (externals session.now.forced (objects session.now.entries))) }
+{
+    let index = session.find(name)?;
+    text_address(finals.get(index as usize)?)
+}
+
+/// The address of the entry point, 0 without one; `None` where its name is none in text.
+pub(crate) fn entry_address(session: &Session, options: &Options, finals: &[Final]) -> Option<u16>
+    requires { finals.now ≡ from_cells.finals (plan_of session.now options.now) }
+    ensures { result ≡ entry_found (plan_of session.now options.now) options.now.entry }
+{
+    match options.entry() {
+        Some(name) => address_in_text(session, finals, &name),
+        None => Some(0),
+    }
+}
+
+/// The name to report, where no address was found for it.
+fn unfound(entry: Option<Name>, address: Option<u16>) -> Option<Name>
+    ensures { result ≡ unfound entry address }
+{
+    match address {
+        Some(_) => None,
+        None => entry,
+    }
+}
+
+/// A copy of the names. An error: no room for it.
+fn copy_of(alloc: Global, names: &[Name]) -> Result<Vec<Name>, AllocError>
+    ensures { IfOk result (λ copy. copy.items ≡ names.now) }
+{
+    let mut copy = Vec::new(alloc);
+    copy.extend_from_slice(names)?;
+    Ok(copy)
+}
+
+/// The report of a link whose entry point was found at `address`. An error: no room for it.
+pub(crate) fn report_of(
+    alloc: Global,
+    session: &Session,
+    options: &Options,
+    address: Option<u16>,
+) -> Result<Report, AllocError>
+    requires { address ≡ entry_found (plan_of session.now options.now) options.now.entry }
+    ensures { IfOk result (λ report. findings_of report ≡ findings (plan_of session.now options.now)) }
+{
+    Ok(Report {
+        multiples: copy_of(alloc, session.multiples())?,
+        reserved: reserved_taken(alloc, session)?,
+        entry_bad: unfound(options.entry(), address),
+        undefined: undefined_names(alloc, session, options)?,
+    })
+}

@@ -1,0 +1,20 @@
+//! The link of a session's objects: layout, final words, symbols and report.
+#![tactic(auto)]
+
+mod edit;
+mod finals;
+mod findings;
+pub mod laws;
+mod layout;
+mod linked;
+mod linker;
+mod options;
+mod reach;
+mod relocs;
+mod table;
+mod words;
+
+pub use edit::{Edit, Reply, RunFault};
+pub use linked::{LinkFault, Linked, Report};
+pub use linker::finish;
+pub use options::{Keep, Layout, OptionFault, Options};

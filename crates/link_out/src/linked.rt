@@ -1,0 +1,161 @@
+//! What a link gives.
+ghost use Rattle.std.specs.Prelude.{◌≡◌, ◌↔◌, ◌++◌, IsErr, IsTrue};
+ghost use Rattle.std.specs.List.{flat_map};
+ghost use Rattle.aout_core.specs.Wires.{Puts};
+ghost use Rattle.link_out.specs.Reports.{report_text, status_of, entry_lines, undefined_lines};
+ghost use Rattle.link_out.specs.Outcomes.{findings_of, is_silent, multiple_lines};
+ghost use Rattle.link_out.specs.declared.linked.LinkFault.TheVariants.{Memory};
+
+use aout_core::{DeviceFault, File, Name, Wire};
+use std::alloc::AllocError;
+use std::io::Write;
+use thiserror::Error;
+
+/// A file and what is reported of it.
+#[derive(Debug, Drop)]
+pub struct Linked {
+    /// The file, to be written whole.
+    pub file: File,
+    /// What is to be told beside it.
+    pub report: Report,
+}
+
+/// What is reported of a link. Its lines stand in the order of the fields. (ld(1))
+#[derive(Debug, Drop)]
+pub struct Report {
+    /// A name for each entry that defines it otherwise than its first definition does.
+    pub multiples: Vec<Name>,
+    /// Those of `_etext`, `_edata` and `_end` that the objects define, or make commons.
+    pub reserved: Vec<Name>,
+    /// The name of the entry point, where it is none in text.
+    pub entry_bad: Option<Name>,
+    /// The names that nothing defines.
+    pub undefined: Vec<Name>,
+}
+
+/// Why there is no file. They are tested in this order.
+#[derive(Clone, Copy, Debug, PartialEq, Eq, Error)]
+pub enum LinkFault {
+    /// 1: the end of bss would pass 65,535.
+    #[error("does not fit")]
+    DoesNotFit,
+    /// 2: more than 5,461 entries would be written.
+    #[error("too many symbols")]
+    TooManySymbols,
+    /// 3: a relocation word would need a symbol number over 4,095.
+    #[error("symbol number too large")]
+    SymbolNumber,
+    /// 4: no room for the file or the report.
+    #[error("no memory")]
+    Memory,
+}
+
+impl From<AllocError> for LinkFault {
+    ghost from_gives = { λ _ fault. fault ≡ Memory };
+
+    fn from(_: AllocError) -> LinkFault {
+        LinkFault::Memory
+    }
+}
+
+/// Writes one text and then another.
+fn put_both<W: Write>(first: &[u8], second: &[u8], out: &mut Wire<W>) -> Result<(), DeviceFault>
+    ensures fault { IsErr result ↔ IsTrue out.new.has_failed }
+    ensures latched { IsTrue out.old.has_failed → (out.new ≡ out.old) }
+    ensures bytes { Puts result (W.contents out.old.device) (W.contents out.new.device) (first.now ++ second.now) }
+{
+    out.put(first)?;
+    out.put(second)
+}
+
+/// Writes a line for each name: the name, then `text`, which ends the line.
+fn put_names<W: Write>(names: &[Name], text: &[u8], out: &mut Wire<W>) -> Result<(), DeviceFault>
+    ensures fault { IsErr result ↔ IsTrue out.new.has_failed }
+    ensures latched { IsTrue out.old.has_failed → (out.new ≡ out.old) }
+    ensures bytes { Puts result (W.contents out.old.device) (W.contents out.new.device) (flat_map (λ n. n ++ text.now) names.now) }
+{
+    if out.failed() {
+        return Err(DeviceFault);
+    }
+    for name in names {
+        put_both(name.as_bytes(), text, out)?;
+    }
+    Ok(())
+}
+
+impl Report {
+    /// The status that a program ends with: 0 where there is nothing to report, else 1.
+    pub fn status(&self) -> u8
+        ensures { result ≡ status_of (findings_of self.now) }
+    {
+        if self.is_silent() { 0 } else { 1 }
+    }
+
+    /// Whether there is nothing to report.
+    fn is_silent(&self) -> bool
+        ensures { result ≡ is_silent (findings_of self.now) }
+    {
+        self.multiples.is_empty()
+            && self.reserved.is_empty()
+            && self.entry_bad.is_none()
+            && self.undefined.is_empty()
+    }
+
+    /// Writes the report: a line `NAME: Multiply defined` for each of `multiples` and `reserved`, the line
+    /// `NAME: Entry point not in text`, and the line `Undefined:` with the undefined names below it, one a line.
+    /// On a fault a front of this went out.
+    pub fn write<W: Write>(&self, out: &mut Wire<W>) -> Result<(), DeviceFault>
+        ensures fault { IsErr result ↔ IsTrue out.new.has_failed }
+        ensures latched { IsTrue out.old.has_failed → (out.new ≡ out.old) }
+        ensures bytes { Puts result (W.contents out.old.device) (W.contents out.new.device) (report_text (findings_of self.now)) }
+    {
+        self.write_multiples(out)?;
+        self.write_missing(out)
+    }
+
+    /// Writes a line for each name with more than one definition.
+    fn write_multiples<W: Write>(&self, out: &mut Wire<W>) -> Result<(), DeviceFault>
+        ensures fault { IsErr result ↔ IsTrue out.new.has_failed }
+        ensures latched { IsTrue out.old.has_failed → (out.new ≡ out.old) }
+        ensures bytes { Puts result (W.contents out.old.device) (W.contents out.new.device) (multiple_lines (self.now.multiples.items ++ self.now.reserved.items)) }
+    {
+        put_names(&self.multiples, b": Multiply defined\n", out)?;
+        put_names(&self.reserved, b": Multiply defined\n", out)
+    }
+
+    /// Writes the line of the entry point and the undefined names.
+    fn write_missing<W: Write>(&self, out: &mut Wire<W>) -> Result<(), DeviceFault>
+        ensures fault { IsErr result ↔ IsTrue out.new.has_failed }
+        ensures latched { IsTrue out.old.has_failed → (out.new ≡ out.old) }
+        ensures bytes { Puts result (W.contents out.old.device) (W.contents out.new.device) (entry_lines self.now.entry_bad ++ undefined_lines self.now.undefined.items) }
+    {
+        self.write_entry(out)?;
+        self.write_undefined(out)
+    }
+
+    /// Writes the line of the entry point, if there is one.
+    fn write_entry<W: Write>(&self, out: &mut Wire<W>) -> Result<(), DeviceFault>
+        ensures fault { IsErr result ↔ IsTrue out.new.has_failed }
+        ensures latched { IsTrue out.old.has_failed → (out.new ≡ out.old) }
+        ensures bytes { Puts result (W.contents out.old.device) (W.contents out.new.device) (entry_lines self.now.entry_bad) }
+    {
+        let Some(name) = self.entry_bad else {
+            return out.put(b"");
+        };
+        put_both(name.as_bytes(), b": Entry point not in text\n", out)
+    }
+
+    /// Writes the undefined names, if there are any.
+    fn write_undefined<W: Write>(&self, out: &mut Wire<W>) -> Result<(), DeviceFault>
+        ensures fault { IsErr result ↔ IsTrue out.new.has_failed }
+        ensures latched { IsTrue out.old.has_failed → (out.new ≡ out.old) }
+        ensures bytes { Puts result (W.contents out.old.device) (W.contents out.new.device) (undefined_lines self.now.undefined.items) }
+    {
+        let names = self.undefined.as_slice();
+        if names.is_empty() {
+            return out.put(b"");
+        }
+        out.put(b"Undefined:\n")?;
+        put_names(names, b"\n", out)
+    }
+}

@@ -1,0 +1,151 @@
+//! The link of what a session keeps.
+ghost use Rattle.std.specs.Prelude.{◌≡◌, ◌≤◌, true, false, cond, map, [], IfOk, IfErr, Err};
+ghost use Rattle.std.specs.List.{list_any, AllByRecursion};
+ghost use Rattle.aout_core.specs.Contents.{Fits};
+ghost use Rattle.aout_core.specs.WellFormed.{IsWellFormed};
+ghost use Rattle.aout_core.specs.Parts.{contents_of};
+ghost use Rattle.link_session.specs.Labelled.{objects};
+ghost use Rattle.link_session.specs.Sessions.{IsObject};
+ghost use Rattle.link_out.specs.Layouts.{magic_of};
+ghost use Rattle.link_out.specs.FromCells as from_cells;
+ghost use Rattle.link_out.specs.Reports.{entry_word};
+ghost use Rattle.link_out.specs.Link.{link, link_by, linked_file};
+ghost use Rattle.link_out.specs.InOrder.{plan_of};
+ghost use Rattle.link_out.specs.Passes.{header_for, IsPassed};
+ghost use Rattle.link_out.specs.Outcomes.{IsLinkOf};
+
+use crate::finals::{Final, finals_of};
+use crate::findings::{entry_address, report_of};
+use crate::layout::{Bases, link_bases};
+use crate::linked::{LinkFault, Linked};
+use crate::options::{Layout, Options};
+use crate::reach::has_far_word;
+use crate::relocs::relocs_of_cells;
+use crate::table::{locals_within, table};
+use crate::words::words_of_cells;
+use aout_core::{File, Header, Parts, Reloc, Segment};
+use link_session::{Cell, Session};
+use std::alloc::{AllocError, Global};
+
+/// The last address that a word can hold.
+const LAST_ADDRESS: u64 = 65_535;
+
+/// The magic of a layout.
+fn magic_of(layout: Layout) -> u16
+    ensures { result ≡ magic_of layout }
+{
+    match layout {
+        Layout::Plain => 0o407,
+        Layout::Pure => 0o410,
+        Layout::Split => 0o411,
+    }
+}
+
+/// The header of a file with so many rows in its table.
+fn header_for(options: &Options, bases: &Bases, rows: usize, entry: u16) -> Header
+    requires text { bases.now.text_end ≤ 65535 }
+    requires datas { bases.now.data_start ≤ bases.now.data_end }
+    requires bss { bases.now.data_end ≤ bases.now.bss_end }
+    requires short { bases.now.bss_end ≤ 65535 }
+    requires rows { rows ≤ 5461 }
+    ensures { result ≡ header_for options.now bases.now rows entry }
+{
+    Header {
+        magic: magic_of(options.layout()),
+        text_size: bases.text_end as u16,
+        data_size: (bases.data_end - bases.data_start) as u16,
+        bss_size: (bases.bss_end - bases.data_end) as u16,
+        symbol_size: (12 * rows) as u16,
+        entry_point: entry,
+        unused: 0,
+        flag: if options.is_relocatable() { 0 } else { 1 },
+    }
+}
+
+/// The relocation words of the cells where relocation is kept, and else none. An error: no room for them.
+fn kept_relocs(
+    alloc: Global,
+    options: &Options,
+    cells: &[Cell],
+    finals: &[Final],
+    locals: u16,
+) -> Result<Vec<Reloc>, AllocError>
+    requires { options.now.relocatable ≡ true → list_any (λ (c : Cell). from_cells.is_far finals.now locals c.target) cells.now ≡ false }
+    ensures { IfOk result (λ relocs. relocs.items ≡ cond options.now.relocatable (map (from_cells.reloc_of_cell finals.now locals) cells.now) []) }
+{
+    if options.is_relocatable() {
+        relocs_of_cells(alloc, cells, finals, locals)
+    } else {
+        Ok(Vec::new(alloc))
+    }
+}
+
+/// The parts of the file of a link that no fault refuses; `locals` rows stand before the externals in its table. An
+/// error: no room for them.
+fn parts_of(
+    alloc: Global,
+    session: &Session,
+    options: &Options,
+    bases: &Bases,
+    finals: &[Final],
+    locals: u16,
+    entry: u16,
+) -> Result<Parts, AllocError>
+    requires passed { IsPassed (plan_of session.now options.now) (objects session.now.entries) locals }
+    requires bases { bases.now ≡ (plan_of session.now options.now).at }
+    requires text { bases.now.text_end ≤ 65535 }
+    requires finals { finals.now ≡ from_cells.finals (plan_of session.now options.now) }
+    requires entry { entry ≡ entry_word (plan_of session.now options.now) options.now.entry }
+    ensures value { IfOk result (λ parts. contents_of parts ≡ linked_file (plan_of session.now options.now) (objects session.now.entries)) }
+    ensures fits { IfOk result (λ parts. Fits (contents_of parts)) }
+    ensures object { options.now.relocatable ≡ true → IfOk result (λ parts. IsWellFormed (contents_of parts)) }
+{
+    let _objects = session.entries();
+    let text_cells = session.text_cells();
+    let data_cells = session.data_cells();
+    let symbols = table(alloc, session, options.keep(), bases, finals)?;
+    Ok(Parts {
+        header: header_for(options, bases, symbols.len(), entry),
+        text_words: words_of_cells(alloc, text_cells, Segment::TextSeg, bases, finals)?,
+        data_words: words_of_cells(alloc, data_cells, Segment::DataSeg, bases, finals)?,
+        text_reloc: kept_relocs(alloc, options, text_cells, finals, locals)?,
+        data_reloc: kept_relocs(alloc, options, data_cells, finals, locals)?,
+        symbols,
+    })
+}
+
+/// How many locals the table of a link has, or the first fault that refuses it. This takes no memory.
+fn locals_passed(session: &Session, options: &Options, bases: &Bases) -> Result<u16, LinkFault>
+    requires { bases.now ≡ (plan_of session.now options.now).at }
+    ensures passed { IfOk result (λ locals. IsPassed (plan_of session.now options.now) (objects session.now.entries) locals) }
+    ensures refused { IfErr result (λ fault. link_by (plan_of session.now options.now) (objects session.now.entries) ≡ Err fault) }
+{
+    if LAST_ADDRESS < bases.bss_end {
+        return Err(LinkFault::DoesNotFit);
+    }
+    let Some(locals) = locals_within(session, options.keep()) else {
+        return Err(LinkFault::TooManySymbols);
+    };
+    if options.is_relocatable() && has_far_word(session, options, locals) {
+        return Err(LinkFault::SymbolNumber);
+    }
+    Ok(locals)
+}
+
+/// The link of the objects that a session keeps: the file, and what is reported of it. The first fault of `LinkFault`
+/// that applies refuses it. With relocation the file is an object, which can be linked again. The session is only
+/// read. (ld(1); the limits are those of a.out(5))
+pub fn finish(alloc: Global, session: &Session, options: &Options) -> Result<Linked, LinkFault>
+    ensures value { IsLinkOf result (link session.now.forced (objects session.now.entries) options.now) }
+    ensures object { options.now.relocatable ≡ true → IfOk result (λ linked. IsWellFormed linked.file) }
+{
+    let bases = link_bases(session, options);
+    let locals = locals_passed(session, options, &bases)?;
+    let finals = finals_of(alloc, session, options, &bases)?;
+    let address = entry_address(session, options, &finals);
+    let entry = address.unwrap_or(0);
+    let parts = parts_of(alloc, session, options, &bases, &finals, locals, entry)?;
+    let report = report_of(alloc, session, options, address)?;
+    let file = File::from_parts(parts);
+    Ok(Linked { file, report })
+}

@@ -1,0 +1,73 @@
+//! Whether relocation words can hold the numbers of the names that are waited for. This takes no memory.
+ghost use Rattle.std.specs.Prelude.{◌≡◌, true, length, slice_get};
+ghost use Rattle.std.specs.List.{list_any};
+ghost use Rattle.link_session.specs.Labelled.{objects};
+ghost use Rattle.link_session.specs.Undo.{image_of};
+ghost use Rattle.link_out.specs.InOrder.{plan_of};
+ghost use Rattle.link_out.specs.Tables.{local_rows, has_far_word};
+ghost use Rattle.link_out.specs.Reach.{kept_bound, kept_bound_of, is_out};
+
+use crate::options::Options;
+use crate::relocs::waits_far;
+use aout_core::Segment;
+use link_session::{Cell, Session, State, Target};
+
+/// The segment that a name in this state is bound to in a file with relocation, if it is bound; `commons` tells
+/// whether commons are laid out.
+fn kept_bound(commons: bool, state: State) -> Option<Segment>
+    ensures { result ≡ kept_bound commons state }
+{
+    match state {
+        State::Defined(segment, _) => Some(segment),
+        State::Wanted(size) if size != 0 && commons => Some(Segment::BssSeg),
+        State::Wanted(_) => None,
+    }
+}
+
+/// The same of the external with this index.
+fn kept_bound_of(session: &Session, commons: bool, index: u16) -> Option<Segment>
+    ensures { result ≡ kept_bound_of commons (slice_get (image_of session.now).externals index) }
+{
+    match session.external(index) {
+        Some((_, state)) => kept_bound(commons, state),
+        None => None,
+    }
+}
+
+/// Whether a word with this target would need a number over 4,095; `locals` rows stand before the externals.
+fn is_out(session: &Session, commons: bool, locals: u16, target: Target) -> bool
+    ensures { result ≡ is_out (image_of session.now).externals commons locals target }
+{
+    match target {
+        Target::External(index) => {
+            let row = locals as u32 + index as u32;
+            waits_far(kept_bound_of(session, commons, index), row)
+        }
+        Target::Absolute | Target::TextSeg | Target::DataSeg | Target::BssSeg => false,
+    }
+}
+
+/// Whether one of the cells would need a number over 4,095.
+fn is_any_out(session: &Session, commons: bool, locals: u16, cells: &[Cell]) -> bool
+    ensures { result ≡ list_any (λ (c : Cell). is_out (image_of session.now).externals commons locals c.target) cells.now }
+{
+    for cell in cells {
+        if is_out(session, commons, locals, cell.target) {
+            return true;
+        }
+    }
+    false
+}
+
+/// Whether a file with relocation would need a symbol number over 4,095; `locals` rows stand before the externals.
+pub(crate) fn has_far_word(session: &Session, options: &Options, locals: u16) -> bool
+    requires relocatable { options.now.relocatable ≡ true }
+    requires locals { locals ≡ length (local_rows (plan_of session.now options.now) (objects session.now.entries)) }
+    ensures { result ≡ has_far_word (plan_of session.now options.now) (objects session.now.entries) }
+{
+    let _entries = session.entries();
+    let commons = options.lays_commons();
+    let in_text = is_any_out(session, commons, locals, session.text_cells());
+    let in_data = is_any_out(session, commons, locals, session.data_cells());
+    in_text || in_data
+}

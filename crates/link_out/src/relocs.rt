@@ -1,0 +1,102 @@
+//! The relocation words of a linked file, from the cells of the merged image.
+ghost use Rattle.std.specs.Prelude.{◌≡◌, ◌≤◌, map, slice_get, IfOk, false};
+ghost use Rattle.std.specs.List.{list_any};
+ghost use Rattle.link_out.specs.Tables.{name_bits, segment_bits, waits_far};
+ghost use Rattle.link_out.specs.FromCells.{bound_of, is_far, reloc_of_cell, target_bits};
+
+use crate::finals::Final;
+use aout_core::{Reloc, Segment};
+use link_session::{Cell, Target};
+use std::alloc::{AllocError, Global};
+
+/// The largest number of a symbol that a relocation word can hold.
+const MOST_NUMBER: u32 = 4095;
+
+/// The segment that an external name is bound to, if it is bound.
+fn bound_of(finals: &[Final], index: u16) -> Option<Segment>
+    ensures { result ≡ bound_of (slice_get finals.now index) }
+{
+    match finals.get(index as usize) {
+        Some(last) => last.bound,
+        None => None,
+    }
+}
+
+/// Whether a name is not bound, and its number in the table too large for a relocation word.
+pub(crate) fn waits_far(bound: Option<Segment>, row: u32) -> bool
+    ensures { result ≡ waits_far bound row }
+{
+    match bound {
+        Some(_) => false,
+        None => MOST_NUMBER < row,
+    }
+}
+
+/// The bits of a segment in a relocation word.
+fn segment_bits(segment: Segment) -> u16
+    ensures value { result ≡ segment_bits segment }
+    ensures small { result ≤ 65528 }
+{
+    match segment {
+        Segment::TextSeg => 0o2,
+        Segment::DataSeg => 0o4,
+        Segment::BssSeg => 0o6,
+        Segment::Undefined | Segment::Absolute | Segment::Other => 0,
+    }
+}
+
+/// The bits of a name in a relocation word: those of its segment, or 010 and its number in the table.
+fn name_bits(bound: Option<Segment>, row: u32) -> u16
+    requires { waits_far bound row ≡ false }
+    ensures value { result ≡ name_bits bound row }
+    ensures small { result ≤ 65528 }
+{
+    match bound {
+        Some(segment) => segment_bits(segment),
+        None => (0o10 + 16 * row) as u16,
+    }
+}
+
+/// The bits of what a cell refers to; `locals` rows stand before the externals.
+fn target_bits(finals: &[Final], locals: u16, target: Target) -> u16
+    requires { is_far finals.now locals target ≡ false }
+    ensures value { result ≡ target_bits finals.now locals target }
+    ensures small { result ≤ 65528 }
+{
+    match target {
+        Target::Absolute => 0,
+        Target::TextSeg => 0o2,
+        Target::DataSeg => 0o4,
+        Target::BssSeg => 0o6,
+        Target::External(index) => {
+            name_bits(bound_of(finals, index), locals as u32 + index as u32)
+        }
+    }
+}
+
+/// The relocation word of a cell; `locals` rows stand before the externals.
+fn reloc_of_cell(finals: &[Final], locals: u16, cell: Cell) -> Reloc
+    requires { is_far finals.now locals cell.target ≡ false }
+    ensures { result ≡ reloc_of_cell finals.now locals cell }
+{
+    let pc = if cell.pc { 1 } else { 0 };
+    Reloc(pc + target_bits(finals, locals, cell.target))
+}
+
+/// The relocation words of the cells of a segment, none of which waits for a name whose number is too large; `locals`
+/// rows stand before the externals. An error: no room for them.
+pub(crate) fn relocs_of_cells(
+    alloc: Global,
+    cells: &[Cell],
+    finals: &[Final],
+    locals: u16,
+) -> Result<Vec<Reloc>, AllocError>
+    requires { list_any (λ (c : Cell). is_far finals.now locals c.target) cells.now ≡ false }
+    ensures { IfOk result (λ relocs. relocs.items ≡ map (reloc_of_cell finals.now locals) cells.now) }
+{
+    let mut relocs = Vec::with_capacity(alloc, cells.len())?;
+    for cell in cells {
+        relocs.push(reloc_of_cell(finals, locals, *cell))?;
+    }
+    Ok(relocs)
+}
