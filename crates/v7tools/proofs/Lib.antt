@@ -1,0 +1,4 @@
+pub mod PlainLemmas
+pub mod PlainLinkLemmas
+pub mod AnswerLemmas
+pub mod LoadLemmas

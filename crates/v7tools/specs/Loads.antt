@@ -1,0 +1,21 @@
+-- A file that is read at a path.
+use Rattle.std.specs.Prelude.{◌≡◌, ◌≢◌, Result, Ok, Err, String}
+use Rattle.std.specs.declared.alloc.Global.{Global}
+use Rattle.aout_core.specs.declared.file.ReadFault.{ReadFault}
+use Rattle.aout_core.specs.declared.file.ReadFault.TheVariants as reads
+use Rattle.aout_core.specs.Contents.{Contents}
+use Rattle.v7tools.specs.declared.fault.CliFault.{CliFault}
+use Rattle.v7tools.specs.declared.fault.CliFault.TheVariants as faults
+
+-- what the reader answered
+abbrev pub read_of : Result (String Global × Contents) CliFault → Result Contents ReadFault
+read_of (Ok loaded) = Ok loaded.1
+read_of (Err (faults.BadFile path fault)) = Err fault
+read_of (Err _) = Err reads.Memory
+
+-- the path comes back with the file, or stands in the fault; want of memory is a fault of its own
+abbrev pub IsAtPath : String Global → Result (String Global × Contents) CliFault → Type 0
+IsAtPath path (Ok loaded) = loaded.0 ≡ path
+IsAtPath path (Err (faults.BadFile at fault)) = (at ≡ path) × (fault ≢ reads.Memory)
+IsAtPath path (Err faults.Memory) = Unit {0}
+IsAtPath path (Err _) = ⊥
