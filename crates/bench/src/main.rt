@@ -1,0 +1,77 @@
+//! Times the session on a large input. Without words it does a small run and prints nothing; with the word `full` it does
+//! the full run, and prints times and sizes.
+#![tactic(auto)]
+
+mod input;
+
+use anyhow::{Result, anyhow};
+use input::{Size, defining, referring};
+use link_session::Session;
+use std::env;
+use std::time::Instant;
+
+/// The full run: 65,000 bytes of text with 20,000 words that refer to 5,000 names.
+const FULL: Size = Size {
+    objects: 200,
+    references: 4,
+};
+
+const SMALL: Size = Size {
+    objects: 3,
+    references: 2,
+};
+
+/// How often a defining object is added and withdrawn.
+fn withdrawals(size: Size) -> u16 {
+    size.objects / 2
+}
+
+fn add_all(rt: &HostRuntime, session: &mut Session, size: Size) -> Result<()> {
+    for number in 0..size.objects {
+        let object = referring(rt.alloc(), size, number)?;
+        let label = String::from_str(rt.alloc(), "referring.o")?;
+        if let Err(refused) = session.add(label, object) {
+            return Err(anyhow!("{}", refused.cause));
+        }
+    }
+    Ok(())
+}
+
+fn add_and_withdraw(rt: &HostRuntime, session: &mut Session, size: Size) -> Result<()> {
+    for number in 0..withdrawals(size) {
+        let object = defining(rt.alloc(), number)?;
+        let label = String::from_str(rt.alloc(), "defining.o")?;
+        if let Err(refused) = session.add(label, object) {
+            return Err(anyhow!("{}", refused.cause));
+        }
+        if session.withdraw().is_none() {
+            return Err(anyhow!("nothing to withdraw"));
+        }
+    }
+    Ok(())
+}
+
+fn main(rt: HostRuntime) -> Result<()> {
+    let is_full = env::args(&rt)?.count() > 1;
+    let size = if is_full { FULL } else { SMALL };
+    let mut session = Session::new(rt.alloc());
+    let start = Instant::now(&rt)?;
+    add_all(&rt, &mut session, size)?;
+    let added = start.elapsed(&rt)?;
+    let start = Instant::now(&rt)?;
+    add_and_withdraw(&rt, &mut session, size)?;
+    let withdrawn = start.elapsed(&rt)?;
+    if is_full {
+        let objects = session.entries().len();
+        let cells = session.text_cells().len();
+        let names = session.external_count();
+        println!(rt; "{objects} objects, {cells} words of text, {names} names")?;
+        println!(rt; "added in {} ms", added.as_millis())?;
+        let times = withdrawals(size);
+        println!(rt;
+            "one more added and withdrawn {times} times in {} ms",
+            withdrawn.as_millis()
+        )?;
+    }
+    Ok(())
+}

@@ -1,0 +1,73 @@
+-- The laws at samples: their premises can be met.
+use Rattle.std.specs.Prelude.{◌≡◌, ℕ, ◌<◌, true, false, List, [], ◌∷◌, ◌++◌, take, drop, Ok, Err, refl, nat_lt}
+use Rattle.std.proofs.lemmas.Bool.{and_parts, ltb-true}
+use Rattle.std.specs.List.{AllByRecursion, list_all}
+use Rattle.aout_core.specs.Contents.{Contents}
+use Rattle.aout_core.specs.Spelling.{spelling}
+use Rattle.aout_core.specs.Spells.{Spells}
+use Rattle.aout_core.specs.Front.{front}
+use Rattle.aout_core.proofs.SpellsLemmas.{front_spells}
+use Rattle.link_session.specs.Mentions.{mentions}
+use Rattle.link_session.specs.States.{multiple_names}
+use Rattle.link_out.specs.declared.options.Keep.TheVariants.{NotL}
+use Rattle.link_out.specs.declared.linked.LinkFault.{LinkFault}
+use Rattle.link_out.specs.Link.{Outcome, link}
+use Rattle.link_out.specs.Partials.{IsPartialLink}
+use Rattle.link_out.proofs.PartialTheorem.{partial_stands_among}
+use Rattle.conformance.specs.Samples.{_f, sym, object, c_o, d_o, d2_o, e_o, p_o, q_o, r_o, plain, plain_s, relocatable, with_keep}
+use Rattle.std.specs.Prelude.{Result}
+
+abbrev outcome_of : Result Outcome LinkFault → Outcome
+outcome_of (Ok x) = x
+outcome_of (Err e) = record { file = e_o; report = record { multiples = []; reserved = []; entry_bad = Rattle.std.specs.Prelude.None; undefined = [] } }
+
+abbrev m3 : Outcome
+m3 = outcome_of (link [] (q_o ∷ r_o ∷ []) relocatable)
+
+m3_is_partial : IsPartialLink [] (q_o ∷ r_o ∷ []) relocatable m3
+m3_is_partial = record { allowed = refl; relocatable = refl; no_commons = refl; linked = refl }
+
+among : link [] (p_o ∷ m3.file ∷ []) plain_s ≡ link [] (p_o ∷ (q_o ∷ (r_o ∷ []))) plain_s
+among = partial_stands_among [] (p_o ∷ []) (q_o ∷ r_o ∷ []) [] relocatable plain_s m3 (refl, tt) (refl, (refl, tt)) tt m3_is_partial (λ name h. absurd (cc)) refl
+
+abbrev m6 : Outcome
+m6 = outcome_of (link [] (c_o ∷ []) (with_keep NotL relocatable))
+
+m6_is_partial : IsPartialLink [] (c_o ∷ []) (with_keep NotL relocatable) m6
+m6_is_partial = record { allowed = refl; relocatable = refl; no_commons = refl; linked = refl }
+
+before_another : link [] (m6.file ∷ d_o ∷ []) (with_keep NotL plain) ≡ link [] (c_o ∷ (d_o ∷ [])) (with_keep NotL plain)
+before_another = partial_stands_among [] [] (c_o ∷ []) (d_o ∷ []) (with_keep NotL relocatable) (with_keep NotL plain) m6 tt (refl, tt) (refl, tt) m6_is_partial (λ name h. h) refl
+
+-- where a name is multiply defined the words differ: those of the partial link are bound to its own definition
+abbrev m7 : Outcome
+m7 = outcome_of (link [] (c_o ∷ d2_o ∷ []) relocatable)
+
+among_multiples : multiple_names (mentions [] (d_o ∷ (c_o ∷ (d2_o ∷ [])))) ≡ _f ∷ []
+among_multiples = refl
+
+-- the third word is bound inside the partial link, and to the first definition in the link of all
+among_multiples_part : (outcome_of (link [] (d_o ∷ m7.file ∷ []) plain)).file.text_words ≡ 160 ∷ 135 ∷ 2551 ∷ 0 ∷ 135 ∷ []
+among_multiples_part = refl
+
+among_multiples_all : (outcome_of (link [] (d_o ∷ c_o ∷ d2_o ∷ []) plain)).file.text_words ≡ 160 ∷ 135 ∷ 2551 ∷ 65530 ∷ 135 ∷ []
+among_multiples_all = refl
+
+-- a name with bytes behind its NUL
+abbrev one_name : Contents
+one_name = object [] [] [] [] 0 (sym _f 32 0 ∷ [])
+
+abbrev odd_bytes : List ℕ
+odd_bytes = take 18 (spelling one_name) ++ (0 ∷ 7 ∷ 1 ∷ 0 ∷ 0 ∷ 9 ∷ []) ++ drop 24 (spelling one_name)
+
+odd_bytes_read : front odd_bytes ≡ Ok one_name
+odd_bytes_read = refl
+
+below : (bytes : List ℕ) → list_all (λ (b : ℕ). nat_lt b 256) bytes ≡ true → AllByRecursion (λ (b : ℕ). b < 256) bytes
+below [] h = tt
+below (b ∷ bs) h =
+    let parts = and_parts (nat_lt b 256) (list_all (λ (x : ℕ). nat_lt x 256) bs) h in
+    (ltb-true b 256 parts.0, below bs parts.1)
+
+odd_bytes_spell : Spells odd_bytes one_name
+odd_bytes_spell = front_spells odd_bytes one_name (below odd_bytes refl) refl

@@ -1,0 +1,5 @@
+mod FileExamples
+mod LinkExamples
+mod SessionExamples
+mod ToolExamples
+mod LawExamples
