@@ -210,18 +210,10 @@ fn limits_of_a_session(rt: HostRuntime) -> Result<(), Fail> {
 fn names(alloc: Global, letter: u8, count: u16) -> Result<Object, Fail> {
     let mut symbols = Vec::new(alloc);
     for i in 0..count {
-        let high = (i / 100) as u8;
-        let low = (i % 100) as u8;
-        symbols.push(symbol(
-            &[
-                letter,
-                b'@' | (high & 0o77),
-                b'@' | (low & 0o77),
-                b'@' | low / 64,
-            ],
-            0o40,
-            0,
-        ))?;
+        let low = b'@' | (i % 64) as u8;
+        let middle = b'@' | (i / 64 % 64) as u8;
+        let high = b'@' | (i / 4096) as u8;
+        symbols.push(symbol(&[letter, high, middle, low], 0o40, 0))?;
     }
     sized(alloc, 0, 0, 0, &symbols)
 }
