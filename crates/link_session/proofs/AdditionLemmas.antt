@@ -1,8 +1,7 @@
 -- An image that takes in an object becomes the image of the objects with that one.
-use Rattle.std.proofs.Common.{◌≡◌, ℕ, zero, suc, ◌+◌, ◌*◌, ◌≤◌, ◌<◌, Bool, true, false, cond, ◌||◌, List, [], ◌∷◌, ◌++◌, map, length, Option, Some, None, refl, sym, ◌∙◌, ap, subst, arith, add-one, append_assoc, is_some}
-use Rattle.std.specs.Prelude.{bytes_eq, slice_get, slice_index_or, zip, filter, ⊤}
+use Rattle.std.proofs.Common.{◌≡◌, ℕ, zero, suc, ◌+◌, Bool, true, false, cond, ◌||◌, List, [], ◌∷◌, ◌++◌, map, Option, Some, None, refl, sym, ◌∙◌, ap, add-one}
+use Rattle.std.specs.Prelude.{bytes_eq, slice_get, slice_index_or, ⊤}
 use Rattle.std.specs.List.{AllByRecursion, flat_map}
-use Rattle.std.specs.Map.{keys_of}
 use Rattle.std.proofs.lemmas.Slice.Eq.{bytes_eq-Decides}
 use Rattle.aout_core.specs.declared.symbol.Symbol.{Symbol}
 use Rattle.aout_core.specs.declared.symbol.Segment.{Segment}
@@ -12,24 +11,23 @@ use Rattle.aout_core.specs.declared.reloc.Kind.{Kind}
 use Rattle.aout_core.specs.declared.reloc.Kind.TheVariants as kinds
 use Rattle.aout_core.specs.Contents.{Contents}
 use Rattle.aout_core.specs.Words.{plus, minus}
-use Rattle.aout_core.specs.WellFormed.{is_external, segment_of, kind_of, is_pc_relative, symbol_number, first_of, IsWellFormed}
+use Rattle.aout_core.specs.WellFormed.{segment_of, kind_of, is_pc_relative, symbol_number, first_of, IsWellFormed}
 use Rattle.link_session.specs.declared.cell.Cell.{Cell}
 use Rattle.link_session.specs.declared.cell.Target.{Target}
 use Rattle.link_session.specs.declared.cell.Target.TheVariants as targets
 use Rattle.link_session.specs.declared.state.State.{State}
-use Rattle.link_session.specs.declared.state.State.TheVariants.{Defined, Wanted}
 use Rattle.link_session.specs.declared.own.Shifts.{Shifts}
 use Rattle.link_session.specs.Earlier.{with_earlier}
-use Rattle.link_session.specs.Starts.{total, shift, size_of}
-use Rattle.link_session.specs.Mentions.{Mention, mention, statement, mentions, mentions_in, externals_in, names_of, names_by_first_mention, new_names, externals, is_among, place_of}
+use Rattle.link_session.specs.Starts.{shift}
+use Rattle.link_session.specs.Mentions.{Mention, mention, statement, mentions, mentions_in, externals_in, names_of, names_by_first_mention, new_names, is_among, place_of}
 use Rattle.link_session.specs.States.{Definition, state, state_by, first_definition, wanted_size, multiple_names}
 use Rattle.link_session.specs.Cells.{Referent, to_segment, to_name, referent, referent_by, segment_target, name_target, name_in, target_of, target_shift, offset_in, if_pc, cell, words_of, cells_in, cells}
-use Rattle.link_session.specs.Image.{Image, named_states, image_by, image}
+use Rattle.link_session.specs.Image.{named_states, image}
 use Rattle.link_session.specs.Sessions.{IsObject}
-use Rattle.link_session.specs.Additions.{Named, state_in, state_at, state_for, place_in, all_mentioned, all_clashes, bound_by, binding_at, binding, bound_or, settled, statement_by, mention_by, mentions_by, referred, own_cell, own_cells, next_shifts, next_mentions, next_named, joined_image}
+use Rattle.link_session.specs.Additions.{state_in, state_at, state_for, place_in, all_mentioned, all_clashes, bound_by, binding_at, binding, bound_or, settled, statement_by, mention_by, mentions_by, referred, own_cell, own_cells, next_shifts, next_mentions, next_named, joined_image}
 use Rattle.link_session.proofs.StateLemmas.{first_definition-append}
 use Rattle.link_session.proofs.MentionLemmas.{names_by_first_mention-append, is_among-externals}
-use Rattle.link_session.proofs.CellLemmas.{rebound, bound_at, bound, RefersAmong, AllReferAmong, cells_more}
+use Rattle.link_session.proofs.CellLemmas.{rebound, bound, RefersAmong, AllReferAmong, cells_more}
 use Rattle.link_session.proofs.MarkLemmas.{awaited, bound-awaited, get_mapped}
 use Rattle.link_session.proofs.WellFormedLemmas.{objects_refer, all_map}
 use Rattle.link_session.proofs.UpdateLemmas.{image_own}

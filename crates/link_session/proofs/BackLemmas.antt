@@ -1,12 +1,11 @@
 -- The marks of an addition bring the earlier image back, lie inside it, and are few.
-use Rattle.std.proofs.Common.{◌≡◌, ℕ, zero, suc, ◌+◌, ◌≤◌, ◌<◌, ◌⊎◌, inl, inr, Bool, true, false, cond, max, ◌&&◌, ◌||◌, List, [], ◌∷◌, ◌++◌, map, take, length, Option, Some, None, refl, sym, ◌∙◌, ap, arith, append_assoc, append-nil, length-append, nat_lt, is_some}
-use Rattle.std.specs.Prelude.{slice_get, slice_set, filter}
+use Rattle.std.proofs.Common.{◌≡◌, ℕ, zero, suc, ◌+◌, ◌≤◌, ◌<◌, Bool, true, false, cond, ◌&&◌, List, [], ◌∷◌, ◌++◌, map, take, length, Option, Some, None, refl, sym, ◌∙◌, ap, arith, append_assoc, length-append, nat_lt, is_some}
+use Rattle.std.specs.Prelude.{slice_set, filter}
 use Rattle.std.specs.List.{AllByRecursion}
 use Rattle.std.specs.Map.{keys_of}
 use Rattle.std.proofs.Math.Seq.{take-length}
-use Rattle.std.proofs.lemmas.Bool.{ltb-true, ltb-false, and_parts}
-use Rattle.std.proofs.lemmas.List.{length-map, take_at, take-append-le}
-use Rattle.indexmap.specs.Layout.{length-set_value_at}
+use Rattle.std.proofs.lemmas.Bool.{ltb-true, ltb-false}
+use Rattle.std.proofs.lemmas.List.{length-map, take_at}
 use Rattle.aout_core.specs.declared.symbol.Segment.{Segment}
 use Rattle.aout_core.specs.declared.symbol.Segment.TheVariants as segments
 use Rattle.aout_core.specs.Contents.{Contents}
@@ -23,7 +22,7 @@ use Rattle.link_session.specs.Bounds.{is_defined_by, waiting_in, most_marks}
 use Rattle.link_session.specs.Sessions.{IsObject}
 use Rattle.link_session.specs.Undo.{with_state, put_back, put_all_back, cut_to, undo, IsInside}
 use Rattle.link_session.specs.Updates.{updated}
-use Rattle.link_session.specs.Additions.{Named, state_in, state_at, state_for, place_in, mentioned, all_mentioned, changes, state_mark, state_marks, binding, bound_or, settled, mark_if, place_at, cell_marks, own_cells, all_clashes, mention_by, next_shifts, next_named, next_mentions, next_marks, joined_image}
+use Rattle.link_session.specs.Additions.{Named, state_at, state_for, place_in, mentioned, all_mentioned, changes, state_mark, state_marks, binding, bound_or, settled, mark_if, place_at, cell_marks, own_cells, all_clashes, mention_by, next_shifts, next_named, next_mentions, next_marks, joined_image}
 use Rattle.link_session.proofs.WellFormedLemmas.{objects_refer}
 use Rattle.link_session.proofs.BoundLemmas.{is_defined_by-awaited}
 use Rattle.link_session.proofs.MarkLemmas.{put_all_back-append, take_grown, take_with_state, cut_front, awaited}
@@ -104,10 +103,6 @@ set_at [] now was rest zero e = refl
 set_at [] now was rest (suc i) e = absurd (omega arith)
 set_at (c ∷ front) now was rest zero e = absurd (omega arith)
 set_at (c ∷ front) now was rest (suc i) e = ap (λ (cs : List Cell). c ∷ cs) (set_at front now was rest i (omega arith))
-
-abbrev with_cells : Segment → Image → List Cell → Image
-with_cells segments.DataSeg m cs = record m { data_cells = cs }
-with_cells _ m cs = record m { text_cells = cs }
 
 put_text : (m : Image) (front : List Cell) (b c : Cell) (rest : List Cell) (i : ℕ) → length front ≡ i →
     put_back (CellWas (InText i) c) (record m { text_cells = front ++ b ∷ rest }) ≡ record m { text_cells = front ++ c ∷ rest }

@@ -1,9 +1,9 @@
 -- A name put behind the names in the slots.
-use Rattle.std.proofs.Common.{◌≡◌, ℕ, zero, suc, ◌+◌, ◌<◌, ◌≤◌, Bool, true, false, cond, List, [], ◌∷◌, ◌++◌, take, replicate, length, refl, sym, ◌∙◌, ap, arith, add-one, length-take, length-append}
+use Rattle.std.proofs.Common.{◌≡◌, ℕ, zero, suc, ◌+◌, ◌<◌, ◌≤◌, true, false, cond, List, [], ◌∷◌, ◌++◌, take, replicate, length, refl, sym, ◌∙◌, ap, arith, add-one, length-take, length-append}
 use Rattle.std.specs.Prelude.{slice_set, nat_lt}
 use Rattle.std.proofs.lemmas.Bool.{lt-ltb}
 use Rattle.std.proofs.lemmas.List.{length-replicate}
-use Rattle.link_session.specs.Mentions.{new_names, is_among}
+use Rattle.link_session.specs.Mentions.{is_among}
 use Rattle.link_session.specs.ForcedNames.{filled, AreDifferent, IsForced, takes, with_name}
 use Rattle.link_session.specs.declared.forced.Forced.TheInside.{Inside}
 use Rattle.link_session.proofs.MentionLemmas.{new_names-append}

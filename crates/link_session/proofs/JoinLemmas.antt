@@ -1,5 +1,5 @@
 -- The image while an object is joined to it.
-use Rattle.std.proofs.Common.{◌≡◌, ℕ, ◌+◌, ◌*◌, ◌≤◌, List, [], ◌∷◌, ◌++◌, map, length, refl, sym, ◌∙◌, ap, arith, None}
+use Rattle.std.proofs.Common.{◌≡◌, ℕ, ◌+◌, ◌*◌, ◌≤◌, List, [], ◌∷◌, ◌++◌, map, length, refl, ◌∙◌, ap, arith, None}
 use Rattle.std.specs.Prelude.{filter}
 use Rattle.std.specs.Map.{keys_of}
 use Rattle.aout_core.specs.declared.symbol.Symbol.{Symbol}
@@ -9,7 +9,7 @@ use Rattle.link_session.specs.declared.own.Shifts.{Shifts}
 use Rattle.link_session.specs.Mentions.{new_names, names_of}
 use Rattle.link_session.specs.Image.{Image}
 use Rattle.link_session.specs.Fields.{IsSmall}
-use Rattle.link_session.specs.Additions.{Named, all_mentioned, all_clashes, mention_by, mentions_by, settled, own_cells, external_names, new_count, next_limit, next_shifts, next_mentions, next_named, entered, joined_image}
+use Rattle.link_session.specs.Additions.{Named, all_mentioned, all_clashes, mention_by, mentions_by, settled, own_cells, new_count, next_limit, next_shifts, next_mentions, next_named, entered, joined_image}
 use Rattle.link_session.proofs.MentionedLemmas.{length-all_mentioned}
 use Rattle.link_session.proofs.TotalLemmas.{within_limit}
 

@@ -4,8 +4,7 @@ pub mod MentionLemmas
 pub mod StateLemmas
 pub mod CellLemmas
 pub mod WellFormedLemmas
-pub mod ImageLemmas
-pub mod UndoLemmas
+pub mod MultipleLemmas
 pub mod MarkLemmas
 pub mod JournalLemmas
 pub mod BoundLemmas

@@ -1,15 +1,14 @@
 -- How many names the entries of an object add, and the limits of an image.
-use Rattle.std.proofs.Common.{◌≡◌, ℕ, zero, suc, ◌+◌, ◌<◌, ◌≤◌, Bool, true, false, cond, not, ◌&&◌, ◌||◌, is_some, Some, List, [], ◌∷◌, ◌++◌, map, take, drop, length, refl, sym, ◌∙◌, ap, arith, append_assoc, append-nil}
+use Rattle.std.proofs.Common.{◌≡◌, ℕ, ◌≤◌, Bool, true, false, cond, not, ◌&&◌, ◌||◌, is_some, Some, List, [], ◌∷◌, ◌++◌, map, length, refl, ap, arith}
 use Rattle.std.specs.Prelude.{bytes_eq, filter}
 use Rattle.std.specs.List.{list_any}
 use Rattle.std.specs.Map.{keys_of, lookup}
-use Rattle.std.proofs.lemmas.List.{length-map, map-append}
+use Rattle.std.proofs.lemmas.List.{length-map}
 use Rattle.aout_core.specs.declared.symbol.Symbol.{Symbol}
 use Rattle.aout_core.specs.WellFormed.{is_external}
 use Rattle.link_session.specs.Mentions.{is_among, new_names}
 use Rattle.link_session.specs.Additions.{Named, external_names, new_count}
 use Rattle.link_session.proofs.MentionLemmas.{is_among-append}
-use Rattle.link_session.proofs.PlaceLemmas.{filter_le}
 
 -- a key is found where it is one of the keys
 pub found-is_among : (es : Named) (name : List ℕ) → is_some (lookup (bytes_eq name) es) ≡ is_among (keys_of es) name

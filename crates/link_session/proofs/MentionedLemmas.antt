@@ -1,11 +1,10 @@
 -- The names and states after the mentions of an object.
-use Rattle.std.proofs.Common.{◌≡◌, ℕ, zero, suc, ◌+◌, ◌<◌, ◌≤◌, Bool, true, false, cond, ◌||◌, List, [], ◌∷◌, ◌++◌, map, length, Option, Some, None, refl, sym, ◌∙◌, ap, arith, add-one, append_assoc, append-nil, length-append}
-use Rattle.std.specs.Prelude.{bytes_eq, slice_get}
+use Rattle.std.proofs.Common.{◌≡◌, ℕ, zero, suc, ◌+◌, Bool, true, false, cond, ◌||◌, List, [], ◌∷◌, ◌++◌, map, length, refl, sym, ◌∙◌, ap, arith, add-one, append_assoc, append-nil, length-append}
+use Rattle.std.specs.Prelude.{bytes_eq}
 use Rattle.std.specs.Map.{keys_of}
 use Rattle.std.proofs.lemmas.List.{map-append, length-map}
 use Rattle.std.proofs.lemmas.Slice.Eq.{bytes_eq-Decides}
 use Rattle.indexmap.specs.IndexMap.{insert_entry}
-use Rattle.aout_core.specs.Contents.{Contents}
 use Rattle.link_session.specs.declared.state.State.{State}
 use Rattle.link_session.specs.declared.state.State.TheVariants.{Defined, Wanted}
 use Rattle.link_session.specs.Mentions.{Mention, is_among, new_names, names_of, names_by_first_mention, place_of}
@@ -13,11 +12,20 @@ use Rattle.link_session.specs.States.{state, multiple_names}
 use Rattle.link_session.specs.Image.{named_states}
 use Rattle.link_session.specs.Undo.{with_state}
 use Rattle.link_session.specs.Updates.{updated, clashes}
-use Rattle.link_session.specs.Additions.{Named, state_in, state_at, state_for, place_in, mentioned, all_mentioned, all_clashes}
+use Rattle.link_session.specs.Additions.{Named, state_at, state_for, place_in, mentioned, all_mentioned, all_clashes}
 use Rattle.link_session.proofs.MentionLemmas.{is_among-append, is_among-externals}
-use Rattle.link_session.proofs.UndoLemmas.{named-with_state}
-use Rattle.link_session.proofs.MarkLemmas.{named_named}
 use Rattle.link_session.proofs.UpdateLemmas.{unmentioned, externals_mention, multiples_mention}
+
+-- the names stay where a state is replaced
+keys-with_state : (es : Named) (i : ℕ) (s : State) → keys_of (with_state es i s) ≡ keys_of es
+keys-with_state [] i s = refl
+keys-with_state (e ∷ es) zero s = refl
+keys-with_state (e ∷ es) (suc i) s = ap (λ (ns : List (List ℕ)). e.0 ∷ ns) (keys-with_state es i s)
+
+-- the names of names with states beside them
+keys-beside : (f : List ℕ → State) (ns : List (List ℕ)) → keys_of (map {B = List ℕ × State} (λ n. (n, f n)) ns) ≡ ns
+keys-beside f [] = refl
+keys-beside f (n ∷ ns) = ap (λ (ks : List (List ℕ)). n ∷ ks) (keys-beside f ns)
 
 -- a name keeps its place and takes the state, or stands last
 pub insert_entry-is : (es : Named) (name : List ℕ) (s : State) → insert_entry bytes_eq es name s ≡ with_state es (place_in es name) s ++ cond (is_among (keys_of es) name) [] ((name, s) ∷ [])
@@ -40,7 +48,7 @@ pub keys-mentioned : (es : Named) (m : Mention) → keys_of (mentioned es m) ≡
 keys-mentioned es m =
     ap keys_of (mentioned-is es m)
     ∙ map-append (λ (e : List ℕ × State). e.0) (with_state es (place_in es m.name) (next_state es m)) (cond (is_among (keys_of es) m.name) [] ((m.name, next_state es m) ∷ []))
-    ∙ (λ i. named-with_state es (place_in es m.name) (next_state es m) i ++ last (is_among (keys_of es) m.name) i)
+    ∙ (λ i. keys-with_state es (place_in es m.name) (next_state es m) i ++ last (is_among (keys_of es) m.name) i)
   where
     last : (t : Bool) → keys_of (cond t [] ((m.name, next_state es m) ∷ [])) ≡ cond t [] (m.name ∷ [])
     last true = refl
@@ -93,7 +101,7 @@ length-all_mentioned es (m ∷ ms) =
 
 -- the keys of names with states are the names
 pub keys-named_states : (ms : List Mention) → keys_of (named_states ms) ≡ names_by_first_mention ms
-keys-named_states ms = named_named (state ms) (names_by_first_mention ms)
+keys-named_states ms = keys-beside (state ms) (names_by_first_mention ms)
 
 at_place : (f : List ℕ → State) (ns : List (List ℕ)) (name : List ℕ) → is_among ns name ≡ true → state_at (map {B = List ℕ × State} (λ n. (n, f n)) ns) (place_of name ns) ≡ f name
 at_place f [] name h = absurd (cc)

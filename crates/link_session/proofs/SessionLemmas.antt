@@ -1,27 +1,23 @@
 -- What a session's fields are worth after an addition and after a withdrawal.
-use Rattle.std.proofs.Common.{◌≡◌, ℕ, zero, suc, ◌+◌, ◌*◌, ◌-◌, ◌≤◌, List, [], ◌∷◌, ◌++◌, map, length, position, Option, Some, None, refl, sym, ◌∙◌, ap, subst, arith, length-append, append-nil}
-use Rattle.std.specs.Prelude.{bytes_eq, slice_get, filter}
+use Rattle.std.proofs.Common.{◌≡◌, ℕ, suc, ◌-◌, ◌≤◌, List, [], ◌∷◌, ◌++◌, map, length, Some, None, refl, sym, ◌∙◌, ap, subst, arith, length-append, append-nil}
+use Rattle.std.specs.Prelude.{slice_get, filter}
 use Rattle.std.specs.List.{AllByRecursion}
 use Rattle.std.specs.Map.{keys_of}
 use Rattle.std.proofs.lemmas.List.{map-append, length-map}
 use Rattle.aout_core.specs.Contents.{Contents}
-use Rattle.link_session.specs.declared.entry.AddFault.{AddFault}
-use Rattle.link_session.specs.declared.entry.AddFault.TheVariants.{Memory}
 use Rattle.link_session.specs.declared.mark.Mark.{Mark}
-use Rattle.link_session.specs.declared.merged.Sizes.{Sizes}
 use Rattle.link_session.specs.declared.session.Step.{Step}
-use Rattle.link_session.specs.declared.state.State.{State}
 use Rattle.link_session.specs.Earlier.{with_earlier}
 use Rattle.link_session.specs.Labelled.{Labelled, objects}
-use Rattle.link_session.specs.Mentions.{Mention, forced_mention, mentions, externals, names_of, new_names}
-use Rattle.link_session.specs.States.{multiple_names, differs, first_definition, state}
+use Rattle.link_session.specs.Mentions.{Mention, forced_mention, mentions, externals, names_of}
+use Rattle.link_session.specs.States.{multiple_names, differs, first_definition}
 use Rattle.link_session.specs.Image.{Image, image, named_states}
 use Rattle.link_session.specs.Edits.{limit_passed, refusal}
-use Rattle.link_session.specs.Undo.{put_all_back, undo, IsInside, IsJournal, Kept, image_of}
+use Rattle.link_session.specs.Undo.{put_all_back, undo, IsInside, IsJournal}
 use Rattle.link_session.specs.Bounds.{most_marks}
-use Rattle.link_session.specs.Sessions.{nothing_kept, newest, Adds, IsCause, IsObject}
+use Rattle.link_session.specs.Sessions.{newest, Adds, IsObject}
 use Rattle.link_session.specs.Fields.{sizes_of, cut_by, marks_in, sizes_in, sizes_before, IsSmall, IsSession}
-use Rattle.link_session.specs.Additions.{Named, all_mentioned, next_limit, next_marks, joined_image}
+use Rattle.link_session.specs.Additions.{all_mentioned, next_limit, next_marks, joined_image}
 use Rattle.link_session.proofs.EarlierLemmas.{with_earlier-append}
 use Rattle.link_session.proofs.JournalLemmas.{UndoesLast, journal_push, journal_pop, journal_empty}
 use Rattle.link_session.proofs.MentionedLemmas.{keys-named_states, all_mentioned-named_states}

@@ -1,29 +1,28 @@
 -- Sizes, limits and shifts read off an image.
-use Rattle.std.proofs.Common.{◌≡◌, ℕ, ◌+◌, ◌*◌, ◌≤◌, ◌<◌, Bool, true, false, cond, not, eqb, List, [], ◌∷◌, ◌++◌, map, length, Option, Some, None, refl, sym, ◌∙◌, ap, arith, length-append, eqb-true, nat_lt}
-use Rattle.std.specs.Prelude.{zip, min}
+use Rattle.std.proofs.Common.{◌≡◌, ℕ, ◌+◌, ◌*◌, ◌≤◌, Bool, true, false, cond, not, eqb, List, [], ◌∷◌, ◌++◌, map, length, Option, Some, None, refl, sym, ◌∙◌, ap, arith, length-append, nat_lt}
+use Rattle.std.specs.Prelude.{zip}
 use Rattle.std.specs.List.{flat_map, AllByRecursion}
 use Rattle.std.specs.Map.{keys_of}
 use Rattle.std.proofs.lemmas.Bool.{ltb-false, le-ltb}
-use Rattle.std.proofs.lemmas.List.{length-map, map-append}
+use Rattle.std.proofs.lemmas.List.{length-map}
 use Rattle.std.proofs.lemmas.List.Sums.{sum_by-append}
 use Rattle.std.proofs.lemmas.Slice.Zip.{length-zip}
 use Rattle.aout_core.specs.declared.symbol.Symbol.{Symbol}
 use Rattle.aout_core.specs.declared.symbol.Segment.{Segment}
 use Rattle.aout_core.specs.declared.symbol.Segment.TheVariants as segments
-use Rattle.aout_core.specs.declared.object.ObjectFault.{ObjectFault}
 use Rattle.aout_core.specs.declared.object.ObjectFault.TheVariants as faults
 use Rattle.aout_core.specs.declared.reloc.Reloc.{Reloc}
 use Rattle.aout_core.specs.Contents.{Contents, with_relocation}
-use Rattle.aout_core.specs.WellFormed.{is_external, segment_of, first_bad_word, IsWellFormed}
+use Rattle.aout_core.specs.WellFormed.{first_bad_word, IsWellFormed}
 use Rattle.link_session.specs.declared.entry.AddFault.{AddFault}
 use Rattle.link_session.specs.declared.entry.AddFault.TheVariants.{TextFull, DataFull, BssFull, NamesFull}
 use Rattle.link_session.specs.declared.state.State.{State}
 use Rattle.link_session.specs.declared.cell.Cell.{Cell}
 use Rattle.link_session.specs.Earlier.{with_earlier}
 use Rattle.link_session.specs.Starts.{total, size_of}
-use Rattle.link_session.specs.Mentions.{Mention, mentions, mentions_in, names_of, names_by_first_mention, new_names, externals, externals_in, mention, is_among}
+use Rattle.link_session.specs.Mentions.{Mention, mentions, mentions_in, names_of, new_names, externals, externals_in, mention, is_among}
 use Rattle.link_session.specs.States.{state}
-use Rattle.link_session.specs.Cells.{cells, cells_in, words_of, cell}
+use Rattle.link_session.specs.Cells.{cells, cells_in, cell}
 use Rattle.link_session.specs.Image.{image}
 use Rattle.link_session.specs.Edits.{limit_passed, refusal}
 use Rattle.link_session.specs.Sessions.{IsObject}

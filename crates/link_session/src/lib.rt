@@ -23,6 +23,3 @@ pub use forced::Forced;
 pub use mark::{Mark, Place};
 pub use session::{Memory, Session};
 pub use state::State;
-
-#[cfg(test)]
-mod tests;

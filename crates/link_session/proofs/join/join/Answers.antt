@@ -1,7 +1,7 @@
-use Rattle.std.proofs.Common.{◌≡◌, ◌≤◌, ◌++◌, ◌+◌, [], length, take, refl, sym, ◌∙◌, ap, subst, arith, rules}
+use Rattle.std.proofs.Common.{◌≡◌, ◌≤◌, length, sym, ◌∙◌, subst, rules}
 use Rattle.link_session.specs.Image.{Image}
 use Rattle.link_session.specs.Fields.{image_in, IsSmall, cut_by, sizes_of}
-use Rattle.link_session.specs.Additions.{entered, next_shifts, next_mentions, state_marks}
+use Rattle.link_session.specs.Additions.{next_mentions, state_marks}
 use Rattle.link_session.specs.Undo.{put_all_back}
 use Rattle.link_session.proofs.BackLemmas.{mentions_alone}
 use Rattle.link_session.proofs.JoinLemmas.{entered-is, few_named, entered_small, joined-is}

@@ -1,4 +1,4 @@
-use Rattle.std.proofs.Common.{rules, ◌≡◌, ◌∙◌}
+use Rattle.std.proofs.Common.{◌∙◌}
 use Rattle.link_session.proofs.LimitLemmas.{found-is_among}
 use Rattle.link_session.proofs.limits.contains.Goals as goal
 

@@ -1,4 +1,4 @@
-use Rattle.std.proofs.Common.{◌≡◌, ◌∙◌, not, ap, sym, true, false, rules}
+use Rattle.std.proofs.Common.{◌≡◌, ◌∙◌, not, ap, true, false, rules}
 use Rattle.std.specs.Map.{keys_of}
 use Rattle.aout_core.specs.WellFormed.{is_external}
 use Rattle.link_session.specs.Mentions.{is_among}

@@ -1,4 +1,4 @@
-use Rattle.std.proofs.Common.{◌≡◌, ◌∙◌}
+use Rattle.std.proofs.Common.{◌∙◌}
 use Rattle.link_session.proofs.PlaceLemmas.{found_place, found_state, missing_place, missing_state}
 use Rattle.link_session.proofs.mention.look_up.Goals as goal
 

@@ -1,4 +1,4 @@
-use Rattle.std.proofs.Common.{◌≤◌, ◌*◌, arith, length-take}
+use Rattle.std.proofs.Common.{◌≤◌, arith}
 use Rattle.link_session.proofs.ForcedLemmas.{few_names}
 use Rattle.link_session.proofs.forced.Forced.names.Goals as goal
 

@@ -1,7 +1,7 @@
 use Rattle.std.proofs.Common.{◌≡◌, ◌++◌, ◌∷◌, [], map, Option, None, Some, ◌∙◌, refl, sym, subst, rules}
 use Rattle.link_session.specs.declared.entry.AddFault.{AddFault}
 use Rattle.link_session.specs.declared.entry.AddFault.TheVariants.{Memory}
-use Rattle.link_session.specs.Labelled.{Labelled, objects}
+use Rattle.link_session.specs.Labelled.{objects}
 use Rattle.link_session.specs.Edits.{refusal}
 use Rattle.link_session.specs.Undo.{Kept}
 use Rattle.link_session.specs.Sessions.{IsCause, Adds, labelled}

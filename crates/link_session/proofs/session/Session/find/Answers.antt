@@ -1,6 +1,5 @@
-use Rattle.std.proofs.Common.{◌≡◌, ℕ, List, Option, Some, position, ap, sym, ◌∙◌, rules}
+use Rattle.std.proofs.Common.{ℕ, List, position, ap, ◌∙◌}
 use Rattle.std.specs.Prelude.{bytes_eq}
-use Rattle.std.specs.Map.{keys_of}
 use Rattle.link_session.specs.Fields.{image_in}
 use Rattle.link_session.specs.Labelled.{objects}
 use Rattle.link_session.specs.Mentions.{externals}

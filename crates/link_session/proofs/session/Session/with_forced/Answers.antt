@@ -1,4 +1,4 @@
-use Rattle.std.proofs.Common.{◌≡◌, [], ◌≤◌, ◌∙◌, length, map, ap, sym, subst, rules}
+use Rattle.std.proofs.Common.{◌≡◌, [], ◌≤◌, length, map, sym, subst, rules}
 use Rattle.link_session.specs.Mentions.{forced_mention}
 use Rattle.link_session.specs.Additions.{all_mentioned}
 use Rattle.link_session.specs.Fields.{image_in, IsSession}
