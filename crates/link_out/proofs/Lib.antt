@@ -23,3 +23,4 @@ pub mod RowLemmas
 pub mod ReachLemmas
 pub mod FindingLemmas
 pub mod FinishLemmas
+pub mod RunLemmas

@@ -1,7 +1,12 @@
 //! Runs of additions and withdrawals.
+ghost use Rattle.std.specs.Prelude.{◌≡◌};
+ghost use Rattle.link_out.specs.Runs.{run_fault_of};
+ghost use Rattle.link_out.specs.declared.edit.RunFault.TheVariants as run_faults;
+
 use crate::linked::LinkFault;
 use aout_core::Object;
-use link_session::AddFault;
+use link_session::{AddFault, Memory};
+use std::alloc::AllocError;
 use thiserror::Error;
 
 /// A change of what is kept.
@@ -35,4 +40,31 @@ pub enum RunFault {
     /// 2: the link was refused, for another cause than memory.
     #[error("{0}")]
     Link(LinkFault),
+}
+
+impl From<AllocError> for RunFault {
+    ghost from_gives = { λ _ fault. fault ≡ run_faults.Memory };
+
+    fn from(_: AllocError) -> RunFault {
+        RunFault::Memory
+    }
+}
+
+impl From<Memory> for RunFault {
+    ghost from_gives = { λ _ fault. fault ≡ run_faults.Memory };
+
+    fn from(_: Memory) -> RunFault {
+        RunFault::Memory
+    }
+}
+
+impl From<LinkFault> for RunFault {
+    ghost from_gives = { λ fault gives. gives ≡ run_fault_of fault };
+
+    fn from(fault: LinkFault) -> RunFault {
+        match fault {
+            LinkFault::Memory => RunFault::Memory,
+            refusal => RunFault::Link(refusal),
+        }
+    }
 }

@@ -1,4 +1,4 @@
-//! The link of a session's objects: layout, final words, symbols and report.
+//! The link of a session's objects: layout, final words, symbols and report; and runs of edits that end with a link.
 #![tactic(auto)]
 
 mod edit;
@@ -11,6 +11,7 @@ mod linker;
 mod options;
 mod reach;
 mod relocs;
+mod runner;
 mod table;
 mod words;
 
@@ -18,3 +19,4 @@ pub use edit::{Edit, Reply, RunFault};
 pub use linked::{LinkFault, Linked, Report};
 pub use linker::finish;
 pub use options::{Keep, Layout, OptionFault, Options};
+pub use runner::run;

@@ -1,0 +1,83 @@
+//! Runs: edits of a session in order, then the link.
+ghost use Rattle.std.specs.Prelude.{◌≡◌, true, map, IfOk};
+ghost use Rattle.aout_core.specs.WellFormed.{IsWellFormed};
+ghost use Rattle.link_session.specs.Edits.{addition, withdrawal, answers};
+ghost use Rattle.link_session.specs.Sessions.{labelled};
+ghost use Rattle.link_out.specs.Runs.{change_of, link_after, IsDone, AreDone, IsRunOf};
+
+use crate::edit::{Edit, Reply, RunFault};
+use crate::linked::Linked;
+use crate::linker::finish;
+use crate::options::Options;
+use aout_core::Object;
+use link_session::{AddFault, Forced, Session};
+use std::alloc::{AllocError, Global};
+
+/// Adds an object, or refuses it. An error: no room for it.
+#[tactic(auto, using(crate::proofs::RunLemmas::by_edit))]
+fn add_or_refuse(session: &mut Session, label: String, object: Object) -> Result<Reply, AllocError>
+    ensures { IfOk result (λ reply. IsDone session.old session.new (addition (labelled label object)) reply) }
+{
+    let Err(refused) = session.add(label, object) else {
+        return Ok(Reply::Added);
+    };
+    match refused.cause {
+        AddFault::Memory => Err(AllocError),
+        limit => Ok(Reply::Refused(limit)),
+    }
+}
+
+/// Takes the last object away, if there is one.
+#[tactic(auto, using(crate::proofs::RunLemmas::by_edit))]
+fn withdraw_last(session: &mut Session) -> Reply
+    ensures { IsDone session.old session.new withdrawal result }
+{
+    match session.withdraw() {
+        Some((label, _)) => Reply::Withdrew(label),
+        None => Reply::Nothing,
+    }
+}
+
+/// Does one edit. An error: no room for it.
+fn reply_to(session: &mut Session, edit: Edit) -> Result<Reply, AllocError>
+    ensures { IfOk result (λ reply. IsDone session.old session.new (change_of edit) reply) }
+{
+    match edit {
+        Edit::Add(label, object) => add_or_refuse(session, label, object),
+        Edit::Withdraw => Ok(withdraw_last(session)),
+    }
+}
+
+/// Does the edits in order, with a reply to each. An error: no room for them.
+#[tactic(auto, using(crate::proofs::RunLemmas::by_edit))]
+fn replies_to(
+    alloc: Global,
+    session: &mut Session,
+    edits: Vec<Edit>,
+) -> Result<Vec<Reply>, AllocError>
+    ensures { IfOk result (λ replies. AreDone session.old session.new (map change_of edits.items) replies.items) }
+{
+    let mut replies = Vec::new(alloc);
+    for edit in edits {
+        replies.push(reply_to(session, edit)?)?;
+    }
+    Ok(replies)
+}
+
+/// Does the edits in order, from a session with these forced names and no objects, and links what is left: the replies,
+/// one to each edit, and the link. `Memory`: no room, in any step. `Link`: the link is refused. (ld(1); edits are an
+/// own choice)
+pub fn run(
+    alloc: Global,
+    forced: &Forced,
+    edits: Vec<Edit>,
+    options: &Options,
+) -> Result<(Vec<Reply>, Linked), RunFault>
+    ensures value { let changes = map change_of edits.items in IsRunOf result (answers forced.now changes) (link_after forced.now changes options.now) }
+    ensures object { options.now.relocatable ≡ true → IfOk result (λ run. IsWellFormed run.1.file) }
+{
+    let mut session = Session::with_forced(alloc, forced)?;
+    let replies = replies_to(alloc, &mut session, edits)?;
+    let linked = finish(alloc, &session, options)?;
+    Ok((replies, linked))
+}
