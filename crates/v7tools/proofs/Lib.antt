@@ -1,4 +1,8 @@
-pub mod PlainLemmas
-pub mod PlainLinkLemmas
 pub mod AnswerLemmas
 pub mod LoadLemmas
+pub mod WordsLemmas
+pub mod CommandLemmas
+pub mod ScriptLemmas
+pub mod ListingLemmas
+pub mod AdditionLemmas
+pub mod StepLemmas

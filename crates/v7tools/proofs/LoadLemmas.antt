@@ -35,7 +35,6 @@ load_answered (Err (faults.NotAdded at fault)) known left path a h = absurd a
 load_answered (Err (faults.NotLinked fault)) known left path a h = absurd a
 load_answered (Err (faults.CannotCreate at)) known left path a h = absurd a
 load_answered (Err faults.WriteFailed) known left path a h = absurd a
-load_answered (Err (faults.Externals at)) known left path a h = absurd a
 load_answered (Err faults.LongLine) known left path a h = absurd a
 load_answered (Err faults.ManyLines) known left path a h = absurd a
 load_answered (Err faults.ScriptFailed) known left path a h = absurd a

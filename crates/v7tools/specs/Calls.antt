@@ -1,18 +1,58 @@
--- What every call of a tool keeps.
-use Rattle.std.specs.Prelude.{◌≡◌, ◌<◌, false, [], None, vec_len}
-use Rattle.link_out.specs.declared.options.Layout.TheVariants.{Plain}
-use Rattle.link_out.specs.declared.options.Keep.TheVariants.{Nothing}
-use Rattle.link_out.specs.Choices.{Choices}
+-- What every call of a tool keeps, and what it takes over from the words.
+use Rattle.std.specs.Prelude.{◌≡◌, ◌<◌, List, Ok, string_bytes, unwrap_or, vec_len}
+use Rattle.clap.specs.Walk.{Row, first_of}
+use Rattle.clap.specs.declared.error.kind.ErrorKind.{ErrorKind}
+use Rattle.clap.specs.declared.error.kind.ErrorKind.TheVariants.{OutOfMemory}
+use Rattle.symtools.specs.declared.options.NmOptions.{NmOptions}
+use Rattle.v7tools.specs.declared.fault.CliFault.{CliFault}
+use Rattle.v7tools.specs.declared.fault.CliFault.TheVariants as faults
 use Rattle.v7tools.specs.declared.words.Call.{Call}
-use Rattle.v7tools.specs.declared.words.Call.TheVariants.{Ld, Nm, Size, Strip}
+use Rattle.v7tools.specs.declared.words.Call.TheVariants.{Ld, Nm, Size, Strip, Session}
+use Rattle.v7tools.specs.declared.words.TheConstants.{OUT, PROGRAM, EXTERNAL, BY_VALUE, EACH_LINE, TABLE_ORDER, REVERSE, UNDEFINED}
+use Rattle.v7tools.specs.LinkWords.{AreAllowed, AreForced, forced_asked, is_given, options_asked}
 
--- the plain layout, neither relocation nor symbols, and no entry point
-abbrev pub plain_choices : Choices
-plain_choices = record { layout = Plain; relocatable = false; keep = Nothing; entry = None; force_commons = false }
-
--- a call has files, and a link is a plain one without forced names
+-- a call of a tool has files, and no option of a link excludes another
 abbrev pub IsWhole : Call → Type 0
-IsWhole (Ld options forced out files) = (0 < vec_len files) × (options ≡ plain_choices) × (forced ≡ [])
+IsWhole (Ld options forced out files) = (0 < vec_len files) × AreAllowed options × AreForced forced
 IsWhole (Nm options files) = 0 < vec_len files
 IsWhole (Size files) = 0 < vec_len files
 IsWhole (Strip files) = 0 < vec_len files
+IsWhole (Session options forced) = AreAllowed options × AreForced forced
+
+abbrev pub list_asked : List Row → NmOptions
+list_asked rows = record {
+  external = is_given rows EXTERNAL.now;
+  by_value = is_given rows BY_VALUE.now;
+  each_line = is_given rows EACH_LINE.now;
+  table_order = is_given rows TABLE_ORDER.now;
+  reverse = is_given rows REVERSE.now;
+  undefined = is_given rows UNDEFINED.now;
+}
+
+-- the options, the forced names and the output are those that were read
+abbrev pub Asks : List Row → Call → Type 0
+Asks rows (Ld options forced out files) = (options_asked rows ≡ Ok options) × (forced_asked rows ≡ Ok forced) × (string_bytes out ≡ unwrap_or (first_of OUT.now rows) PROGRAM.now)
+Asks rows (Session options forced) = (options_asked rows ≡ Ok options) × (forced_asked rows ≡ Ok forced)
+Asks rows (Nm options files) = options ≡ list_asked rows
+Asks rows (Size files) = Unit {0}
+Asks rows (Strip files) = Unit {0}
+
+-- want of memory is told from all other causes
+abbrev pub fault_of_words : ErrorKind → CliFault
+fault_of_words OutOfMemory = faults.Memory
+fault_of_words kind = faults.Usage
+
+-- words are refused for what they ask, or for want of memory
+abbrev pub IsOfWords : CliFault → Type 0
+IsOfWords faults.Usage = Unit {0}
+IsOfWords faults.Memory = Unit {0}
+IsOfWords (faults.CannotOpen path) = ⊥
+IsOfWords (faults.BadFile path fault) = ⊥
+IsOfWords (faults.BadObject path fault) = ⊥
+IsOfWords (faults.NotAdded path fault) = ⊥
+IsOfWords (faults.NotLinked fault) = ⊥
+IsOfWords (faults.CannotCreate path) = ⊥
+IsOfWords faults.WriteFailed = ⊥
+IsOfWords faults.LongLine = ⊥
+IsOfWords faults.ManyLines = ⊥
+IsOfWords faults.ScriptFailed = ⊥

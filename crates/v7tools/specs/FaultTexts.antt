@@ -1,5 +1,6 @@
 -- The texts of faults.
-use Rattle.std.specs.Prelude.{ℕ, List, ◌++◌, codes, decimal, Option, Some, None, string_bytes, [], ◌∷◌}
+use Rattle.std.specs.Prelude.{ℕ, List, ◌++◌, codes, decimal, Option, Some, None, String, string_bytes, [], ◌∷◌}
+use Rattle.std.specs.declared.alloc.Global.{Global}
 use Rattle.aout_core.specs.declared.file.ReadFault.{ReadFault}
 use Rattle.aout_core.specs.declared.file.ReadFault.TheVariants as reads
 use Rattle.aout_core.specs.declared.object.ObjectFault.{ObjectFault}
@@ -65,7 +66,6 @@ cli_text (faults.NotLinked fault) = link_text fault
 cli_text (faults.CannotCreate path) = at_file (string_bytes path) (codes "cannot create")
 cli_text faults.WriteFailed = codes "write error"
 cli_text faults.Memory = no_memory
-cli_text (faults.Externals path) = at_file (string_bytes path) (codes "externals")
 cli_text faults.LongLine = codes "line too long"
 cli_text faults.ManyLines = codes "too many lines"
 cli_text faults.ScriptFailed = codes "script read error"
@@ -81,6 +81,11 @@ refusal_of (faults.BadObject path fault) = Some (of_input (string_bytes path) (b
 refusal_of (faults.NotAdded path fault) = Some (of_input (string_bytes path) (not_added fault))
 refusal_of (faults.NotLinked fault) = Some (not_linked fault)
 refusal_of _ = None
+
+-- the fault of the program where an object at a path was not added
+abbrev pub fault_of_addition : String Global → AddFault → CliFault
+fault_of_addition path adds.Memory = faults.Memory
+fault_of_addition path fault = faults.NotAdded path fault
 
 -- the fault of the program where there is no link
 abbrev pub fault_of_link : LinkFault → CliFault

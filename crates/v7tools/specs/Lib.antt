@@ -1,8 +1,11 @@
 pub mod Inputs
 pub mod FaultTexts
 pub mod Loads
+pub mod LinkWords
 pub mod Calls
 pub mod Emits
-pub mod PlainLinks
-pub mod KeptObjects
 pub mod LinkAnswers
+pub mod Scripts
+pub mod ScriptAnswers
+pub mod Answers
+pub mod Steps

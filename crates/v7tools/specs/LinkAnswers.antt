@@ -1,20 +1,18 @@
 -- What the answer to a link of files says of the bytes of its inputs.
 use Rattle.std.specs.declared.alloc.Global.{Global}
-use Rattle.std.specs.Prelude.{◌≡◌, ◌⊎◌, ℕ, Bool, true, false, List, [], ◌∷◌, ◌++◌, Option, Some, None, Result, Ok, Err, String, string_bytes, IfSome}
-use Rattle.std.specs.List.{list_any}
+use Rattle.std.specs.Prelude.{◌≡◌, ℕ, false, List, [], ◌∷◌, Option, Some, None, Result, Ok, Err, String, string_bytes, IfSome}
 use Rattle.aout_core.specs.declared.file.ReadFault.TheVariants as reads
 use Rattle.aout_core.specs.Contents.{Contents}
 use Rattle.aout_core.specs.Front.{front}
-use Rattle.aout_core.specs.WellFormed.{first_object_fault, is_external}
+use Rattle.aout_core.specs.WellFormed.{first_object_fault}
 use Rattle.aout_core.specs.Wires.{Latched}
 use Rattle.link_session.specs.declared.entry.AddFault.TheVariants as adds
-use Rattle.link_session.specs.Labelled.{Labelled, objects}
-use Rattle.link_session.specs.Mentions.{externals_in}
+use Rattle.link_session.specs.Undo.{Kept}
 use Rattle.link_out.specs.declared.linked.Linked.{Linked}
 use Rattle.link_out.specs.declared.linked.LinkFault.TheVariants as links
 use Rattle.link_out.specs.Choices.{Choices}
 use Rattle.link_out.specs.Outcomes.{outcome_of}
-use Rattle.v7tools.specs.Inputs.{Cause, bad_file, bad_object, not_added, Refusal, of_input, not_linked, object_in, with_input, with_inputs, at_path, linked}
+use Rattle.v7tools.specs.Inputs.{Cause, bad_file, bad_object, not_added, Refusal, of_input, not_linked, object_in, kept_with, with_inputs, at_path, linked}
 use Rattle.v7tools.specs.declared.fault.CliFault.{CliFault}
 use Rattle.v7tools.specs.declared.fault.CliFault.TheVariants as faults
 
@@ -36,7 +34,6 @@ IsWorking i = i.1.has_failed ≡ false
 -- what a fault says of the inputs
 pub data Said : Type 0 where
   refuses : Refusal → Said
-  meets_externals : List ℕ → Said
   says_nothing : Said
   never : Said
 
@@ -46,7 +43,6 @@ said_by (faults.BadFile path reads.Device) = says_nothing
 said_by (faults.BadFile path reads.Memory) = never
 said_by (faults.BadFile path fault) = refuses (of_input (string_bytes path) (bad_file fault))
 said_by (faults.BadObject path fault) = refuses (of_input (string_bytes path) (bad_object fault))
-said_by (faults.Externals path) = meets_externals (string_bytes path)
 said_by (faults.NotAdded path adds.Memory) = never
 said_by (faults.NotAdded path fault) = refuses (of_input (string_bytes path) (not_added fault))
 said_by (faults.NotLinked links.Memory) = never
@@ -58,45 +54,30 @@ abbrev pub IsPossible : Said → Type 0
 IsPossible never = ⊥
 IsPossible _ = Unit {0}
 
--- an entry of the object is external
-abbrev pub has_externals : Contents → Bool
-has_externals o = list_any is_external o.symbols
-
--- the input at this path is an object with an external entry
-pub record IsWithExternals (path : List ℕ) (input : List ℕ × List ℕ) : Type 0 where
-  pub at : input.0 ≡ path
-  pub object : Contents
-  pub is_object : object_in (front input.1) ≡ Ok object
-  pub externals : has_externals object ≡ true
-
--- there is such an input
-abbrev pub HasExternals : List ℕ → List (List ℕ × List ℕ) → Type 0
-HasExternals path [] = ⊥
-HasExternals path (i ∷ is) = IsWithExternals path i ⊎ HasExternals path is
-
--- what is said is true of the inputs, of which this is to be answered
-abbrev pub IsTrueOf : {A : Type 0} → Said → List (List ℕ × List ℕ) → Result A Refusal → Type 0
-IsTrueOf (refuses r) inputs answer = answer ≡ Err r
-IsTrueOf (meets_externals path) inputs answer = HasExternals path inputs
-IsTrueOf says_nothing inputs answer = Unit {0}
-IsTrueOf never inputs answer = ⊥
+-- what is said is true where this is to be answered
+abbrev pub IsTrueOf : {A : Type 0} → Said → Result A Refusal → Type 0
+IsTrueOf (refuses r) answer = answer ≡ Err r
+IsTrueOf says_nothing answer = Unit {0}
+IsTrueOf never answer = ⊥
 
 -- the link of the inputs, or why there is none
 abbrev pub IsLinkOf : List (List ℕ) → Choices → List (List ℕ × List ℕ) → Result Linked CliFault → Type 0
 IsLinkOf forced o inputs (Ok l) = linked forced inputs o ≡ Ok (outcome_of l)
-IsLinkOf forced o inputs (Err fault) = IsTrueOf (said_by fault) inputs (linked forced inputs o)
+IsLinkOf forced o inputs (Err fault) = IsTrueOf (said_by fault) (linked forced inputs o)
 
--- the objects of the inputs, or why one is not taken
-abbrev pub AreTaken : List (List ℕ × List ℕ) → Result (List Contents) CliFault → Type 0
-AreTaken inputs (Ok os) = (es : List Labelled) × (with_inputs [] [] inputs ≡ Ok es) × (objects es ≡ os)
-AreTaken inputs (Err fault) = IsTrueOf (said_by fault) inputs (with_inputs [] [] inputs)
+-- the inputs were put behind what is kept, or why one was not
+abbrev pub AreTaken : Kept → Kept → List (List ℕ × List ℕ) → Result (Unit {0}) CliFault → Type 0
+AreTaken old new inputs (Ok _) = with_inputs old.forced old.entries inputs ≡ Ok new.entries
+AreTaken old new inputs (Err fault) = IsTrueOf (said_by fault) (with_inputs old.forced old.entries inputs)
 
--- the same for one input behind others
-abbrev pub IsTakenFrom : List Contents → List Contents → String Global → List ℕ → Result (Unit {0}) CliFault → Type 0
-IsTakenFrom old new path bytes (Ok _) =
-    (es : List Labelled) → objects es ≡ old → (more : List Labelled) × (with_input [] es (string_bytes path) bytes ≡ Ok more) × (objects more ≡ new)
-IsTakenFrom old new path bytes (Err fault) =
-    (es : List Labelled) → objects es ≡ old → IsTrueOf (said_by fault) ((string_bytes path, bytes) ∷ []) (at_path (string_bytes path) (with_input [] es (string_bytes path) bytes))
+-- an object was put behind what is kept, or why it was not, or why there is none
+abbrev pub IsPut : Kept → Kept → List ℕ → Result Contents Cause → Result (Unit {0}) CliFault → Type 0
+IsPut old new path object (Ok _) = kept_with old.forced old.entries path object ≡ Ok new.entries
+IsPut old new path object (Err fault) = IsTrueOf (said_by fault) (at_path path (kept_with old.forced old.entries path object))
+
+-- the same for one input
+abbrev pub IsTaken : Kept → Kept → List ℕ → List ℕ → Result (Unit {0}) CliFault → Type 0
+IsTaken old new path bytes result = IsPut old new path (object_in (front bytes)) result
 
 -- a file that was read at a path, or why none was
 abbrev pub IsLoadOf : Option (List ℕ) → String Global → Result (String Global × Contents) CliFault → Type 0
@@ -107,9 +88,8 @@ IsLoadOf bytes path (Err (faults.BadFile at fault)) = (at ≡ path) × IfSome by
 IsLoadOf bytes path (Err faults.Memory) = Unit {0}
 IsLoadOf bytes path (Err _) = ⊥
 
--- an object without externals, or why the file is none
+-- an object, or why the file is none
 abbrev pub IsCheckOf : String Global → Contents → Result (String Global × Contents) CliFault → Type 0
-IsCheckOf path c (Ok r) = (r.0 ≡ path) × (r.1 ≡ c) × (first_object_fault c ≡ None) × (has_externals c ≡ false)
+IsCheckOf path c (Ok r) = (r.0 ≡ path) × (r.1 ≡ c) × (first_object_fault c ≡ None)
 IsCheckOf path c (Err (faults.BadObject at fault)) = (at ≡ path) × (first_object_fault c ≡ Some fault)
-IsCheckOf path c (Err (faults.Externals at)) = (at ≡ path) × (first_object_fault c ≡ None) × (has_externals c ≡ true)
 IsCheckOf path c (Err _) = ⊥

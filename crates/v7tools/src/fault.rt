@@ -2,12 +2,12 @@
 ghost use Rattle.std.specs.Prelude.{◌≡◌, ◌↔◌, ◌++◌, decimal, codes, string_bytes, IsErr, IsTrue};
 ghost use Rattle.aout_core.specs.Wires.{Puts};
 ghost use Rattle.v7tools.specs.declared.fault.CliFault.TheVariants.{Memory, WriteFailed};
-ghost use Rattle.v7tools.specs.FaultTexts.{add_text, at_file, cli_text, fault_line, fault_of_link, fault_of_tool, link_text, object_text, read_text};
+ghost use Rattle.v7tools.specs.FaultTexts.{add_text, at_file, cli_text, fault_line, fault_of_addition, fault_of_link, fault_of_tool, link_text, object_text, read_text};
 
 use aout_core::{DeviceFault, ObjectFault, ReadFault, Wire};
 use itoa::Buffer;
 use link_out::LinkFault;
-use link_session::AddFault;
+use link_session::{AddFault, AddRefused};
 use std::alloc::{AllocError, AllocFailed};
 use std::io::Write;
 use symtools::ToolFault;
@@ -43,9 +43,6 @@ pub enum CliFault {
     /// 9: no memory.
     #[error("no memory")]
     Memory,
-    /// 10: the object at this path has an external entry, which cannot be linked yet. (own choice)
-    #[error("{0}: externals")]
-    Externals(String),
     /// 11: a line of a script has more than 4,096 bytes.
     #[error("line too long")]
     LongLine,
@@ -70,6 +67,27 @@ impl From<AllocError> for CliFault {
 
     fn from(_error: AllocError) -> CliFault {
         CliFault::Memory
+    }
+}
+
+impl From<link_session::Memory> for CliFault {
+    ghost from_gives = { λ _ fault. fault ≡ Memory };
+
+    fn from(_error: link_session::Memory) -> CliFault {
+        CliFault::Memory
+    }
+}
+
+impl From<AddRefused> for CliFault {
+    ghost from_gives = { λ refused fault. fault ≡ fault_of_addition refused.label refused.cause };
+
+    fn from(refused: AddRefused) -> CliFault {
+        match refused.cause {
+            AddFault::Memory => CliFault::Memory,
+            AddFault::TextFull | AddFault::DataFull | AddFault::BssFull | AddFault::NamesFull => {
+                CliFault::NotAdded(refused.label, refused.cause)
+            }
+        }
     }
 }
 
@@ -106,7 +124,11 @@ impl From<LinkFault> for CliFault {
 }
 
 /// Writes one text and then another.
-fn put_both<W: Write>(first: &[u8], second: &[u8], out: &mut Wire<W>) -> Result<(), DeviceFault>
+pub(crate) fn put_both<W: Write>(
+    first: &[u8],
+    second: &[u8],
+    out: &mut Wire<W>,
+) -> Result<(), DeviceFault>
     ensures fault { IsErr result ↔ IsTrue out.new.has_failed }
     ensures latched { IsTrue out.old.has_failed → (out.new ≡ out.old) }
     ensures bytes { Puts result (W.contents out.old.device) (W.contents out.new.device) (first.now ++ second.now) }
@@ -116,7 +138,11 @@ fn put_both<W: Write>(first: &[u8], second: &[u8], out: &mut Wire<W>) -> Result<
 }
 
 /// Writes a path, and what is said of it.
-fn put_at_file<W: Write>(path: &str, text: &[u8], out: &mut Wire<W>) -> Result<(), DeviceFault>
+pub(crate) fn put_at_file<W: Write>(
+    path: &str,
+    text: &[u8],
+    out: &mut Wire<W>,
+) -> Result<(), DeviceFault>
     ensures fault { IsErr result ↔ IsTrue out.new.has_failed }
     ensures latched { IsTrue out.old.has_failed → (out.new ≡ out.old) }
     ensures bytes { Puts result (W.contents out.old.device) (W.contents out.new.device) (at_file path.now text.now) }
@@ -238,7 +264,7 @@ impl CliFault {
     }
 
     /// Writes the text of the fault.
-    fn write_text<W: Write>(&self, out: &mut Wire<W>) -> Result<(), DeviceFault>
+    pub(crate) fn write_text<W: Write>(&self, out: &mut Wire<W>) -> Result<(), DeviceFault>
         ensures fault { IsErr result ↔ IsTrue out.new.has_failed }
         ensures latched { IsTrue out.old.has_failed → (out.new ≡ out.old) }
         ensures bytes { Puts result (W.contents out.old.device) (W.contents out.new.device) (cli_text self.now) }
@@ -253,7 +279,6 @@ impl CliFault {
             CliFault::CannotCreate(path) => put_at_file(path.as_str(), b"cannot create", out),
             CliFault::WriteFailed => out.put(b"write error"),
             CliFault::Memory => out.put(b"no memory"),
-            CliFault::Externals(path) => put_at_file(path.as_str(), b"externals", out),
             CliFault::LongLine => out.put(b"line too long"),
             CliFault::ManyLines => out.put(b"too many lines"),
             CliFault::ScriptFailed => out.put(b"script read error"),

@@ -1,18 +1,31 @@
 //! The tools: the words of a command, its files, and what it answers.
 #![tactic(auto)]
 
+mod additions;
+mod answers;
+mod commands;
 mod fault;
 mod inputs;
+mod lines;
+mod link_answers;
+mod link_words;
+mod listings;
 mod loading;
 mod output;
-mod plain_link;
 mod runner;
+mod script;
+mod session_command;
 mod standard_error;
 mod words;
 
+pub use answers::step;
+pub use commands::{Command, Step};
 pub use fault::CliFault;
 pub use inputs::ld;
+pub use lines::Line;
+pub use link_answers::{Stored, link_answer};
 pub use loading::load;
 pub use output::emit;
 pub use runner::command;
+pub use script::Script;
 pub use words::{Call, parse};

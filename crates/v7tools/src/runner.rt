@@ -1,11 +1,9 @@
 //! The whole of a command, over any runtime.
-ghost use Rattle.std.specs.Prelude.{◌≡◌, []};
-ghost use Rattle.v7tools.specs.Calls.{plain_choices};
-
 use crate::fault::CliFault;
 use crate::inputs::ld;
 use crate::loading::load;
 use crate::output::emit;
+use crate::session_command::answer_script;
 use crate::standard_error::StandardError;
 use crate::words::{Call, parse};
 use aout_core::{File, Wire, strip_file, write_file};
@@ -39,10 +37,7 @@ fn link_files<H: Runtime + AllocGlobal>(
     forced: &Forced,
     out: String,
     files: Vec<String>,
-) -> Result<u8, CliFault>
-    requires plain { options.now ≡ plain_choices }
-    requires unforced { forced.now ≡ [] }
-{
+) -> Result<u8, CliFault> {
     let linked = ld(rt.alloc(), open_all(rt, files)?, forced, options)?;
     let Ok(file) = fs::create(rt, out.as_str()) else {
         return Err(CliFault::CannotCreate(out));
@@ -115,12 +110,14 @@ fn run<H: Runtime + AllocGlobal>(rt: &H, words: Vec<String>) -> Result<u8, CliFa
         Call::Nm { options, files } => list_files(rt, options, files),
         Call::Size { files } => size_files(rt, files),
         Call::Strip { files } => strip_files(rt, files),
+        Call::Session { options, forced } => answer_script(rt, &options, &forced),
     }
 }
 
 /// Does what the words ask for, which are those after the program's name, and answers the status of the program: 0, or
 /// 1 where there was something to report, or 2 for a fault, whose line goes to standard error. With 2 no output was
-/// opened, or a device failed while it was written. (own choice)
+/// opened, or a device failed while it was written, or a script could not be answered to its end; what its links stored
+/// before then stays. (own choice)
 pub fn command<H: Runtime + AllocGlobal>(rt: &H, words: Vec<String>) -> u8 {
     match run(rt, words) {
         Ok(status) => status,

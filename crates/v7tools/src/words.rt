@@ -1,11 +1,15 @@
 //! The words of a command.
-ghost use Rattle.std.specs.Prelude.{◌≡◌, ◌<◌, IfOk, vec_len};
-ghost use Rattle.v7tools.specs.Calls.{IsWhole, plain_choices};
+ghost use Rattle.std.specs.Prelude.{◌≡◌, ◌<◌, IfErr, IfOk, codes, filter, bytes_eq, length, string_bytes, unwrap_or, vec_len};
+ghost use Rattle.clap.specs.Matches.{found_of};
+ghost use Rattle.clap.specs.Values.{kind_of};
+ghost use Rattle.clap.specs.Walk.{first_of, rows_of};
+ghost use Rattle.v7tools.specs.Calls.{Asks, IsOfWords, IsWhole, fault_of_words};
 
 use crate::fault::CliFault;
+use crate::link_words::{flag, forced_names, is_set, link_options, valued, with_link_options};
 use clap::error::ErrorKind;
 use clap::{Arg, ArgAction, ArgMatches, Command};
-use link_out::{Keep, Layout, Options};
+use link_out::Options;
 use link_session::Forced;
 use std::alloc::{AllocError, Global};
 use symtools::NmOptions;
@@ -41,10 +45,15 @@ pub enum Call {
         /// The paths of the files, at least one.
         files: Vec<String>,
     },
+    /// A session that is driven by a script.
+    Session {
+        /// How the objects are linked.
+        options: Options,
+        /// The names that are mentioned before all objects.
+        forced: Forced,
+    },
 }
 
-/// The option without symbols.
-const STRIP: &str = "strip";
 /// The option that names the output.
 const OUT: &str = "out";
 /// The options of nm.
@@ -65,6 +74,8 @@ const FILE: &str = "file";
 const PROGRAM: &str = "a.out";
 
 impl From<clap::Error> for CliFault {
+    ghost from_gives = { λ error fault. fault ≡ fault_of_words (kind_of error) };
+
     fn from(error: clap::Error) -> CliFault {
         match error.kind() {
             ErrorKind::OutOfMemory => CliFault::Memory,
@@ -80,11 +91,6 @@ fn tool<'a>(alloc: Global, name: &'a str) -> Command<'a> {
         .disable_help_subcommand(true)
 }
 
-/// A flag, which may be repeated.
-fn flag<'a>(alloc: Global, id: &'a str, short: char) -> Arg<'a> {
-    Arg::new(alloc, id).short(short).action(ArgAction::Count)
-}
-
 /// The files of a command, any number of them.
 fn files<'a>(alloc: Global) -> Arg<'a> {
     Arg::new(alloc, FILE)
@@ -93,10 +99,8 @@ fn files<'a>(alloc: Global) -> Arg<'a> {
 }
 
 fn ld_tool<'a>(alloc: Global) -> Result<Command<'a>, AllocError> {
-    let out = Arg::new(alloc, OUT).short('o').action(ArgAction::Set);
-    tool(alloc, "ld")
-        .arg(flag(alloc, STRIP, 's'))?
-        .arg(out)?
+    with_link_options(alloc, tool(alloc, "ld"))?
+        .arg(valued(alloc, OUT, 'o', ArgAction::Set))?
         .arg(files(alloc))
 }
 
@@ -118,15 +122,14 @@ fn tools<'a>(alloc: Global) -> Result<Command<'a>, AllocError> {
         .subcommand(ld_tool(alloc)?)?
         .subcommand(nm_tool(alloc)?)?
         .subcommand(tool(alloc, "size").arg(files(alloc))?)?
-        .subcommand(tool(alloc, "strip").arg(files(alloc))?)
-}
-
-fn is_set(matches: &ArgMatches<'_>, id: &str) -> bool {
-    matches.get_count(id) > 0
+        .subcommand(tool(alloc, "strip").arg(files(alloc))?)?
+        .subcommand(with_link_options(alloc, tool(alloc, "session"))?)
 }
 
 /// The files of a command, owned.
-fn owned_files(alloc: Global, matches: &ArgMatches<'_>) -> Result<Vec<String>, CliFault> {
+fn owned_files(alloc: Global, matches: &ArgMatches<'_>) -> Result<Vec<String>, CliFault>
+    ensures faults { IfErr result IsOfWords }
+{
     let mut owned = Vec::new(alloc);
     if let Some(given) = matches.get_strs(FILE) {
         for file in given {
@@ -136,42 +139,47 @@ fn owned_files(alloc: Global, matches: &ArgMatches<'_>) -> Result<Vec<String>, C
     Ok(owned)
 }
 
-/// A plain link without symbols.
-fn plain_options() -> Result<Options, CliFault>
-    ensures { IfOk result (λ options. options ≡ plain_choices) }
-{
-    match Options::new(Layout::Plain, false, Keep::Nothing, None) {
-        Ok(options) => Ok(options),
-        Err(_) => Err(CliFault::Usage),
-    }
-}
-
 /// The files, or the program where none is named.
 fn files_or_program(alloc: Global, mut files: Vec<String>) -> Result<Vec<String>, CliFault>
-    ensures { IfOk result (λ files. 0 < vec_len files) }
+    ensures whole { IfOk result (λ files. 0 < vec_len files) }
+    ensures faults { IfErr result IsOfWords }
 {
-    if files.is_empty() {
-        files.push(String::from_str(alloc, PROGRAM)?)?;
+    if !files.is_empty() {
+        return Ok(files);
     }
+    files.push(String::from_str(alloc, PROGRAM)?)?;
     Ok(files)
 }
 
-fn ld_call(alloc: Global, given: &ArgMatches<'_>, files: Vec<String>) -> Result<Call, CliFault>
-    ensures { IfOk result IsWhole }
+/// The path of the output.
+fn output(alloc: Global, given: &ArgMatches<'_>) -> Result<String, CliFault>
+    ensures value { IfOk result (λ out. string_bytes out ≡ unwrap_or (first_of OUT.now (rows_of (found_of given.now))) PROGRAM.now) }
+    ensures faults { IfErr result IsOfWords }
 {
-    if files.is_empty() || !is_set(given, STRIP) {
+    let path = given.get_str(OUT).unwrap_or(PROGRAM);
+    Ok(String::from_str(alloc, path)?)
+}
+
+fn ld_call(alloc: Global, given: &ArgMatches<'_>, files: Vec<String>) -> Result<Call, CliFault>
+    ensures whole { IfOk result IsWhole }
+    ensures asked { IfOk result (Asks (rows_of (found_of given.now))) }
+    ensures faults { IfErr result IsOfWords }
+{
+    if files.is_empty() {
         return Err(CliFault::Usage);
     }
     Ok(Call::Ld {
-        options: plain_options()?,
-        forced: Forced::none(),
-        out: String::from_str(alloc, given.get_str(OUT).unwrap_or(PROGRAM))?,
+        options: link_options(given)?,
+        forced: forced_names(given)?,
+        out: output(alloc, given)?,
         files,
     })
 }
 
 fn nm_call(alloc: Global, given: &ArgMatches<'_>, files: Vec<String>) -> Result<Call, CliFault>
-    ensures { IfOk result IsWhole }
+    ensures whole { IfOk result IsWhole }
+    ensures asked { IfOk result (Asks (rows_of (found_of given.now))) }
+    ensures faults { IfErr result IsOfWords }
 {
     Ok(Call::Nm {
         options: NmOptions {
@@ -186,21 +194,54 @@ fn nm_call(alloc: Global, given: &ArgMatches<'_>, files: Vec<String>) -> Result<
     })
 }
 
-/// What the words ask for, which are those after the program's name: `ld -s [-o FILE] FILE...`, where the output is
-/// `a.out` unless `-o` names it, `nm [-gnopru] [FILE...]` and `size [FILE...]`, which take `a.out` where no file is
-/// named, and `strip FILE...`. A flag may be repeated, but not `-o`; options may stand after files, and `--` ends them.
-/// All other words are `Usage`. (ld(1), nm(1), size(1), strip(1))
+fn session_call(given: &ArgMatches<'_>) -> Result<Call, CliFault>
+    ensures whole { IfOk result IsWhole }
+    ensures asked { IfOk result (Asks (rows_of (found_of given.now))) }
+    ensures faults { IfErr result IsOfWords }
+{
+    Ok(Call::Session {
+        options: link_options(given)?,
+        forced: forced_names(given)?,
+    })
+}
+
+/// How many of the words are a dash alone.
+fn dashes(words: &[String]) -> usize
+    ensures { result ≡ length (filter (λ word. bytes_eq (string_bytes word) (codes "-")) words.now) }
+{
+    words.iter().filter(|word| word.as_str() == "-").count()
+}
+
+/// What the words ask for, which are those after the program's name:
+///
+/// - `ld [-rsxXnid] [-u NAME]... [-e NAME] [-o FILE] FILE...`, where the output is `a.out` unless `-o` names it. `-s`
+///   wins over `-x`, and that over `-X`. A name is cut at 8 bytes.
+/// - `nm [-gnopru] [FILE...]` and `size [FILE...]`, which take `a.out` where no file is named.
+/// - `strip FILE...`.
+/// - `session [-rsxXnid] [-u NAME]... [-e NAME]`.
+///
+/// A flag may be repeated, but not `-e` and `-o`. The value of an option stands in the same word, or in the next one if
+/// that does not begin with `-`. Options may stand after files, and `--` ends them.
+///
+/// `Usage`: all other words, `-r` with `-s`, `-n` or `-i`, `-n` with `-i`, and more than 64 different names after `-u`.
+/// `Memory`: no room for what the words ask for. (ld(1), nm(1), size(1), strip(1); the session and the limit are an own
+/// choice)
 pub fn parse(alloc: Global, words: Vec<String>) -> Result<Call, CliFault>
     ensures whole { IfOk result IsWhole }
+    ensures faults { IfErr result IsOfWords }
 {
     let matches = tools(alloc)?.try_get_matches_from(words.as_slice())?;
     let Some((name, given)) = matches.subcommand() else {
         return Err(CliFault::Usage);
     };
     let files = owned_files(alloc, given)?;
+    if dashes(&words) != dashes(&files) {
+        return Err(CliFault::Usage);
+    }
     match name {
         "ld" => ld_call(alloc, given, files),
         "nm" => nm_call(alloc, given, files),
+        "session" => session_call(given),
         "size" => Ok(Call::Size {
             files: files_or_program(alloc, files)?,
         }),

@@ -1,9 +1,11 @@
+use Rattle.std.proofs.Common.{◌≡◌}
 use Rattle.v7tools.proofs.AnswerLemmas.{SoFar, WorkingSoFar}
 use Rattle.v7tools.proofs.inputs.take_inputs.Given as goal
 
 -- the inputs so far are taken, and their wires had not failed
 abbrev pub invariant-loop-path : goal.invariant-loop-path
 invariant-loop-path g l = record {
-  taken : SoFar g.R.Read.remaining l.fn.inputs.items l.path-iterator.rest.items l.kept;
+  taken : SoFar g.R.Read.remaining l.fn.inputs.items l.path-iterator.rest.items l.initial.session l.session.entries;
+  forced : l.session.forced ≡ l.initial.session.forced;
   working : WorkingSoFar l.fn.inputs.items l.path-iterator.rest.items;
 }

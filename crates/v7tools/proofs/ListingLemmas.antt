@@ -1,0 +1,56 @@
+-- Lists that go out entry by entry, and the lines of undefined names.
+use Rattle.std.proofs.Common.{◌≡◌, ℕ, ◌+◌, ◌≤◌, Bool, true, false, cond, List, [], ◌∷◌, ◌++◌, length, take, slice_index_or, Option, Some, refl, sym, ◌∙◌, ap, subst, append-nil}
+use Rattle.std.specs.Prelude.{slice_get}
+use Rattle.std.specs.List.{flat_map}
+use Rattle.std.specs.Io.KnownBytes.{Appends}
+use Rattle.std.proofs.KnownBytes.{Appends-trans}
+use Rattle.std.proofs.lemmas.Grind.{flat_map-append}
+use Rattle.std.proofs.lemmas.List.{take_more, take_all}
+use Rattle.std.proofs.lemmas.Option.{slice_get_within, get_or_from_slice_get}
+use Rattle.aout_core.specs.Wires.{AppendsFront}
+use Rattle.aout_core.proofs.PutsLemmas.{front_of_row}
+use Rattle.link_session.specs.Additions.{Named}
+use Rattle.link_session.specs.Image.{named_states}
+use Rattle.link_session.specs.Labelled.{Labelled, objects}
+use Rattle.link_session.specs.Mentions.{mentions}
+use Rattle.link_out.specs.InOrder.{is_missing, missing_in}
+use Rattle.link_out.specs.Reports.{line}
+use Rattle.link_out.proofs.InOrderLemmas.{missing-undefined}
+use Rattle.v7tools.specs.Answers.{undefined_text}
+use Rattle.v7tools.specs.Steps.{missing_line}
+
+is_at : {A : Type 0} (items : List A) (i : ℕ) (item : A) → slice_get items i ≡ Some item → item ≡ slice_index_or items i item
+is_at items i item at = sym (get_or_from_slice_get items i item item at)
+
+-- the next text went out
+pub sent_next : {A : Type 0} (spelling : A → List ℕ) (items : List A) (i : ℕ) (item : A) (a b c : Option (List ℕ)) → slice_get items i ≡ Some item →
+    Appends a b (flat_map spelling (take i items)) → Appends b c (spelling item) → Appends a c (flat_map spelling (take (i + 1) items))
+sent_next spelling items i item a b c at sent next =
+    let more : take (i + 1) items ≡ take i items ++ item ∷ [] = take_more items i item (slice_get_within items i item at) ∙ ap (λ x. take i items ++ x ∷ []) (sym (is_at items i item at)) in
+    let spelt : flat_map spelling (take (i + 1) items) ≡ flat_map spelling (take i items) ++ spelling item =
+    ap (flat_map spelling) more ∙ flat_map-append spelling (take i items) (item ∷ []) ∙ ap (λ l. flat_map spelling (take i items) ++ l) (append-nil (spelling item)) in
+    subst (Appends a c) (sym spelt) (Appends-trans a b c (flat_map spelling (take i items)) (spelling item) sent next)
+
+-- of the next text a front went out
+pub stops_next : {A : Type 0} (spelling : A → List ℕ) (items : List A) (i : ℕ) (item : A) (a b c : Option (List ℕ)) → slice_get items i ≡ Some item →
+    Appends a b (flat_map spelling (take i items)) → AppendsFront b c (spelling item) → AppendsFront a c (flat_map spelling items)
+stops_next spelling items i item a b c at sent next =
+    front_of_row spelling items i item a b c (slice_get_within items i item at) (is_at items i item at) sent next
+
+-- all texts went out
+pub sent_all : {A : Type 0} (spelling : A → List ℕ) (items : List A) (n : ℕ) (a b : Option (List ℕ)) → length items ≤ n →
+    Appends a b (flat_map spelling (take n items)) → Appends a b (flat_map spelling items)
+sent_all spelling items n a b end sent = subst (λ l. Appends a b (flat_map spelling l)) (take_all n items end) sent
+
+missing_lines : (es : Named) → flat_map missing_line es ≡ flat_map line (missing_in es)
+missing_lines [] = refl
+missing_lines (e ∷ es) = by_test (is_missing e.0 e.1) (missing_lines es)
+  where
+    by_test : (t : Bool) → flat_map missing_line es ≡ flat_map line (missing_in es) →
+        cond t (line e.0) [] ++ flat_map missing_line es ≡ flat_map line (cond t (e.0 ∷ missing_in es) (missing_in es))
+    by_test true h = ap (λ l. line e.0 ++ l) h
+    by_test false h = h
+
+-- the lines of all undefined names
+pub missing-text : (forced : List (List ℕ)) (kept : List Labelled) → flat_map missing_line (named_states (mentions forced (objects kept))) ≡ undefined_text forced kept
+missing-text forced kept = missing_lines (named_states (mentions forced (objects kept))) ∙ ap (flat_map line) (missing-undefined (mentions forced (objects kept)))

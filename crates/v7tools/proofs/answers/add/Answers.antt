@@ -1,0 +1,66 @@
+use Rattle.std.proofs.Common.{ℕ, List, Ok, Err, ◌++◌, ◌∙◌, subst, ap, refl}
+use Rattle.std.specs.Prelude.{codes, string_bytes, IsTrue}
+use Rattle.std.specs.Io.KnownBytes.{Appends}
+use Rattle.aout_core.specs.Wires.{AppendsFront}
+use Rattle.link_session.specs.Undo.{Kept}
+use Rattle.link_out.specs.Reports.{line}
+use Rattle.v7tools.specs.Answers.{add_step}
+use Rattle.v7tools.specs.FaultTexts.{cli_text}
+use Rattle.v7tools.proofs.StepLemmas.{added_by, not_added_by, refused_as, no_verdict, told_in_part, refused_verdict, label_is, failed_before}
+use Rattle.v7tools.proofs.answers.add.Goals as goal
+
+pub returns-in_err-put_line-in-Ok-clause-step : goal.returns-in_err-put_line-in-Ok-clause-step
+returns-in_err-put_line-in-Ok-clause-step g c =
+    let old = c.args.session.now in
+    let new = c.add_file.new.session in
+    let path = string_bytes c.args.path in
+    let (object, accepted) = c.in-Ok.ensures.value in
+    let working : IsTrue c.args.wire.now.has_failed → ⊥ = λ failed. let bad = failed_before c.args.wire.now c.add_file.new.wire (Ok tt) c.args.path c.in-Ok.ensures.latched c.in-Ok.ensures.device failed in absurd (cc) in
+    let r = c.from_residual.result in
+    let before = g.W.Write.contents c.args.answers.now.device in
+    let after = g.W.Write.contents c.put_line.new.answers.device in
+    let label = c.as_bytes.ensures.value ∙ c.last_label.ensures ∙ label_is old new _ accepted.adds in
+    let sent = subst (λ (l : List ℕ). AppendsFront before after (line (codes "added " ++ l))) label c.in_err-put_line-in-Ok.ensures.bytes in (
+      add_step old.entries path (Ok new.entries),
+      added_by g.R.Read.remaining c.args.wire.now old new path object working accepted,
+      (_, accepted.adds),
+      record {
+        kept = refl;
+        verdict = no_verdict r _ c.from_residual.ensures.0;
+        answer = told_in_part r c.put_line.new.answers.has_failed before after (line (codes "added " ++ path)) c.from_residual.ensures.0 (c.in_err-put_line-in-Ok.ensures.fault.0 refl) sent;
+      },
+    )
+
+pub returns-in_ok-put_line-in-Ok-clause-step : goal.returns-in_ok-put_line-in-Ok-clause-step
+returns-in_ok-put_line-in-Ok-clause-step g c =
+    let old = c.args.session.now in
+    let new = c.add_file.new.session in
+    let path = string_bytes c.args.path in
+    let (object, accepted) = c.in-Ok.ensures.value in
+    let working : IsTrue c.args.wire.now.has_failed → ⊥ = λ failed. let bad = failed_before c.args.wire.now c.add_file.new.wire (Ok tt) c.args.path c.in-Ok.ensures.latched c.in-Ok.ensures.device failed in absurd (cc) in
+    let before = g.W.Write.contents c.args.answers.now.device in
+    let after = g.W.Write.contents c.put_line.new.answers.device in
+    let label = c.as_bytes.ensures.value ∙ c.last_label.ensures ∙ label_is old new _ accepted.adds in
+    let sent = subst (λ (l : List ℕ). Appends before after (line (codes "added " ++ l))) label c.in_ok-put_line-in-Ok.ensures.bytes in (
+      add_step old.entries path (Ok new.entries),
+      added_by g.R.Read.remaining c.args.wire.now old new path object working accepted,
+      (_, accepted.adds),
+      record { kept = refl; verdict = refl; answer = (c.in_ok-put_line-in-Ok.ensures.fault, sent) },
+    )
+
+pub returns-in-Err-clause-step : goal.returns-in-Err-clause-step
+returns-in-Err-clause-step g c =
+    let old = c.args.session.now in
+    let new = c.add_file.new.session in
+    let fault = c.in-Err.fault in
+    let failed = failed_before c.args.wire.now c.add_file.new.wire (Err fault) c.args.path c.in-Err.ensures.latched c.in-Err.ensures.device in
+    let (unchanged, by) = not_added_by g.R.Read.remaining c.args.wire.now old new c.args.path fault failed c.in-Err.ensures.value in (
+      refused_as old.entries (cli_text fault),
+      by,
+      unchanged,
+      record {
+        kept = ap (λ (k : Kept). k.entries) unchanged;
+        verdict = refused_verdict c.refuse.result c.refuse.ensures.step;
+        answer = (c.refuse.ensures.fault, c.refuse.ensures.bytes);
+      },
+    )

@@ -1,0 +1,93 @@
+-- The answers of a session.
+use Rattle.std.specs.Prelude.{ℕ, ◌+◌, List, [], ◌++◌, Option, Some, None, Result, Ok, Err, codes, decimal}
+use Rattle.std.specs.List.{flat_map}
+use Rattle.aout_core.specs.declared.symbol.Symbol.{Symbol}
+use Rattle.aout_core.specs.declared.file.ReadFault.TheVariants.{Device}
+use Rattle.link_session.specs.declared.state.State.{State}
+use Rattle.link_session.specs.declared.state.State.TheVariants.{Defined, Wanted}
+use Rattle.link_session.specs.Labelled.{Labelled, objects}
+use Rattle.link_session.specs.Mentions.{mentions}
+use Rattle.link_session.specs.States.{segment_number}
+use Rattle.link_session.specs.Image.{image}
+use Rattle.link_session.specs.Edits.{without_last, last_of}
+use Rattle.link_out.specs.declared.linked.LinkFault.{LinkFault}
+use Rattle.link_out.specs.Choices.{Choices}
+use Rattle.link_out.specs.Reports.{Findings, line, report_text, status_of, undefined_names}
+use Rattle.link_out.specs.Link.{Outcome, link}
+use Rattle.symtools.specs.SymbolLines.{symbol_line}
+use Rattle.v7tools.specs.Inputs.{Cause, cannot_open, bad_file, with_input}
+use Rattle.v7tools.specs.FaultTexts.{cause_text, link_text, at_file}
+use Rattle.v7tools.specs.declared.link_answers.Stored.{Stored}
+use Rattle.v7tools.specs.declared.link_answers.Stored.TheVariants.{Kept, NotCreated, Failed}
+
+-- what a path leads to: nothing, a device that fails, or these bytes
+pub data Source : Type 0 where
+  absent : Source
+  failing : Source
+  giving : List ℕ → Source
+
+-- a command, with what its path leads to
+pub data Asking : Type 0 where
+  adding : List ℕ → Source → Asking
+  withdrawing : Asking
+  listing_externals : Asking
+  listing_undefined : Asking
+  linking : Asking
+  anything_else : Asking
+
+-- what a step does: the answer, what is kept after it, and what is to be stored
+pub data Verdict : Type 0 where
+  done : Verdict
+  refused : Verdict
+  to_store : Outcome → Verdict
+
+pub record Stepped : Type 0 where
+  pub verdict : Verdict
+  pub answer : List ℕ
+  pub kept : List Labelled
+
+abbrev pub input_from : List (List ℕ) → List Labelled → List ℕ → Source → Result (List Labelled) Cause
+input_from forced kept path absent = Err cannot_open
+input_from forced kept path failing = Err (bad_file Device)
+input_from forced kept path (giving bytes) = with_input forced kept path bytes
+
+abbrev pub add_step : List Labelled → List ℕ → Result (List Labelled) Cause → Stepped
+add_step kept path (Ok more) = record { verdict = done; answer = line (codes "added " ++ path); kept = more }
+add_step kept path (Err cause) = record { verdict = refused; answer = line (cause_text path cause); kept = kept }
+
+abbrev pub withdraw_step : List Labelled → Option Labelled → Stepped
+withdraw_step kept None = record { verdict = refused; answer = line (codes "nothing to withdraw"); kept = kept }
+withdraw_step kept (Some e) = record { verdict = done; answer = line (codes "withdrew " ++ e.label); kept = without_last kept }
+
+-- an external as an entry: its type and its merged offset, or the size that is wanted
+abbrev pub entry_of : List ℕ → State → Symbol
+entry_of name (Defined segment offset) = record { name = name; type_bits = 32 + segment_number segment; value = offset }
+entry_of name (Wanted size) = record { name = name; type_bits = 32; value = size }
+
+abbrev pub externals_text : List (List ℕ) → List Labelled → List ℕ
+externals_text forced kept = flat_map (λ e. symbol_line (entry_of e.0 e.1)) (image forced (objects kept)).externals
+
+abbrev pub undefined_text : List (List ℕ) → List Labelled → List ℕ
+undefined_text forced kept = flat_map line (undefined_names (mentions forced (objects kept)))
+
+abbrev pub link_step : List Labelled → Result Outcome LinkFault → Stepped
+link_step kept (Err fault) = record { verdict = refused; answer = line (link_text fault); kept = kept }
+link_step kept (Ok x) = record { verdict = to_store x; answer = []; kept = kept }
+
+abbrev pub step : List (List ℕ) → Choices → List Labelled → Asking → Stepped
+step forced o kept (adding path source) = add_step kept path (input_from forced kept path source)
+step forced o kept withdrawing = withdraw_step kept (last_of kept)
+step forced o kept listing_externals = record { verdict = done; answer = externals_text forced kept; kept = kept }
+step forced o kept listing_undefined = record { verdict = done; answer = undefined_text forced kept; kept = kept }
+step forced o kept linking = link_step kept (link forced (objects kept) o)
+step forced o kept anything_else = record { verdict = refused; answer = line (codes "bad command"); kept = kept }
+
+-- the answer of a link, once it is known what became of its file
+abbrev pub link_answer_text : Findings → List ℕ → Stored → List ℕ
+link_answer_text f path Kept = report_text f ++ line (codes "linked " ++ path ++ codes " " ++ decimal (status_of f))
+link_answer_text f path NotCreated = line (at_file path (codes "cannot create"))
+link_answer_text f path Failed = line (at_file path (codes "write error"))
+
+abbrev pub link_status : Findings → Stored → ℕ
+link_status f Kept = status_of f
+link_status f _ = 1

@@ -1,0 +1,100 @@
+-- What the reader of a script answers, call by call.
+use Rattle.std.specs.Prelude.{◌≡◌, ◌≢◌, ◌+◌, ℕ, Bool, true, cond, eqb, List, [], ◌∷◌, ◌++◌, Option, Some, None, Result, Ok, Err, IfSome, IsSome, string_bytes}
+use Rattle.std.specs.Io.KnownBytes.{Consumes, IsAtEnd}
+use Rattle.aout_core.specs.Wires.{Latched}
+use Rattle.v7tools.specs.declared.fault.CliFault.{CliFault}
+use Rattle.v7tools.specs.declared.fault.CliFault.TheVariants as faults
+use Rattle.v7tools.specs.declared.lines.Line.{Line}
+use Rattle.v7tools.specs.declared.lines.Line.TheVariants as lines
+use Rattle.v7tools.specs.declared.script.Ending.{Ending}
+use Rattle.v7tools.specs.declared.script.Ending.TheVariants as endings
+use Rattle.v7tools.specs.declared.script.Stop.{Stop}
+use Rattle.v7tools.specs.declared.script.Stop.TheVariants as stops
+use Rattle.v7tools.specs.Scripts.{Asked, asked, to_add, to_withdraw, for_externals, for_undefined, to_link, for_nothing, lines_in, long_line, many_lines, and_given, ends_with_fault, given_behind}
+
+-- what a line that was given asks for
+abbrev pub asked_by : Line → Asked
+asked_by (lines.Add path) = to_add (string_bytes path)
+asked_by lines.Withdraw = to_withdraw
+asked_by lines.Externals = for_externals
+asked_by lines.Undefined = for_undefined
+asked_by (lines.Link path) = to_link (string_bytes path)
+asked_by lines.Bad = for_nothing
+
+-- an answer of a call: a line, the end, or a fault
+abbrev pub Answer : Type 0
+Answer = Result (Option Line) CliFault
+
+-- a script: its reader, how many lines it gave, and the answer of each further call, once that is settled
+pub record Progress (R : Type 0) : Type 0 where
+  pub wire : Latched R
+  pub line_count : ℕ
+  pub settled : Option Answer
+
+-- how many lines an answer gives
+abbrev pub lines_of : Answer → ℕ
+lines_of (Ok (Some line)) = 1
+lines_of _ = 0
+
+-- the end and the faults are settled; a line settles nothing but the end behind it
+abbrev pub Settles : Answer → Option Answer → Type 0
+Settles (Ok (Some line)) settled = IfSome settled (λ answer. answer ≡ Ok None)
+Settles (Ok None) settled = settled ≡ Some (Ok None)
+Settles (Err faults.Memory) settled = settled ≡ Some (Err faults.Memory)
+Settles (Err faults.LongLine) settled = settled ≡ Some (Err faults.LongLine)
+Settles (Err faults.ManyLines) settled = settled ≡ Some (Err faults.ManyLines)
+Settles (Err faults.ScriptFailed) settled = settled ≡ Some (Err faults.ScriptFailed)
+Settles (Err _) settled = ⊥
+
+-- known bytes stay known, and this holds of those before and after
+abbrev pub IfTold : Option (List ℕ) → Option (List ℕ) → (List ℕ → List ℕ → Type 0) → Type 0
+IfTold None new holds = Unit {0}
+IfTold (Some xs) None holds = ⊥
+IfTold (Some xs) (Some ys) holds = holds xs ys
+
+-- what stands behind the first newline
+abbrev pub behind_line : List ℕ → List ℕ
+behind_line [] = []
+behind_line (b ∷ bs) = cond (eqb b 10) bs (behind_line bs)
+
+-- behind so many lines, the answer is the next that these bytes give, and leaves those behind it
+abbrev pub IsNextOf : ℕ → List ℕ → List ℕ → Option Answer → Answer → Type 0
+IsNextOf n bytes left settled (Ok (Some line)) =
+    (left ≡ behind_line bytes) × (given_behind n (lines_in bytes) ≡ and_given (asked_by line) (given_behind (n + 1) (lines_in left))) × (IsSome settled → left ≡ [])
+IsNextOf n bytes left settled (Ok None) = (left ≡ []) × (given_behind n (lines_in bytes) ≡ record { lines = []; fault = None })
+IsNextOf n bytes left settled (Err faults.LongLine) = given_behind n (lines_in bytes) ≡ ends_with_fault long_line
+IsNextOf n bytes left settled (Err faults.ManyLines) = given_behind n (lines_in bytes) ≡ ends_with_fault many_lines
+IsNextOf n bytes left settled (Err _) = Unit {0}
+
+-- the answer of a script that gives no further line
+abbrev pub answer_of : Stop → Answer
+answer_of stops.End = Ok None
+answer_of stops.LongLine = Err faults.LongLine
+answer_of stops.ManyLines = Err faults.ManyLines
+answer_of stops.ReadFailed = Err faults.ScriptFailed
+answer_of stops.Memory = Err faults.Memory
+
+-- none of the bytes is a newline
+abbrev pub HasNone : List ℕ → Type 0
+HasNone [] = Unit {0}
+HasNone (b ∷ bs) = (b ≢ 10) × HasNone bs
+
+-- a line was read: what ended it, what was left before and after, and its bytes
+abbrev pub EndsLine : Ending → Option (List ℕ) → Option (List ℕ) → List ℕ → Type 0
+EndsLine endings.Newline old new line = HasNone line × Consumes old new (line ++ 10 ∷ [])
+EndsLine endings.End old new line = HasNone line × Consumes old new line × IsAtEnd new
+EndsLine endings.Long old new line = (b : ℕ) × HasNone (line ++ b ∷ []) × Consumes old new (line ++ b ∷ [])
+EndsLine endings.Failed old new line = Consumes old new line
+
+-- behind so many lines these bytes give no further line
+abbrev pub IsStopOf : ℕ → List ℕ → List ℕ → Stop → Type 0
+IsStopOf n bytes left stops.End = (left ≡ []) × (given_behind n (lines_in bytes) ≡ record { lines = []; fault = None })
+IsStopOf n bytes left stops.LongLine = given_behind n (lines_in bytes) ≡ ends_with_fault long_line
+IsStopOf n bytes left stops.ManyLines = given_behind n (lines_in bytes) ≡ ends_with_fault many_lines
+IsStopOf n bytes left _ = Unit {0}
+
+-- a line was taken behind so many others, the last one or not, or why none was
+abbrev pub IsTakenOf : ℕ → List ℕ → List ℕ → List ℕ → Result Bool Stop → Type 0
+IsTakenOf n bytes left line (Ok is_last) =
+    (left ≡ behind_line bytes) × (given_behind n (lines_in bytes) ≡ and_given (asked line) (given_behind (n + 1) (lines_in left))) × (is_last ≡ true → left ≡ [])
+IsTakenOf n bytes left line (Err stop) = IsStopOf n bytes left stop

@@ -1,0 +1,164 @@
+//! The steps of a session, and their answers.
+ghost use Rattle.std.specs.Prelude.{◌≡◌, ◌↔◌, ◌++◌, IfErr, IfOk, IsErr, IsTrue};
+ghost use Rattle.aout_core.specs.Wires.{Puts};
+ghost use Rattle.link_session.specs.Edits.{last_of};
+ghost use Rattle.link_session.specs.Labelled.{objects};
+ghost use Rattle.link_out.specs.Link.{link};
+ghost use Rattle.link_out.specs.Reports.{line};
+ghost use Rattle.v7tools.specs.declared.fault.CliFault.TheVariants.{WriteFailed};
+ghost use Rattle.v7tools.specs.declared.commands.Step.TheVariants.{Refused};
+ghost use Rattle.v7tools.specs.Answers.{withdraw_step};
+ghost use Rattle.v7tools.specs.FaultTexts.{cli_text};
+ghost use Rattle.v7tools.specs.Steps.{label_of, TakesAddStep, TakesStep, TakesLinkStep, verdict_of, WithdrawsIf};
+
+use crate::additions::add_file;
+use crate::commands::{Command, Step};
+use crate::fault::{CliFault, put_both};
+use crate::listings::{put_externals, put_undefined};
+use aout_core::{DeviceFault, Wire};
+use link_out::{Options, finish};
+use link_session::Session;
+use std::alloc::Global;
+use std::io::{Read, Write};
+
+/// Writes two texts on one line.
+fn put_line<W: Write>(first: &[u8], second: &[u8], answers: &mut Wire<W>) -> Result<(), DeviceFault>
+    ensures fault { IsErr result ↔ IsTrue answers.new.has_failed }
+    ensures latched { IsTrue answers.old.has_failed → (answers.new ≡ answers.old) }
+    ensures bytes { Puts result (W.contents answers.old.device) (W.contents answers.new.device) (line (first.now ++ second.now)) }
+{
+    put_both(first, second, answers)?;
+    answers.put(b"\n")
+}
+
+/// Writes the text of a fault and a newline.
+fn put_fault<W: Write>(fault: &CliFault, answers: &mut Wire<W>) -> Result<(), DeviceFault>
+    ensures fault { IsErr result ↔ IsTrue answers.new.has_failed }
+    ensures latched { IsTrue answers.old.has_failed → (answers.new ≡ answers.old) }
+    ensures bytes { Puts result (W.contents answers.old.device) (W.contents answers.new.device) (line (cli_text fault.now)) }
+{
+    fault.write_text(answers)?;
+    answers.put(b"\n")
+}
+
+/// Answers with the text of a fault.
+fn refuse<W: Write>(fault: &CliFault, answers: &mut Wire<W>) -> Result<Step, CliFault>
+    ensures fault { IsErr result ↔ IsTrue answers.new.has_failed }
+    ensures write_failed { IfErr result (λ fault. fault ≡ WriteFailed) }
+    ensures latched { IsTrue answers.old.has_failed → (answers.new ≡ answers.old) }
+    ensures bytes { Puts result (W.contents answers.old.device) (W.contents answers.new.device) (line (cli_text fault.now)) }
+    ensures step { IfOk result (λ step. step ≡ Refused) }
+{
+    put_fault(fault, answers)?;
+    Ok(Step::Refused)
+}
+
+/// The label of the last object; empty without objects.
+fn last_label(session: &Session) -> &str
+    ensures { result.now ≡ label_of (last_of session.now.entries) }
+{
+    match session.entries().last() {
+        Some(entry) => entry.label(),
+        None => "",
+    }
+}
+
+/// Adds the file at a path, and answers with its label.
+fn add<R: Read, W: Write>(
+    alloc: Global,
+    session: &mut Session,
+    path: String,
+    wire: &mut Wire<R>,
+    answers: &mut Wire<W>,
+) -> Result<Step, CliFault>
+    ensures write_failed { IfErr result (λ fault. fault ≡ WriteFailed) }
+    ensures latched { IsTrue answers.old.has_failed → (answers.new ≡ answers.old) }
+    ensures step { TakesAddStep R.remaining W.contents path wire.old session.old session.new result answers.old answers.new }
+{
+    match add_file(alloc, session, path, wire) {
+        Ok(()) => {
+            put_line(b"added ", last_label(session).as_bytes(), answers)?;
+            Ok(Step::Done)
+        }
+        Err(fault) => refuse(&fault, answers),
+    }
+}
+
+/// Takes the last object away, and answers with its label.
+fn withdraw<W: Write>(session: &mut Session, answers: &mut Wire<W>) -> Result<Step, CliFault>
+    ensures fault { IsErr result ↔ IsTrue answers.new.has_failed }
+    ensures write_failed { IfErr result (λ fault. fault ≡ WriteFailed) }
+    ensures latched { IsTrue answers.old.has_failed → (answers.new ≡ answers.old) }
+    ensures bytes { Puts result (W.contents answers.old.device) (W.contents answers.new.device) (withdraw_step session.old.entries (last_of session.old.entries)).answer }
+    ensures step { IfOk result (λ step. verdict_of step ≡ (withdraw_step session.old.entries (last_of session.old.entries)).verdict) }
+    ensures kept { session.new.entries ≡ (withdraw_step session.old.entries (last_of session.old.entries)).kept }
+    ensures changes { WithdrawsIf (withdraw_step session.old.entries (last_of session.old.entries)).verdict session.old session.new }
+{
+    match session.withdraw() {
+        Some((label, _)) => {
+            put_line(b"withdrew ", label.as_bytes(), answers)?;
+            Ok(Step::Done)
+        }
+        None => {
+            put_line(b"nothing to withdraw", b"", answers)?;
+            Ok(Step::Refused)
+        }
+    }
+}
+
+/// Links the objects, and answers where there is no link.
+fn make_link<W: Write>(
+    alloc: Global,
+    session: &Session,
+    options: &Options,
+    answers: &mut Wire<W>,
+) -> Result<Step, CliFault>
+    ensures write_failed { IfErr result (λ fault. fault ≡ WriteFailed) }
+    ensures latched { IsTrue answers.old.has_failed → (answers.new ≡ answers.old) }
+    ensures step { TakesLinkStep W.contents (link session.now.forced (objects session.now.entries) options.now) session.now result answers.old answers.new }
+{
+    match finish(alloc, session, options) {
+        Ok(linked) => Ok(Step::ToStore(linked)),
+        Err(fault) => refuse(&CliFault::from(fault), answers),
+    }
+}
+
+/// Does what a command asks for, and writes the answer: `added PATH` or the text of the fault; `withdrew LABEL` or
+/// `nothing to withdraw`; the nm lines of the externals; the undefined names; the text of the fault that refuses a link;
+/// or `bad command`. Of a link that is made nothing is written. A step that is `Refused` leaves the session as it was,
+/// also for want of memory, which answers `no memory`. The only fault is `WriteFailed`: the answers' wire failed, now or
+/// before, a front of the answer went out, and the session is as after the command. Memory is taken to add and to link
+/// alone. (own choice)
+pub fn step<R: Read + Drop, W: Write>(
+    alloc: Global,
+    session: &mut Session,
+    options: &Options,
+    command: Command<R>,
+    answers: &mut Wire<W>,
+) -> Result<Step, CliFault>
+    ensures write_failed { IfErr result (λ fault. fault ≡ WriteFailed) }
+    ensures latched { IsTrue answers.old.has_failed → (answers.new ≡ answers.old) }
+    ensures forced { session.new.forced ≡ session.old.forced }
+    ensures step { TakesStep R.remaining W.contents options.now command session.old session.new result answers.old answers.new }
+{
+    match command {
+        Command::Add(path, wire) => match wire {
+            Some(mut wire) => add(alloc, session, path, &mut wire, answers),
+            None => refuse(&CliFault::CannotOpen(path), answers),
+        },
+        Command::Withdraw => withdraw(session, answers),
+        Command::Externals => {
+            put_externals(session, answers)?;
+            Ok(Step::Done)
+        }
+        Command::Undefined => {
+            put_undefined(session, answers)?;
+            Ok(Step::Done)
+        }
+        Command::Link => make_link(alloc, session, options, answers),
+        Command::Bad => {
+            put_line(b"bad command", b"", answers)?;
+            Ok(Step::Refused)
+        }
+    }
+}

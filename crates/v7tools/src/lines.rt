@@ -1,0 +1,62 @@
+//! The lines of a script.
+ghost use Rattle.std.specs.Prelude.{◌≡◌, IfOk, length, drop, true, false, MatchOption};
+ghost use Rattle.v7tools.specs.Scripts.{asked, has_path};
+ghost use Rattle.v7tools.specs.ScriptAnswers.{asked_by};
+
+use std::alloc::{AllocError, Global};
+
+/// What a line of a script asks for.
+#[derive(Debug, Drop)]
+pub enum Line {
+    /// `add PATH`: the object at this path is added.
+    Add(String),
+    /// `withdraw`: the last object is withdrawn.
+    Withdraw,
+    /// `externals`: the externals are listed.
+    Externals,
+    /// `undefined`: the undefined names are listed.
+    Undefined,
+    /// `link PATH`: the session is linked into the file at this path.
+    Link(String),
+    /// Anything else, also a line that is no text.
+    Bad,
+}
+
+/// The path behind a word at the front of a line, where there is one.
+fn path_behind<'a>(word: &str, line: &'a str) -> Option<&'a str>
+    ensures { MatchOption result (has_path word.now line.now ≡ false) (λ path. (has_path word.now line.now ≡ true) × (path.now ≡ drop (length word.now) line.now)) }
+{
+    let path = line.strip_prefix(word)?;
+    if path.is_empty() { None } else { Some(path) }
+}
+
+/// What a line that is text asks for.
+fn asked_in(alloc: Global, line: &str) -> Result<Line, AllocError>
+    ensures { IfOk result (λ it. asked_by it ≡ asked line.now) }
+{
+    if let Some(path) = path_behind("add ", line) {
+        return Ok(Line::Add(String::from_str(alloc, path)?));
+    }
+    match line {
+        "withdraw" => return Ok(Line::Withdraw),
+        "externals" => return Ok(Line::Externals),
+        "undefined" => return Ok(Line::Undefined),
+        _ => {}
+    }
+    match path_behind("link ", line) {
+        Some(path) => Ok(Line::Link(String::from_str(alloc, path)?)),
+        None => Ok(Line::Bad),
+    }
+}
+
+impl Line {
+    /// What the bytes of a line, without its newline, ask for. (own choice)
+    pub(crate) fn from_bytes(alloc: Global, bytes: &[u8]) -> Result<Line, AllocError>
+        ensures { IfOk result (λ line. asked_by line ≡ asked bytes.now) }
+    {
+        match str::from_utf8(bytes) {
+            Ok(line) => asked_in(alloc, line),
+            Err(_) => Ok(Line::Bad),
+        }
+    }
+}

@@ -1,0 +1,206 @@
+//! The reader of a script.
+ghost use Rattle.std.specs.Prelude.{◌≡◌, ◌↔◌, ◌+◌, ◌≤◌, [], ◌∷◌, IfErr, IfNone, IfOk, IfSome, IsErr, IsTrue, Err, None, Ok, Some, vec_capacity, vec_len};
+ghost use Rattle.std.specs.Io.KnownBytes.{Consumes, IsAtEnd, Keeps};
+ghost use Rattle.v7tools.specs.declared.fault.CliFault.TheVariants.{Memory, ScriptFailed};
+ghost use Rattle.v7tools.specs.ScriptAnswers.{answer_of, EndsLine, IfTold, IsNextOf, IsStopOf, IsTakenOf, lines_of, Settles};
+
+use crate::fault::CliFault;
+use crate::lines::Line;
+use aout_core::{DeviceFault, Wire};
+use std::alloc::Global;
+use std::io::Read;
+use std::marker::Model;
+
+/// The most bytes of a line, its newline not counted.
+const LINE_LIMIT: usize = 4096;
+
+/// The most lines of a script.
+const LINES_LIMIT: u32 = 1000000;
+
+/// What ended a line.
+#[derive(Clone, Copy, Debug, PartialEq, Eq)]
+enum Ending {
+    Newline,
+    End,
+    Long,
+    Failed,
+}
+
+/// Why a script gives no further line.
+#[derive(Clone, Copy, Debug, PartialEq, Eq)]
+enum Stop {
+    End,
+    LongLine,
+    ManyLines,
+    ReadFailed,
+    Memory,
+}
+
+impl Stop {
+    /// What a call of a script that gives no further line answers.
+    fn answer(self) -> Result<Option<Line>, CliFault>
+        ensures { result ≡ answer_of self }
+    {
+        match self {
+            Stop::End => Ok(None),
+            Stop::LongLine => Err(CliFault::LongLine),
+            Stop::ManyLines => Err(CliFault::ManyLines),
+            Stop::ReadFailed => Err(CliFault::ScriptFailed),
+            Stop::Memory => Err(CliFault::Memory),
+        }
+    }
+}
+
+/// Asks for one byte.
+fn next_byte<R: Read>(wire: &mut Wire<R>) -> Result<Option<u8>, DeviceFault>
+    ensures fault { IsErr result ↔ IsTrue wire.new.has_failed }
+    ensures latched { IsTrue wire.old.has_failed → (wire.new ≡ wire.old) }
+    ensures byte { IfOk result (λ o. IfSome o (λ b. Consumes (R.remaining wire.old.device) (R.remaining wire.new.device) (b ∷ []))) }
+    ensures end { IfOk result (λ o. IfNone o (Consumes (R.remaining wire.old.device) (R.remaining wire.new.device) [] × IsAtEnd (R.remaining wire.new.device))) }
+    ensures kept { IfErr result (λ _. Keeps (R.remaining wire.old.device) (R.remaining wire.new.device)) }
+{
+    let mut byte = [0; 1];
+    let n = wire.read(&mut byte)?;
+    if n == 0 { Ok(None) } else { Ok(Some(byte[0])) }
+}
+
+/// Reads a line, at most `LINE_LIMIT` bytes of it.
+fn read_line<R: Read>(wire: &mut Wire<R>, line: &mut Vec<u8>) -> Ending
+    requires { LINE_LIMIT ≤ vec_capacity line.old }
+    ensures room { LINE_LIMIT ≤ vec_capacity line.new }
+    ensures failed { (result ≡ Ending.Failed) ↔ IsTrue wire.new.has_failed }
+    ensures latched { IsTrue wire.old.has_failed → (wire.new ≡ wire.old) }
+    ensures ends { EndsLine result (R.remaining wire.old.device) (R.remaining wire.new.device) line.new.items }
+    ensures long { result ≡ Ending.Long → vec_len line.new ≡ LINE_LIMIT }
+    ensures short { vec_len line.new ≤ LINE_LIMIT }
+{
+    line.clear();
+    if wire.failed() {
+        return Ending::Failed;
+    }
+    for _ in 0..LINE_LIMIT {
+        match next_byte(wire) {
+            Ok(Some(b'\n')) => return Ending::Newline,
+            Ok(Some(byte)) => line.push(byte).unwrap(),
+            Ok(None) => return Ending::End,
+            Err(DeviceFault) => return Ending::Failed,
+        }
+    }
+    match next_byte(wire) {
+        Ok(Some(b'\n')) => Ending::Newline,
+        Ok(Some(_)) => Ending::Long,
+        Ok(None) => Ending::End,
+        Err(DeviceFault) => Ending::Failed,
+    }
+}
+
+/// Asks whether there is a line behind the last one that a script may have, and answers why there is none to give.
+fn stop_at_limit<R: Read>(wire: &mut Wire<R>) -> Stop
+    ensures failed { (result ≡ Stop.ReadFailed) ↔ IsTrue wire.new.has_failed }
+    ensures latched { IsTrue wire.old.has_failed → (wire.new ≡ wire.old) }
+    ensures value { IfTold (R.remaining wire.old.device) (R.remaining wire.new.device) (λ bytes left. IsStopOf 1000000 bytes left result) }
+{
+    match next_byte(wire) {
+        Ok(Some(_)) => Stop::ManyLines,
+        Ok(None) => Stop::End,
+        Err(DeviceFault) => Stop::ReadFailed,
+    }
+}
+
+/// Reads the line behind `line_count` others, and answers whether the script ended with it.
+fn take_line<R: Read>(wire: &mut Wire<R>, line: &mut Vec<u8>, line_count: u32) -> Result<bool, Stop>
+    requires room { LINE_LIMIT ≤ vec_capacity line.old }
+    requires few { line_count ≤ LINES_LIMIT }
+    ensures room { LINE_LIMIT ≤ vec_capacity line.new }
+    ensures few { IfOk result (λ _. line_count + 1 ≤ LINES_LIMIT) }
+    ensures failed { IfErr result (λ stop. (stop ≡ Stop.ReadFailed) ↔ IsTrue wire.new.has_failed) }
+    ensures works { IfOk result (λ _. IsTrue wire.new.has_failed → ⊥) }
+    ensures latched { IsTrue wire.old.has_failed → (wire.new ≡ wire.old) }
+    ensures value { IfTold (R.remaining wire.old.device) (R.remaining wire.new.device) (λ bytes left. IsTakenOf line_count bytes left line.new.items result) }
+{
+    if line_count == LINES_LIMIT {
+        return Err(stop_at_limit(wire));
+    }
+    match read_line(wire, line) {
+        Ending::Newline => Ok(false),
+        Ending::End if line.is_empty() => Err(Stop::End),
+        Ending::End => Ok(true),
+        Ending::Long => Err(Stop::LongLine),
+        Ending::Failed => Err(Stop::ReadFailed),
+    }
+}
+
+/// A script, read line by line.
+#[derive(Drop)]
+pub struct Script<R> {
+    alloc: Global,
+    wire: Wire<R>,
+    line: Vec<u8>,
+    line_count: u32,
+    stop: Option<Stop>,
+}
+
+impl<R> Model for Script<R> {
+    ghost use Rattle.std.specs.Prelude.{◌≡◌, ◌≤◌, ◌↔◌, IfSome, IsTrue, vec_capacity};
+    ghost use Rattle.std.specs.Option.{option_map};
+    ghost use Rattle.v7tools.specs.declared.script.Stop.TheVariants.{ReadFailed};
+    ghost use Rattle.v7tools.specs.declared.script.TheConstants.{LINE_LIMIT, LINES_LIMIT};
+    ghost use Rattle.v7tools.specs.ScriptAnswers.{Progress, answer_of};
+
+    ghost Value = { Progress R };
+
+    ghost view = { λ s. record { wire = s.wire; line_count = s.line_count; settled = option_map answer_of s.stop } };
+
+    ghost invariant = { λ s. (LINE_LIMIT ≤ vec_capacity s.line) × (s.line_count ≤ LINES_LIMIT) × IfSome s.stop (λ stop. (stop ≡ ReadFailed) ↔ IsTrue s.wire.has_failed) };
+}
+
+impl<R: Read + Drop> Script<R> {
+    /// A script of which no line was read. It makes the room for a line, or answers `Memory`. (own choice)
+    pub fn new(alloc: Global, wire: Wire<R>) -> Result<Script<R>, CliFault>
+        ensures ok { IfOk result (λ s. (s.wire ≡ wire) × (s.line_count ≡ 0) × (s.settled ≡ None)) }
+        ensures err { IfErr result (λ fault. fault ≡ Memory) }
+    {
+        let line = Vec::with_capacity(alloc, LINE_LIMIT)?;
+        Ok(Script {
+            alloc,
+            wire,
+            line,
+            line_count: 0,
+            stop: None,
+        })
+    }
+
+    /// The next line, or `None` at the end and at every later call. A line ends at a newline; a last one without it
+    /// counts if it is not empty. The faults are `LongLine`, for more than 4,096 bytes before a newline, `ManyLines`,
+    /// where there is anything behind 1,000,000 lines, `ScriptFailed` and `Memory`; every later call answers the fault
+    /// again. (own choice)
+    pub fn next_line(&mut self) -> Result<Option<Line>, CliFault>
+        ensures stays { IfSome self.old.settled (λ answer. (result ≡ answer) × (self.new ≡ self.old)) }
+        ensures settles { Settles result self.new.settled }
+        ensures failed { (result ≡ Err ScriptFailed) ↔ IsTrue self.new.wire.has_failed }
+        ensures latched { IsTrue self.old.wire.has_failed → (self.new.wire ≡ self.old.wire) }
+        ensures count { self.new.line_count ≡ self.old.line_count + lines_of result }
+        ensures bound { self.new.line_count ≤ 1000000 }
+        ensures next { self.old.settled ≡ None → IfTold (R.remaining self.old.wire.device) (R.remaining self.new.wire.device) (λ bytes left. IsNextOf self.old.line_count bytes left self.new.settled result) }
+    {
+        if let Some(stop) = self.stop {
+            return stop.answer();
+        }
+        let is_last = match take_line(&mut self.wire, &mut self.line, self.line_count) {
+            Ok(is_last) => is_last,
+            Err(stop) => {
+                self.stop = Some(stop);
+                return stop.answer();
+            }
+        };
+        let Ok(line) = Line::from_bytes(self.alloc, &self.line) else {
+            self.stop = Some(Stop::Memory);
+            return Stop::Memory.answer();
+        };
+        self.line_count += 1;
+        if is_last {
+            self.stop = Some(Stop::End);
+        }
+        Ok(Some(line))
+    }
+}
