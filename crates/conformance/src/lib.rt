@@ -3,12 +3,42 @@
 #![tactic(auto)]
 
 #[cfg(test)]
+mod failing_devices;
+#[cfg(test)]
 mod files;
 #[cfg(test)]
 mod folders;
 #[cfg(test)]
+mod forced_names;
+#[cfg(test)]
+mod link_commands;
+#[cfg(test)]
+mod link_limits;
+#[cfg(test)]
+mod linked_bytes;
+#[cfg(test)]
 mod linking;
+#[cfg(test)]
+mod links;
+#[cfg(test)]
+mod merged_image;
+#[cfg(test)]
+mod partial_links;
+#[cfg(test)]
+mod refused_memory;
+#[cfg(test)]
+mod runs;
+#[cfg(test)]
+mod scripted_sessions;
+#[cfg(test)]
+mod scripts;
 #[cfg(test)]
 mod sessions;
 #[cfg(test)]
+mod steps;
+#[cfg(test)]
 mod tools;
+#[cfg(test)]
+mod withdrawals;
+#[cfg(test)]
+mod words;

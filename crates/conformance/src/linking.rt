@@ -1,59 +1,29 @@
 //! The link of files without externals, and the lines of the faults.
-ghost use Rattle.std.specs.Prelude.{◌≡◌};
-ghost use Rattle.v7tools.specs.Calls.{plain_choices};
-
 use crate::folders::{enter_folder, status_of, words};
-use aout_core::samples::{A_O, B_O, C_O, Failing, TestReader, TestWriter};
-use aout_core::{Header, ObjectFault, ReadFault, Wire};
+use crate::linked_bytes::{link_bytes, sized};
+use aout_core::samples::{A_O, B_O, Failing, TestWriter};
+use aout_core::{ObjectFault, ReadFault, Wire};
 use link_out::{Keep, Layout, LinkFault, Linked, Options};
 use link_session::{AddFault, Forced};
 use std::alloc::{AllocError, Global};
 use std::fs;
 use std::io::ErrorKind;
 use std::test::Fail;
-use v7tools::{Call, CliFault, emit, ld, parse};
+use v7tools::{CliFault, emit, parse};
 
 /// What `v7 ld -s a.o b.o` writes.
-const TWO_OBJECTS: [u8; 24] = [
+pub(crate) const TWO_OBJECTS: [u8; 24] = [
     0x07, 0x01, 0x06, 0x00, 0x02, 0x00, 0x00, 0x00, 0x00, 0x00, 0x00, 0x00, 0x00, 0x00, 0x01, 0x00,
     0xc0, 0x15, 0x06, 0x00, 0x87, 0x00, 0x22, 0x00,
 ];
 
-fn plain() -> Options
-    ensures { result ≡ plain_choices }
-{
+fn plain() -> Options {
     Options::new(Layout::Plain, false, Keep::Nothing, None).unwrap()
 }
 
-/// The link of bytes in memory, each with its path.
-fn link_bytes(alloc: Global, inputs: &[(&str, &[u8])]) -> Result<Linked, CliFault> {
-    let mut wires = Vec::new(alloc);
-    for (path, bytes) in inputs {
-        wires.push((
-            String::from_str(alloc, path)?,
-            Wire::new(TestReader::whole(bytes)),
-        ))?;
-    }
-    ld(alloc, wires, &Forced::none(), &plain())
-}
-
-/// An object of zeros.
-fn object_of(alloc: Global, text_size: u16, data_size: u16) -> Result<Vec<u8>, AllocError> {
-    let header = Header {
-        magic: 0o407,
-        text_size,
-        data_size,
-        bss_size: 0,
-        symbol_size: 0,
-        entry_point: 0,
-        unused: 0,
-        flag: 0,
-    };
-    let mut bytes = Vec::from_slice(alloc, &header.to_bytes())?;
-    for _ in 0..2 * (u32::from(text_size) + u32::from(data_size)) {
-        bytes.push(0)?;
-    }
-    Ok(bytes)
+/// The link of bytes in memory, each with its path, without options but `-s`.
+fn link_stripped(alloc: Global, inputs: &[(&str, &[u8])]) -> Result<Linked, CliFault> {
+    link_bytes(alloc, inputs, &Forced::none(), &plain())
 }
 
 /// Whether the fault writes this line, over a writer that takes 3 bytes a call.
@@ -65,7 +35,7 @@ pub(crate) fn writes(alloc: Global, fault: &CliFault, line: &str) -> bool {
 
 /// Whether the link is refused with this line.
 fn is_refused(alloc: Global, inputs: &[(&str, &[u8])], line: &str) -> bool {
-    match link_bytes(alloc, inputs) {
+    match link_stripped(alloc, inputs) {
         Ok(_) => false,
         Err(fault) => writes(alloc, &fault, line),
     }
@@ -101,9 +71,9 @@ fn default_output(rt: HostRuntime) -> Result<(), Fail> {
 #[test]
 fn no_room_for_text(rt: HostRuntime) -> Result<(), Fail> {
     let alloc = rt.alloc();
-    let large = object_of(alloc, 65_534, 0)?;
-    let text = object_of(alloc, 2, 0)?;
-    let data = object_of(alloc, 0, 2)?;
+    let large = sized(alloc, 65_534, 0, 0, &[])?;
+    let text = sized(alloc, 2, 0, 0, &[])?;
+    let data = sized(alloc, 0, 2, 0, &[])?;
     assert!(rt;
         is_refused(
             alloc,
@@ -132,7 +102,7 @@ fn no_room_for_text(rt: HostRuntime) -> Result<(), Fail> {
 #[test]
 fn no_room_for_data(rt: HostRuntime) -> Result<(), Fail> {
     let alloc = rt.alloc();
-    let half = object_of(alloc, 0, 32_768)?;
+    let half = sized(alloc, 0, 32_768, 0, &[])?;
     assert!(rt;
         is_refused(
             alloc,
@@ -153,77 +123,10 @@ fn nothing_added_without_files(rt: HostRuntime) -> Result<(), Fail> {
     Ok(())
 }
 
-/// Whether this is a plain link of one file into `out`.
-fn is_plain(call: Call) -> bool {
-    match call {
-        Call::Ld {
-            options,
-            forced,
-            out,
-            files,
-        } => {
-            options == plain()
-                && forced.names().is_empty()
-                && out.as_str() == "out"
-                && files.len() == 1
-        }
-        _ => false,
-    }
-}
-
-fn is_plain_call(alloc: Global, all: &[&str]) -> Result<bool, AllocError> {
-    match parse(alloc, words(alloc, all)?) {
-        Ok(call) => Ok(is_plain(call)),
-        Err(_) => Ok(false),
-    }
-}
-
-fn is_usage(alloc: Global, all: &[&str]) -> Result<bool, AllocError> {
-    Ok(matches!(parse(alloc, words(alloc, all)?), Err(CliFault::Usage)))
-}
-
-#[test]
-fn entry_and_usage(rt: HostRuntime) -> Result<(), Fail> {
-    let alloc = rt.alloc();
-    assert!(rt; is_plain_call(alloc, &["ld", "-s", "-o", "out", "a.o"])?);
-    assert!(rt; is_plain_call(alloc, &["ld", "a.o", "-s", "-o", "out"])?);
-    assert!(rt; is_plain_call(alloc, &["ld", "-s", "-s", "-oout", "a.o"])?);
-    assert!(rt; is_plain_call(alloc, &["ld", "-s", "-o", "out", "--", "-s"])?);
-    assert!(rt; is_usage(alloc, &["ld", "-r", "-s", "c.o"])?);
-    assert!(rt; is_usage(alloc, &["ld", "-n", "-i", "c.o"])?);
-    assert!(rt; is_usage(alloc, &["ld", "c.o"])?);
-    assert!(rt; is_usage(alloc, &["ld", "-s", "-o", "x", "-o", "y", "c.o"])?);
-    assert!(rt; is_usage(alloc, &["ld", "-s", "-h", "c.o"])?);
-    assert!(rt; is_usage(alloc, &["ld", "-s", "c.o", "-o"])?);
-    assert!(rt; is_usage(alloc, &["ar", "c.o"])?);
-    Ok(())
-}
-
-#[test]
-fn refused_externals(rt: HostRuntime) -> Result<(), Fail> {
-    let alloc = rt.alloc();
-    assert!(rt;
-        is_refused(
-            alloc,
-            &[("b.o", &B_O), ("c.o", &C_O)],
-            "v7: c.o: externals\n"
-        )
-    );
-    enter_folder(&rt, "refused_externals")?;
-    fs::write(&rt, "b.o", B_O.as_slice())?;
-    fs::write(&rt, "c.o", C_O.as_slice())?;
-    assert_eq!(rt;
-        status_of(&rt, &["ld", "-s", "-o", "out", "b.o", "c.o"])?,
-        2
-    );
-    assert!(rt; fs::read(&rt, "out").is_err());
-    Ok(())
-}
-
 #[test]
 fn failing_devices_writing(rt: HostRuntime) -> Result<(), Fail> {
     let alloc = rt.alloc();
-    let Ok(linked) = link_bytes(alloc, &[("a.o", &A_O), ("b.o", &B_O)]) else {
+    let Ok(linked) = link_stripped(alloc, &[("a.o", &A_O), ("b.o", &B_O)]) else {
         return Ok(assert!(rt; false));
     };
     for failing in [
@@ -249,7 +152,7 @@ fn failing_devices_writing(rt: HostRuntime) -> Result<(), Fail> {
 #[test]
 fn read_always_memory(rt: HostRuntime) -> Result<(), Fail> {
     let alloc = rt.alloc();
-    let Ok(linked) = link_bytes(alloc, &[("a.o", &A_O), ("b.o", &B_O)]) else {
+    let Ok(linked) = link_stripped(alloc, &[("a.o", &A_O), ("b.o", &B_O)]) else {
         return Ok(assert!(rt; false));
     };
     assert_eq!(rt; linked.file.text_words(), [0o12700, 6, 0o207].as_slice());
@@ -261,7 +164,7 @@ fn read_always_memory(rt: HostRuntime) -> Result<(), Fail> {
 #[test]
 fn latch_without_error(rt: HostRuntime) -> Result<(), Fail> {
     let alloc = rt.alloc();
-    let Ok(linked) = link_bytes(alloc, &[("a.o", &A_O), ("b.o", &B_O)]) else {
+    let Ok(linked) = link_stripped(alloc, &[("a.o", &A_O), ("b.o", &B_O)]) else {
         return Ok(assert!(rt; false));
     };
     let mut file = Wire::new(TestWriter::whole(Vec::new(alloc)));

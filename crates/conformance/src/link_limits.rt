@@ -1,0 +1,170 @@
+//! Links at the limits of addresses, names and symbols.
+use crate::linked_bytes::{
+    file_of, forced, link, link_bytes, link_forced, names_of, output_of, plain, refusal,
+    relocatable, silent, sized,
+};
+use aout_core::Reloc;
+use link_out::{Keep, Layout, LinkFault, Options};
+use link_session::{AddFault, Forced};
+use std::alloc::{AllocError, Global};
+use std::test::Fail;
+use v7tools::CliFault;
+
+/// Whether the answer is this refusal of the link itself.
+fn is_unlinked(answer: Option<CliFault>, fault: LinkFault) -> bool {
+    match answer {
+        Some(CliFault::NotLinked(cause)) => cause == fault,
+        _ => false,
+    }
+}
+
+#[test]
+fn limits_of_a_session_linked(rt: HostRuntime) -> Result<(), Fail> {
+    let alloc = rt.alloc();
+    let text = sized(alloc, 65_534, 0, 0, &[])?;
+    let data = sized(alloc, 0, 2, 0, &[])?;
+    let pure = Options::new(Layout::Pure, false, Keep::All, None)?;
+    let split = Options::new(Layout::Split, false, Keep::All, None)?;
+    let words = vec![in alloc; 0; 32_767]?;
+    let file = file_of(
+        alloc,
+        [0o407, 65_534, 0, 0, 12, 0, 0, 1],
+        &words,
+        &[("_end", 0o44, 65_534)],
+    )?;
+    let output = link_forced(alloc, &forced("_end"), &[&text], &plain(Keep::All)?)?;
+    assert_eq!(rt; output, silent(alloc, file));
+    let unlinked = refusal(alloc, &[&text], &pure)?;
+    assert!(rt; is_unlinked(unlinked, LinkFault::DoesNotFit));
+    let unlinked = refusal(alloc, &[&text, &data], &plain(Keep::All)?)?;
+    assert!(rt; is_unlinked(unlinked, LinkFault::DoesNotFit));
+    assert!(rt; refusal(alloc, &[&text, &data], &split)?.is_none());
+    Ok(())
+}
+
+#[test]
+fn limits_of_a_session_with_commons(rt: HostRuntime) -> Result<(), Fail> {
+    let alloc = rt.alloc();
+    let longest = sized(alloc, 0, 0, 0, &[("_c", 0o40, 65_534)])?;
+    let file = file_of(
+        alloc,
+        [0o407, 0, 0, 65_534, 12, 0, 0, 1],
+        &[],
+        &[("_c", 0o44, 0)],
+    )?;
+    let output = link(alloc, &[&longest], &plain(Keep::All)?)?;
+    assert_eq!(rt; output, silent(alloc, file));
+    let longer = sized(alloc, 0, 0, 0, &[("_c", 0o40, 65_535)])?;
+    let unlinked = refusal(alloc, &[&longer], &plain(Keep::All)?)?;
+    assert!(rt; is_unlinked(unlinked, LinkFault::DoesNotFit));
+    let file = file_of(
+        alloc,
+        [0o407, 0, 0, 0, 12, 0, 0, 0],
+        &[],
+        &[("_c", 0o40, 0o177777)],
+    )?;
+    let output = link(alloc, &[&longer], &relocatable(Keep::All)?)?;
+    assert_eq!(rt; output, silent(alloc, file));
+    Ok(())
+}
+
+/// Twelve objects of 5,461 names each, and one more.
+fn many_names(alloc: Global, more: u16) -> Result<Vec<Vec<u8>>, AllocError> {
+    let mut objects = Vec::new(alloc);
+    for letter in b'a'..=b'l' {
+        objects.push(names_of(alloc, letter, 5_461)?)?;
+    }
+    objects.push(names_of(alloc, b'z', more)?)?;
+    Ok(objects)
+}
+
+/// The objects as inputs.
+fn inputs_of(alloc: Global, objects: &[Vec<u8>]) -> Result<Vec<(&str, &[u8])>, AllocError> {
+    let mut inputs = Vec::new(alloc);
+    for object in objects {
+        inputs.push(("n.o", object.as_slice()))?;
+    }
+    Ok(inputs)
+}
+
+#[test]
+fn many_names_linked(rt: HostRuntime) -> Result<(), Fail> {
+    let alloc = rt.alloc();
+    let none = Forced::none();
+    let four = many_names(alloc, 4)?;
+    let inputs = inputs_of(alloc, &four)?;
+    let Err(CliFault::NotAdded(path, cause)) = link_bytes(
+        alloc,
+        &inputs,
+        &none,
+        &plain(Keep::Nothing)?,
+    ) else {
+        return Ok(assert!(rt; false));
+    };
+    assert_eq!(rt; (path.as_str(), cause), ("n.o", AddFault::NamesFull));
+    let three = many_names(alloc, 3)?;
+    let inputs = inputs_of(alloc, &three)?;
+    let unlinked = link_bytes(alloc, &inputs, &none, &plain(Keep::Externals)?).err();
+    assert!(rt; is_unlinked(unlinked, LinkFault::TooManySymbols));
+    Ok(())
+}
+
+#[test]
+fn many_names_reported(rt: HostRuntime) -> Result<(), Fail> {
+    let alloc = rt.alloc();
+    let objects = many_names(alloc, 3)?;
+    let inputs = inputs_of(alloc, &objects)?;
+    let linked = link_bytes(alloc, &inputs, &Forced::none(), &plain(Keep::Nothing)?)?;
+    let output = output_of(alloc, &linked)?;
+    assert_eq!(rt; (output.file.len(), output.status), (16, 1));
+    let lines = output.report.iter().filter(|byte| **byte == b'\n').count();
+    assert_eq!(rt; lines, 65_536);
+    assert_eq!(rt; linked.report.undefined.len(), 65_535);
+    Ok(())
+}
+
+#[test]
+fn most_symbols(rt: HostRuntime) -> Result<(), Fail> {
+    let alloc = rt.alloc();
+    let most = names_of(alloc, b'a', 5_461)?;
+    let one = names_of(alloc, b'b', 1)?;
+    let all = plain(Keep::All)?;
+    let linked = link_bytes(alloc, &[("a.o", &most)], &Forced::none(), &all)?;
+    assert_eq!(rt; linked.file.header().symbol_size, 65_532);
+    let unlinked = refusal(alloc, &[&most, &one], &all)?;
+    assert!(rt; is_unlinked(unlinked, LinkFault::TooManySymbols));
+    assert!(rt; refusal(alloc, &[&most, &one], &plain(Keep::Nothing)?)?.is_none());
+    Ok(())
+}
+
+/// Text 0 (relocation 177770); symbols `n0000` to `n4095` 040 0, and then `L1` 02 0.
+fn v_o(alloc: Global) -> Result<Vec<u8>, AllocError> {
+    let header = [0o407, 2, 0, 0, 49_164, 0, 0, 0];
+    let mut bytes = file_of(alloc, header, &[0, 0o177770], &[])?;
+    for number in 0..4096u16 {
+        let thousands = b'0' + (number / 1000) as u8;
+        let hundreds = b'0' + (number / 100 % 10) as u8;
+        let tens = b'0' + (number / 10 % 10) as u8;
+        let ones = b'0' + (number % 10) as u8;
+        bytes.extend_from_slice(&[b'n', thousands, hundreds, tens, ones, 0, 0, 0])?;
+        bytes.extend_from_slice(&[0o40, 0, 0, 0])?;
+    }
+    bytes.extend_from_slice(b"L1\0\0\0\0\0\0\x02\0\0\0")?;
+    Ok(bytes)
+}
+
+#[test]
+fn symbol_number_too_large(rt: HostRuntime) -> Result<(), Fail> {
+    let alloc = rt.alloc();
+    let object = v_o(alloc)?;
+    assert_eq!(rt; object.len(), 49_184);
+    let unlinked = refusal(alloc, &[&object], &relocatable(Keep::All)?)?;
+    assert!(rt; is_unlinked(unlinked, LinkFault::SymbolNumber));
+    for keep in [Keep::Externals, Keep::NotL] {
+        let options = relocatable(keep)?;
+        let linked = link_bytes(alloc, &[("v.o", &object)], &Forced::none(), &options)?;
+        assert_eq!(rt; linked.file.text_reloc(), [Reloc(0o177770)].as_slice());
+        assert_eq!(rt; linked.file.header().symbol_size, 49_152);
+    }
+    Ok(())
+}

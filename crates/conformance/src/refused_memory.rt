@@ -1,0 +1,169 @@
+//! Links that are refused memory, and links that are not.
+//!
+//! A test whose name begins with `memory_refused` answers Ok where its fixture found no memory.
+use crate::folders::{enter_folder, words};
+use crate::linked_bytes::{add, link, output_of, plain, wires};
+use crate::linking::TWO_OBJECTS;
+use aout_core::samples::{A_O, B_O, D_O, D2_O};
+use aout_core::{Name, Segment};
+use link_out::{Keep, LinkFault, Options, finish};
+use link_session::{Cell, Forced, Session, State, Target};
+use std::alloc::Global;
+use std::process::Abort;
+use std::test::Fail;
+use std::{fs, io};
+use v7tools::{Call, CliFault, command, ld, parse};
+
+/// A session of two objects that define the same name.
+fn doubly_defined(alloc: Global) -> Option<Session> {
+    let mut session = Session::new(alloc);
+    add(&mut session, alloc, "d.o", &D_O)?;
+    add(&mut session, alloc, "d2.o", &D2_O)?;
+    Some(session)
+}
+
+/// The session is as `doubly_defined` made it.
+fn assert_doubly_defined(rt: &impl Abort, session: &Session) {
+    let name = Name::from_bytes(b"_f");
+    let cells = [0o240, 0o207, 0o207].map(|value| Cell {
+        value,
+        target: Target::Absolute,
+        pc: false,
+    });
+    assert_eq!(rt; session.entries().len(), 2);
+    assert_eq!(rt; session.text_cells(), cells.as_slice());
+    assert_eq!(rt; session.multiples(), [name].as_slice());
+    assert_eq!(rt; session.external_count(), 1);
+    assert_eq!(rt;
+        session.external(0),
+        Some((name, State::Defined(Segment::TextSeg, 2)))
+    );
+}
+
+#[test]
+fn memory_refused_linking(rt: HostRuntime) -> Result<(), Fail> {
+    let alloc = rt.alloc();
+    let options = plain(Keep::All)?;
+    let Some(session) = doubly_defined(alloc) else {
+        let _ = rt.eprint("no fixture\n");
+        return Ok(());
+    };
+    match finish(alloc, &session, &options) {
+        Ok(linked) => {
+            assert_eq!(rt; linked.file.text_words(), [0o240, 0o207, 0o207].as_slice());
+            assert_eq!(rt; linked.report.multiples.len(), 1);
+        }
+        Err(fault) => {
+            let _ = rt.eprint("refused\n");
+            assert_eq!(rt; fault, LinkFault::Memory);
+        }
+    }
+    assert_doubly_defined(&rt, &session);
+    Ok(())
+}
+
+/// Whether this is a link of one file into `out`, without symbols.
+fn is_stripped(call: Call, stripped: Options) -> bool {
+    match call {
+        Call::Ld {
+            options,
+            forced,
+            out,
+            files,
+        } => {
+            options == stripped
+                && forced.names().is_empty()
+                && out.as_str() == "out"
+                && files.len() == 1
+        }
+        _ => false,
+    }
+}
+
+#[test]
+fn memory_refused_commands_parsing(rt: HostRuntime) -> Result<(), Fail> {
+    let alloc = rt.alloc();
+    let options = plain(Keep::Nothing)?;
+    let Ok(all) = words(alloc, &["ld", "-sx", "-o", "out", "a.o"]) else {
+        let _ = rt.eprint("no fixture\n");
+        return Ok(());
+    };
+    match parse(alloc, all) {
+        Ok(call) => assert!(rt; is_stripped(call, options)),
+        Err(fault) => {
+            let _ = rt.eprint("refused\n");
+            assert!(rt; matches!(fault, CliFault::Memory));
+        }
+    }
+    Ok(())
+}
+
+#[test]
+fn memory_refused_commands_linking(rt: HostRuntime) -> Result<(), Fail> {
+    let alloc = rt.alloc();
+    let options = plain(Keep::Nothing)?;
+    let Ok(inputs) = wires(alloc, &[("a.o", &A_O), ("b.o", &B_O)]) else {
+        let _ = rt.eprint("no fixture\n");
+        return Ok(());
+    };
+    match ld(alloc, inputs, &Forced::none(), &options) {
+        Ok(linked) => {
+            assert_eq!(rt; linked.file.text_words(), [0o12700, 6, 0o207].as_slice());
+            assert_eq!(rt; linked.file.data_words(), [0o42].as_slice());
+        }
+        Err(fault) => {
+            let _ = rt.eprint("refused\n");
+            assert!(rt; matches!(fault, CliFault::Memory));
+        }
+    }
+    Ok(())
+}
+
+/// The inputs of a link in a folder of its own.
+fn write_inputs(rt: &HostRuntime) -> io::Result<()> {
+    enter_folder(rt, "memory_refused_commands")?;
+    fs::write(rt, "a.o", A_O.as_slice())?;
+    fs::write(rt, "b.o", B_O.as_slice())
+}
+
+#[test]
+fn memory_refused_commands_running(rt: HostRuntime) {
+    let given = words(rt.alloc(), &["ld", "-s", "-o", "out", "a.o", "b.o"]);
+    let (Ok(all), Ok(())) = (given, write_inputs(&rt)) else {
+        let _ = rt.eprint("no fixture\n");
+        return;
+    };
+    let status = command(&rt, all);
+    match fs::read(&rt, "out") {
+        Ok(bytes) => {
+            assert_eq!(rt; status, 0);
+            assert_eq!(rt; bytes.as_slice(), TWO_OBJECTS.as_slice());
+        }
+        Err(_) if status == 0 => {
+            let _ = rt.eprint("no fixture\n");
+        }
+        Err(_) => {
+            let _ = rt.eprint("refused\n");
+            assert_eq!(rt; status, 2);
+        }
+    }
+}
+
+#[test]
+fn run_always_memory_of_finish(rt: HostRuntime) -> Result<(), Fail> {
+    let alloc = rt.alloc();
+    let linked = finish(alloc, &Session::new(alloc), &plain(Keep::All)?)?;
+    let output = output_of(alloc, &linked)?;
+    let empty = [7, 1, 0, 0, 0, 0, 0, 0, 0, 0, 0, 0, 0, 0, 1, 0];
+    assert_eq!(rt; output.file.as_slice(), empty.as_slice());
+    assert_eq!(rt; output.status, 0);
+    Ok(())
+}
+
+#[test]
+fn run_always_memory_of_ld(rt: HostRuntime) -> Result<(), Fail> {
+    let output = link(rt.alloc(), &[&A_O, &B_O], &plain(Keep::Nothing)?)?;
+    assert_eq!(rt; output.file.as_slice(), TWO_OBJECTS.as_slice());
+    assert_eq!(rt; output.status, 0);
+    Ok(())
+}
