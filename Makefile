@@ -13,8 +13,10 @@ build/v7: $(SOURCES)
 	mkdir -p build
 	cp crates/v7/out/v7 build/v7
 
-# links two small objects, and shows the 24 bytes of the program
+# links two small objects, runs a session and compares its answers, and shows the 24 bytes of the two objects
 demo: build/v7
+	cd examples && ../build/v7 session <session.txt >../build/answers.txt; test $$? -eq 1
+	cmp examples/answers.txt build/answers.txt
 	cd examples && ../build/v7 ld -s -o ../build/program a.o b.o
 	od -An -v -tx1 build/program
 
@@ -26,7 +28,7 @@ test:
 memory:
 	sh tests/memory.sh
 
-# times of the session on a large input
+# times of the session and of ld on a large input
 bench:
 	cd crates/bench && rt run -- full
 

@@ -87,3 +87,17 @@ pub fn defining(alloc: Global, number: u16) -> Result<Object> {
     })?;
     object(Vec::new(alloc), Vec::new(alloc), symbols, alloc)
 }
+
+/// An object that defines all the names as absolute. Without it a link with relocation would be refused, since a
+/// relocation word has room for 4,096 symbols.
+pub fn defining_all(alloc: Global, size: Size) -> Result<Object> {
+    let mut symbols = Vec::new(alloc);
+    for number in 0..size.objects.wrapping_mul(NAMES) {
+        symbols.push(Symbol {
+            name: name(number),
+            type_bits: 0o41,
+            value: number,
+        })?;
+    }
+    object(Vec::new(alloc), Vec::new(alloc), symbols, alloc)
+}

@@ -1,10 +1,12 @@
-//! Times the session on a large input. Without words it does a small run and prints nothing; with the word `full` it does
-//! the full run, and prints times and sizes.
+//! Times the session and the linker on a large input. Without words it does a small run of the session and prints nothing;
+//! with the word `full` it does the full run and the command, and prints times and sizes.
 #![tactic(auto)]
 
+mod command;
 mod input;
 
 use anyhow::{Result, anyhow};
+use command::time_command;
 use input::{Size, defining, referring};
 use link_session::Session;
 use std::env;
@@ -51,16 +53,15 @@ fn add_and_withdraw(rt: &HostRuntime, session: &mut Session, size: Size) -> Resu
     Ok(())
 }
 
-fn main(rt: HostRuntime) -> Result<()> {
-    let is_full = env::args(&rt)?.count() > 1;
-    let size = if is_full { FULL } else { SMALL };
+/// Times the session, and prints what it holds and the times where the run is the full one.
+fn time_session(rt: &HostRuntime, size: Size, is_full: bool) -> Result<()> {
     let mut session = Session::new(rt.alloc());
-    let start = Instant::now(&rt)?;
-    add_all(&rt, &mut session, size)?;
-    let added = start.elapsed(&rt)?;
-    let start = Instant::now(&rt)?;
-    add_and_withdraw(&rt, &mut session, size)?;
-    let withdrawn = start.elapsed(&rt)?;
+    let start = Instant::now(rt)?;
+    add_all(rt, &mut session, size)?;
+    let added = start.elapsed(rt)?;
+    let start = Instant::now(rt)?;
+    add_and_withdraw(rt, &mut session, size)?;
+    let withdrawn = start.elapsed(rt)?;
     if is_full {
         let objects = session.entries().len();
         let cells = session.text_cells().len();
@@ -74,4 +75,13 @@ fn main(rt: HostRuntime) -> Result<()> {
         )?;
     }
     Ok(())
+}
+
+fn main(rt: HostRuntime) -> Result<()> {
+    if env::args(&rt)?.count() > 1 {
+        time_session(&rt, FULL, true)?;
+        time_command(&rt, FULL)
+    } else {
+        time_session(&rt, SMALL, false)
+    }
 }

@@ -1,0 +1,5 @@
+/ the number
+	.globl	_count
+	.data
+_count:
+	21.
