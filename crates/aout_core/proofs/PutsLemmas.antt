@@ -1,6 +1,6 @@
 -- Writes one after another, and what a write that broke off leaves.
 use Rattle.std.proofs.Common.{◌≡◌, ℕ, ◌+◌, ◌<◌, List, [], ◌∷◌, ◌++◌, length, take, drop, slice_index_or, Option, refl, sym, ◌∙◌, ap, subst, append_assoc, append-nil, take-append-drop}
-use Rattle.std.specs.Prelude.{Result, Ok, Err}
+use Rattle.std.specs.Prelude.{Result, Ok, Err, IsErr}
 use Rattle.std.specs.List.{flat_map}
 use Rattle.std.specs.Io.KnownBytes.{Appends}
 use Rattle.std.proofs.lemmas.Grind.{flat_map-append}
@@ -47,3 +47,12 @@ pub front_of_row : {A : Type 0} (spelling : A → List ℕ) (items : List A) (i 
 front_of_row spelling items i item a b c within is sent rest =
     subst (AppendsFront a c) (sym (row_at spelling items i item within is))
     (front_before a c (flat_map spelling (take i items) ++ spelling item) (flat_map spelling (drop (i + 1) items)) (front_behind a b c (flat_map spelling (take i items)) (spelling item) sent rest))
+
+-- a write that broke off leaves a front, whatever it was to write
+pub put_broke_off : {T E : Type 0} (r : Result T E) (a b : Option (List ℕ)) (bytes : List ℕ) → IsErr r → AppendsFront a b bytes → Puts r a b bytes
+put_broke_off (Ok x) a b bytes h p = absurd (cc)
+put_broke_off (Err e) a b bytes h p = p
+
+-- the first of two texts broke off
+pub put_stops : {T E : Type 0} (r : Result T E) (a b : Option (List ℕ)) (first second : List ℕ) → IsErr r → AppendsFront a b first → Puts r a b (first ++ second)
+put_stops r a b first second h p = put_broke_off r a b (first ++ second) h (front_before a b first second p)

@@ -1,5 +1,5 @@
 //! A device with a latch that stays on once the device has failed.
-ghost use Rattle.std.specs.Prelude.{◌≡◌, ◌↔◌, ◌≤◌, ◌<◌, length, take, false, IfOk, IsErr, IsTrue};
+ghost use Rattle.std.specs.Prelude.{◌≡◌, ◌↔◌, ◌≤◌, ◌<◌, ◌++◌, length, take, false, IfOk, IsErr, IsTrue};
 ghost use Rattle.std.specs.Io.{ReadsAtMost};
 ghost use Rattle.std.specs.Io.KnownBytes.{Consumes, IsAtEnd, Keeps, ReadConsumes};
 ghost use Rattle.aout_core.specs.Wires.{Puts};
@@ -128,6 +128,16 @@ impl<W: Write> Wire<W> {
             }
         }
         Ok(())
+    }
+
+    /// Writes one text and then another, or on a fault a front of both.
+    pub fn put_both(&mut self, first: &[u8], second: &[u8]) -> Result<(), DeviceFault>
+        ensures fault { IsErr result ↔ IsTrue self.new.has_failed }
+        ensures latched { IsTrue self.old.has_failed → (self.new ≡ self.old) }
+        ensures bytes { Puts result (W.contents self.old.device) (W.contents self.new.device) (first.now ++ second.now) }
+    {
+        self.put(first)?;
+        self.put(second)
     }
 
     /// Has the device pass on what it may hold back.

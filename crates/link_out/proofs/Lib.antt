@@ -16,7 +16,6 @@ pub mod SameLinks
 pub mod NeighbourLaw
 pub mod SoundLemmas
 pub mod PartialTheorem
-pub mod PutLemmas
 pub mod ReportLemmas
 pub mod InOrderLemmas
 pub mod RowLemmas

@@ -58,16 +58,6 @@ impl From<AllocError> for LinkFault {
     }
 }
 
-/// Writes one text and then another.
-fn put_both<W: Write>(first: &[u8], second: &[u8], out: &mut Wire<W>) -> Result<(), DeviceFault>
-    ensures fault { IsErr result ↔ IsTrue out.new.has_failed }
-    ensures latched { IsTrue out.old.has_failed → (out.new ≡ out.old) }
-    ensures bytes { Puts result (W.contents out.old.device) (W.contents out.new.device) (first.now ++ second.now) }
-{
-    out.put(first)?;
-    out.put(second)
-}
-
 /// Writes a line for each name: the name, then `text`, which ends the line.
 fn put_names<W: Write>(names: &[Name], text: &[u8], out: &mut Wire<W>) -> Result<(), DeviceFault>
     ensures fault { IsErr result ↔ IsTrue out.new.has_failed }
@@ -78,7 +68,7 @@ fn put_names<W: Write>(names: &[Name], text: &[u8], out: &mut Wire<W>) -> Result
         return Err(DeviceFault);
     }
     for name in names {
-        put_both(name.as_bytes(), text, out)?;
+        out.put_both(name.as_bytes(), text)?;
     }
     Ok(())
 }
@@ -142,7 +132,7 @@ impl Report {
         let Some(name) = self.entry_bad else {
             return out.put(b"");
         };
-        put_both(name.as_bytes(), b": Entry point not in text\n", out)
+        out.put_both(name.as_bytes(), b": Entry point not in text\n")
     }
 
     /// Writes the undefined names, if there are any.

@@ -6,6 +6,7 @@ use Rattle.aout_core.specs.declared.file.ReadFault.TheVariants as reads
 use Rattle.aout_core.specs.Contents.{Contents}
 use Rattle.aout_core.specs.Front.{front}
 use Rattle.aout_core.specs.Wires.{AppendsFront, Latched, Puts}
+use Rattle.aout_core.proofs.PutsLemmas.{put_broke_off}
 use Rattle.link_session.specs.Edits.{last_of, without_last}
 use Rattle.link_session.specs.Labelled.{Labelled}
 use Rattle.link_session.specs.Sessions.{Adds, Withdraws}
@@ -15,7 +16,6 @@ use Rattle.link_out.specs.declared.linked.LinkFault.TheVariants as links
 use Rattle.link_out.specs.Link.{Outcome}
 use Rattle.link_out.specs.Outcomes.{IsLinkOf}
 use Rattle.link_out.specs.Reports.{line}
-use Rattle.link_out.proofs.PutLemmas.{put_broke_off}
 use Rattle.v7tools.specs.declared.fault.CliFault.{CliFault}
 use Rattle.v7tools.specs.declared.fault.CliFault.TheVariants as faults
 use Rattle.v7tools.specs.declared.commands.Step.{Step}

@@ -13,7 +13,7 @@ ghost use Rattle.v7tools.specs.Steps.{label_of, TakesAddStep, TakesStep, TakesLi
 
 use crate::additions::add_file;
 use crate::commands::{Command, Step};
-use crate::fault::{CliFault, put_both};
+use crate::fault::CliFault;
 use crate::listings::{put_externals, put_undefined};
 use aout_core::{DeviceFault, Wire};
 use link_out::{Options, finish};
@@ -27,7 +27,7 @@ fn put_line<W: Write>(first: &[u8], second: &[u8], answers: &mut Wire<W>) -> Res
     ensures latched { IsTrue answers.old.has_failed → (answers.new ≡ answers.old) }
     ensures bytes { Puts result (W.contents answers.old.device) (W.contents answers.new.device) (line (first.now ++ second.now)) }
 {
-    put_both(first, second, answers)?;
+    answers.put_both(first, second)?;
     answers.put(b"\n")
 }
 

@@ -123,20 +123,6 @@ impl From<LinkFault> for CliFault {
     }
 }
 
-/// Writes one text and then another.
-pub(crate) fn put_both<W: Write>(
-    first: &[u8],
-    second: &[u8],
-    out: &mut Wire<W>,
-) -> Result<(), DeviceFault>
-    ensures fault { IsErr result ↔ IsTrue out.new.has_failed }
-    ensures latched { IsTrue out.old.has_failed → (out.new ≡ out.old) }
-    ensures bytes { Puts result (W.contents out.old.device) (W.contents out.new.device) (first.now ++ second.now) }
-{
-    out.put(first)?;
-    out.put(second)
-}
-
 /// Writes a path, and what is said of it.
 pub(crate) fn put_at_file<W: Write>(
     path: &str,
@@ -147,7 +133,7 @@ pub(crate) fn put_at_file<W: Write>(
     ensures latched { IsTrue out.old.has_failed → (out.new ≡ out.old) }
     ensures bytes { Puts result (W.contents out.old.device) (W.contents out.new.device) (at_file path.now text.now) }
 {
-    put_both(path.as_bytes(), b": ", out)?;
+    out.put_both(path.as_bytes(), b": ")?;
     out.put(text)
 }
 
@@ -162,8 +148,8 @@ fn put_at_word<W: Write>(
     ensures latched { IsTrue out.old.has_failed → (out.new ≡ out.old) }
     ensures bytes { Puts result (W.contents out.old.device) (W.contents out.new.device) (at_file path.now (text.now ++ decimal index)) }
 {
-    put_both(path.as_bytes(), b": ", out)?;
-    put_both(text, Buffer::new().format(index).as_bytes(), out)
+    out.put_both(path.as_bytes(), b": ")?;
+    out.put_both(text, Buffer::new().format(index).as_bytes())
 }
 
 /// Writes what is wrong with a file.

@@ -7,7 +7,7 @@ ghost use Rattle.v7tools.specs.declared.fault.CliFault.TheVariants.{WriteFailed}
 ghost use Rattle.v7tools.specs.Answers.{link_answer_text, link_status};
 ghost use Rattle.v7tools.specs.FaultTexts.{at_file};
 
-use crate::fault::{CliFault, put_at_file, put_both};
+use crate::fault::{CliFault, put_at_file};
 use aout_core::{DeviceFault, Wire};
 use itoa::Buffer;
 use link_out::Linked;
@@ -44,8 +44,8 @@ fn put_linked<W: Write>(path: &str, status: u8, answers: &mut Wire<W>) -> Result
     ensures latched { IsTrue answers.old.has_failed → (answers.new ≡ answers.old) }
     ensures bytes { Puts result (W.contents answers.old.device) (W.contents answers.new.device) (codes "linked " ++ path.now ++ codes " " ++ decimal status) }
 {
-    put_both(b"linked ", path.as_bytes(), answers)?;
-    put_both(b" ", Buffer::new().format(status).as_bytes(), answers)
+    answers.put_both(b"linked ", path.as_bytes())?;
+    answers.put_both(b" ", Buffer::new().format(status).as_bytes())
 }
 
 /// Writes the line of a link whose file is stored.

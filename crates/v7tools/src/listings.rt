@@ -9,7 +9,6 @@ ghost use Rattle.link_out.specs.Reports.{reserved_names};
 ghost use Rattle.v7tools.specs.Answers.{entry_of, externals_text, undefined_text};
 ghost use Rattle.v7tools.specs.Steps.{missing_line};
 
-use crate::fault::put_both;
 use aout_core::{DeviceFault, Name, Segment, Symbol, Wire};
 use link_session::{Session, State};
 use std::io::Write;
@@ -111,7 +110,7 @@ fn put_if_missing<W: Write>(
     ensures bytes { Puts result (W.contents answers.old.device) (W.contents answers.new.device) (missing_line (name.now, state)) }
 {
     if is_missing(name, state) {
-        put_both(name.as_bytes(), b"\n", answers)
+        answers.put_both(name.as_bytes(), b"\n")
     } else {
         answers.put(b"")
     }

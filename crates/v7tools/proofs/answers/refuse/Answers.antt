@@ -1,4 +1,4 @@
-use Rattle.link_out.proofs.PutLemmas.{put_broke_off}
+use Rattle.aout_core.proofs.PutsLemmas.{put_broke_off}
 use Rattle.link_out.specs.Reports.{line}
 use Rattle.v7tools.specs.FaultTexts.{cli_text}
 use Rattle.v7tools.proofs.answers.refuse.Goals as goal

@@ -2,8 +2,8 @@ use Rattle.std.proofs.Common.{◌≡◌, ℕ, List, [], ◌++◌, sym, subst, ap
 use Rattle.std.specs.Prelude.{codes, string_bytes}
 use Rattle.std.specs.Io.KnownBytes.{Appends}
 use Rattle.aout_core.specs.Wires.{AppendsFront, Puts}
+use Rattle.aout_core.proofs.PutsLemmas.{put_broke_off}
 use Rattle.link_out.specs.Reports.{line}
-use Rattle.link_out.proofs.PutLemmas.{put_broke_off}
 use Rattle.v7tools.specs.Answers.{Stepped}
 use Rattle.v7tools.specs.Steps.{WithdrawsIf}
 use Rattle.v7tools.proofs.StepLemmas.{withdrawn_last, withdrawn_none}

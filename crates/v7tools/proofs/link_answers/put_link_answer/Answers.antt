@@ -1,10 +1,9 @@
 use Rattle.std.proofs.Common.{◌++◌, sym, subst}
 use Rattle.std.specs.Prelude.{codes, decimal}
 use Rattle.aout_core.specs.Wires.{Puts}
-use Rattle.aout_core.proofs.PutsLemmas.{puts_behind}
+use Rattle.aout_core.proofs.PutsLemmas.{puts_behind, put_stops}
 use Rattle.link_out.specs.Outcomes.{findings_of}
 use Rattle.link_out.specs.Reports.{line, report_text, status_of}
-use Rattle.link_out.proofs.PutLemmas.{put_stops}
 use Rattle.v7tools.specs.declared.link_answers.Stored.{Stored}
 use Rattle.v7tools.specs.Answers.{link_answer_text}
 use Rattle.v7tools.proofs.link_answers.put_link_answer.Goals as goal

@@ -1,6 +1,5 @@
 use Rattle.std.proofs.Common.{[], ◌∷◌, ◌++◌}
-use Rattle.aout_core.proofs.PutsLemmas.{puts_behind}
-use Rattle.link_out.proofs.PutLemmas.{put_stops}
+use Rattle.aout_core.proofs.PutsLemmas.{puts_behind, put_stops}
 use Rattle.std.specs.Prelude.{codes, decimal}
 use Rattle.v7tools.proofs.link_answers.put_linked_line.Goals as goal
 

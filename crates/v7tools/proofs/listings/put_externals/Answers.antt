@@ -2,9 +2,9 @@ use Rattle.std.proofs.Common.{ℕ, List, subst, arith, rules}
 use Rattle.std.specs.Io.KnownBytes.{Appends}
 use Rattle.aout_core.specs.declared.symbol.Symbol.{Symbol}
 use Rattle.aout_core.specs.Wires.{AppendsFront}
+use Rattle.aout_core.proofs.PutsLemmas.{put_broke_off}
 use Rattle.link_session.specs.declared.state.State.{State}
 use Rattle.link_session.specs.Undo.{image_of}
-use Rattle.link_out.proofs.PutLemmas.{put_broke_off}
 use Rattle.symtools.specs.SymbolLines.{symbol_line}
 use Rattle.v7tools.specs.Answers.{entry_of, externals_text}
 use Rattle.v7tools.proofs.ListingLemmas.{sent_next, stops_next, sent_all}

@@ -1,8 +1,8 @@
 use Rattle.std.proofs.Common.{subst, arith, rules}
 use Rattle.std.specs.Io.KnownBytes.{Appends}
 use Rattle.aout_core.specs.Wires.{AppendsFront}
+use Rattle.aout_core.proofs.PutsLemmas.{put_broke_off}
 use Rattle.link_session.specs.Undo.{image_of}
-use Rattle.link_out.proofs.PutLemmas.{put_broke_off}
 use Rattle.v7tools.specs.Answers.{undefined_text}
 use Rattle.v7tools.specs.Steps.{missing_line}
 use Rattle.v7tools.proofs.ListingLemmas.{sent_next, stops_next, sent_all, missing-text}

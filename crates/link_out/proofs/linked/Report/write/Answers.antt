@@ -1,8 +1,7 @@
 use Rattle.std.proofs.Common.{◌++◌}
 use Rattle.link_out.specs.Reports.{entry_lines, undefined_lines}
 use Rattle.link_out.specs.Outcomes.{multiple_lines}
-use Rattle.aout_core.proofs.PutsLemmas.{puts_behind}
-use Rattle.link_out.proofs.PutLemmas.{put_stops}
+use Rattle.aout_core.proofs.PutsLemmas.{puts_behind, put_stops}
 use Rattle.link_out.proofs.linked.Report.write.Goals as goal
 
 pub returns-in_err-write_multiples-clause-bytes : goal.returns-in_err-write_multiples-clause-bytes

@@ -9,4 +9,4 @@ pub returns-clause-bytes : goal.returns-clause-bytes
 returns-clause-bytes g c =
     let text = codes ": Entry point not in text\n" in
     let is_line = ap (λ (name : List ℕ). name ++ text) c.as_bytes.ensures.value ∙ entry_line c.in-Some.name ∙ ap entry_lines (sym c.in-Some.is) in
-    subst (Puts c.put_both.result (g.W.Write.contents c.args.out.now.device) (g.W.Write.contents c.put_both.new.out.device)) is_line c.put_both.ensures.bytes
+    subst (Puts c.put_both.result (g.W.Write.contents c.args.out.now.device) (g.W.Write.contents c.put_both.new.self.device)) is_line c.put_both.ensures.bytes

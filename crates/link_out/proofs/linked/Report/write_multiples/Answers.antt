@@ -2,8 +2,7 @@ use Rattle.std.proofs.Common.{ℕ, List, ◌++◌, subst}
 use Rattle.std.specs.Prelude.{codes}
 use Rattle.std.specs.List.{flat_map}
 use Rattle.aout_core.specs.Wires.{Puts}
-use Rattle.aout_core.proofs.PutsLemmas.{puts_behind}
-use Rattle.link_out.proofs.PutLemmas.{put_stops}
+use Rattle.aout_core.proofs.PutsLemmas.{puts_behind, put_stops}
 use Rattle.link_out.proofs.ReportLemmas.{both_multiple}
 use Rattle.link_out.proofs.linked.Report.write_multiples.Goals as goal
 

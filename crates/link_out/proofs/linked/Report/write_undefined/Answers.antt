@@ -3,8 +3,7 @@ use Rattle.std.specs.Prelude.{codes}
 use Rattle.std.specs.List.{flat_map}
 use Rattle.aout_core.specs.Wires.{Puts}
 use Rattle.link_out.specs.Reports.{undefined_lines}
-use Rattle.aout_core.proofs.PutsLemmas.{puts_behind}
-use Rattle.link_out.proofs.PutLemmas.{put_stops}
+use Rattle.aout_core.proofs.PutsLemmas.{puts_behind, put_stops}
 use Rattle.link_out.proofs.ReportLemmas.{undefined_line}
 use Rattle.link_out.proofs.linked.Report.write_undefined.Goals as goal
 

@@ -1,7 +1,6 @@
 use Rattle.std.proofs.Common.{[], ◌∷◌, ◌++◌}
 use Rattle.std.specs.Prelude.{codes}
-use Rattle.aout_core.proofs.PutsLemmas.{puts_behind}
-use Rattle.link_out.proofs.PutLemmas.{put_stops}
+use Rattle.aout_core.proofs.PutsLemmas.{puts_behind, put_stops}
 use Rattle.v7tools.specs.FaultTexts.{cli_text}
 use Rattle.v7tools.proofs.fault.CliFault.write.Goals as goal
 
