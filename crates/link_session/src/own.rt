@@ -43,7 +43,7 @@ pub(crate) fn next_shifts(image: &Merged, object: &Object) -> Shifts
     let text_start = (2 * image.text_cells.len()) as u16;
     let data_start = (2 * image.data_cells.len()) as u16;
     Shifts {
-        text: text_start.wrapping_sub(0),
+        text: text_start,
         data: data_start.wrapping_sub(header.text_size),
         bss: image.bss_total.wrapping_sub(own_bss),
     }
