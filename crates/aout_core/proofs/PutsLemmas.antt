@@ -1,16 +1,12 @@
 -- Writes one after another, and what a write that broke off leaves.
-use Rattle.std.proofs.Common.{◌≡◌, ℕ, ◌+◌, ◌<◌, List, [], ◌∷◌, ◌++◌, length, take, drop, slice_index_or, Option, refl, sym, ◌∙◌, ap, subst, append_assoc, append-nil, take-append-drop}
+use Rattle.std.proofs.Common.{◌≡◌, ℕ, ◌+◌, ◌<◌, List, [], ◌∷◌, ◌++◌, length, take, drop, slice_index_or, Option, sym, ◌∙◌, ap, subst, append_assoc, append-nil, take-append-drop}
 use Rattle.std.specs.Prelude.{Result, Ok, Err, IsErr}
 use Rattle.std.specs.List.{flat_map}
 use Rattle.std.specs.Io.KnownBytes.{Appends}
 use Rattle.std.proofs.lemmas.Grind.{flat_map-append}
 use Rattle.std.proofs.lemmas.List.{take_more}
-use Rattle.std.proofs.KnownBytes.{Appends-nil, Appends-trans}
+use Rattle.std.proofs.KnownBytes.{Appends-trans}
 use Rattle.aout_core.specs.Wires.{AppendsFront, Puts}
-
--- nothing went out, which is a front of any text
-pub front_none : (a : Option (List ℕ)) (bytes : List ℕ) → AppendsFront a a bytes
-front_none a bytes = ([], bytes, refl, Appends-nil a)
 
 -- the first text went out, and of the second a front
 pub front_behind : (a b c : Option (List ℕ)) (first second : List ℕ) → Appends a b first → AppendsFront b c second → AppendsFront a c (first ++ second)
@@ -21,10 +17,6 @@ front_behind a b c first second sent (front, rest, split, appended) =
 pub front_before : (a b : Option (List ℕ)) (first second : List ℕ) → AppendsFront a b first → AppendsFront a b (first ++ second)
 front_before a b first second (front, rest, split, appended) =
     (front, rest ++ second, ap (λ l. l ++ second) split ∙ append_assoc front rest second, appended)
-
--- all of a text is a front of it
-pub front_all : (a b : Option (List ℕ)) (bytes : List ℕ) → Appends a b bytes → AppendsFront a b bytes
-front_all a b bytes appended = (bytes, [], sym (append-nil bytes), appended)
 
 -- the first text went out, and the answer is that of the second
 pub puts_behind : {T E : Type 0} (result : Result T E) (a b c : Option (List ℕ)) (first second : List ℕ) → Appends a b first → Puts result b c second → Puts result a c (first ++ second)

@@ -87,9 +87,8 @@ impl Parts {
         ensures all { Fits (contents_of self.now) → IsTrue result }
     {
         let header = &self.header;
-        let relocated = header.flag == 0;
-        let text_reloc = if relocated { header.text_size } else { 0 };
-        let data_reloc = if relocated { header.data_size } else { 0 };
+        let text_reloc = header.with_relocation(header.text_size);
+        let data_reloc = header.with_relocation(header.data_size);
         words_fit(self.text_words.len(), header.text_size)
             && words_fit(self.data_words.len(), header.data_size)
             && words_fit(self.text_reloc.len(), text_reloc)

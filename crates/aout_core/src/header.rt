@@ -1,5 +1,6 @@
 //! The header of a file.
-ghost use Rattle.std.specs.Prelude.{◌≡◌};
+ghost use Rattle.std.specs.Prelude.{◌≡◌, ◌≤◌};
+ghost use Rattle.aout_core.specs.Contents.{with_relocation};
 ghost use Rattle.aout_core.specs.Spelling.{header_spelling};
 ghost use Rattle.aout_core.specs.Front.{header_in};
 
@@ -41,6 +42,14 @@ impl Header {
             unused: u16::from_le_bytes([bytes[12], bytes[13]]),
             flag: u16::from_le_bytes([bytes[14], bytes[15]]),
         }
+    }
+
+    /// How many bytes of relocation there are for so many bytes of a segment.
+    pub(crate) fn with_relocation(&self, size: u16) -> u16
+        ensures value { result ≡ with_relocation self.now size }
+        ensures bound { result ≤ size }
+    {
+        if self.flag == 0 { size } else { 0 }
     }
 
     /// The 16 bytes that spell the header.

@@ -1,6 +1,6 @@
 //! Reading a file.
 ghost use Rattle.std.specs.Prelude.{◌≡◌, ◌↔◌, ◌+◌, ◌≤◌, ◌++◌, ℕ, List, false, length, IfOk, IfSome, IsTrue};
-ghost use Rattle.aout_core.specs.Contents.{has_whole_sizes, with_relocation};
+ghost use Rattle.aout_core.specs.Contents.{has_whole_sizes};
 ghost use Rattle.aout_core.specs.Parts.{contents_of};
 ghost use Rattle.aout_core.specs.Spelling.{file_length};
 ghost use Rattle.aout_core.specs.Front.{contents_in};
@@ -13,24 +13,18 @@ use crate::wire::Wire;
 use std::alloc::{AllocError, Global};
 use std::io::Read;
 
-/// How many bytes of relocation there are for so many bytes of a segment.
-fn with_relocation(header: &Header, size: u16) -> usize
-    ensures value { result ≡ with_relocation header.now size }
-    ensures bound { result ≤ size }
-{
-    if header.flag == 0 { size as usize } else { 0 }
-}
-
 /// Empty parts with room for what the header announces.
 fn parts_with_room(alloc: Global, header: Header) -> Result<Parts, AllocError>
     ensures { IfOk result (HasRoom header) }
 {
+    let text_reloc = header.with_relocation(header.text_size);
+    let data_reloc = header.with_relocation(header.data_size);
     Ok(Parts {
         header,
         text_words: Vec::with_capacity(alloc, header.text_size as usize / 2)?,
         data_words: Vec::with_capacity(alloc, header.data_size as usize / 2)?,
-        text_reloc: Vec::with_capacity(alloc, with_relocation(&header, header.text_size) / 2)?,
-        data_reloc: Vec::with_capacity(alloc, with_relocation(&header, header.data_size) / 2)?,
+        text_reloc: Vec::with_capacity(alloc, text_reloc as usize / 2)?,
+        data_reloc: Vec::with_capacity(alloc, data_reloc as usize / 2)?,
         symbols: Vec::with_capacity(alloc, header.symbol_size as usize / 12)?,
     })
 }
@@ -40,8 +34,9 @@ fn body_with_room(alloc: Global, header: &Header) -> Result<Vec<u8>, AllocError>
     ensures { IfOk result (λ body. 16 + length body.items ≡ file_length header.now) }
 {
     let segments = header.text_size as usize + header.data_size as usize;
-    let relocation = if header.flag == 0 { segments } else { 0 };
-    vec![in alloc; 0; segments + relocation + header.symbol_size as usize]
+    let text_reloc = header.with_relocation(header.text_size) as usize;
+    let data_reloc = header.with_relocation(header.data_size) as usize;
+    vec![in alloc; 0; segments + text_reloc + data_reloc + header.symbol_size as usize]
 }
 
 /// The parts that the bytes behind the header spell.
@@ -55,8 +50,8 @@ fn with_body(mut parts: Parts, body: &[u8]) -> Parts
     let header = parts.header;
     let (text, rest) = body.split_at(header.text_size as usize);
     let (data, rest) = rest.split_at(header.data_size as usize);
-    let (text_reloc, rest) = rest.split_at(with_relocation(&header, header.text_size));
-    let (data_reloc, table) = rest.split_at(with_relocation(&header, header.data_size));
+    let (text_reloc, rest) = rest.split_at(header.with_relocation(header.text_size) as usize);
+    let (data_reloc, table) = rest.split_at(header.with_relocation(header.data_size) as usize);
     take_items(text, &mut parts.text_words);
     take_items(data, &mut parts.data_words);
     take_items(text_reloc, &mut parts.text_reloc);

@@ -1,5 +1,5 @@
 //! Small objects and devices over memory, for tests.
-ghost use Rattle.std.specs.Prelude.{◌≡◌, ◌<◌};
+ghost use Rattle.std.specs.Prelude.{◌≡◌, ◌<◌, Some};
 
 use std::io;
 use std::io::{ErrorKind, Read, Write};
@@ -146,6 +146,7 @@ impl<'a> TestReader<'a> {
         failure: ErrorKind,
     ) -> TestReader<'a>
         requires { 0 < most }
+        ensures { ⟦<TestReader<'a> as Read>⟧.remaining result ≡ Some bytes.now }
     {
         TestReader {
             left: bytes,
@@ -157,12 +158,16 @@ impl<'a> TestReader<'a> {
     }
 
     /// A reader of these bytes that never fails.
-    pub fn whole(bytes: &'a [u8]) -> TestReader<'a> {
+    pub fn whole(bytes: &'a [u8]) -> TestReader<'a>
+        ensures { ⟦<TestReader<'a> as Read>⟧.remaining result ≡ Some bytes.now }
+    {
         TestReader::new(bytes, usize::MAX, usize::MAX, ErrorKind::Other)
     }
 
     /// The bytes that were not given yet.
-    pub fn left(&self) -> &'a [u8] {
+    pub fn left(&self) -> &'a [u8]
+        ensures { ⟦<TestReader<'a> as Read>⟧.remaining self.now ≡ Some result.now }
+    {
         self.left
     }
 
@@ -200,7 +205,7 @@ pub enum Failing {
 }
 
 /// A writer over memory: it takes at most `most` bytes a call, and once `before_failure` bytes were taken each call
-/// answers an error or takes 0 bytes.
+/// answers an error or takes 0 bytes. A flush then answers the error too.
 #[derive(Drop)]
 pub struct TestWriter {
     taken: Vec<u8>,
@@ -208,32 +213,42 @@ pub struct TestWriter {
     before_failure: usize,
     failure: Failing,
     calls: u32,
+    flushes: u32,
 }
 
 impl TestWriter {
     /// A writer behind the bytes in `taken`.
-    pub fn new(taken: Vec<u8>, most: usize, before_failure: usize, failure: Failing) -> TestWriter {
+    pub fn new(taken: Vec<u8>, most: usize, before_failure: usize, failure: Failing) -> TestWriter
+        ensures { ⟦<TestWriter as Write>⟧.contents result ≡ Some taken.items }
+    {
         TestWriter {
             taken,
             most,
             before_failure,
             failure,
             calls: 0,
+            flushes: 0,
         }
     }
 
     /// A writer behind the bytes in `taken` that fails for want of memory alone.
-    pub fn whole(taken: Vec<u8>) -> TestWriter {
+    pub fn whole(taken: Vec<u8>) -> TestWriter
+        ensures { ⟦<TestWriter as Write>⟧.contents result ≡ Some taken.items }
+    {
         TestWriter::new(taken, usize::MAX, usize::MAX, Failing::TakesNothing)
     }
 
     /// The bytes that were taken.
-    pub fn taken(&self) -> &[u8] {
+    pub fn taken(&self) -> &[u8]
+        ensures { ⟦<TestWriter as Write>⟧.contents self.now ≡ Some result.now }
+    {
         &self.taken
     }
 
     /// The bytes that were taken, owned.
-    pub fn into_taken(self) -> Vec<u8> {
+    pub fn into_taken(self) -> Vec<u8>
+        ensures { ⟦<TestWriter as Write>⟧.contents self ≡ Some result.items }
+    {
         let TestWriter { taken, .. } = self;
         taken
     }
@@ -241,6 +256,11 @@ impl TestWriter {
     /// How often it was written to; the count stays at its greatest value once it is reached.
     pub fn calls(&self) -> u32 {
         self.calls
+    }
+
+    /// How often it was flushed; the count stays at its greatest value once it is reached.
+    pub fn flushes(&self) -> u32 {
+        self.flushes
     }
 }
 
@@ -264,6 +284,10 @@ impl Write for TestWriter {
     }
 
     fn flush(&mut self) -> io::Result<()> {
-        Ok(())
+        self.flushes = self.flushes.saturating_add(1);
+        match self.failure {
+            Failing::Fails(kind) if self.before_failure == 0 => Err(io::Error::from(kind)),
+            _ => Ok(()),
+        }
     }
 }
