@@ -13,18 +13,20 @@ build/v7: $(SOURCES)
 	mkdir -p build
 	cp crates/v7/out/v7 build/v7
 
-# links two small objects, runs a session and compares its answers, and shows the 24 bytes of the two objects
+# runs a session and compares its answers, links two small objects and compares the program, and shows its 24 bytes
 demo: build/v7
 	cd examples && ../build/v7 session <session.txt >../build/answers.txt; test $$? -eq 1
 	cmp examples/answers.txt build/answers.txt
 	cd examples && ../build/v7 ld -s -o ../build/program a.o b.o
+	cmp examples/ab.out build/program
 	od -An -v -tx1 build/program
 
 # the gate: every proof from nothing, the edits that must fail, the tests, the program's stored run
 test:
 	rt ci
 
-# each test named memory_* or no_memory_*, with the first, the second, .. request for memory refused
+# the tests with memory_refused or no_memory_needed in their names, with the first, the second, .. request for memory
+# refused
 memory:
 	sh tests/memory.sh
 
