@@ -12,6 +12,7 @@ use std::marker::Model;
 use thiserror::Error;
 
 /// The parts of a file, in their order; the relocation of text and of data has one word for each of their words.
+/// (a.out(5))
 #[derive(Debug, Drop)]
 pub struct Parts {
     pub header: Header,
@@ -22,7 +23,7 @@ pub struct Parts {
     pub symbols: Vec<Symbol>,
 }
 
-/// A file: parts that fit their header. Contracts see it as its header and lists.
+/// A file: parts that fit their header. Contracts see it as its header and lists. (a.out(5))
 #[derive(Debug, Drop)]
 pub struct File {
     parts: Parts,
@@ -71,7 +72,8 @@ impl Parts {
     ghost use Rattle.aout_core.specs.Contents.{Fits, with_relocation};
 
     /// Whether the parts make a file: the magic is one of the four, the sizes are whole, and each list is as long as
-    /// the header says; without relocation the lists of relocation words are empty.
+    /// the header says; without relocation the lists of relocation words are empty. (a.out(5); whole sizes: own
+    /// choice)
     pub fn fits(&self) -> bool
         ensures { IsTrue result ↔ Fits (contents_of self.now) }
     {
@@ -104,7 +106,7 @@ impl File {
     ghost use Rattle.aout_core.specs.Parts.{contents_of};
     ghost use Rattle.aout_core.specs.Contents.{Fits};
 
-    /// The file of these parts. `Parts::fits` tells whether they make one.
+    /// The file of these parts. `Parts::fits` tells whether they make one. (a.out(5))
     pub fn from_parts(parts: Parts) -> File
         requires { Fits (contents_of parts) }
         ensures { result ≡ contents_of parts }
@@ -112,7 +114,7 @@ impl File {
         File { parts }
     }
 
-    /// The header. It is what says that the lists are as long as they are.
+    /// The header. It is what says that the lists are as long as they are. (a.out(5))
     pub fn header(&self) -> &Header
         ensures value { result.now ≡ self.now.header }
         ensures fits { Fits self.now }
@@ -120,7 +122,7 @@ impl File {
         &self.parts.header
     }
 
-    /// The words of the text.
+    /// The words of the text. (a.out(5))
     pub fn text_words(&self) -> &[u16]
         ensures value { result.now ≡ self.now.text_words }
         ensures short { 2 * length result.now < 2 ^ 16 }
@@ -129,7 +131,7 @@ impl File {
         &self.parts.text_words
     }
 
-    /// The words of the data.
+    /// The words of the data. (a.out(5))
     pub fn data_words(&self) -> &[u16]
         ensures value { result.now ≡ self.now.data_words }
         ensures short { 2 * length result.now < 2 ^ 16 }
@@ -138,7 +140,7 @@ impl File {
         &self.parts.data_words
     }
 
-    /// The relocation words of the text; none where the header's flag is on.
+    /// The relocation words of the text; none where the header's flag is on. (a.out(5))
     pub fn text_reloc(&self) -> &[Reloc]
         ensures value { result.now ≡ self.now.text_reloc }
         ensures short { 2 * length result.now < 2 ^ 16 }
@@ -147,7 +149,7 @@ impl File {
         &self.parts.text_reloc
     }
 
-    /// The relocation words of the data; none where the header's flag is on.
+    /// The relocation words of the data; none where the header's flag is on. (a.out(5))
     pub fn data_reloc(&self) -> &[Reloc]
         ensures value { result.now ≡ self.now.data_reloc }
         ensures short { 2 * length result.now < 2 ^ 16 }
@@ -156,7 +158,7 @@ impl File {
         &self.parts.data_reloc
     }
 
-    /// The symbol table, in its order.
+    /// The symbol table, in its order. (a.out(5))
     pub fn symbols(&self) -> &[Symbol]
         ensures value { result.now ≡ self.now.symbols }
         ensures short { 12 * length result.now < 2 ^ 16 }
@@ -165,7 +167,7 @@ impl File {
         &self.parts.symbols
     }
 
-    /// The parts back.
+    /// The parts back. (a.out(5))
     pub fn into_parts(self) -> Parts
         ensures value { contents_of result ≡ self }
         ensures fits { Fits (contents_of result) }
@@ -175,7 +177,7 @@ impl File {
     }
 }
 
-/// Why no file was read.
+/// Why no file was read. (own choice)
 #[derive(Clone, Copy, Debug, PartialEq, Eq, Error)]
 pub enum ReadFault {
     /// 1: fewer than 16 bytes.

@@ -28,7 +28,7 @@ pub struct Header {
 }
 
 impl Header {
-    /// The header that 16 bytes spell. Any words are allowed here.
+    /// The header that 16 bytes spell. Any words are allowed here. (a.out(5))
     pub fn read(bytes: &[u8; 16]) -> Header
         ensures { result ≡ header_in bytes.now }
     {
@@ -52,7 +52,7 @@ impl Header {
         if self.flag == 0 { size } else { 0 }
     }
 
-    /// The 16 bytes that spell the header.
+    /// The 16 bytes that spell the header. (a.out(5))
     pub fn to_bytes(&self) -> [u8; 16]
         ensures { result ≡ header_spelling self.now }
     {

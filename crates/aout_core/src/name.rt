@@ -54,7 +54,7 @@ fn end_of(bytes: &[u8]) -> usize
 }
 
 impl Name {
-    /// The name in a text: the bytes before the first NUL, at most 8.
+    /// The name in a text: the bytes before the first NUL, at most 8. (a.out(5); NULs: own choice)
     pub fn from_bytes(text: &[u8]) -> Name
         ensures { result ≡ take 8 (before_nul text.now) }
     {
@@ -64,7 +64,7 @@ impl Name {
         Name { padded_bytes }
     }
 
-    /// The bytes of the name, without padding.
+    /// The bytes of the name, without padding. (a.out(5))
     #[tactic(auto, using(crate::proofs::NameLemmas::by_place))]
     pub fn as_bytes(&self) -> &[u8]
         ensures value { result.now ≡ self.now }

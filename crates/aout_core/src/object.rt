@@ -9,7 +9,8 @@ use std::marker::Model;
 use thiserror::Error;
 
 /// A well-formed file: magic 0407, with relocation, and each relocation word has a kind and, where it is that of an
-/// external, the number of an entry that is external and of type 0. Contracts see it as the file.
+/// external, the number of an entry that is external and of type 0. Contracts see it as the file. (a.out(5); that
+/// such a file alone is an object: own choice)
 #[derive(Debug, Drop)]
 pub struct Object {
     checked: File,
@@ -27,7 +28,7 @@ impl Model for Object {
     ghost invariant = { λ a. IsWellFormed a.checked };
 }
 
-/// Why a file is no object. An index counts the words of text and then of data, from 0.
+/// Why a file is no object. An index counts the words of text and then of data, from 0. (own choice)
 #[derive(Clone, Copy, Debug, PartialEq, Eq, Error)]
 pub enum ObjectFault {
     /// 1: the magic is not 0407.
@@ -82,8 +83,12 @@ fn first_bad_word(symbols: &[Symbol], start: u16, relocs: &[Reloc]) -> Option<Ob
 }
 
 impl Object {
-    /// The file as an object, or the file again and why it is none: the first that applies of `NotAnObject`,
-    /// `NoRelocation`, and the fault of the first bad word, text before data.
+    /// The file as an object. (a.out(5); the refusals: own choice)
+    ///
+    /// Errors, the first that applies, and the file is handed back: `NotAnObject`, 1, where the magic is not 0407;
+    /// `NoRelocation`, 2, where the flag is not 0; and for the first bad word, text before data, `BadRelocation`, 3,
+    /// where its kind is 012, 014 or 016, or `BadSymbolNumber`, 4, where its kind is 010 and its number not that of
+    /// an external entry of type 0.
     pub fn from_file(file: File) -> Result<Object, (File, ObjectFault)>
         ensures object { IfOk result (λ object. object ≡ file) }
         ensures well { IsOk result ↔ IsWellFormed file }
@@ -96,7 +101,7 @@ impl Object {
         }
     }
 
-    /// The file.
+    /// The file. (a.out(5))
     pub fn file(&self) -> &File
         ensures value { result.now ≡ self.now }
         ensures well { IsWellFormed self.now }
@@ -104,7 +109,7 @@ impl Object {
         &self.checked
     }
 
-    /// The file back.
+    /// The file back. (a.out(5))
     pub fn into_file(self) -> File
         ensures value { result ≡ self }
         ensures well { IsWellFormed result }

@@ -95,10 +95,12 @@ fn read_body<R: Read>(alloc: Global, header: Header, wire: &mut Wire<R>) -> Resu
     Ok(File::from_parts(with_body(parts, &body)))
 }
 
-/// Reads one file, and leaves what stands behind its symbols. Refusals come in this order: `ShortHeader` at an early
-/// end of the 16 bytes, `BadMagic`, `OddSize`, `Memory` for want of room, `Truncated` at an early end of the rest; and
-/// `Device` wherever the device failed, in this call or before it. A refused header leaves all behind its 16 bytes
-/// unread. (a.out(5); the refusals: own choice)
+/// Reads one file, and leaves what stands behind its symbols. (a.out(5); the refusals: own choice)
+///
+/// Errors, the first that applies: `ShortHeader`, 1, at an early end of the 16 bytes; `BadMagic`, 2, where no file
+/// begins so; `OddSize`, 3, where a size is not whole; `Memory`, 4, where there is no room for what the header
+/// announces; `Truncated`, 5, at an early end of the rest; and `Device`, 6, wherever the device failed, in this call
+/// or before it. A refused header leaves all behind its 16 bytes unread.
 pub fn read_file<R: Read>(alloc: Global, wire: &mut Wire<R>) -> Result<File, ReadFault>
     ensures device { (result ≡ Err ReadFault.Device) ↔ IsTrue wire.new.has_failed }
     ensures latched { IsTrue wire.old.has_failed → (wire.new ≡ wire.old) }

@@ -6,7 +6,7 @@ ghost use Rattle.aout_core.specs.WellFormed.{kind_of, is_pc_relative, symbol_num
 #[derive(Clone, Copy, Debug, PartialEq, Eq)]
 pub struct Reloc(pub u16);
 
-/// What a word refers to, by bits 3 to 1 of its relocation word.
+/// What a word refers to, by bits 3 to 1 of its relocation word. (a.out(5))
 #[derive(Clone, Copy, Debug, PartialEq, Eq)]
 pub enum Kind {
     Absolute,
@@ -18,7 +18,7 @@ pub enum Kind {
 
 impl Reloc {
     /// What the word refers to: 00 absolute, 02 text, 04 data, 06 bss, 010 an undefined external; `None` for 012, 014
-    /// and 016, which no kind has.
+    /// and 016, which no kind has. (a.out(5))
     pub fn kind(&self) -> Option<Kind>
         ensures { result ≡ kind_of self.now }
     {
@@ -32,14 +32,14 @@ impl Reloc {
         }
     }
 
-    /// Whether the word is relative to the pc: bit 0.
+    /// Whether the word is relative to the pc: bit 0. (a.out(5))
     pub fn is_pc(&self) -> bool
         ensures { result ≡ is_pc_relative self.now }
     {
         self.0 & 1 == 1
     }
 
-    /// The number of the symbol, bits 15 to 4. It counts for an external alone.
+    /// The number of the symbol, bits 15 to 4. It counts for an external alone. (a.out(5))
     pub fn number(&self) -> u16
         ensures { result ≡ symbol_number self.now }
     {

@@ -1,4 +1,4 @@
-//! Small objects and devices over memory, for tests.
+//! Small objects and devices over memory, for tests. (the format is that of a.out(5), the objects are an own choice)
 ghost use Rattle.std.specs.Prelude.{◌≡◌, ◌<◌, Some};
 
 use std::io;
@@ -126,7 +126,7 @@ pub const Y2_O: [u8; 40] = [
 ];
 
 /// A reader over bytes in memory: it gives at most `most` bytes a call, and once `before_failure` bytes were given each
-/// call answers an error of the kind `failure`.
+/// call answers an error of the kind `failure`. (own choice)
 #[derive(Drop)]
 pub struct TestReader<'a> {
     left: &'a [u8],
@@ -197,7 +197,7 @@ impl Read for TestReader<'_> {
     }
 }
 
-/// What a writer does once its place is reached.
+/// What a writer does once its place is reached. (own choice)
 #[derive(Clone, Copy, Debug, PartialEq, Eq)]
 pub enum Failing {
     Fails(ErrorKind),
@@ -205,7 +205,7 @@ pub enum Failing {
 }
 
 /// A writer over memory: it takes at most `most` bytes a call, and once `before_failure` bytes were taken each call
-/// answers an error or takes 0 bytes. A flush then answers the error too.
+/// answers an error or takes 0 bytes. A flush then answers the error too. (own choice)
 #[derive(Drop)]
 pub struct TestWriter {
     taken: Vec<u8>,

@@ -18,7 +18,7 @@ pub struct Symbol {
     pub value: u16,
 }
 
-/// What the type word of an entry speaks of.
+/// What the type word of an entry speaks of. (a.out(5))
 #[derive(Clone, Copy, Debug, PartialEq, Eq)]
 pub enum Segment {
     Undefined,
@@ -30,14 +30,14 @@ pub enum Segment {
 }
 
 impl Symbol {
-    /// Whether other files see the name: bit 040 of the type word.
+    /// Whether other files see the name: bit 040 of the type word. (a.out(5))
     pub fn is_external(&self) -> bool
         ensures { result ≡ is_external self.now }
     {
         self.type_bits / 0o40 % 2 == 1
     }
 
-    /// The segment by the type word masked with 037: 0 to 4 in the order of `Segment`, any other `Other`.
+    /// The segment by the type word masked with 037: 0 to 4 in the order of `Segment`, any other `Other`. (a.out(5))
     pub fn segment(&self) -> Segment
         ensures { result ≡ segment_of self.now }
     {

@@ -8,7 +8,7 @@ use std::io::{Read, Write};
 use std::marker::Model;
 use thiserror::Error;
 
-/// The device of a wire failed, in this call or before it.
+/// The device of a wire failed, in this call or before it. (own choice)
 #[derive(Clone, Copy, Debug, PartialEq, Eq, Error)]
 #[error("device fault")]
 pub struct DeviceFault;
@@ -33,7 +33,7 @@ impl<D> Model for Wire<D> {
 }
 
 impl<D> Wire<D> {
-    /// The device on a wire whose latch is off.
+    /// The device on a wire whose latch is off. (own choice)
     pub fn new(device: D) -> Wire<D>
         ensures device { result.device ≡ device }
         ensures latch { result.has_failed ≡ false }
@@ -44,14 +44,14 @@ impl<D> Wire<D> {
         }
     }
 
-    /// Whether the latch is on. This is no use of the device.
+    /// Whether the latch is on. This is no use of the device. (own choice)
     pub fn failed(&self) -> bool
         ensures { result ≡ self.now.has_failed }
     {
         self.has_failed
     }
 
-    /// The device back, whatever the latch says.
+    /// The device back, whatever the latch says. (own choice)
     pub fn into_inner(self) -> D
         ensures { result ≡ self.device }
     {
@@ -65,7 +65,7 @@ impl<D> Wire<D> {
 
 impl<R: Read> Wire<R> {
     /// Reads some bytes to the front of `buf`, by one call of the device; 0 are read only at its end, or where `buf`
-    /// has no room.
+    /// has no room. (own choice)
     pub fn read(&mut self, buf: &mut [u8]) -> Result<usize, DeviceFault>
         ensures fault { IsErr result ↔ IsTrue self.new.has_failed }
         ensures latched { IsTrue self.old.has_failed → (self.new ≡ self.old) }
@@ -84,7 +84,7 @@ impl<R: Read> Wire<R> {
         }
     }
 
-    /// Reads until `buf` is full or the device is at its end, and answers how many bytes were read.
+    /// Reads until `buf` is full or the device is at its end, and answers how many bytes were read. (own choice)
     pub fn fill(&mut self, buf: &mut [u8]) -> Result<usize, DeviceFault>
         ensures fault { IsErr result ↔ IsTrue self.new.has_failed }
         ensures latched { IsTrue self.old.has_failed → (self.new ≡ self.old) }
@@ -108,7 +108,7 @@ impl<R: Read> Wire<R> {
 }
 
 impl<W: Write> Wire<W> {
-    /// Writes all the bytes, or on a fault a front of them. Writing no bytes is a use of the wire too.
+    /// Writes all the bytes, or on a fault a front of them. Writing no bytes is a use of the wire too. (own choice)
     pub fn put(&mut self, bytes: &[u8]) -> Result<(), DeviceFault>
         ensures fault { IsErr result ↔ IsTrue self.new.has_failed }
         ensures latched { IsTrue self.old.has_failed → (self.new ≡ self.old) }
@@ -130,7 +130,7 @@ impl<W: Write> Wire<W> {
         Ok(())
     }
 
-    /// Writes one text and then another, or on a fault a front of both.
+    /// Writes one text and then another, or on a fault a front of both. (own choice)
     pub fn put_both(&mut self, first: &[u8], second: &[u8]) -> Result<(), DeviceFault>
         ensures fault { IsErr result ↔ IsTrue self.new.has_failed }
         ensures latched { IsTrue self.old.has_failed → (self.new ≡ self.old) }
@@ -140,7 +140,7 @@ impl<W: Write> Wire<W> {
         self.put(second)
     }
 
-    /// Has the device pass on what it may hold back.
+    /// Has the device pass on what it may hold back. (own choice)
     pub fn flush(&mut self) -> Result<(), DeviceFault>
         ensures fault { IsErr result ↔ IsTrue self.new.has_failed }
         ensures latched { IsTrue self.old.has_failed → (self.new ≡ self.old) }

@@ -9,7 +9,7 @@ use link_session::{AddFault, Memory};
 use std::alloc::AllocError;
 use thiserror::Error;
 
-/// A change of what is kept.
+/// A change of what is kept. (own choice)
 #[derive(Debug, Drop)]
 pub enum Edit {
     /// This object, known by this label, is put last.
@@ -18,7 +18,7 @@ pub enum Edit {
     Withdraw,
 }
 
-/// The answer to an edit.
+/// The answer to an edit. (own choice)
 #[derive(Debug, Drop)]
 pub enum Reply {
     /// The object was put last.
@@ -31,7 +31,7 @@ pub enum Reply {
     Nothing,
 }
 
-/// Why a run gave no link.
+/// Why a run gave no link. (own choice)
 #[derive(Clone, Copy, Debug, PartialEq, Eq, Error)]
 pub enum RunFault {
     /// 1: no room, in any step.

@@ -11,7 +11,7 @@ use std::alloc::AllocError;
 use std::io::Write;
 use thiserror::Error;
 
-/// A file and what is reported of it.
+/// A file and what is reported of it. (ld(1))
 #[derive(Debug, Drop)]
 pub struct Linked {
     /// The file, to be written whole.
@@ -33,7 +33,7 @@ pub struct Report {
     pub undefined: Vec<Name>,
 }
 
-/// Why there is no file. They are tested in this order.
+/// Why there is no file. They are tested in this order. (own choice)
 #[derive(Clone, Copy, Debug, PartialEq, Eq, Error)]
 pub enum LinkFault {
     /// 1: the end of bss would pass 65,535.
@@ -74,7 +74,7 @@ fn put_names<W: Write>(names: &[Name], text: &[u8], out: &mut Wire<W>) -> Result
 }
 
 impl Report {
-    /// The status that a program ends with: 0 where there is nothing to report, else 1.
+    /// The status that a program ends with: 0 where there is nothing to report, else 1. (own choice)
     pub fn status(&self) -> u8
         ensures { result ≡ status_of (findings_of self.now) }
     {
@@ -93,7 +93,7 @@ impl Report {
 
     /// Writes the report: a line `NAME: Multiply defined` for each of `multiples` and `reserved`, the line
     /// `NAME: Entry point not in text`, and the line `Undefined:` with the undefined names below it, one a line.
-    /// On a fault a front of this went out.
+    /// On a fault a front of this went out. (own choice)
     pub fn write<W: Write>(&self, out: &mut Wire<W>) -> Result<(), DeviceFault>
         ensures fault { IsErr result ↔ IsTrue out.new.has_failed }
         ensures latched { IsTrue out.old.has_failed → (out.new ≡ out.old) }

@@ -132,9 +132,12 @@ fn locals_passed(session: &Session, options: &Options, bases: &Bases) -> Result<
     Ok(locals)
 }
 
-/// The link of the objects that a session keeps: the file, and what is reported of it. The first fault of `LinkFault`
-/// that applies refuses it. With relocation the file is an object, which can be linked again. The session is only
-/// read. (ld(1); the limits are those of a.out(5))
+/// The link of the objects that a session keeps: the file, and what is reported of it. With relocation the file is an
+/// object, which can be linked again. The session is only read. (ld(1) and a.out(5); the limits are an own choice)
+///
+/// Errors, the first that applies: `DoesNotFit`, 1, where the end of bss would pass 65,535; `TooManySymbols`, 2,
+/// where more than 5,461 entries would be written; `SymbolNumber`, 3, where a relocation word would need a number
+/// over 4,095; `Memory`, 4, where there is no room for file and report.
 pub fn finish(alloc: Global, session: &Session, options: &Options) -> Result<Linked, LinkFault>
     ensures value { IsLinkOf result (link session.now.forced (objects session.now.entries) options.now) }
     ensures object { options.now.relocatable ≡ true → IfOk result (λ linked. IsWellFormed linked.file) }

@@ -30,7 +30,7 @@ pub enum Keep {
     Nothing,
 }
 
-/// The options of a link, none of which excludes another. Contracts see them as the choices that they are.
+/// The options of a link, none of which excludes another. Contracts see them as the choices that they are. (ld(1))
 #[derive(Clone, Copy, Debug, PartialEq, Eq)]
 pub struct Options {
     layout: Layout,
@@ -56,7 +56,7 @@ impl Model for Options {
     ghost inverse = { λ c. record { layout = c.layout; relocatable = c.relocatable; keep = c.keep; entry = c.entry; force_commons = c.force_commons } };
 }
 
-/// Options that exclude each other.
+/// Options that exclude each other. (own choice)
 #[derive(Clone, Copy, Debug, PartialEq, Eq, Error)]
 pub enum OptionFault {
     /// 1: relocation is kept, and no symbols (`-r` with `-s`).
@@ -84,7 +84,11 @@ fn fault_of(layout: Layout, relocatable: bool, keep: Keep) -> Option<OptionFault
 impl Options {
     ghost use Rattle.link_out.specs.Choices.{Choices};
 
-    /// These options, without `-d`; `relocatable` is the option `-r`, and `entry` the name after `-e`.
+    /// These options, without `-d`; `relocatable` is the option `-r`, and `entry` the name after `-e`. (ld(1); what
+    /// excludes what: own choice)
+    ///
+    /// Errors, the first that applies: `RelocStrip`, 1, where relocation is kept and no symbols; `RelocLayout`, 2,
+    /// where it is kept in another layout than the plain one.
     pub fn new(
         layout: Layout,
         relocatable: bool,
@@ -107,7 +111,7 @@ impl Options {
         }
     }
 
-    /// The same options with `-d`: commons are laid out in a relocatable file too.
+    /// The same options with `-d`: commons are laid out in a relocatable file too. (ld(1))
     pub fn force_commons(self) -> Options
         ensures { let c : Choices = record self { force_commons = true } in result ≡ c }
     {

@@ -64,9 +64,10 @@ fn replies_to(
     Ok(replies)
 }
 
-/// Does the edits in order, from a session with these forced names and no objects, and links what is left: the replies,
-/// one to each edit, and the link. `Memory`: no room, in any step. `Link`: the link is refused. (ld(1); edits are an
-/// own choice)
+/// Does the edits in order, from a session with these forced names and no objects, and links what is left: the
+/// replies, one to each edit, and the link. (ld(1); edits are an own choice)
+///
+/// Errors: `Memory`, 1, where there is no room, in any step; `Link`, 2, where the link is refused, for another cause.
 pub fn run(
     alloc: Global,
     forced: &Forced,

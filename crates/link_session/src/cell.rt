@@ -13,7 +13,7 @@ pub struct Cell {
     pub pc: bool,
 }
 
-/// What a cell refers to.
+/// What a cell refers to. (own choice)
 #[derive(Clone, Copy, Debug, PartialEq, Eq)]
 pub enum Target {
     Absolute,

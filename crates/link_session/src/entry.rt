@@ -5,7 +5,7 @@ use aout_core::Object;
 use std::marker::Model;
 use thiserror::Error;
 
-/// An object of a session and the label that it was added with. Contracts see the bytes of the label.
+/// An object of a session and the label that it was added with. Contracts see the bytes of the label. (own choice)
 #[derive(Debug, Drop)]
 pub struct Entry {
     label: String,
@@ -53,7 +53,7 @@ impl Entry {
     }
 }
 
-/// Why an object was not added: the first that applies.
+/// Why an object was not added: the first that applies. (own choice)
 #[derive(Clone, Copy, Debug, PartialEq, Eq, Error)]
 pub enum AddFault {
     /// 1: the text would pass 65,534 bytes in all.
@@ -73,7 +73,7 @@ pub enum AddFault {
     Memory,
 }
 
-/// An object that was not added, handed back.
+/// An object that was not added, handed back. (own choice)
 #[derive(Debug, Drop)]
 pub struct AddRefused {
     pub cause: AddFault,

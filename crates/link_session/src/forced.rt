@@ -9,7 +9,8 @@ use std::marker::Model;
 /// How many names can be forced.
 const MOST: usize = 64;
 
-/// A list of at most 64 different names. It lies in a fixed array, so it takes no memory. Contracts see it as the list.
+/// A list of at most 64 different names. It lies in a fixed array, so it takes no memory. Contracts see it as the
+/// list. (ld(1), the option `-u`; the limit: own choice)
 #[derive(Clone, Copy, Debug)]
 pub struct Forced {
     slots: [Name; 64],
@@ -33,7 +34,7 @@ impl Model for Forced {
 }
 
 impl Forced {
-    /// No names.
+    /// No names. (own choice)
     pub fn none() -> Forced
         ensures { result ≡ [] }
     {
@@ -60,7 +61,7 @@ impl Forced {
         true
     }
 
-    /// The names, in the order in which they were put.
+    /// The names, in the order in which they were put. (own choice)
     pub fn names(&self) -> &[Name]
         ensures value { result.now ≡ self.now }
         ensures short { length result.now ≤ 64 }

@@ -2,7 +2,7 @@
 use crate::cell::Cell;
 use crate::state::State;
 
-/// Where a cell stands: the index of its word in the merged text or data, from 0.
+/// Where a cell stands: the index of its word in the merged text or data, from 0. (own choice)
 #[derive(Clone, Copy, Debug, PartialEq, Eq)]
 pub enum Place {
     InText(u16),

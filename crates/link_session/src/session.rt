@@ -25,7 +25,7 @@ use std::alloc::{AllocError, Global};
 use std::marker::Model;
 use thiserror::Error;
 
-/// No memory was found.
+/// No memory was found. (own choice)
 #[derive(Clone, Copy, Debug, PartialEq, Eq, Error)]
 #[error("no memory")]
 pub struct Memory;
@@ -79,7 +79,7 @@ fn force_names(externals: &mut Externals, names: &[Name])
 }
 
 impl Session {
-    /// A session of no objects and no forced names.
+    /// A session of no objects and no forced names. (own choice)
     pub fn new(alloc: Global) -> Session
         ensures { result ≡ nothing_kept [] }
     {
@@ -92,8 +92,10 @@ impl Session {
         }
     }
 
-    /// A session of no objects, whose first externals are the forced names, each wanted at no size. `Memory`: no room
-    /// for them.
+    /// A session of no objects, whose first externals are the forced names, each wanted at no size. (ld(1), the
+    /// option `-u`)
+    ///
+    /// Errors: `Memory`, where there is no room for them.
     pub fn with_forced(alloc: Global, forced: &Forced) -> Result<Session, Memory>
         ensures { IfOk result (λ session. session ≡ nothing_kept forced.now) }
     {
@@ -119,8 +121,12 @@ impl Session {
     }
 
     /// Puts an object last, and joins it to the merged image: words that refer to names which are defined, before or
-    /// now, are bound. The first that applies of the faults of `AddFault` refuses it; then nothing changes, and label
-    /// and object are handed back. (ld(1); the limits are an own choice)
+    /// now, are bound. (ld(1); the limits are an own choice)
+    ///
+    /// Errors, the first that applies: `TextFull`, 1, `DataFull`, 2, and `BssFull`, 3, where that segment would pass
+    /// 65,534 bytes in all; `NamesFull`, 4, where there would be more than 65,535 externals; `Memory`, 5, where there
+    /// is no room for the object's cells, names and marks. Then nothing changes, and label and object are handed
+    /// back.
     pub fn add(&mut self, label: String, object: Object) -> Result<(), AddRefused>
         ensures fits { OnOk result (refusal self.old.forced (objects self.old.entries) object ≡ None) }
         ensures added { OnOk result (Adds self.old self.new (labelled label object)) }

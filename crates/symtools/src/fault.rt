@@ -6,7 +6,7 @@ use aout_core::DeviceFault;
 use std::alloc::{AllocError, AllocFailed};
 use thiserror::Error;
 
-/// Why not all lines went out.
+/// Why not all lines went out. (own choice)
 #[derive(Clone, Copy, Debug, PartialEq, Eq, Error)]
 pub enum ToolFault {
     /// 1: no room for the entries that are to be put in order.

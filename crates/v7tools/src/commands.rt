@@ -19,7 +19,7 @@ pub enum Command<R> {
     Bad,
 }
 
-/// What a step did.
+/// What a step did. (own choice)
 #[derive(Debug, Drop)]
 pub enum Step {
     /// What was asked for; the answer is written.

@@ -13,7 +13,7 @@ use std::io::Write;
 use symtools::ToolFault;
 use thiserror::Error;
 
-/// Why a command came to no end. Want of memory is `Memory` alone, whatever was being done.
+/// Why a command came to no end. Want of memory is `Memory` alone, whatever was being done. (own choice)
 #[derive(Debug, Drop, Error)]
 pub enum CliFault {
     /// 1: the words ask for nothing that there is.

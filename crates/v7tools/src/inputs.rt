@@ -75,9 +75,12 @@ fn take_inputs<R: Read + Drop>(
     Ok(())
 }
 
-/// Links the files of the inputs, pairs of a path and a reader, in their order, behind the forced names. Each is read,
-/// checked and added before the next one is read, and a refusal ends the link: `BadFile`, `BadObject`, `NotAdded`, and
-/// `NotLinked` behind the last input; `Memory` wherever there is none. (ld(1))
+/// Links the files of the inputs, pairs of a path and a reader, in their order, behind the forced names. Each is
+/// read, checked and added before the next one is read, and a refusal ends the link. (ld(1))
+///
+/// Errors: for the first input that is refused, with its path, `BadFile`, 3, where it is no file or its device
+/// failed, `BadObject`, 4, where it is no object, or `NotAdded`, 5, where it passes a limit; behind the last input
+/// `NotLinked`, 6, where there is no link; `Memory`, 9, wherever there is none.
 pub fn ld<R: Read + Drop>(
     alloc: Global,
     inputs: Vec<(String, Wire<R>)>,

@@ -5,7 +5,7 @@ ghost use Rattle.v7tools.specs.ScriptAnswers.{asked_by};
 
 use std::alloc::{AllocError, Global};
 
-/// What a line of a script asks for.
+/// What a line of a script asks for. (own choice)
 #[derive(Debug, Drop)]
 pub enum Line {
     /// `add PATH`: the object at this path is added.

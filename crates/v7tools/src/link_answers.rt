@@ -13,7 +13,7 @@ use itoa::Buffer;
 use link_out::Linked;
 use std::io::Write;
 
-/// What became of the file of a link.
+/// What became of the file of a link. (own choice)
 #[derive(Clone, Copy, Debug, PartialEq, Eq)]
 pub enum Stored {
     /// It is written whole.
@@ -84,9 +84,10 @@ fn put_link_answer<W: Write>(
 }
 
 /// Writes the answer to a link, once it is known what became of its file: the report and `linked PATH STATUS`, or
-/// `PATH: cannot create`, or `PATH: write error`. It answers the status of the link: the report's, or 1 where the file
-/// is not stored; and `WriteFailed` where the wire failed, now or before: a front of the answer then went out. It takes
-/// no memory. (own choice)
+/// `PATH: cannot create`, or `PATH: write error`. It answers the status of the link: the report's, or 1 where the
+/// file is not stored. It takes no memory. (own choice)
+///
+/// Errors: `WriteFailed`, 8, where the wire failed, now or before: a front of the answer then went out.
 pub fn link_answer<W: Write>(
     linked: &Linked,
     path: &str,

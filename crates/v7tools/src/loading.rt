@@ -9,8 +9,9 @@ use aout_core::{File, ReadFault, Wire, read_file};
 use std::alloc::Global;
 use std::io::Read;
 
-/// Reads the file at a path, as `read_file` does, and gives the path back with it. It answers `BadFile` with the path
-/// and the fault, or `Memory`. (own choice)
+/// Reads the file at a path, as `read_file` does, and gives the path back with it. (own choice)
+///
+/// Errors: `BadFile`, 3, with the path and the fault of the reader; `Memory`, 9, where there is no room for the file.
 pub fn load<R: Read>(
     alloc: Global,
     path: String,

@@ -12,8 +12,10 @@ use link_out::Linked;
 use std::io::Write;
 
 /// Writes the whole file to the first wire and then the report to the second, and answers the report's status. It
-/// answers `WriteFailed` where one of the wires failed, now or before: a front of its bytes then went out, and where it
-/// was the file's wire, the report's is not touched. It takes no memory. (own choice)
+/// takes no memory. (own choice)
+///
+/// Errors: `WriteFailed`, 8, where one of the wires failed, now or before: a front of its bytes then went out, and
+/// where it was the file's wire, the report's is not touched.
 pub fn emit<W: Write, V: Write>(
     linked: &Linked,
     file: &mut Wire<W>,

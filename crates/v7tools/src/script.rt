@@ -130,7 +130,7 @@ fn take_line<R: Read>(wire: &mut Wire<R>, line: &mut Vec<u8>, line_count: u32) -
     }
 }
 
-/// A script, read line by line.
+/// A script, read line by line. (own choice)
 #[derive(Drop)]
 pub struct Script<R> {
     alloc: Global,
@@ -155,7 +155,9 @@ impl<R> Model for Script<R> {
 }
 
 impl<R: Read + Drop> Script<R> {
-    /// A script of which no line was read. It makes the room for a line, or answers `Memory`. (own choice)
+    /// A script of which no line was read. It makes the room for a line. (own choice)
+    ///
+    /// Errors: `Memory`, 9, where there is no room for a line.
     pub fn new(alloc: Global, wire: Wire<R>) -> Result<Script<R>, CliFault>
         ensures ok { IfOk result (λ s. (s.wire ≡ wire) × (s.line_count ≡ 0) × (s.settled ≡ None)) }
         ensures err { IfErr result (λ fault. fault ≡ Memory) }
@@ -171,9 +173,11 @@ impl<R: Read + Drop> Script<R> {
     }
 
     /// The next line, or `None` at the end and at every later call. A line ends at a newline; a last one without it
-    /// counts if it is not empty. The faults are `LongLine`, for more than 4,096 bytes before a newline, `ManyLines`,
-    /// where there is anything behind 1,000,000 lines, `ScriptFailed` and `Memory`; every later call answers the fault
-    /// again. (own choice)
+    /// counts if it is not empty. (own choice)
+    ///
+    /// Errors: `LongLine`, 11, for more than 4,096 bytes before a newline; `ManyLines`, 12, where there is anything
+    /// behind 1,000,000 lines; `ScriptFailed`, 13, where the device failed; `Memory`, 9, where there is no room for a
+    /// path. Every later call answers the fault again.
     pub fn next_line(&mut self) -> Result<Option<Line>, CliFault>
         ensures stays { IfSome self.old.settled (λ answer. (result ≡ answer) × (self.new ≡ self.old)) }
         ensures settles { Settles result self.new.settled }

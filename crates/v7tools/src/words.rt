@@ -14,7 +14,7 @@ use link_session::Forced;
 use std::alloc::{AllocError, Global};
 use symtools::NmOptions;
 
-/// What the words ask for.
+/// What the words ask for. (ld(1), nm(1), size(1), strip(1); the session: own choice)
 #[derive(Debug, Drop)]
 pub enum Call {
     /// A link of `files`, in order, into the file `out`.
@@ -223,9 +223,10 @@ fn dashes(words: &[String]) -> usize
 /// A flag may be repeated, but not `-e` and `-o`. The value of an option stands in the same word, or in the next one if
 /// that does not begin with `-`. Options may stand after files, and `--` ends them.
 ///
-/// `Usage`: all other words, `-r` with `-s`, `-n` or `-i`, `-n` with `-i`, and more than 64 different names after `-u`.
-/// `Memory`: no room for what the words ask for. (ld(1), nm(1), size(1), strip(1); the session and the limit are an own
-/// choice)
+/// (ld(1), nm(1), size(1), strip(1); the session and the limit are an own choice)
+///
+/// Errors: `Usage`, 1, for all other words, `-r` with `-s`, `-n` or `-i`, `-n` with `-i`, and more than 64 different
+/// names after `-u`; `Memory`, 9, where there is no room for what the words ask for.
 pub fn parse(alloc: Global, words: Vec<String>) -> Result<Call, CliFault>
     ensures whole { IfOk result IsWhole }
     ensures faults { IfErr result IsOfWords }
