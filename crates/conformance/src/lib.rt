@@ -7,6 +7,8 @@ mod failing_devices;
 #[cfg(test)]
 mod files;
 #[cfg(test)]
+mod flushes;
+#[cfg(test)]
 mod folders;
 #[cfg(test)]
 mod forced_names;
