@@ -1,5 +1,5 @@
 //! What becomes of the external names.
-ghost use Rattle.std.specs.Prelude.{◌≡◌, ◌<◌, ◌≤◌, ◌+◌, ◌*◌, ◌%◌, bytes_eq, length, slice_get, Some, IfOk};
+ghost use Rattle.std.specs.Prelude.{◌≡◌, ◌≤◌, ◌+◌, ◌*◌, ◌%◌, bytes_eq, IfOk};
 ghost use Rattle.link_session.specs.Undo.{image_of};
 ghost use Rattle.link_out.specs.Finals.{bound_at, waiting, undefined_name};
 ghost use Rattle.link_out.specs.FromCells.{finals};
@@ -114,14 +114,6 @@ pub(crate) fn final_at(
     }
 }
 
-/// An external: its name, and what is known of it.
-pub(crate) fn external_at(session: &Session, index: u16) -> (Name, State)
-    requires { index < length (image_of session.now).externals }
-    ensures { slice_get (image_of session.now).externals index ≡ Some (result.0, result.1) }
-{
-    session.external(index).unwrap()
-}
-
 /// What becomes of the externals, by first mention. An error: no room for them.
 pub(crate) fn finals_of(
     alloc: Global,
@@ -137,7 +129,7 @@ pub(crate) fn finals_of(
     let mut finals = Vec::with_capacity(alloc, session.external_count() as usize)?;
     let mut offset = 0;
     for index in 0..session.external_count() {
-        let (name, state) = external_at(session, index);
+        let (name, state) = session.external(index).unwrap();
         finals.push(final_at(options, bases, offset, name, state))?;
         offset += common_size(state);
     }

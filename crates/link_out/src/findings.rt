@@ -11,7 +11,7 @@ ghost use Rattle.link_out.specs.Reports.{is_undefined, reserved_names, reserved_
 ghost use Rattle.link_out.specs.InOrder.{is_missing, missing_in, plan_of};
 ghost use Rattle.link_out.specs.Outcomes.{findings_of};
 
-use crate::finals::{Final, external_at, is_named};
+use crate::finals::{Final, is_named};
 use crate::linked::Report;
 use crate::options::Options;
 use crate::table::type_of;
@@ -80,8 +80,9 @@ fn is_reserved(name: &Name) -> bool
     is_named(name, b"_etext") || (is_named(name, b"_edata") || is_named(name, b"_end"))
 }
 
-/// Whether a name is reported as undefined.
-fn is_missing(name: &Name, state: State) -> bool
+/// Whether a link without relocation reports a name in this state as undefined: nothing defines it, it is no common, and
+/// it is none of `_etext`, `_edata` and `_end`, which the linker defines. (ld(1))
+pub fn is_missing(name: &Name, state: State) -> bool
     ensures { result ≡ is_missing name.now state }
 {
     is_undefined(state) && !is_reserved(name)
@@ -103,7 +104,7 @@ fn missing(alloc: Global, session: &Session) -> Result<Vec<Name>, AllocError>
 {
     let mut names = Vec::new(alloc);
     for index in 0..session.external_count() {
-        let (name, state) = external_at(session, index);
+        let (name, state) = session.external(index).unwrap();
         put_if_missing(&mut names, name, state)?;
     }
     Ok(names)

@@ -17,6 +17,7 @@ mod table;
 mod words;
 
 pub use edit::{Edit, Reply, RunFault};
+pub use findings::is_missing;
 pub use linked::{LinkFault, Linked, Report};
 pub use linker::finish;
 pub use options::{Keep, Layout, OptionFault, Options};

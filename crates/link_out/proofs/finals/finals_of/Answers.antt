@@ -11,14 +11,14 @@ loop-index-preserved c =
     let o = c.args.options.now in
     let b = c.args.bases.now in
     let i = c.loop-index.index in
-    let entry = c.external_at-name.result in
+    let entry = c.unwrap-name.result in
     let items : c.loop-index.finals.items ++ final_at o b c.loop-index.offset entry.0 entry.1 ∷ [] ≡ c.push.new.self.items =
     sym (c.in_ok-push.ensures.items ∙ ap (λ f. c.loop-index.finals.items ++ f ∷ []) c.final_at.ensures) in
     let offset : c.loop-index.offset + common_size entry.1 ≡ c.loop-index.offset + c.common_size-offset.result =
     ap (λ k. c.loop-index.offset + k) (sym c.common_size-offset.ensures.value) in
     record {
       finals = c.loop-index.invariant.finals
-          ∙ finals_next o b c.loop-index.finals.items c.loop-index.offset es i (entry.0, entry.1) c.external_at-name.ensures
+          ∙ finals_next o b c.loop-index.finals.items c.loop-index.offset es i (entry.0, entry.1) (sym c.external.ensures ∙ c.unwrap-name.ensures)
           ∙ (λ k. items k ++ finals_from o b (offset k) (drop (i + 1) es));
       small = omega (arith, c.loop-index.invariant.small, c.common_size-offset.ensures.small);
     }
