@@ -23,7 +23,7 @@ added_done old new e fits h = record {
   answer = ap answer_by (sym fits);
 }
 
-limit_is : (r : Option AddFault) (cause : AddFault) → IsCause r cause → (cause ≡ Memory → ⊥) → r ≡ Some cause
+pub limit_is : (r : Option AddFault) (cause : AddFault) → IsCause r cause → (cause ≡ Memory → ⊥) → r ≡ Some cause
 limit_is None cause h other = absurd (other h)
 limit_is (Some limit) cause h other = ap Some (sym h)
 
@@ -38,12 +38,12 @@ refused_done old new e cause h other same =
       answer = ap answer_by (sym limit);
     }
 
-last_of-put_last : (es : List Labelled) (e : Labelled) → last_of (es ++ e ∷ []) ≡ Some e
+pub last_of-put_last : (es : List Labelled) (e : Labelled) → last_of (es ++ e ∷ []) ≡ Some e
 last_of-put_last [] e = refl
 last_of-put_last (d ∷ []) e = refl
 last_of-put_last (d ∷ (c ∷ es)) e = last_of-put_last (c ∷ es) e
 
-without_last-put_last : (es : List Labelled) (e : Labelled) → without_last (es ++ e ∷ []) ≡ es
+pub without_last-put_last : (es : List Labelled) (e : Labelled) → without_last (es ++ e ∷ []) ≡ es
 without_last-put_last [] e = refl
 without_last-put_last (d ∷ []) e = refl
 without_last-put_last (d ∷ (c ∷ es)) e = ap (λ fs. d ∷ fs) (without_last-put_last (c ∷ es) e)

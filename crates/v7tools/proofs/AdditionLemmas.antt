@@ -1,131 +1,184 @@
--- What came of adding the file at a path, and what a step makes of it.
+-- What came of adding the file at a path.
 use Rattle.std.specs.declared.alloc.Global.{Global}
-use Rattle.std.proofs.Common.{◌≡◌, ℕ, List, Option, Some, None, Result, Ok, Err, refl, sym, ap, ◌∙◌, inl, inr}
-use Rattle.std.specs.Prelude.{String, string_bytes, codes, IfSome, IsErrAnd}
+use Rattle.std.proofs.Common.{◌≡◌, ℕ, List, Option, Some, None, Result, Ok, Err, refl, sym, ap, ◌∙◌, subst, inl, inr}
+use Rattle.std.specs.Prelude.{String, string_bytes, IfErr, IfSome, IsErrAnd}
 use Rattle.aout_core.specs.declared.file.ReadFault.{ReadFault}
 use Rattle.aout_core.specs.declared.file.ReadFault.TheVariants as reads
 use Rattle.aout_core.specs.declared.object.ObjectFault.{ObjectFault}
 use Rattle.aout_core.specs.Contents.{Contents}
 use Rattle.aout_core.specs.Front.{front}
+use Rattle.aout_core.specs.Reading.{IsReadOf, LeavesAfter}
 use Rattle.link_session.specs.declared.entry.AddFault.{AddFault}
 use Rattle.link_session.specs.declared.entry.AddFault.TheVariants as adds
 use Rattle.link_session.specs.Edits.{refusal}
-use Rattle.link_session.specs.Labelled.{objects}
+use Rattle.link_session.specs.Labelled.{Labelled, objects}
 use Rattle.link_session.specs.Sessions.{IsCause}
 use Rattle.link_session.specs.Undo.{Kept}
+use Rattle.link_out.proofs.RunLemmas.{limit_is}
 use Rattle.v7tools.specs.declared.fault.CliFault.{CliFault}
 use Rattle.v7tools.specs.declared.fault.CliFault.TheVariants as faults
-use Rattle.v7tools.specs.Inputs.{Cause, bad_file, bad_object, not_added, object_or, object_in, added_unless}
-use Rattle.v7tools.specs.FaultTexts.{at_file, read_text, object_text, cause_text, fault_of_addition}
-use Rattle.v7tools.specs.LinkAnswers.{IsCheckOf, IsLoadOf}
-use Rattle.v7tools.specs.Steps.{IsFound, IsRefusal, IsAddition}
+use Rattle.v7tools.specs.Inputs.{Cause, cannot_open, bad_file, bad_object, not_added, Refusal, of_input, object_or, object_in, added_unless, kept_with, with_input, at_path}
+use Rattle.v7tools.specs.FaultTexts.{fault_at, fault_of_addition}
+use Rattle.v7tools.specs.Loads.{read_of, IsAtPath}
+use Rattle.v7tools.specs.LinkAnswers.{said_by, IsPossible, IsTrueOf, IsTaken, IsCheckOf}
+use Rattle.v7tools.specs.Steps.{IsFound, IsRefusal, IsAccepted, IsAddition}
+
+-- ---- what was read
+
+-- what the reader says of the bytes, where they are known
+abbrev IsReadWhereKnown : Option (List ℕ) → Option (List ℕ) → Result Contents ReadFault → Type 0
+IsReadWhereKnown known left r = IfSome known (λ bytes. IsReadOf r bytes × LeavesAfter r bytes left)
 
 -- what the bytes spell, where they are known
-found_at : (known : Option (List ℕ)) (r : Result Contents ReadFault) (found : Result Contents Cause) → object_in r ≡ found → IfSome known (λ bytes. front bytes ≡ r) →
-    IfSome known (λ bytes. found ≡ object_in (front bytes))
-found_at None r found is h = tt
-found_at (Some bytes) r found is h = sym is ∙ ap object_in (sym h)
+found_at : (known left : Option (List ℕ)) (r : Result Contents ReadFault) (found : Result Contents Cause) → object_in r ≡ found → ((bytes : List ℕ) → IsReadOf r bytes → front bytes ≡ r) →
+    IsReadWhereKnown known left r → IfSome known (λ bytes. found ≡ object_in (front bytes))
+found_at None left r found is spells h = tt
+found_at (Some bytes) left r found is spells h = sym is ∙ ap object_in (sym (spells bytes h.0))
+
+-- ---- why a file is not added
 
 -- a file that is none
-bad_read : (known : Option (List ℕ)) (old : Kept) (path at : String Global) (fault : ReadFault) → at ≡ path → IfSome known (λ bytes. front bytes ≡ Err fault) →
-    IsRefusal known old (string_bytes path) (read_text (string_bytes at) fault)
-bad_read known old path at fault same read = record {
-  found = Err (bad_file fault);
-  cause = bad_file fault;
-  is_found = inr (found_at known (Err fault) (Err (bad_file fault)) refl read);
-  refuses = refl;
-  says = ap (λ (p : String Global). read_text (string_bytes p) fault) same;
-}
-
-pub addition_unread : (known : Option (List ℕ)) (old : Kept) (path : String Global) (fault : CliFault) → IsLoadOf known path (Err fault) → IsAddition known old old (string_bytes path) (Err fault)
-addition_unread known old path (faults.BadFile at reads.Device) h = (
+bad_read : (known left : Option (List ℕ)) (old : Kept) (path at : String Global) (fault : ReadFault) → at ≡ path → ((bytes : List ℕ) → IsReadOf (Err fault) bytes → front bytes ≡ Err fault) →
+    IsReadWhereKnown known left (Err fault) → IsAddition known old old path (Err (faults.BadFile at fault))
+bad_read known left old path at fault same spells read = (
   refl,
-  record {
+  inr (record {
+    found = Err (bad_file fault);
+    cause = bad_file fault;
+    is_found = inr (found_at known left (Err fault) (Err (bad_file fault)) refl spells read);
+    refuses = refl;
+    names = ap (λ (p : String Global). faults.BadFile p fault) same;
+  }),
+)
+
+failed_read : (known : Option (List ℕ)) (old : Kept) (path at : String Global) → at ≡ path → IsAddition known old old path (Err (faults.BadFile at reads.Device))
+failed_read known old path at same = (
+  refl,
+  inr (record {
     found = Err (bad_file reads.Device);
     cause = bad_file reads.Device;
     is_found = inl refl;
     refuses = refl;
-    says = ap (λ (p : String Global). read_text (string_bytes p) reads.Device) h;
-  },
+    names = ap (λ (p : String Global). faults.BadFile p reads.Device) same;
+  }),
 )
-addition_unread known old path (faults.BadFile at reads.Memory) h = absurd h
-addition_unread known old path (faults.BadFile at reads.ShortHeader) h = (refl, bad_read known old path at reads.ShortHeader h.0 h.1)
-addition_unread known old path (faults.BadFile at reads.BadMagic) h = (refl, bad_read known old path at reads.BadMagic h.0 h.1)
-addition_unread known old path (faults.BadFile at reads.OddSize) h = (refl, bad_read known old path at reads.OddSize h.0 h.1)
-addition_unread known old path (faults.BadFile at reads.Truncated) h = (refl, bad_read known old path at reads.Truncated h.0 h.1)
-addition_unread known old path faults.Memory h = refl
-addition_unread known old path faults.Usage h = absurd h
-addition_unread known old path (faults.CannotOpen at) h = absurd h
-addition_unread known old path (faults.BadObject at f) h = absurd h
-addition_unread known old path (faults.NotAdded at f) h = absurd h
-addition_unread known old path (faults.NotLinked f) h = absurd h
-addition_unread known old path (faults.CannotCreate at) h = absurd h
-addition_unread known old path faults.WriteFailed h = absurd h
-addition_unread known old path faults.LongLine h = absurd h
-addition_unread known old path faults.ManyLines h = absurd h
-addition_unread known old path faults.ScriptFailed h = absurd h
+
+pub addition_unread : (known left : Option (List ℕ)) (old : Kept) (path : String Global) (fault : CliFault) → IsAtPath path (Err fault) → IsReadWhereKnown known left (read_of (Err fault)) →
+    IsAddition known old old path (Err fault)
+addition_unread known left old path (faults.BadFile at reads.Device) a h = failed_read known old path at a.0
+addition_unread known left old path (faults.BadFile at reads.Memory) a h = absurd (a.1 refl)
+addition_unread known left old path (faults.BadFile at reads.ShortHeader) a h = bad_read known left old path at reads.ShortHeader a.0 (λ bytes read. read) h
+addition_unread known left old path (faults.BadFile at reads.BadMagic) a h = bad_read known left old path at reads.BadMagic a.0 (λ bytes read. read) h
+addition_unread known left old path (faults.BadFile at reads.OddSize) a h = bad_read known left old path at reads.OddSize a.0 (λ bytes read. read) h
+addition_unread known left old path (faults.BadFile at reads.Truncated) a h = bad_read known left old path at reads.Truncated a.0 (λ bytes read. read) h
+addition_unread known left old path faults.Memory a h = (refl, inl refl)
+addition_unread known left old path faults.Usage a h = absurd a
+addition_unread known left old path (faults.CannotOpen at) a h = absurd a
+addition_unread known left old path (faults.BadObject at f) a h = absurd a
+addition_unread known left old path (faults.NotAdded at f) a h = absurd a
+addition_unread known left old path (faults.NotLinked f) a h = absurd a
+addition_unread known left old path (faults.CannotCreate at) a h = absurd a
+addition_unread known left old path faults.WriteFailed a h = absurd a
+addition_unread known left old path faults.LongLine a h = absurd a
+addition_unread known left old path faults.ManyLines a h = absurd a
+addition_unread known left old path faults.ScriptFailed a h = absurd a
 
 -- a file that is no object
-pub addition_unchecked : (known : Option (List ℕ)) (old : Kept) (path p : String Global) (c : Contents) (fault : CliFault) → IsLoadOf known path (Ok (p, c)) → IsCheckOf p c (Err fault) →
-    IsAddition known old old (string_bytes path) (Err fault)
-addition_unchecked known old path p c (faults.BadObject at f) loaded h = (
+pub addition_unchecked : (known left : Option (List ℕ)) (old : Kept) (path p : String Global) (c : Contents) (fault : CliFault) → p ≡ path → IsReadWhereKnown known left (Ok c) → IsCheckOf p c (Err fault) →
+    IsAddition known old old path (Err fault)
+addition_unchecked known left old path p c fault same read (cause, is, bad) = (
   refl,
-  record {
-    found = Err (bad_object f);
-    cause = bad_object f;
-    is_found = inr (found_at known (Ok c) (Err (bad_object f)) (ap (λ (x : Option ObjectFault). object_or x c) h.1) loaded.1);
+  inr (record {
+    found = Err (bad_object cause);
+    cause = bad_object cause;
+    is_found = inr (found_at known left (Ok c) (Err (bad_object cause)) (ap (λ (x : Option ObjectFault). object_or x c) bad) (λ bytes spelt. spelt) read);
     refuses = refl;
-    says = ap (λ (q : String Global). at_file (string_bytes q) (object_text f)) (h.0 ∙ loaded.0);
-  },
+    names = is ∙ ap (λ (q : String Global). faults.BadObject q cause) same;
+  }),
 )
-addition_unchecked known old path p c faults.Usage loaded h = absurd h
-addition_unchecked known old path p c (faults.CannotOpen at) loaded h = absurd h
-addition_unchecked known old path p c (faults.BadFile at f) loaded h = absurd h
-addition_unchecked known old path p c (faults.NotAdded at f) loaded h = absurd h
-addition_unchecked known old path p c (faults.NotLinked f) loaded h = absurd h
-addition_unchecked known old path p c (faults.CannotCreate at) loaded h = absurd h
-addition_unchecked known old path p c faults.WriteFailed loaded h = absurd h
-addition_unchecked known old path p c faults.Memory loaded h = absurd h
-addition_unchecked known old path p c faults.LongLine loaded h = absurd h
-addition_unchecked known old path p c faults.ManyLines loaded h = absurd h
-addition_unchecked known old path p c faults.ScriptFailed loaded h = absurd h
 
 -- an object that was read at a path
-read_object : (known : Option (List ℕ)) (path p q : String Global) (c o : Contents) → IsLoadOf known path (Ok (p, c)) → IsCheckOf p c (Ok (q, o)) → IsFound known (Ok o)
-read_object known path p q c o loaded checked =
-    inr (found_at known (Ok c) (Ok o) (ap (λ (x : Option ObjectFault). object_or x c) checked.2 ∙ ap (λ (x : Contents). Ok x) (sym checked.1)) loaded.1)
+pub read_object : (known left : Option (List ℕ)) (p q : String Global) (c o : Contents) → IsReadWhereKnown known left (Ok c) → IsCheckOf p c (Ok (q, o)) → IsFound known (Ok o)
+read_object known left p q c o read checked =
+    inr (found_at known left (Ok c) (Ok o) (ap (λ (x : Option ObjectFault). object_or x c) checked.2 ∙ ap (λ (x : Contents). Ok x) (sym checked.1)) (λ bytes spelt. spelt) read)
 
 -- an object that is not added
-limit : (r : Option AddFault) (cause : AddFault) → IsCause r cause → (cause ≡ adds.Memory → ⊥) → r ≡ Some cause
-limit None cause h real = absurd (real h)
-limit (Some l) cause h real = ap (λ (x : AddFault). Some x) (sym h)
-
 not_fit : (known : Option (List ℕ)) (old new : Kept) (path label : String Global) (o : Contents) (cause : AddFault) → IsFound known (Ok o) → label ≡ path → IsCause (refusal old.forced (objects old.entries) o) cause →
-    (cause ≡ adds.Memory → ⊥) → new ≡ old → (text : List ℕ → List ℕ) → ((p : List ℕ) → cause_text p (not_added cause) ≡ text p) → (new ≡ old) × IsRefusal known old (string_bytes path) (text (string_bytes label))
-not_fit known old new path label o cause is_found same why real unchanged text says = (
+    (cause ≡ adds.Memory → ⊥) → new ≡ old → IsAddition known old new path (Err (faults.NotAdded label cause))
+not_fit known old new path label o cause is_found same why real unchanged = (
   unchanged,
-  record {
+  inr (record {
     found = Ok o;
     cause = not_added cause;
     is_found = is_found;
-    refuses = ap (λ (x : Option AddFault). added_unless x old.entries (record { label = string_bytes path; object = o })) (limit (refusal old.forced (objects old.entries) o) cause why real);
-    says = ap (λ (p : String Global). text (string_bytes p)) same ∙ sym (says (string_bytes path));
-  },
+    refuses = ap (λ (x : Option AddFault). added_unless x old.entries (record { label = string_bytes path; object = o })) (limit_is (refusal old.forced (objects old.entries) o) cause why real);
+    names = ap (λ (p : String Global). faults.NotAdded p cause) same;
+  }),
 )
 
-pub addition_refused : (known : Option (List ℕ)) (old new : Kept) (path p q label : String Global) (c o : Contents) (cause : AddFault) → IsLoadOf known path (Ok (p, c)) → IsCheckOf p c (Ok (q, o)) → label ≡ q →
-    IsCause (refusal old.forced (objects old.entries) o) cause → new ≡ old → IsAddition known old new (string_bytes path) (Err (fault_of_addition label cause))
-addition_refused known old new path p q label c o adds.Memory loaded checked same why unchanged = unchanged
-addition_refused known old new path p q label c o adds.TextFull loaded checked same why unchanged =
-    not_fit known old new path label o adds.TextFull (read_object known path p q c o loaded checked) (same ∙ checked.0 ∙ loaded.0) why (λ e. absurd (cc)) unchanged (λ t. at_file t (codes "text full")) (λ t. refl)
-addition_refused known old new path p q label c o adds.DataFull loaded checked same why unchanged =
-    not_fit known old new path label o adds.DataFull (read_object known path p q c o loaded checked) (same ∙ checked.0 ∙ loaded.0) why (λ e. absurd (cc)) unchanged (λ t. at_file t (codes "data full")) (λ t. refl)
-addition_refused known old new path p q label c o adds.BssFull loaded checked same why unchanged =
-    not_fit known old new path label o adds.BssFull (read_object known path p q c o loaded checked) (same ∙ checked.0 ∙ loaded.0) why (λ e. absurd (cc)) unchanged (λ t. at_file t (codes "bss full")) (λ t. refl)
-addition_refused known old new path p q label c o adds.NamesFull loaded checked same why unchanged =
-    not_fit known old new path label o adds.NamesFull (read_object known path p q c o loaded checked) (same ∙ checked.0 ∙ loaded.0) why (λ e. absurd (cc)) unchanged (λ t. at_file t (codes "names full")) (λ t. refl)
+pub addition_refused : (known : Option (List ℕ)) (old new : Kept) (path label : String Global) (o : Contents) (cause : AddFault) → IsFound known (Ok o) → label ≡ path →
+    IsCause (refusal old.forced (objects old.entries) o) cause → new ≡ old → IsAddition known old new path (Err (fault_of_addition label cause))
+addition_refused known old new path label o adds.Memory found same why unchanged = (unchanged, inl refl)
+addition_refused known old new path label o adds.TextFull found same why unchanged = not_fit known old new path label o adds.TextFull found same why (λ e. absurd (cc)) unchanged
+addition_refused known old new path label o adds.DataFull found same why unchanged = not_fit known old new path label o adds.DataFull found same why (λ e. absurd (cc)) unchanged
+addition_refused known old new path label o adds.BssFull found same why unchanged = not_fit known old new path label o adds.BssFull found same why (λ e. absurd (cc)) unchanged
+addition_refused known old new path label o adds.NamesFull found same why unchanged = not_fit known old new path label o adds.NamesFull found same why (λ e. absurd (cc)) unchanged
 
 -- a fault that is carried on
 pub carried : (r : Result (Unit {0}) CliFault) (fault : CliFault) → IsErrAnd r (λ f. f ≡ fault) → r ≡ Err fault
 carried (Ok x) fault h = absurd h
 carried (Err f) fault h = ap (λ (x : CliFault). Err x) h
+
+-- ---- what it says of a link of inputs
+
+-- what a fault says is true, where this is the cause
+said_at : {A : Type 0} (path : String Global) (cause : Cause) (answer : Result A Refusal) → IsPossible (said_by (fault_at path cause)) → answer ≡ Err (of_input (string_bytes path) cause) →
+    IsTrueOf (said_by (fault_at path cause)) answer
+said_at path cannot_open answer h e = absurd h
+said_at path (bad_file reads.Device) answer h e = tt
+said_at path (bad_file reads.Memory) answer h e = absurd h
+said_at path (bad_file reads.ShortHeader) answer h e = e
+said_at path (bad_file reads.BadMagic) answer h e = e
+said_at path (bad_file reads.OddSize) answer h e = e
+said_at path (bad_file reads.Truncated) answer h e = e
+said_at path (bad_object fault) answer h e = e
+said_at path (not_added adds.Memory) answer h e = absurd h
+said_at path (not_added adds.TextFull) answer h e = e
+said_at path (not_added adds.DataFull) answer h e = e
+said_at path (not_added adds.BssFull) answer h e = e
+said_at path (not_added adds.NamesFull) answer h e = e
+
+module _ (bytes : List ℕ) (old : Kept) (path : String Global) where
+  taken_file : (new : Kept) (o : Contents) → IsAccepted (Some bytes) old new (string_bytes path) o → with_input old.forced old.entries (string_bytes path) bytes ≡ Ok new.entries
+  taken_file new o h = by_found h.is_found
+    where
+      by_found : IsFound (Some bytes) (Ok o) → with_input old.forced old.entries (string_bytes path) bytes ≡ Ok new.entries
+      by_found (inl e) = absurd (cc)
+      by_found (inr e) = ap (kept_with old.forced old.entries (string_bytes path)) (sym e) ∙ h.accepts
+
+  refused_file : (fault : CliFault) → IsPossible (said_by fault) → IsRefusal (Some bytes) old path fault →
+      IsTrueOf (said_by fault) (at_path (string_bytes path) (with_input old.forced old.entries (string_bytes path) bytes))
+  refused_file fault possible h = subst (λ (f : CliFault). IsTrueOf (said_by f) answer) (sym h.names) (by_found h.is_found)
+    where
+      answer : Result (List Labelled) Refusal
+      answer = at_path (string_bytes path) (with_input old.forced old.entries (string_bytes path) bytes)
+
+      by_found : IsFound (Some bytes) h.found → IsTrueOf (said_by (fault_at path h.cause)) answer
+      by_found (inl e) =
+          let is : bad_file reads.Device ≡ h.cause = (let r = ap (kept_with old.forced old.entries (string_bytes path)) (sym e) ∙ h.refuses in cc) in
+          subst (λ (x : Cause). IsTrueOf (said_by (fault_at path x)) answer) is tt
+      by_found (inr e) =
+          said_at path h.cause answer (subst (λ (f : CliFault). IsPossible (said_by f)) h.names possible)
+          (ap (at_path (string_bytes path)) (ap (kept_with old.forced old.entries (string_bytes path)) (sym e) ∙ h.refuses))
+
+pub addition_taken : (known : Option (List ℕ)) (old new : Kept) (path : String Global) (r : Result (Unit {0}) CliFault) → IfErr r (λ fault. IsPossible (said_by fault)) → IsAddition known old new path r →
+    IfSome known (λ bytes. IsTaken old new (string_bytes path) bytes r)
+addition_taken None old new path r possible h = tt
+addition_taken (Some bytes) old new path (Ok x) possible (object, h) = taken_file bytes old path new object h
+addition_taken (Some bytes) old new path (Err fault) possible (same, inr h) = refused_file bytes old path fault possible h
+addition_taken (Some bytes) old new path (Err fault) possible (same, inl memory) =
+    subst (λ (f : CliFault). IsTrueOf (said_by f) (at_path (string_bytes path) (with_input old.forced old.entries (string_bytes path) bytes))) (sym memory) tt
+
+pub forced_kept : (known : Option (List ℕ)) (old new : Kept) (path : String Global) (r : Result (Unit {0}) CliFault) → IsAddition known old new path r → new.forced ≡ old.forced
+forced_kept known old new path (Ok x) (object, h) = h.adds.forced
+forced_kept known old new path (Err fault) (same, why) = ap (λ (k : Kept). k.forced) same

@@ -1,7 +1,7 @@
 -- The inputs one after another, and the link of what is kept of them.
 use Rattle.std.specs.declared.alloc.Global.{Global}
-use Rattle.std.proofs.Common.{◌≡◌, ℕ, Bool, true, false, List, [], ◌∷◌, Option, Some, None, Result, Ok, Err, refl, sym, ap, ◌∙◌, subst}
-use Rattle.std.specs.Prelude.{String, string_bytes, IfSome, IsErr, IsTrue, IsErrAnd}
+use Rattle.std.proofs.Common.{◌≡◌, ℕ, List, [], ◌∷◌, Option, Some, None, Result, Ok, Err, refl, sym, ap, ◌∙◌, subst}
+use Rattle.std.specs.Prelude.{String, string_bytes, IfSome, IsErrAnd}
 use Rattle.std.specs.List.{AllByRecursion}
 use Rattle.aout_core.specs.Wires.{Latched}
 use Rattle.aout_core.specs.Front.{front}
@@ -26,11 +26,6 @@ Known old entries all left = (rest : List (List ℕ × List ℕ)) × (left ≡ S
 -- the wires that have not been read are all that may have failed
 abbrev pub WorkingSoFar : {R : Type 0} → List (String Global × Latched R) → List (String Global × Latched R) → Type 0
 WorkingSoFar inputs left = AllByRecursion IsWorking left → AllByRecursion IsWorking inputs
-
--- a wire that has failed gives no Ok
-pub works : (latch : Bool) → (IsTrue latch → IsErr {T = Unit {0}} {E = CliFault} (Ok tt)) → latch ≡ false
-works false h = refl
-works true h = let bad = h refl in absurd (cc)
 
 if_some : {A : Type 0} (o : Option A) (P Q : A → Type 0) → ((x : A) → P x → Q x) → IfSome o P → IfSome o Q
 if_some None P Q f h = tt
@@ -116,12 +111,6 @@ module _ {R : Type 0} (remaining : R → Option (List ℕ)) where
       step all (rest, known, so_far) =
           let none : rest ≡ [] = (let f : Some rest ≡ Some [] = sym known ∙ ap (told remaining) e in cc) in
           so_far ∙ ap (λ (r : List (List ℕ × List ℕ)). with_inputs old.forced new.entries r) none
-
-  -- the answer that carries a fault on
-  pub so_far_carried : (inputs : List (String Global × Latched R)) (old new : Kept) (r : Result (Unit {0}) CliFault) (fault : CliFault) → IsErrAnd r (λ f. f ≡ fault) →
-      IfSome (told remaining inputs) (λ all. AreTaken old new all (Err fault)) → IfSome (told remaining inputs) (λ all. AreTaken old new all r)
-  so_far_carried inputs old new (Ok x) fault h refused = absurd h
-  so_far_carried inputs old new (Err f) fault h refused = subst (λ (x : CliFault). IfSome (told remaining inputs) (λ all. AreTaken old new all (Err x))) (sym h) refused
 
 -- ---- the link of what was kept
 

@@ -1,5 +1,4 @@
 pub mod AnswerLemmas
-pub mod LoadLemmas
 pub mod WordsLemmas
 pub mod CommandLemmas
 pub mod ScriptLemmas

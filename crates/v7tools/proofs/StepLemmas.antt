@@ -2,6 +2,7 @@
 use Rattle.std.specs.declared.alloc.Global.{Global}
 use Rattle.std.proofs.Common.{◌≡◌, ◌↔◌, ℕ, suc, ◌-◌, length, arith, Bool, true, false, List, [], ◌∷◌, ◌++◌, Option, Some, None, Result, Ok, Err, refl, sym, ap, ◌∙◌, subst, ◌⊎◌, inl, inr}
 use Rattle.std.specs.Prelude.{String, string_bytes, codes, slice_get, IfOk, IfSome, IsErr, IsTrue}
+use Rattle.std.proofs.lemmas.Bool.{false_from_ne_true}
 use Rattle.aout_core.specs.declared.file.ReadFault.TheVariants as reads
 use Rattle.aout_core.specs.Contents.{Contents}
 use Rattle.aout_core.specs.Front.{front}
@@ -16,32 +17,23 @@ use Rattle.link_out.specs.declared.linked.LinkFault.TheVariants as links
 use Rattle.link_out.specs.Link.{Outcome}
 use Rattle.link_out.specs.Outcomes.{IsLinkOf}
 use Rattle.link_out.specs.Reports.{line}
+use Rattle.link_out.proofs.RunLemmas.{last_of-put_last, without_last-put_last}
 use Rattle.v7tools.specs.declared.fault.CliFault.{CliFault}
 use Rattle.v7tools.specs.declared.fault.CliFault.TheVariants as faults
 use Rattle.v7tools.specs.declared.commands.Step.{Step}
 use Rattle.v7tools.specs.declared.commands.Step.TheVariants.{Refused}
-use Rattle.v7tools.specs.Inputs.{Cause, bad_file, object_in, kept_with}
-use Rattle.v7tools.specs.FaultTexts.{cli_text, fault_of_link}
+use Rattle.v7tools.specs.Inputs.{Cause, cannot_open, bad_file, bad_object, not_added, object_in, kept_with}
+use Rattle.v7tools.specs.FaultTexts.{cause_text, cli_text, fault_at, fault_of_link}
 use Rattle.v7tools.specs.Answers.{done, refused, Stepped, add_step, input_from, failing, withdraw_step, link_step}
-use Rattle.v7tools.specs.Steps.{IsRefusal, IsAccepted, IsAddition, IsAddOn, IsAddBy, IsLinkBy, label_of, verdict_of, without_memory}
+use Rattle.v7tools.specs.Steps.{IsRefusal, IsAccepted, IsAddition, IsAddOn, IsAddBy, IsLinkBy, label_of, verdict_of}
 
 -- ---- the last object
-
-pub last_of-put_last : (es : List Labelled) (e : Labelled) → last_of (es ++ e ∷ []) ≡ Some e
-last_of-put_last [] e = refl
-last_of-put_last (d ∷ []) e = refl
-last_of-put_last (d ∷ (c ∷ es)) e = last_of-put_last (c ∷ es) e
 
 pub last_of-slice_get : (es : List Labelled) (e : Labelled) → slice_get es (length es - 1) ≡ Some e → last_of es ≡ Some e
 last_of-slice_get [] e h = absurd (cc)
 last_of-slice_get (d ∷ []) e h = h
 last_of-slice_get (d ∷ (c ∷ es)) e h =
     last_of-slice_get (c ∷ es) e (ap (λ (n : ℕ). slice_get (d ∷ (c ∷ es)) n) (let n : suc (length (c ∷ es) - 1) ≡ length (d ∷ (c ∷ es)) - 1 = omega arith in n) ∙ h)
-
-without_last-put_last : (es : List Labelled) (e : Labelled) → without_last (es ++ e ∷ []) ≡ es
-without_last-put_last [] e = refl
-without_last-put_last (d ∷ []) e = refl
-without_last-put_last (d ∷ (c ∷ es)) e = ap (λ fs. d ∷ fs) (without_last-put_last (c ∷ es) e)
 
 -- what a withdrawal does where there is an object, and where there is none
 pub withdrawn_last : (old new : Kept) (e : Labelled) → Withdraws old new e → withdraw_step old.entries (last_of old.entries) ≡ record { verdict = done; answer = line (codes "withdrew " ++ e.label); kept = new.entries }
@@ -57,10 +49,6 @@ withdrawn_none old none = ap (λ (es : List Labelled). withdraw_step old.entries
 abbrev pub failed_with : CliFault → Result (Unit {0}) CliFault
 failed_with fault = Err fault
 
-not_true : (t : Bool) → (t ≡ true → ⊥) → t ≡ false
-not_true true h = absurd (h refl)
-not_true false h = refl
-
 -- a step on what was found, where it is what the bytes spell
 on_bytes : (known : Option (List ℕ)) (forced : List (List ℕ)) (kept : List Labelled) (path : List ℕ) (found : Result Contents Cause) (r : Result (List Labelled) Cause) → IfSome known (λ bytes. found ≡ object_in (front bytes)) →
     kept_with forced kept path found ≡ r → IsAddOn known forced kept path (add_step kept path r)
@@ -72,25 +60,32 @@ on_failure : (forced : List (List ℕ)) (kept : List Labelled) (path : List ℕ)
 on_failure forced kept path found r h e = ap (add_step kept path) (sym e ∙ ap (kept_with forced kept path) h)
 
 -- an object is added
-pub added_by : {R : Type 0} (remaining : R → Option (List ℕ)) (wire : Latched R) (old new : Kept) (path : List ℕ) (o : Contents) → (wire.has_failed ≡ true → ⊥) → IsAccepted (remaining wire.device) old new path o →
+pub added_by : {R : Type 0} (remaining : R → Option (List ℕ)) (wire : Latched R) (old new : Kept) (path : List ℕ) (o : Contents) → wire.has_failed ≡ false → IsAccepted (remaining wire.device) old new path o →
     IsAddBy remaining wire old.forced old.entries path (add_step old.entries path (Ok new.entries))
 added_by remaining wire old new path o working h = by_found h.is_found
   where
     by_found : (Ok o ≡ Err (bad_file reads.Device)) ⊎ IfSome (remaining wire.device) (λ bytes. Ok o ≡ object_in (front bytes)) → IsAddBy remaining wire old.forced old.entries path (add_step old.entries path (Ok new.entries))
     by_found (inl e) = absurd (cc)
-    by_found (inr e) = inr (not_true wire.has_failed working, inr (on_bytes (remaining wire.device) old.forced old.entries path (Ok o) (Ok new.entries) e h.accepts))
+    by_found (inr e) = inr (working, inr (on_bytes (remaining wire.device) old.forced old.entries path (Ok o) (Ok new.entries) e h.accepts))
 
 -- the step that a fault refuses
 abbrev pub refused_as : List Labelled → List ℕ → Stepped
 refused_as kept text = record { verdict = refused; answer = line text; kept = kept }
 
+-- the text of a fault is that of its cause
+text_of_cause : (path : String Global) (cause : Cause) → cli_text (fault_at path cause) ≡ cause_text (string_bytes path) cause
+text_of_cause path cannot_open = refl
+text_of_cause path (bad_file fault) = refl
+text_of_cause path (bad_object fault) = refl
+text_of_cause path (not_added fault) = refl
+
 refused_by : {R : Type 0} (remaining : R → Option (List ℕ)) (wire : Latched R) (old : Kept) (path : String Global) (fault : CliFault) →
-    (IsTrue wire.has_failed → failed_with fault ≡ failed_with (faults.BadFile path reads.Device)) → IsRefusal (remaining wire.device) old (string_bytes path) (cli_text fault) →
+    (IsTrue wire.has_failed → failed_with fault ≡ failed_with (faults.BadFile path reads.Device)) → IsRefusal (remaining wire.device) old path fault →
     IsAddBy remaining wire old.forced old.entries (string_bytes path) (refused_as old.entries (cli_text fault))
 refused_by {R} remaining wire old path fault failed h = by_latch wire.has_failed refl failed h.is_found
   where
     says : refused_as old.entries (cli_text fault) ≡ add_step old.entries (string_bytes path) (Err h.cause)
-    says = ap (refused_as old.entries) h.says
+    says = ap (refused_as old.entries) (ap cli_text h.names ∙ text_of_cause path h.cause)
 
     by_latch : (t : Bool) → wire.has_failed ≡ t → (IsTrue t → failed_with fault ≡ failed_with (faults.BadFile path reads.Device)) →
         (h.found ≡ Err (bad_file reads.Device)) ⊎ IfSome (remaining wire.device) (λ bytes. h.found ≡ object_in (front bytes)) →
@@ -104,31 +99,18 @@ refused_by {R} remaining wire old path fault failed h = by_latch wire.has_failed
               (on_bytes (remaining wire.device) old.forced old.entries (string_bytes path) h.found (Err h.cause) e h.refuses)),
         )
 
-memory_by : {R : Type 0} (remaining : R → Option (List ℕ)) (wire : Latched R) (old : Kept) (path : String Global) →
-    (IsTrue wire.has_failed → failed_with faults.Memory ≡ failed_with (faults.BadFile path reads.Device)) →
-    IsAddBy remaining wire old.forced old.entries (string_bytes path) (without_memory old.entries)
-memory_by remaining wire old path failed = inr (by_latch wire.has_failed failed, inl refl)
-  where
-    by_latch : (t : Bool) → (IsTrue t → failed_with faults.Memory ≡ failed_with (faults.BadFile path reads.Device)) → t ≡ false
-    by_latch true failed = let e = failed refl in absurd (cc)
-    by_latch false failed = refl
+memory_by : {R : Type 0} (remaining : R → Option (List ℕ)) (wire : Latched R) (old : Kept) (path : String Global) (fault : CliFault) →
+    (IsTrue wire.has_failed → failed_with fault ≡ failed_with (faults.BadFile path reads.Device)) → fault ≡ faults.Memory →
+    IsAddBy remaining wire old.forced old.entries (string_bytes path) (refused_as old.entries (cli_text fault))
+memory_by remaining wire old path fault failed is =
+    inr (false_from_ne_true wire.has_failed (λ t. let e = failed t in absurd (cc)), inl (ap (λ (f : CliFault). refused_as old.entries (cli_text f)) is))
 
 -- a file is not added
 pub not_added_by : {R : Type 0} (remaining : R → Option (List ℕ)) (wire : Latched R) (old new : Kept) (path : String Global) (fault : CliFault) →
-    (IsTrue wire.has_failed → failed_with fault ≡ failed_with (faults.BadFile path reads.Device)) → IsAddition (remaining wire.device) old new (string_bytes path) (Err fault) →
+    (IsTrue wire.has_failed → failed_with fault ≡ failed_with (faults.BadFile path reads.Device)) → IsAddition (remaining wire.device) old new path (Err fault) →
     (new ≡ old) × IsAddBy remaining wire old.forced old.entries (string_bytes path) (refused_as old.entries (cli_text fault))
-not_added_by remaining wire old new path faults.Memory failed h = (h, memory_by remaining wire old path failed)
-not_added_by remaining wire old new path faults.Usage failed h = (h.0, refused_by remaining wire old path faults.Usage failed h.1)
-not_added_by remaining wire old new path (faults.CannotOpen p) failed h = (h.0, refused_by remaining wire old path (faults.CannotOpen p) failed h.1)
-not_added_by remaining wire old new path (faults.BadFile p f) failed h = (h.0, refused_by remaining wire old path (faults.BadFile p f) failed h.1)
-not_added_by remaining wire old new path (faults.BadObject p f) failed h = (h.0, refused_by remaining wire old path (faults.BadObject p f) failed h.1)
-not_added_by remaining wire old new path (faults.NotAdded p f) failed h = (h.0, refused_by remaining wire old path (faults.NotAdded p f) failed h.1)
-not_added_by remaining wire old new path (faults.NotLinked f) failed h = (h.0, refused_by remaining wire old path (faults.NotLinked f) failed h.1)
-not_added_by remaining wire old new path (faults.CannotCreate p) failed h = (h.0, refused_by remaining wire old path (faults.CannotCreate p) failed h.1)
-not_added_by remaining wire old new path faults.WriteFailed failed h = (h.0, refused_by remaining wire old path faults.WriteFailed failed h.1)
-not_added_by remaining wire old new path faults.LongLine failed h = (h.0, refused_by remaining wire old path faults.LongLine failed h.1)
-not_added_by remaining wire old new path faults.ManyLines failed h = (h.0, refused_by remaining wire old path faults.ManyLines failed h.1)
-not_added_by remaining wire old new path faults.ScriptFailed failed h = (h.0, refused_by remaining wire old path faults.ScriptFailed failed h.1)
+not_added_by remaining wire old new path fault failed (same, inl is) = (same, memory_by remaining wire old path fault failed is)
+not_added_by remaining wire old new path fault failed (same, inr h) = (same, refused_by remaining wire old path fault failed h)
 
 -- ---- links
 
@@ -162,3 +144,8 @@ label_is old new e h = ap label_of (ap last_of h.entries ∙ last_of-put_last ol
 pub failed_before : {R : Type 0} (before after : Latched R) (r : Result (Unit {0}) CliFault) (path : String Global) → (IsTrue before.has_failed → after ≡ before) →
     ((r ≡ failed_with (faults.BadFile path reads.Device)) ↔ IsTrue after.has_failed) → IsTrue before.has_failed → r ≡ failed_with (faults.BadFile path reads.Device)
 failed_before {R} before after r path latched device failed = device.1 (subst (λ (w : Latched R). IsTrue w.has_failed) (sym (latched failed)) failed)
+
+-- the device of a file that is added had not failed
+pub worked_before : {R : Type 0} (before after : Latched R) (path : String Global) → (IsTrue before.has_failed → after ≡ before) →
+    ((Ok tt ≡ failed_with (faults.BadFile path reads.Device)) ↔ IsTrue after.has_failed) → before.has_failed ≡ false
+worked_before before after path latched device = false_from_ne_true before.has_failed (λ failed. let bad = failed_before before after (Ok tt) path latched device failed in absurd (cc))

@@ -1,5 +1,5 @@
 -- The texts of faults.
-use Rattle.std.specs.Prelude.{ℕ, List, ◌++◌, codes, decimal, Option, Some, None, String, string_bytes, [], ◌∷◌}
+use Rattle.std.specs.Prelude.{ℕ, List, ◌++◌, codes, decimal, String, string_bytes, [], ◌∷◌}
 use Rattle.std.specs.declared.alloc.Global.{Global}
 use Rattle.aout_core.specs.declared.file.ReadFault.{ReadFault}
 use Rattle.aout_core.specs.declared.file.ReadFault.TheVariants as reads
@@ -11,7 +11,7 @@ use Rattle.link_out.specs.declared.linked.LinkFault.{LinkFault}
 use Rattle.link_out.specs.declared.linked.LinkFault.TheVariants as links
 use Rattle.symtools.specs.declared.fault.ToolFault.{ToolFault}
 use Rattle.symtools.specs.declared.fault.ToolFault.TheVariants as tools
-use Rattle.v7tools.specs.Inputs.{Cause, cannot_open, bad_file, bad_object, not_added, Refusal, of_input, not_linked}
+use Rattle.v7tools.specs.Inputs.{Cause, cannot_open, bad_file, bad_object, not_added}
 use Rattle.v7tools.specs.declared.fault.CliFault.{CliFault}
 use Rattle.v7tools.specs.declared.fault.CliFault.TheVariants as faults
 
@@ -74,13 +74,12 @@ cli_text faults.ScriptFailed = codes "script read error"
 abbrev pub fault_line : CliFault → List ℕ
 fault_line fault = codes "v7: " ++ cli_text fault ++ 10 ∷ []
 
--- what a fault of a link of inputs says of them, if it says anything
-abbrev pub refusal_of : CliFault → Option Refusal
-refusal_of (faults.BadFile path fault) = Some (of_input (string_bytes path) (bad_file fault))
-refusal_of (faults.BadObject path fault) = Some (of_input (string_bytes path) (bad_object fault))
-refusal_of (faults.NotAdded path fault) = Some (of_input (string_bytes path) (not_added fault))
-refusal_of (faults.NotLinked fault) = Some (not_linked fault)
-refusal_of _ = None
+-- the fault of the program where the file at a path is not taken
+abbrev pub fault_at : String Global → Cause → CliFault
+fault_at path cannot_open = faults.CannotOpen path
+fault_at path (bad_file fault) = faults.BadFile path fault
+fault_at path (bad_object fault) = faults.BadObject path fault
+fault_at path (not_added fault) = faults.NotAdded path fault
 
 -- the fault of the program where an object at a path was not added
 abbrev pub fault_of_addition : String Global → AddFault → CliFault

@@ -1,9 +1,9 @@
 -- What the answer to a link of files says of the bytes of its inputs.
 use Rattle.std.specs.declared.alloc.Global.{Global}
-use Rattle.std.specs.Prelude.{◌≡◌, ℕ, false, List, [], ◌∷◌, Option, Some, None, Result, Ok, Err, String, string_bytes, IfSome}
+use Rattle.std.specs.Prelude.{◌≡◌, ℕ, false, List, [], ◌∷◌, Option, Some, None, Result, Ok, Err, String, string_bytes}
 use Rattle.aout_core.specs.declared.file.ReadFault.TheVariants as reads
+use Rattle.aout_core.specs.declared.object.ObjectFault.{ObjectFault}
 use Rattle.aout_core.specs.Contents.{Contents}
-use Rattle.aout_core.specs.Front.{front}
 use Rattle.aout_core.specs.WellFormed.{first_object_fault}
 use Rattle.aout_core.specs.Wires.{Latched}
 use Rattle.link_session.specs.declared.entry.AddFault.TheVariants as adds
@@ -12,7 +12,7 @@ use Rattle.link_out.specs.declared.linked.Linked.{Linked}
 use Rattle.link_out.specs.declared.linked.LinkFault.TheVariants as links
 use Rattle.link_out.specs.Choices.{Choices}
 use Rattle.link_out.specs.Outcomes.{outcome_of}
-use Rattle.v7tools.specs.Inputs.{Cause, bad_file, bad_object, not_added, Refusal, of_input, not_linked, object_in, kept_with, with_inputs, at_path, linked}
+use Rattle.v7tools.specs.Inputs.{bad_file, bad_object, not_added, Refusal, of_input, not_linked, with_input, with_inputs, at_path, linked}
 use Rattle.v7tools.specs.declared.fault.CliFault.{CliFault}
 use Rattle.v7tools.specs.declared.fault.CliFault.TheVariants as faults
 
@@ -70,26 +70,12 @@ abbrev pub AreTaken : Kept → Kept → List (List ℕ × List ℕ) → Result (
 AreTaken old new inputs (Ok _) = with_inputs old.forced old.entries inputs ≡ Ok new.entries
 AreTaken old new inputs (Err fault) = IsTrueOf (said_by fault) (with_inputs old.forced old.entries inputs)
 
--- an object was put behind what is kept, or why it was not, or why there is none
-abbrev pub IsPut : Kept → Kept → List ℕ → Result Contents Cause → Result (Unit {0}) CliFault → Type 0
-IsPut old new path object (Ok _) = kept_with old.forced old.entries path object ≡ Ok new.entries
-IsPut old new path object (Err fault) = IsTrueOf (said_by fault) (at_path path (kept_with old.forced old.entries path object))
-
 -- the same for one input
 abbrev pub IsTaken : Kept → Kept → List ℕ → List ℕ → Result (Unit {0}) CliFault → Type 0
-IsTaken old new path bytes result = IsPut old new path (object_in (front bytes)) result
-
--- a file that was read at a path, or why none was
-abbrev pub IsLoadOf : Option (List ℕ) → String Global → Result (String Global × Contents) CliFault → Type 0
-IsLoadOf bytes path (Ok r) = (r.0 ≡ path) × IfSome bytes (λ b. front b ≡ Ok r.1)
-IsLoadOf bytes path (Err (faults.BadFile at reads.Device)) = at ≡ path
-IsLoadOf bytes path (Err (faults.BadFile at reads.Memory)) = ⊥
-IsLoadOf bytes path (Err (faults.BadFile at fault)) = (at ≡ path) × IfSome bytes (λ b. front b ≡ Err fault)
-IsLoadOf bytes path (Err faults.Memory) = Unit {0}
-IsLoadOf bytes path (Err _) = ⊥
+IsTaken old new path bytes (Ok _) = with_input old.forced old.entries path bytes ≡ Ok new.entries
+IsTaken old new path bytes (Err fault) = IsTrueOf (said_by fault) (at_path path (with_input old.forced old.entries path bytes))
 
 -- an object, or why the file is none
 abbrev pub IsCheckOf : String Global → Contents → Result (String Global × Contents) CliFault → Type 0
 IsCheckOf path c (Ok r) = (r.0 ≡ path) × (r.1 ≡ c) × (first_object_fault c ≡ None)
-IsCheckOf path c (Err (faults.BadObject at fault)) = (at ≡ path) × (first_object_fault c ≡ Some fault)
-IsCheckOf path c (Err _) = ⊥
+IsCheckOf path c (Err fault) = (cause : ObjectFault) × (fault ≡ faults.BadObject path cause) × (first_object_fault c ≡ Some cause)

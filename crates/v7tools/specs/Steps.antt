@@ -4,6 +4,7 @@ use Rattle.std.specs.declared.alloc.Global.{Global}
 use Rattle.aout_core.specs.declared.file.ReadFault.TheVariants as reads
 use Rattle.aout_core.specs.Contents.{Contents}
 use Rattle.aout_core.specs.Front.{front}
+use Rattle.aout_core.specs.WellFormed.{IsWellFormed}
 use Rattle.aout_core.specs.Wires.{Latched, Puts}
 use Rattle.link_session.specs.declared.state.State.{State}
 use Rattle.link_session.specs.Labelled.{Labelled, objects}
@@ -22,7 +23,7 @@ use Rattle.v7tools.specs.declared.commands.Command.TheVariants.{Add, Withdraw, E
 use Rattle.v7tools.specs.declared.commands.Step.{Step}
 use Rattle.v7tools.specs.declared.commands.Step.TheVariants.{Done, Refused, ToStore}
 use Rattle.v7tools.specs.Inputs.{Cause, bad_file, object_in, kept_with}
-use Rattle.v7tools.specs.FaultTexts.{no_memory, cause_text, cli_text}
+use Rattle.v7tools.specs.FaultTexts.{no_memory, fault_at}
 use Rattle.v7tools.specs.Answers.{absent, failing, giving, adding, withdrawing, listing_externals, listing_undefined, anything_else, Verdict, done, refused, to_store, Stepped, add_step, input_from, link_step, step}
 
 -- what a step answers
@@ -104,19 +105,24 @@ abbrev pub TakesStep : {R W : Type 0} → (R → Option (List ℕ)) → (W → O
 TakesStep remaining contents o command old new result before after =
     (did : Stepped) × IsStepOn remaining old o command did × Changes command did.verdict old new × Does contents did new result before after
 
+-- a link that is to be stored can be linked again
+abbrev pub StoresObject : Step → Type 0
+StoresObject (ToStore l) = IsWellFormed l.file
+StoresObject _ = Unit {0}
+
 -- ---- the parts of a step
 
 -- what is found behind a path: that the device fails, or what its bytes are, where they are known
 abbrev pub IsFound : Option (List ℕ) → Result Contents Cause → Type 0
 IsFound known found = (found ≡ Err (bad_file reads.Device)) ⊎ IfSome known (λ bytes. found ≡ object_in (front bytes))
 
--- a file is not added for this cause
-pub record IsRefusal (known : Option (List ℕ)) (old : Kept) (path text : List ℕ) : Type 0 where
+-- the file at a path is not added, for the cause that this fault names
+pub record IsRefusal (known : Option (List ℕ)) (old : Kept) (path : String Global) (fault : CliFault) : Type 0 where
   pub found : Result Contents Cause
   pub cause : Cause
   pub is_found : IsFound known found
-  pub refuses : kept_with old.forced old.entries path found ≡ Err cause
-  pub says : text ≡ cause_text path cause
+  pub refuses : kept_with old.forced old.entries (string_bytes path) found ≡ Err cause
+  pub names : fault ≡ fault_at path cause
 
 -- an object is added
 pub record IsAccepted (known : Option (List ℕ)) (old new : Kept) (path : List ℕ) (object : Contents) : Type 0 where
@@ -124,11 +130,10 @@ pub record IsAccepted (known : Option (List ℕ)) (old new : Kept) (path : List 
   pub is_found : IsFound known (Ok object)
   pub accepts : kept_with old.forced old.entries path (Ok object) ≡ Ok new.entries
 
--- a file was added, or the fault says why it was not
-abbrev pub IsAddition : Option (List ℕ) → Kept → Kept → List ℕ → Result (Unit {0}) CliFault → Type 0
-IsAddition known old new path (Ok _) = (object : Contents) × IsAccepted known old new path object
-IsAddition known old new path (Err faults.Memory) = new ≡ old
-IsAddition known old new path (Err fault) = (new ≡ old) × IsRefusal known old path (cli_text fault)
+-- the file at a path was added, or the fault says why it was not
+abbrev pub IsAddition : Option (List ℕ) → Kept → Kept → String Global → Result (Unit {0}) CliFault → Type 0
+IsAddition known old new path (Ok _) = (object : Contents) × IsAccepted known old new (string_bytes path) object
+IsAddition known old new path (Err fault) = (new ≡ old) × ((fault ≡ faults.Memory) ⊎ IsRefusal known old path fault)
 
 -- the file at a path is added, or the answer says why it is not
 abbrev pub TakesAddStep : {R W : Type 0} → (R → Option (List ℕ)) → (W → Option (List ℕ)) → String Global → Latched R → Kept → Kept → Result Step CliFault → Latched W → Latched W → Type 0

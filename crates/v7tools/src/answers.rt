@@ -1,5 +1,5 @@
 //! The steps of a session, and their answers.
-ghost use Rattle.std.specs.Prelude.{◌≡◌, ◌↔◌, ◌++◌, IfErr, IfOk, IsErr, IsTrue};
+ghost use Rattle.std.specs.Prelude.{◌≡◌, ◌↔◌, ◌++◌, true, IfErr, IfOk, IsErr, IsTrue};
 ghost use Rattle.aout_core.specs.Wires.{Puts};
 ghost use Rattle.link_session.specs.Edits.{last_of};
 ghost use Rattle.link_session.specs.Labelled.{objects};
@@ -9,7 +9,7 @@ ghost use Rattle.v7tools.specs.declared.fault.CliFault.TheVariants.{WriteFailed}
 ghost use Rattle.v7tools.specs.declared.commands.Step.TheVariants.{Refused};
 ghost use Rattle.v7tools.specs.Answers.{withdraw_step};
 ghost use Rattle.v7tools.specs.FaultTexts.{cli_text};
-ghost use Rattle.v7tools.specs.Steps.{label_of, TakesAddStep, TakesStep, TakesLinkStep, verdict_of, WithdrawsIf};
+ghost use Rattle.v7tools.specs.Steps.{label_of, StoresObject, TakesAddStep, TakesStep, TakesLinkStep, verdict_of, WithdrawsIf};
 
 use crate::additions::add_file;
 use crate::commands::{Command, Step};
@@ -74,6 +74,7 @@ fn add<R: Read, W: Write>(
     ensures write_failed { IfErr result (λ fault. fault ≡ WriteFailed) }
     ensures latched { IsTrue answers.old.has_failed → (answers.new ≡ answers.old) }
     ensures step { TakesAddStep R.remaining W.contents path wire.old session.old session.new result answers.old answers.new }
+    ensures object { IfOk result StoresObject }
 {
     match add_file(alloc, session, path, wire) {
         Ok(()) => {
@@ -92,6 +93,7 @@ fn withdraw<W: Write>(session: &mut Session, answers: &mut Wire<W>) -> Result<St
     ensures bytes { Puts result (W.contents answers.old.device) (W.contents answers.new.device) (withdraw_step session.old.entries (last_of session.old.entries)).answer }
     ensures step { IfOk result (λ step. verdict_of step ≡ (withdraw_step session.old.entries (last_of session.old.entries)).verdict) }
     ensures kept { session.new.entries ≡ (withdraw_step session.old.entries (last_of session.old.entries)).kept }
+    ensures object { IfOk result StoresObject }
     ensures changes { WithdrawsIf (withdraw_step session.old.entries (last_of session.old.entries)).verdict session.old session.new }
 {
     match session.withdraw() {
@@ -116,6 +118,7 @@ fn make_link<W: Write>(
     ensures write_failed { IfErr result (λ fault. fault ≡ WriteFailed) }
     ensures latched { IsTrue answers.old.has_failed → (answers.new ≡ answers.old) }
     ensures step { TakesLinkStep W.contents (link session.now.forced (objects session.now.entries) options.now) session.now result answers.old answers.new }
+    ensures object { options.now.relocatable ≡ true → IfOk result StoresObject }
 {
     match finish(alloc, session, options) {
         Ok(linked) => Ok(Step::ToStore(linked)),
@@ -125,8 +128,9 @@ fn make_link<W: Write>(
 
 /// Does what a command asks for, and writes the answer: `added PATH` or the text of the fault; `withdrew LABEL` or
 /// `nothing to withdraw`; the nm lines of the externals; the undefined names; the text of the fault that refuses a
-/// link; or `bad command`. Of a link that is made nothing is written. A step that is `Refused` leaves the session as
-/// it was, also for want of memory, which answers `no memory`. Memory is taken to add and to link alone. (own choice)
+/// link; or `bad command`. Of a link that is made nothing is written; with relocation its file is an object. A step that
+/// is `Refused` leaves the session as it was, also for want of memory, which answers `no memory`. Memory is taken to add
+/// and to link alone. (own choice)
 ///
 /// Errors: `WriteFailed`, 8, where the answers' wire failed, now or before: a front of the answer went out, and the
 /// session is as after the command.
@@ -141,6 +145,7 @@ pub fn step<R: Read + Drop, W: Write>(
     ensures latched { IsTrue answers.old.has_failed → (answers.new ≡ answers.old) }
     ensures forced { session.new.forced ≡ session.old.forced }
     ensures step { TakesStep R.remaining W.contents options.now command session.old session.new result answers.old answers.new }
+    ensures object { options.now.relocatable ≡ true → IfOk result StoresObject }
 {
     match command {
         Command::Add(path, wire) => match wire {

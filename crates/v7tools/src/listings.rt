@@ -1,26 +1,15 @@
 //! The lists of a session's external names.
-ghost use Rattle.std.specs.Prelude.{◌≡◌, ◌↔◌, ◌≤◌, ◌<◌, length, slice_get, bytes_eq, Some, IsErr, IsTrue};
+ghost use Rattle.std.specs.Prelude.{◌≡◌, ◌↔◌, ◌≤◌, IsErr, IsTrue};
 ghost use Rattle.aout_core.specs.Wires.{Puts};
 ghost use Rattle.link_session.specs.States.{segment_number};
-ghost use Rattle.link_session.specs.Mentions.{is_among};
-ghost use Rattle.link_session.specs.Undo.{image_of};
-ghost use Rattle.link_out.specs.InOrder.{is_missing};
-ghost use Rattle.link_out.specs.Reports.{reserved_names};
 ghost use Rattle.v7tools.specs.Answers.{entry_of, externals_text, undefined_text};
 ghost use Rattle.v7tools.specs.Steps.{missing_line};
 
 use aout_core::{DeviceFault, Name, Segment, Symbol, Wire};
+use link_out::is_missing;
 use link_session::{Session, State};
 use std::io::Write;
 use symtools::line;
-
-/// An external: its name, and what is known of it.
-fn external_at(session: &Session, index: u16) -> (Name, State)
-    requires { index < length (image_of session.now).externals }
-    ensures { slice_get (image_of session.now).externals index ≡ Some (result.0, result.1) }
-{
-    session.external(index).unwrap()
-}
 
 /// The type of a symbol in this segment, without the external bit.
 fn segment_number(segment: Segment) -> u16
@@ -69,34 +58,10 @@ pub(crate) fn put_externals<W: Write>(
         return Err(DeviceFault);
     }
     for index in 0..session.external_count() {
-        let (name, state) = external_at(session, index);
+        let (name, state) = session.external(index).unwrap();
         line(&entry_of(name, state), answers)?;
     }
     Ok(())
-}
-
-/// Whether the linker may define this name.
-fn is_reserved(name: &Name) -> bool
-    ensures { result ≡ is_among reserved_names name.now }
-{
-    is_named(name, b"_etext") || (is_named(name, b"_edata") || is_named(name, b"_end"))
-}
-
-/// Whether a name has this spelling.
-fn is_named(name: &Name, text: &[u8]) -> bool
-    ensures { result ≡ bytes_eq name.now text.now }
-{
-    name.as_bytes() == text
-}
-
-/// Whether a name is undefined, and no reserved one.
-fn is_missing(name: &Name, state: State) -> bool
-    ensures { result ≡ is_missing name.now state }
-{
-    match state {
-        State::Defined(_, _) => false,
-        State::Wanted(size) => size == 0 && !is_reserved(name),
-    }
 }
 
 /// Writes a name and a newline, if the name is undefined.
@@ -129,7 +94,7 @@ pub(crate) fn put_undefined<W: Write>(
         return Err(DeviceFault);
     }
     for index in 0..session.external_count() {
-        let (name, state) = external_at(session, index);
+        let (name, state) = session.external(index).unwrap();
         put_if_missing(&name, state, answers)?;
     }
     Ok(())

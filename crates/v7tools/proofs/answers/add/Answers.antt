@@ -1,12 +1,12 @@
 use Rattle.std.proofs.Common.{ℕ, List, Ok, Err, ◌++◌, ◌∙◌, subst, ap, refl}
-use Rattle.std.specs.Prelude.{codes, string_bytes, IsTrue}
+use Rattle.std.specs.Prelude.{codes, string_bytes}
 use Rattle.std.specs.Io.KnownBytes.{Appends}
 use Rattle.aout_core.specs.Wires.{AppendsFront}
 use Rattle.link_session.specs.Undo.{Kept}
 use Rattle.link_out.specs.Reports.{line}
 use Rattle.v7tools.specs.Answers.{add_step}
 use Rattle.v7tools.specs.FaultTexts.{cli_text}
-use Rattle.v7tools.proofs.StepLemmas.{added_by, not_added_by, refused_as, no_verdict, told_in_part, refused_verdict, label_is, failed_before}
+use Rattle.v7tools.proofs.StepLemmas.{added_by, not_added_by, refused_as, no_verdict, told_in_part, refused_verdict, label_is, failed_before, worked_before}
 use Rattle.v7tools.proofs.answers.add.Goals as goal
 
 pub returns-in_err-put_line-in-Ok-clause-step : goal.returns-in_err-put_line-in-Ok-clause-step
@@ -15,7 +15,7 @@ returns-in_err-put_line-in-Ok-clause-step g c =
     let new = c.add_file.new.session in
     let path = string_bytes c.args.path in
     let (object, accepted) = c.in-Ok.ensures.value in
-    let working : IsTrue c.args.wire.now.has_failed → ⊥ = λ failed. let bad = failed_before c.args.wire.now c.add_file.new.wire (Ok tt) c.args.path c.in-Ok.ensures.latched c.in-Ok.ensures.device failed in absurd (cc) in
+    let working = worked_before c.args.wire.now c.add_file.new.wire c.args.path c.in-Ok.ensures.latched c.in-Ok.ensures.device in
     let r = c.from_residual.result in
     let before = g.W.Write.contents c.args.answers.now.device in
     let after = g.W.Write.contents c.put_line.new.answers.device in
@@ -37,7 +37,7 @@ returns-in_ok-put_line-in-Ok-clause-step g c =
     let new = c.add_file.new.session in
     let path = string_bytes c.args.path in
     let (object, accepted) = c.in-Ok.ensures.value in
-    let working : IsTrue c.args.wire.now.has_failed → ⊥ = λ failed. let bad = failed_before c.args.wire.now c.add_file.new.wire (Ok tt) c.args.path c.in-Ok.ensures.latched c.in-Ok.ensures.device failed in absurd (cc) in
+    let working = worked_before c.args.wire.now c.add_file.new.wire c.args.path c.in-Ok.ensures.latched c.in-Ok.ensures.device in
     let before = g.W.Write.contents c.args.answers.now.device in
     let after = g.W.Write.contents c.put_line.new.answers.device in
     let label = c.as_bytes.ensures.value ∙ c.last_label.ensures ∙ label_is old new _ accepted.adds in

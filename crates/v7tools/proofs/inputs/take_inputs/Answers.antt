@@ -1,8 +1,12 @@
-use Rattle.std.proofs.Common.{refl, sym, subst, ◌∙◌}
+use Rattle.std.proofs.Common.{Result, Ok, Err, refl, sym, subst, ◌∙◌}
 use Rattle.std.specs.List.{AllByRecursion}
 use Rattle.std.proofs.lemmas.List.{nil_from_length}
-use Rattle.v7tools.specs.LinkAnswers.{IsWorking}
-use Rattle.v7tools.proofs.AnswerLemmas.{works, so_far_none, so_far_more, so_far_refused, so_far_carried, so_far_all}
+use Rattle.std.specs.Prelude.{IfSome}
+use Rattle.v7tools.specs.declared.fault.CliFault.{CliFault}
+use Rattle.v7tools.specs.LinkAnswers.{AreTaken, IsWorking, told}
+use Rattle.v7tools.proofs.AdditionLemmas.{addition_taken, carried, forced_kept}
+use Rattle.v7tools.proofs.AnswerLemmas.{so_far_none, so_far_more, so_far_refused, so_far_all}
+use Rattle.v7tools.proofs.StepLemmas.{worked_before}
 use Rattle.v7tools.proofs.inputs.take_inputs.Goals as goal
 
 pub loop-path-init : goal.loop-path-init
@@ -14,20 +18,30 @@ loop-path-init g c =
       working = λ h. subst (AllByRecursion IsWorking) all_left h;
     }
 
-pub returns-in_err-take_input-clause-value : goal.returns-in_err-take_input-clause-value
-returns-in_err-take_input-clause-value g c =
-    so_far_carried g.R.Read.remaining c.args.inputs.items c.args.session.now c.take_input.new.session c.from_residual.result c.in_err-take_input.field-0.0 c.from_residual.ensures.1
+pub returns-in_err-add_file-clause-value : goal.returns-in_err-add_file-clause-value
+returns-in_err-add_file-clause-value g c =
+    let fault = c.in_err-add_file.field-0.0 in
+    let before = c.loop-path.session in
+    let after = c.add_file.new.session in
+    let known = g.R.Read.remaining c.in-Some.wire.device in
+    subst (λ (r : Result (Unit {0}) CliFault). IfSome (told g.R.Read.remaining c.args.inputs.items) (λ all. AreTaken c.args.session.now after all r)) (sym (carried c.from_residual.result fault c.from_residual.ensures.1))
     (so_far_refused g.R.Read.remaining c.args.inputs.items c.loop-path.path-iterator.rest.items c.next.new.self.rest.items (c.in-Some.path, c.in-Some.wire)
-    c.args.session.now c.loop-path.session c.take_input.new.session c.take_input.new.session c.in_err-take_input.field-0.0 c.loop-path.invariant.forced
-    c.loop-path.invariant.taken c.in-Some.ensures.steps.0 c.in_err-take_input.ensures.value)
+    c.args.session.now before after after fault c.loop-path.invariant.forced c.loop-path.invariant.taken c.in-Some.ensures.steps.0
+    (addition_taken known before after c.in-Some.path (Err fault) c.in_err-add_file.ensures.faults c.in_err-add_file.ensures.value))
 
 pub loop-path-preserved : goal.loop-path-preserved
-loop-path-preserved g c = record {
-  taken = so_far_more g.R.Read.remaining c.args.inputs.items c.loop-path.path-iterator.rest.items c.next.new.self.rest.items (c.in-Some.path, c.in-Some.wire)
-      c.args.session.now c.loop-path.session c.take_input.new.session c.loop-path.invariant.forced c.loop-path.invariant.taken c.in-Some.ensures.steps.0 c.in_ok-take_input.ensures.value;
-  forced = c.in_ok-take_input.ensures.forced ∙ c.loop-path.invariant.forced;
-  working = λ h. c.loop-path.invariant.working (subst (AllByRecursion IsWorking) (sym c.in-Some.ensures.steps.0) (works c.in-Some.wire.has_failed c.in_ok-take_input.ensures.latched, h));
-}
+loop-path-preserved g c =
+    let before = c.loop-path.session in
+    let after = c.add_file.new.session in
+    let known = g.R.Read.remaining c.in-Some.wire.device in
+    let added = c.in_ok-add_file.ensures in
+    let working = worked_before c.in-Some.wire c.add_file.new.wire c.in-Some.path added.latched added.device in
+    record {
+      taken = so_far_more g.R.Read.remaining c.args.inputs.items c.loop-path.path-iterator.rest.items c.next.new.self.rest.items (c.in-Some.path, c.in-Some.wire)
+          c.args.session.now before after c.loop-path.invariant.forced c.loop-path.invariant.taken c.in-Some.ensures.steps.0 (addition_taken known before after c.in-Some.path (Ok tt) tt added.value);
+      forced = forced_kept known before after c.in-Some.path (Ok tt) added.value ∙ c.loop-path.invariant.forced;
+      working = λ h. c.loop-path.invariant.working (subst (AllByRecursion IsWorking) (sym c.in-Some.ensures.steps.0) (working, h));
+    }
 
 pub returns-clause-working : goal.returns-clause-working
 returns-clause-working g c =

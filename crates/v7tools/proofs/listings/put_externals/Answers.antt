@@ -1,4 +1,4 @@
-use Rattle.std.proofs.Common.{ℕ, List, subst, arith, rules}
+use Rattle.std.proofs.Common.{ℕ, List, ◌∙◌, sym, subst, arith, rules}
 use Rattle.std.specs.Io.KnownBytes.{Appends}
 use Rattle.aout_core.specs.declared.symbol.Symbol.{Symbol}
 use Rattle.aout_core.specs.Wires.{AppendsFront}
@@ -16,9 +16,9 @@ returns-in_err-line-clause-bytes g c =
     let old = g.W.Write.contents c.args.answers.now.device in
     let mid = g.W.Write.contents c.loop-index.answers.device in
     let new = g.W.Write.contents c.line.new.out.device in
-    let entry = c.external_at-name.result in
+    let entry = c.unwrap-name.result in
     put_broke_off c.from_residual.result old new (externals_text c.args.session.now.forced c.args.session.now.entries) c.from_residual.ensures.0
-    (stops_next spelling (image_of c.args.session.now).externals c.loop-index.index (entry.0, entry.1) old mid new c.external_at-name.ensures c.loop-index.invariant.gone
+    (stops_next spelling (image_of c.args.session.now).externals c.loop-index.index (entry.0, entry.1) old mid new (sym c.external.ensures ∙ c.unwrap-name.ensures) c.loop-index.invariant.gone
     (subst (λ (s : Symbol). AppendsFront mid new (symbol_line s)) c.entry_of.ensures c.in_err-line.ensures.bytes))
 
 pub loop-index-preserved : goal.loop-index-preserved
@@ -27,10 +27,10 @@ loop-index-preserved g c =
     let old = g.W.Write.contents c.args.answers.now.device in
     let mid = g.W.Write.contents c.loop-index.answers.device in
     let new = g.W.Write.contents c.line.new.out.device in
-    let entry = c.external_at-name.result in
+    let entry = c.unwrap-name.result in
     record {
       unlatched = search rules;
-      gone = sent_next spelling (image_of c.args.session.now).externals c.loop-index.index (entry.0, entry.1) old mid new c.external_at-name.ensures c.loop-index.invariant.gone
+      gone = sent_next spelling (image_of c.args.session.now).externals c.loop-index.index (entry.0, entry.1) old mid new (sym c.external.ensures ∙ c.unwrap-name.ensures) c.loop-index.invariant.gone
           (subst (λ (s : Symbol). Appends mid new (symbol_line s)) c.entry_of.ensures c.in_ok-line.ensures.bytes);
     }
 

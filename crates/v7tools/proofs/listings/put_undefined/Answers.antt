@@ -1,4 +1,4 @@
-use Rattle.std.proofs.Common.{subst, arith, rules}
+use Rattle.std.proofs.Common.{◌∙◌, sym, subst, arith, rules}
 use Rattle.std.specs.Io.KnownBytes.{Appends}
 use Rattle.aout_core.specs.Wires.{AppendsFront}
 use Rattle.aout_core.proofs.PutsLemmas.{put_broke_off}
@@ -14,20 +14,20 @@ returns-in_err-put_if_missing-clause-bytes g c =
     let old = g.W.Write.contents c.args.answers.now.device in
     let mid = g.W.Write.contents c.loop-index.answers.device in
     let new = g.W.Write.contents c.put_if_missing.new.answers.device in
-    let entry = c.external_at-name.result in
+    let entry = c.unwrap-name.result in
     put_broke_off c.from_residual.result old new (undefined_text s.forced s.entries) c.from_residual.ensures.0
     (subst (AppendsFront old new) (missing-text s.forced s.entries)
-    (stops_next missing_line (image_of s).externals c.loop-index.index (entry.0, entry.1) old mid new c.external_at-name.ensures c.loop-index.invariant.gone c.in_err-put_if_missing.ensures.bytes))
+    (stops_next missing_line (image_of s).externals c.loop-index.index (entry.0, entry.1) old mid new (sym c.external.ensures ∙ c.unwrap-name.ensures) c.loop-index.invariant.gone c.in_err-put_if_missing.ensures.bytes))
 
 pub loop-index-preserved : goal.loop-index-preserved
 loop-index-preserved g c =
     let old = g.W.Write.contents c.args.answers.now.device in
     let mid = g.W.Write.contents c.loop-index.answers.device in
     let new = g.W.Write.contents c.put_if_missing.new.answers.device in
-    let entry = c.external_at-name.result in
+    let entry = c.unwrap-name.result in
     record {
       unlatched = search rules;
-      gone = sent_next missing_line (image_of c.args.session.now).externals c.loop-index.index (entry.0, entry.1) old mid new c.external_at-name.ensures c.loop-index.invariant.gone c.in_ok-put_if_missing.ensures.bytes;
+      gone = sent_next missing_line (image_of c.args.session.now).externals c.loop-index.index (entry.0, entry.1) old mid new (sym c.external.ensures ∙ c.unwrap-name.ensures) c.loop-index.invariant.gone c.in_ok-put_if_missing.ensures.bytes;
     }
 
 pub returns-clause-bytes : goal.returns-clause-bytes
