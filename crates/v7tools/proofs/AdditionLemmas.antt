@@ -1,13 +1,14 @@
 -- What came of adding the file at a path.
 use Rattle.std.specs.declared.alloc.Global.{Global}
-use Rattle.std.proofs.Common.{◌≡◌, ℕ, List, Option, Some, None, Result, Ok, Err, refl, sym, ap, ◌∙◌, subst, inl, inr}
+use Rattle.std.proofs.Common.{◌≡◌, ℕ, arith, List, [], ◌∷◌, Option, Some, None, Result, Ok, Err, refl, sym, ap, ◌∙◌, subst, inl, inr}
 use Rattle.std.specs.Prelude.{String, string_bytes, IfErr, IfSome, IsErrAnd}
 use Rattle.aout_core.specs.declared.file.ReadFault.{ReadFault}
 use Rattle.aout_core.specs.declared.file.ReadFault.TheVariants as reads
 use Rattle.aout_core.specs.declared.object.ObjectFault.{ObjectFault}
 use Rattle.aout_core.specs.Contents.{Contents}
 use Rattle.aout_core.specs.Front.{front}
-use Rattle.aout_core.specs.Reading.{IsReadOf, LeavesAfter}
+use Rattle.aout_core.specs.Reading.{HasHeader, IsReadOf, LeavesAfter}
+use Rattle.aout_core.proofs.FrontLemmas.{Passed, front_passed}
 use Rattle.link_session.specs.declared.entry.AddFault.{AddFault}
 use Rattle.link_session.specs.declared.entry.AddFault.TheVariants as adds
 use Rattle.link_session.specs.Edits.{refusal}
@@ -20,7 +21,7 @@ use Rattle.v7tools.specs.declared.fault.CliFault.TheVariants as faults
 use Rattle.v7tools.specs.Inputs.{Cause, cannot_open, bad_file, bad_object, not_added, Refusal, of_input, object_or, object_in, added_unless, kept_with, with_input, at_path}
 use Rattle.v7tools.specs.FaultTexts.{fault_at, fault_of_addition}
 use Rattle.v7tools.specs.Loads.{read_of, IsAtPath}
-use Rattle.v7tools.specs.LinkAnswers.{said_by, IsPossible, IsTrueOf, IsTaken, IsCheckOf}
+use Rattle.v7tools.specs.LinkAnswers.{said_by, IsPossible, IsTrueOf, BreaksAt, IsTaken, IsCheckOf}
 use Rattle.v7tools.specs.Steps.{IsFound, IsRefusal, IsAccepted, IsAddition}
 
 -- ---- what was read
@@ -34,6 +35,24 @@ found_at : (known left : Option (List ℕ)) (r : Result Contents ReadFault) (fou
     IsReadWhereKnown known left r → IfSome known (λ bytes. found ≡ object_in (front bytes))
 found_at None left r found is spells h = tt
 found_at (Some bytes) left r found is spells h = sym is ∙ ap object_in (sym (spells bytes h.0))
+
+header_of : (bytes : List ℕ) (c : Contents) → Passed bytes c → HasHeader bytes
+header_of bytes c p = record { long = (let long = p.long in omega arith); header = record { magic = p.magic; sizes = p.sizes } }
+
+-- an object that was found stands behind a header
+behind_header : (known : Option (List ℕ)) (o : Contents) → IsFound known (Ok o) → IfSome known HasHeader
+behind_header None o h = tt
+behind_header (Some bytes) o (inl e) = absurd (cc)
+behind_header (Some bytes) o (inr e) = by_front (front bytes) refl e
+  where
+    by_front : (r : Result Contents ReadFault) → front bytes ≡ r → Ok o ≡ object_in r → HasHeader bytes
+    by_front (Err fault) is e = absurd (cc)
+    by_front (Ok c) is e = header_of bytes c (front_passed bytes c is)
+
+-- the reader had the header when it wanted memory
+header_read : (known left : Option (List ℕ)) → IsReadWhereKnown known left (Err reads.Memory) → IfSome known HasHeader
+header_read None left h = tt
+header_read (Some bytes) left h = h.0
 
 -- ---- why a file is not added
 
@@ -71,7 +90,7 @@ addition_unread known left old path (faults.BadFile at reads.ShortHeader) a h = 
 addition_unread known left old path (faults.BadFile at reads.BadMagic) a h = bad_read known left old path at reads.BadMagic a.0 (λ bytes read. read) h
 addition_unread known left old path (faults.BadFile at reads.OddSize) a h = bad_read known left old path at reads.OddSize a.0 (λ bytes read. read) h
 addition_unread known left old path (faults.BadFile at reads.Truncated) a h = bad_read known left old path at reads.Truncated a.0 (λ bytes read. read) h
-addition_unread known left old path faults.Memory a h = (refl, inl refl)
+addition_unread known left old path faults.Memory a h = (refl, inl (refl, header_read known left h))
 addition_unread known left old path faults.Usage a h = absurd a
 addition_unread known left old path (faults.CannotOpen at) a h = absurd a
 addition_unread known left old path (faults.BadObject at f) a h = absurd a
@@ -118,7 +137,7 @@ not_fit known old new path label o cause is_found same why real unchanged = (
 
 pub addition_refused : (known : Option (List ℕ)) (old new : Kept) (path label : String Global) (o : Contents) (cause : AddFault) → IsFound known (Ok o) → label ≡ path →
     IsCause (refusal old.forced (objects old.entries) o) cause → new ≡ old → IsAddition known old new path (Err (fault_of_addition label cause))
-addition_refused known old new path label o adds.Memory found same why unchanged = (unchanged, inl refl)
+addition_refused known old new path label o adds.Memory found same why unchanged = (unchanged, inl (refl, behind_header known o found))
 addition_refused known old new path label o adds.TextFull found same why unchanged = not_fit known old new path label o adds.TextFull found same why (λ e. absurd (cc)) unchanged
 addition_refused known old new path label o adds.DataFull found same why unchanged = not_fit known old new path label o adds.DataFull found same why (λ e. absurd (cc)) unchanged
 addition_refused known old new path label o adds.BssFull found same why unchanged = not_fit known old new path label o adds.BssFull found same why (λ e. absurd (cc)) unchanged
@@ -171,13 +190,25 @@ module _ (bytes : List ℕ) (old : Kept) (path : String Global) where
           said_at path h.cause answer (subst (λ (f : CliFault). IsPossible (said_by f)) h.names possible)
           (ap (at_path (string_bytes path)) (ap (kept_with old.forced old.entries (string_bytes path)) (sym e) ∙ h.refuses))
 
+-- the fault of a device names the path
+broke_at : (known : Option (List ℕ)) (old : Kept) (path : String Global) (bytes : List ℕ) (fault : CliFault) → IsRefusal known old path fault → BreaksAt old.forced old.entries ((string_bytes path, bytes) ∷ []) fault
+broke_at known old path bytes fault h at is = inl (by_cause h.cause (sym h.names ∙ is))
+  where
+    by_cause : (cause : Cause) → fault_at path cause ≡ faults.BadFile at reads.Device → string_bytes path ≡ string_bytes at
+    by_cause cannot_open e = absurd (cc)
+    by_cause (bad_file f) e = cc
+    by_cause (bad_object f) e = absurd (cc)
+    by_cause (not_added f) e = absurd (cc)
+
 pub addition_taken : (known : Option (List ℕ)) (old new : Kept) (path : String Global) (r : Result (Unit {0}) CliFault) → IfErr r (λ fault. IsPossible (said_by fault)) → IsAddition known old new path r →
     IfSome known (λ bytes. IsTaken old new (string_bytes path) bytes r)
 addition_taken None old new path r possible h = tt
 addition_taken (Some bytes) old new path (Ok x) possible (object, h) = taken_file bytes old path new object h
-addition_taken (Some bytes) old new path (Err fault) possible (same, inr h) = refused_file bytes old path fault possible h
-addition_taken (Some bytes) old new path (Err fault) possible (same, inl memory) =
-    subst (λ (f : CliFault). IsTrueOf (said_by f) (at_path (string_bytes path) (with_input old.forced old.entries (string_bytes path) bytes))) (sym memory) tt
+addition_taken (Some bytes) old new path (Err fault) possible (same, inr h) = (refused_file bytes old path fault possible h, broke_at (Some bytes) old path bytes fault h)
+addition_taken (Some bytes) old new path (Err fault) possible (same, inl (memory, header)) = (
+  subst (λ (f : CliFault). IsTrueOf (said_by f) (at_path (string_bytes path) (with_input old.forced old.entries (string_bytes path) bytes))) (sym memory) tt,
+  λ at is. absurd (cc),
+)
 
 pub forced_kept : (known : Option (List ℕ)) (old new : Kept) (path : String Global) (r : Result (Unit {0}) CliFault) → IsAddition known old new path r → new.forced ≡ old.forced
 forced_kept known old new path (Ok x) (object, h) = h.adds.forced

@@ -6,6 +6,7 @@ use Rattle.std.proofs.lemmas.Bool.{false_from_ne_true}
 use Rattle.aout_core.specs.declared.file.ReadFault.TheVariants as reads
 use Rattle.aout_core.specs.Contents.{Contents}
 use Rattle.aout_core.specs.Front.{front}
+use Rattle.aout_core.specs.Reading.{HasHeader}
 use Rattle.aout_core.specs.Wires.{AppendsFront, Latched, Puts}
 use Rattle.aout_core.proofs.PutsLemmas.{put_broke_off}
 use Rattle.link_session.specs.Edits.{last_of, without_last}
@@ -100,16 +101,16 @@ refused_by {R} remaining wire old path fault failed h = by_latch wire.has_failed
         )
 
 memory_by : {R : Type 0} (remaining : R → Option (List ℕ)) (wire : Latched R) (old : Kept) (path : String Global) (fault : CliFault) →
-    (IsTrue wire.has_failed → failed_with fault ≡ failed_with (faults.BadFile path reads.Device)) → fault ≡ faults.Memory →
+    (IsTrue wire.has_failed → failed_with fault ≡ failed_with (faults.BadFile path reads.Device)) → fault ≡ faults.Memory → IfSome (remaining wire.device) HasHeader →
     IsAddBy remaining wire old.forced old.entries (string_bytes path) (refused_as old.entries (cli_text fault))
-memory_by remaining wire old path fault failed is =
-    inr (false_from_ne_true wire.has_failed (λ t. let e = failed t in absurd (cc)), inl (ap (λ (f : CliFault). refused_as old.entries (cli_text f)) is))
+memory_by remaining wire old path fault failed is header =
+    inr (false_from_ne_true wire.has_failed (λ t. let e = failed t in absurd (cc)), inl (ap (λ (f : CliFault). refused_as old.entries (cli_text f)) is, header))
 
 -- a file is not added
 pub not_added_by : {R : Type 0} (remaining : R → Option (List ℕ)) (wire : Latched R) (old new : Kept) (path : String Global) (fault : CliFault) →
     (IsTrue wire.has_failed → failed_with fault ≡ failed_with (faults.BadFile path reads.Device)) → IsAddition (remaining wire.device) old new path (Err fault) →
     (new ≡ old) × IsAddBy remaining wire old.forced old.entries (string_bytes path) (refused_as old.entries (cli_text fault))
-not_added_by remaining wire old new path fault failed (same, inl is) = (same, memory_by remaining wire old path fault failed is)
+not_added_by remaining wire old new path fault failed (same, inl (is, header)) = (same, memory_by remaining wire old path fault failed is header)
 not_added_by remaining wire old new path fault failed (same, inr h) = (same, refused_by remaining wire old path fault failed h)
 
 -- ---- links

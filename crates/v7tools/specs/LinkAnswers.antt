@@ -1,12 +1,13 @@
 -- What the answer to a link of files says of the bytes of its inputs.
 use Rattle.std.specs.declared.alloc.Global.{Global}
-use Rattle.std.specs.Prelude.{◌≡◌, ℕ, false, List, [], ◌∷◌, Option, Some, None, Result, Ok, Err, String, string_bytes}
+use Rattle.std.specs.Prelude.{◌≡◌, ◌⊎◌, ℕ, false, List, [], ◌∷◌, Option, Some, None, Result, Ok, Err, IsOkAnd, String, string_bytes}
 use Rattle.aout_core.specs.declared.file.ReadFault.TheVariants as reads
 use Rattle.aout_core.specs.declared.object.ObjectFault.{ObjectFault}
 use Rattle.aout_core.specs.Contents.{Contents}
 use Rattle.aout_core.specs.WellFormed.{first_object_fault}
 use Rattle.aout_core.specs.Wires.{Latched}
 use Rattle.link_session.specs.declared.entry.AddFault.TheVariants as adds
+use Rattle.link_session.specs.Labelled.{Labelled}
 use Rattle.link_session.specs.Undo.{Kept}
 use Rattle.link_out.specs.declared.linked.Linked.{Linked}
 use Rattle.link_out.specs.declared.linked.LinkFault.TheVariants as links
@@ -60,20 +61,29 @@ IsTrueOf (refuses r) answer = answer ≡ Err r
 IsTrueOf says_nothing answer = Unit {0}
 IsTrueOf never answer = ⊥
 
+-- the inputs before one at this path are all taken
+abbrev pub IsReached : List (List ℕ) → List Labelled → List ℕ → List (List ℕ × List ℕ) → Type 0
+IsReached forced kept path [] = ⊥
+IsReached forced kept path (i ∷ is) = (i.0 ≡ path) ⊎ IsOkAnd (with_input forced kept i.0 i.1) (λ more. IsReached forced more path is)
+
+-- where the fault is that a device broke off, it is the device of such an input
+abbrev pub BreaksAt : List (List ℕ) → List Labelled → List (List ℕ × List ℕ) → CliFault → Type 0
+BreaksAt forced kept inputs fault = (path : String Global) → fault ≡ faults.BadFile path reads.Device → IsReached forced kept (string_bytes path) inputs
+
 -- the link of the inputs, or why there is none
 abbrev pub IsLinkOf : List (List ℕ) → Choices → List (List ℕ × List ℕ) → Result Linked CliFault → Type 0
 IsLinkOf forced o inputs (Ok l) = linked forced inputs o ≡ Ok (outcome_of l)
-IsLinkOf forced o inputs (Err fault) = IsTrueOf (said_by fault) (linked forced inputs o)
+IsLinkOf forced o inputs (Err fault) = IsTrueOf (said_by fault) (linked forced inputs o) × BreaksAt forced [] inputs fault
 
 -- the inputs were put behind what is kept, or why one was not
 abbrev pub AreTaken : Kept → Kept → List (List ℕ × List ℕ) → Result (Unit {0}) CliFault → Type 0
 AreTaken old new inputs (Ok _) = with_inputs old.forced old.entries inputs ≡ Ok new.entries
-AreTaken old new inputs (Err fault) = IsTrueOf (said_by fault) (with_inputs old.forced old.entries inputs)
+AreTaken old new inputs (Err fault) = IsTrueOf (said_by fault) (with_inputs old.forced old.entries inputs) × BreaksAt old.forced old.entries inputs fault
 
 -- the same for one input
 abbrev pub IsTaken : Kept → Kept → List ℕ → List ℕ → Result (Unit {0}) CliFault → Type 0
 IsTaken old new path bytes (Ok _) = with_input old.forced old.entries path bytes ≡ Ok new.entries
-IsTaken old new path bytes (Err fault) = IsTrueOf (said_by fault) (at_path path (with_input old.forced old.entries path bytes))
+IsTaken old new path bytes (Err fault) = IsTrueOf (said_by fault) (at_path path (with_input old.forced old.entries path bytes)) × BreaksAt old.forced old.entries ((path, bytes) ∷ []) fault
 
 -- an object, or why the file is none
 abbrev pub IsCheckOf : String Global → Contents → Result (String Global × Contents) CliFault → Type 0

@@ -4,6 +4,7 @@ use Rattle.std.specs.declared.alloc.Global.{Global}
 use Rattle.aout_core.specs.declared.file.ReadFault.TheVariants as reads
 use Rattle.aout_core.specs.Contents.{Contents}
 use Rattle.aout_core.specs.Front.{front}
+use Rattle.aout_core.specs.Reading.{HasHeader}
 use Rattle.aout_core.specs.WellFormed.{IsWellFormed}
 use Rattle.aout_core.specs.Wires.{Latched, Puts}
 use Rattle.link_session.specs.declared.state.State.{State}
@@ -52,11 +53,11 @@ abbrev pub IsAddOn : Option (List ℕ) → List (List ℕ) → List Labelled →
 IsAddOn (Some bytes) forced kept path did = did ≡ add_step kept path (input_from forced kept path (giving bytes))
 IsAddOn None forced kept path did = (found : Result Contents Cause) × (did ≡ add_step kept path (kept_with forced kept path found))
 
--- a device may fail, and one that has failed does; before it fails memory may be wanted
+-- a device may fail, and one that has failed does; before it fails memory may be wanted, behind a header of a file
 abbrev pub IsAddBy : {R : Type 0} → (R → Option (List ℕ)) → Latched R → List (List ℕ) → List Labelled → List ℕ → Stepped → Type 0
 IsAddBy remaining wire forced kept path did =
     (did ≡ add_step kept path (input_from forced kept path failing))
-    ⊎ ((wire.has_failed ≡ false) × ((did ≡ without_memory kept) ⊎ IsAddOn (remaining wire.device) forced kept path did))
+    ⊎ ((wire.has_failed ≡ false) × (((did ≡ without_memory kept) × IfSome (remaining wire.device) HasHeader) ⊎ IsAddOn (remaining wire.device) forced kept path did))
 
 -- memory may be wanted only where there is a link
 abbrev pub IsLinkBy : List Labelled → Result Outcome LinkFault → Stepped → Type 0
@@ -130,10 +131,10 @@ pub record IsAccepted (known : Option (List ℕ)) (old new : Kept) (path : List 
   pub is_found : IsFound known (Ok object)
   pub accepts : kept_with old.forced old.entries path (Ok object) ≡ Ok new.entries
 
--- the file at a path was added, or the fault says why it was not
+-- the file at a path was added, or the fault says why it was not; memory is wanted only behind a header of a file
 abbrev pub IsAddition : Option (List ℕ) → Kept → Kept → String Global → Result (Unit {0}) CliFault → Type 0
 IsAddition known old new path (Ok _) = (object : Contents) × IsAccepted known old new (string_bytes path) object
-IsAddition known old new path (Err fault) = (new ≡ old) × ((fault ≡ faults.Memory) ⊎ IsRefusal known old path fault)
+IsAddition known old new path (Err fault) = (new ≡ old) × (((fault ≡ faults.Memory) × IfSome known HasHeader) ⊎ IsRefusal known old path fault)
 
 -- the file at a path is added, or the answer says why it is not
 abbrev pub TakesAddStep : {R W : Type 0} → (R → Option (List ℕ)) → (W → Option (List ℕ)) → String Global → Latched R → Kept → Kept → Result Step CliFault → Latched W → Latched W → Type 0
