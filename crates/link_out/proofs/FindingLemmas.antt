@@ -1,7 +1,7 @@
 -- The names of a report, and the address of the entry point.
-use Rattle.std.proofs.Common.{◌≡◌, ℕ, ◌+◌, ◌<◌, ◌≤◌, ◌⊎◌, inl, inr, Bool, true, false, cond, not, ◌&&◌, ◌||◌, eqb, List, [], ◌∷◌, ◌++◌, drop, length, position, Some, None, refl, sym, ◌∙◌, ap, arith, append_assoc, nat_lt}
+use Rattle.std.proofs.Common.{◌≡◌, ℕ, ◌+◌, ◌<◌, ◌≤◌, ◌⊎◌, inl, inr, Bool, true, false, cond, ◌&&◌, ◌||◌, eqb, List, [], ◌∷◌, ◌++◌, drop, length, position, Some, None, refl, sym, ◌∙◌, ap, arith, append_assoc, nat_lt}
 use Rattle.std.specs.Prelude.{bytes_eq, slice_get}
-use Rattle.std.specs.List.{position_or_len}
+use Rattle.std.proofs.lemmas.List.Recursion.{is_position_or_len}
 use Rattle.std.proofs.lemmas.Bool.{le-ltb, lt-ltb, cases_lt}
 use Rattle.link_session.specs.declared.state.State.{State}
 use Rattle.link_session.specs.declared.state.State.TheVariants.{Wanted}
@@ -43,14 +43,6 @@ missing_more before es i e h =
     ∙ ap (λ (rest : List (List ℕ)). before ++ rest) (missing_front e (drop (i + 1) es))
     ∙ sym (append_assoc before (missing_in (e ∷ [])) (missing_in (drop (i + 1) es)))
 
-place_is : (name : List ℕ) (names : List (List ℕ)) → position_or_len (bytes_eq name) names ≡ place_of name names
-place_is name [] = refl
-place_is name (n ∷ ns) = by_test (bytes_eq name n) (place_is name ns)
-  where
-    by_test : (t : Bool) → position_or_len (bytes_eq name) ns ≡ place_of name ns → cond (not t) (1 + position_or_len (bytes_eq name) ns) 0 ≡ cond t 0 (place_of name ns + 1)
-    by_test true h = refl
-    by_test false h = omega arith
-
 one_more : (a b : ℕ) → nat_lt (a + 1) (b + 1) ≡ nat_lt a b
 one_more a b = by_order (cases_lt a b)
   where
@@ -70,7 +62,7 @@ among-place name (n ∷ ns) = by_test (bytes_eq name n) (among-place name ns)
 
 position-place : (name : List ℕ) (names : List (List ℕ)) → position (bytes_eq name) names ≡ cond (is_among names name) (Some (place_of name names)) None
 position-place name names =
-    ap (λ (k : ℕ). cond (nat_lt k (length names)) (Some k) None) (place_is name names)
+    ap (λ (k : ℕ). cond (nat_lt k (length names)) (Some k) None) (sym (is_position_or_len (place_of name) (bytes_eq name) refl (λ n ns. ap (λ (k : ℕ). cond (bytes_eq name n) 0 k) (omega arith)) names))
     ∙ ap (λ (t : Bool). cond t (Some (place_of name names)) None) (sym (among-place name names))
 
 -- the address of a name in text, from the final names

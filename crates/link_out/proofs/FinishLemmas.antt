@@ -1,9 +1,9 @@
 -- A link that no fault refuses.
-use Rattle.std.proofs.Common.{◌≡◌, ℕ, ◌+◌, ◌-◌, ◌*◌, Bool, true, false, cond, ◌||◌, List, [], map, length, Option, None, refl, ◌∙◌, ap, arith}
+use Rattle.std.proofs.Common.{◌≡◌, ℕ, ◌+◌, ◌-◌, ◌*◌, true, false, cond, List, [], map, length, ◌∙◌, ap, arith}
 use Rattle.std.specs.List.{AllByRecursion, list_any}
+use Rattle.std.proofs.lemmas.Bool.{or_parts}
 use Rattle.aout_core.specs.declared.header.Header.{Header}
-use Rattle.aout_core.specs.Contents.{Contents, Fits}
-use Rattle.aout_core.specs.WellFormed.{IsWellFormed}
+use Rattle.aout_core.specs.Contents.{Contents}
 use Rattle.aout_core.specs.declared.symbol.Segment.{Segment}
 use Rattle.aout_core.specs.declared.symbol.Segment.TheVariants.{TextSeg, DataSeg, BssSeg}
 use Rattle.link_session.specs.declared.cell.Cell.{Cell}
@@ -12,12 +12,9 @@ use Rattle.link_session.specs.Mentions.{mentions}
 use Rattle.link_session.specs.Image.{named_states}
 use Rattle.link_session.specs.Cells.{cells}
 use Rattle.link_session.specs.Sessions.{IsObject}
-use Rattle.link_session.proofs.WellFormedLemmas.{all_map, objects_refer}
-use Rattle.link_out.specs.declared.options.Layout.{Layout}
-use Rattle.link_out.specs.declared.options.Layout.TheVariants.{Plain, Pure, Split}
-use Rattle.link_out.specs.declared.options.Keep.{Keep}
-use Rattle.link_out.specs.declared.options.Keep.TheVariants.{All, NotL, Externals, Nothing}
-use Rattle.link_out.specs.Choices.{Choices, option_fault}
+use Rattle.link_session.proofs.AdditionLemmas.{well_formed}
+use Rattle.link_session.proofs.WellFormedLemmas.{objects_refer}
+use Rattle.link_out.specs.Choices.{Choices}
 use Rattle.link_out.specs.Layouts.{Bases, data_base, magic_of}
 use Rattle.link_out.specs.Plans.{Plan, plan, commons_laid}
 use Rattle.link_out.specs.Words.{final_words}
@@ -28,20 +25,12 @@ use Rattle.link_out.specs.Tables.{table, final_relocs, has_far_in}
 use Rattle.link_out.specs.Reports.{entry_word}
 use Rattle.link_out.specs.Link.{linked_header, linked_file}
 use Rattle.link_out.specs.Passes.{IsPassed, header_for}
-use Rattle.link_out.proofs.FitLemmas as fit
 use Rattle.link_out.proofs.InOrderLemmas.{finals-in_order}
-use Rattle.link_out.proofs.ObjectLemmas.{linked_is_object}
 use Rattle.link_out.proofs.CellWordLemmas.{final_words-cells}
 use Rattle.link_out.proofs.CellRelocLemmas.{final_relocs-cells, has_far_in-cells}
 
-pub objects_fit : (p : Plan) (os : List Contents) → AllByRecursion IsObject os → Fits (linked_file p os)
-objects_fit p os h = fit.linked_fits p os (all_map IsObject fit.IsObject (λ o k. record { fits = k.fits; well_formed = k.well }) os h)
-
-pub well_formed : (os : List Contents) → AllByRecursion IsObject os → AllByRecursion IsWellFormed os
-well_formed os h = all_map IsObject IsWellFormed (λ o k. k.well) os h
-
 -- the header, from the bounds of the segments
-pub header-linked : (forced : List (List ℕ)) (os : List Contents) (o : Choices) →
+header-linked : (forced : List (List ℕ)) (os : List Contents) (o : Choices) →
     (let p = plan forced os o in header_for o p.at (length (table p os)) (entry_word p o.entry) ≡ linked_header p os)
 header-linked forced os o =
     let p = plan forced os o in
@@ -72,29 +61,6 @@ linked_parts p os c header text datas text_reloc data_reloc symbols =
       symbols = symbols i;
     } in d
 
--- with relocation the file is an object
-module _ (forced : List (List ℕ)) (os : List Contents) (good : AllByRecursion IsWellFormed os) where
-  kept_object : (layout : Layout) (relocatable : Bool) (keep : Keep) (entry : Option (List ℕ)) (force_commons : Bool) → option_fault layout relocatable keep ≡ None → relocatable ≡ true →
-      (let o : Choices = record { layout = layout; relocatable = relocatable; keep = keep; entry = entry; force_commons = force_commons } in IsWellFormed (linked_file (plan forced os o) os))
-  kept_object layout false keep entry force_commons h kept = absurd (cc)
-  kept_object layout true Nothing entry force_commons h kept = absurd (cc)
-  kept_object Pure true All entry force_commons h kept = absurd (cc)
-  kept_object Pure true NotL entry force_commons h kept = absurd (cc)
-  kept_object Pure true Externals entry force_commons h kept = absurd (cc)
-  kept_object Split true All entry force_commons h kept = absurd (cc)
-  kept_object Split true NotL entry force_commons h kept = absurd (cc)
-  kept_object Split true Externals entry force_commons h kept = absurd (cc)
-  kept_object Plain true All entry force_commons h kept = linked_is_object forced os All entry force_commons refl good
-  kept_object Plain true NotL entry force_commons h kept = linked_is_object forced os NotL entry force_commons refl good
-  kept_object Plain true Externals entry force_commons h kept = linked_is_object forced os Externals entry force_commons refl good
-
-  pub linked_object : (o : Choices) → option_fault o.layout o.relocatable o.keep ≡ None → o.relocatable ≡ true → IsWellFormed (linked_file (plan forced os o) os)
-  linked_object o h kept = kept_object o.layout o.relocatable o.keep o.entry o.force_commons h kept
-
-or_both : (a b : Bool) → (a || b) ≡ false → (a ≡ false) × (b ≡ false)
-or_both false b h = (refl, h)
-or_both true b h = absurd (cc)
-
 -- what is computed from the cells and the names in order is what the link has
 module _ (forced : List (List ℕ)) (os : List Contents) (o : Choices) where
   abbrev planned : Plan
@@ -122,12 +88,12 @@ module _ (forced : List (List ℕ)) (os : List Contents) (o : Choices) where
   pub near_text : (names : List Final) (locals : ℕ) (cs : List Cell) → AllByRecursion IsObject os → IsPassed planned os locals → names ≡ finals planned → cs ≡ cells (mentions forced os) TextSeg os → o.relocatable ≡ true →
       list_any (λ (c : Cell). is_far names locals c.target) cs ≡ false
   near_text names locals cs h passed named image kept =
-      far_planned TextSeg names locals cs h passed named image ∙ (or_both (has_far_in planned os TextSeg) (has_far_in planned os DataSeg) (passed.near kept)).0
+      far_planned TextSeg names locals cs h passed named image ∙ (or_parts (has_far_in planned os TextSeg) (has_far_in planned os DataSeg) (passed.near kept)).0
 
   pub near_data : (names : List Final) (locals : ℕ) (cs : List Cell) → AllByRecursion IsObject os → IsPassed planned os locals → names ≡ finals planned → cs ≡ cells (mentions forced os) DataSeg os → o.relocatable ≡ true →
       list_any (λ (c : Cell). is_far names locals c.target) cs ≡ false
   near_data names locals cs h passed named image kept =
-      far_planned DataSeg names locals cs h passed named image ∙ (or_both (has_far_in planned os TextSeg) (has_far_in planned os DataSeg) (passed.near kept)).1
+      far_planned DataSeg names locals cs h passed named image ∙ (or_parts (has_far_in planned os TextSeg) (has_far_in planned os DataSeg) (passed.near kept)).1
 
   pub header_planned : (b : Bases) (rows entry : ℕ) → b ≡ planned.at → rows ≡ length (table planned os) → entry ≡ entry_word planned o.entry → header_for o b rows entry ≡ linked_header planned os
   header_planned b rows entry at many word = (λ i. header_for o (at i) (many i) (word i)) ∙ header-linked forced os o

@@ -1,9 +1,9 @@
+-- The lemmas of this crate.
 pub mod CellWordLemmas
 pub mod StripLemmas
 pub mod PartialLemmas
+pub mod FirstMentions
 pub mod PartialNames
-pub mod PartialCells
-pub mod PartialImage
 pub mod ObjectLemmas
 pub mod PartialLinks
 pub mod CellRelocLemmas
@@ -14,7 +14,6 @@ pub mod NeighbourMultiples
 pub mod NeighbourCells
 pub mod SameLinks
 pub mod NeighbourLaw
-pub mod SoundLemmas
 pub mod PartialTheorem
 pub mod ReportLemmas
 pub mod InOrderLemmas

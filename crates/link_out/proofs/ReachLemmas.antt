@@ -19,7 +19,8 @@ use Rattle.link_session.specs.Mentions.{names_by_first_mention, names_of}
 use Rattle.link_session.specs.Sessions.{IsObject}
 use Rattle.link_session.specs.States.{state}
 use Rattle.link_session.proofs.CellLemmas.{AllReferAmong}
-use Rattle.link_session.proofs.WellFormedLemmas.{objects_refer, all_map}
+use Rattle.link_session.proofs.AdditionLemmas.{well_formed}
+use Rattle.link_session.proofs.WellFormedLemmas.{objects_refer}
 use Rattle.link_out.specs.Choices.{Choices, lays_commons}
 use Rattle.link_out.specs.Finals.{bound_at, waiting, undefined_name, final, final_by}
 use Rattle.link_out.specs.FromCells.{bound_of, finals, is_far}
@@ -76,7 +77,7 @@ pub far_word : (forced : List (List ℕ)) (os : List Contents) (o : Choices) (lo
     in_data ≡ list_any (λ (c : Cell). is_out (image forced os).externals commons locals c.target) datas → (in_text || in_data) ≡ has_far_word (plan forced os o) os
 far_word forced os o locals text datas commons in_text in_data kept many good laid t d far_text far_data =
     let p = plan forced os o in
-    let well : AllByRecursion IsWellFormed os = all_map IsObject IsWellFormed (λ x h. h.well) os good in
+    let well : AllByRecursion IsWellFormed os = well_formed os good in
     (λ i. far_text i || far_data i)
     ∙ (λ i. list_any (λ (c : Cell). is_out (image forced os).externals (laid i) locals c.target) (t i) || list_any (λ (c : Cell). is_out (image forced os).externals (laid i) locals c.target) (d i))
     ∙ (λ i. out_far_in p kept os TextSeg locals many (objects_refer forced TextSeg os well) i || out_far_in p kept os DataSeg locals many (objects_refer forced DataSeg os well) i)

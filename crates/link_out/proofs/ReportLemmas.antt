@@ -49,7 +49,7 @@ status_by_silence f = by_parts f.multiples f.reserved f.entry_bad f.undefined
         ap status said ∙ sym (ap (λ (b : Bool). status (b && (eqb (length r) 0 && (is_none e && eqb (length u) 0)))) known)
 
 -- a line is a name and the text behind it
-pub multiple_line : (names : List (List ℕ)) → flat_map (λ n. n ++ codes ": Multiply defined\n") names ≡ multiple_lines names
+multiple_line : (names : List (List ℕ)) → flat_map (λ n. n ++ codes ": Multiply defined\n") names ≡ multiple_lines names
 multiple_line [] = refl
 multiple_line (n ∷ ns) = rw (multiple_line ns) (ap (λ l. l ++ multiple_lines ns) (sym (append_assoc n (codes ": Multiply defined") (10 ∷ []))))
 

@@ -1,9 +1,9 @@
 -- The rows of the table, object by object and name by name, are those of the whole list.
-use Rattle.std.proofs.Common.{◌≡◌, ℕ, ◌+◌, ◌%◌, ◌<◌, Bool, true, false, List, [], ◌∷◌, ◌++◌, map, length, drop, refl, sym, subst, ◌∙◌, ap, arith, append_assoc, length-append, append-nil, drop-cons, drop_of_length-le, add-one, suc, ◌≤◌}
+use Rattle.std.proofs.Common.{◌≡◌, ℕ, ◌+◌, ◌%◌, ◌<◌, Bool, true, false, List, [], ◌∷◌, ◌++◌, map, length, drop, refl, sym, subst, ◌∙◌, ap, arith, append_assoc, length-append, append-nil, drop_of_length-le, ◌≤◌}
 use Rattle.std.specs.Prelude.{filter, cond, nat_lt, slice_get, Option, Some, None, IsNone, IsTrue, IfSome, ◌↔◌}
 use Rattle.std.specs.List.{flat_map}
 use Rattle.std.specs.Map.{keys_of}
-use Rattle.std.proofs.lemmas.Option.{slice_get-get_or, slice_get_within, get_or_from_slice_get}
+use Rattle.std.proofs.lemmas.Option.{slice_get-get_or}
 use Rattle.std.proofs.lemmas.List.{length-map}
 use Rattle.std.proofs.lemmas.List.Sums.{sum_by-append}
 use Rattle.aout_core.specs.declared.symbol.Symbol.{Symbol}
@@ -26,6 +26,7 @@ use Rattle.link_out.specs.Finals.{Final, final}
 use Rattle.link_out.specs.FromCells.{finals}
 use Rattle.link_out.specs.Plans.{Plan}
 use Rattle.link_out.specs.Tables.{is_kept_local, moved_value, moved_local, local_rows, external_row, external_rows, rows_kept, table}
+use Rattle.link_out.proofs.InOrderLemmas.{drop_next}
 use Rattle.link_out.specs.Rows.{starts_behind, next_starts, moves_at, value_moved, symbol_moved, rows_in, no_starts, rows_from, kept_count, row_for, rows_for}
 
 -- a start modulo 65,536 moves as the start does
@@ -59,7 +60,7 @@ next_starts-behind earlier o = λ i. record {
 }
 
 -- the kept locals, object by object
-pub rows_from-local_rows : (p : Plan) (os : List Contents) → rows_from p.at p.choices.keep no_starts os ≡ local_rows p os
+rows_from-local_rows : (p : Plan) (os : List Contents) → rows_from p.at p.choices.keep no_starts os ≡ local_rows p os
 rows_from-local_rows p os = from [] os
   where
     from : (earlier os : List Contents) → rows_from p.at p.choices.keep (starts_behind earlier) os
@@ -69,17 +70,17 @@ rows_from-local_rows p os = from [] os
         (λ i. symbols_moved p.at earlier o (filter (is_kept_local p.choices.keep) o.symbols) i ++ rows_from p.at p.choices.keep (next_starts-behind earlier o i) os)
         ∙ ap (λ (l : List Symbol). map (moved_local p.at earlier o) (filter (is_kept_local p.choices.keep) o.symbols) ++ l) (from (earlier ++ o ∷ []) os)
 
-pub length-rows_from : (b : Bases) (keep : Keep) (s : Starts) (os : List Contents) → length (rows_from b keep s os) ≡ kept_count keep os
+length-rows_from : (b : Bases) (keep : Keep) (s : Starts) (os : List Contents) → length (rows_from b keep s os) ≡ kept_count keep os
 length-rows_from b keep s [] = refl
 length-rows_from b keep s (o ∷ os) =
     let m = moves_at b s o.header in
     omega (arith, length-append (rows_in keep m o.symbols) (rows_from b keep (next_starts s o.header) os), length-map (filter (is_kept_local keep) o.symbols) (symbol_moved m), length-rows_from b keep (next_starts s o.header) os)
 
-pub length-local_rows : (p : Plan) (os : List Contents) → length (local_rows p os) ≡ kept_count p.choices.keep os
+length-local_rows : (p : Plan) (os : List Contents) → length (local_rows p os) ≡ kept_count p.choices.keep os
 length-local_rows p os = ap (λ (l : List Symbol). length l) (sym (rows_from-local_rows p os)) ∙ length-rows_from p.at p.choices.keep no_starts os
 
 -- the externals, name by name
-pub rows_for-external_rows : (p : Plan) → rows_for (names_by_first_mention p.said) (finals p) ≡ external_rows p
+rows_for-external_rows : (p : Plan) → rows_for (names_by_first_mention p.said) (finals p) ≡ external_rows p
 rows_for-external_rows p = by_names (names_by_first_mention p.said)
   where
     by_names : (names : List (List ℕ)) → rows_for names (map (final p) names) ≡ map (external_row p) names
@@ -97,21 +98,16 @@ nothing_kept (s ∷ ss) = by_test (is_kept_local keeps.Nothing s) (no_local s) (
     by_test true e h = absurd (cc)
     by_test false e h = h
 
-pub nothing_counted : (os : List Contents) → kept_count keeps.Nothing os ≡ 0
+nothing_counted : (os : List Contents) → kept_count keeps.Nothing os ≡ 0
 nothing_counted [] = refl
 nothing_counted (o ∷ os) = omega (arith, ap (λ (l : List Symbol). length l) (nothing_kept o.symbols), nothing_counted os)
 
 -- with any other choice the rows are all kept
-pub rows_kept-others : (keep : Keep) (rows : List Symbol) → (keep ≡ keeps.Nothing → ⊥) → rows_kept keep rows ≡ rows
+rows_kept-others : (keep : Keep) (rows : List Symbol) → (keep ≡ keeps.Nothing → ⊥) → rows_kept keep rows ≡ rows
 rows_kept-others keeps.All rows h = refl
 rows_kept-others keeps.NotL rows h = refl
 rows_kept-others keeps.Externals rows h = refl
 rows_kept-others keeps.Nothing rows h = absurd (h refl)
-
--- the list from a place on
-drop_at : {A : Type 0} (xs : List A) (i : ℕ) (x : A) → slice_get xs i ≡ Some x → drop i xs ≡ x ∷ drop (i + 1) xs
-drop_at {A = A} xs i x h =
-    rw add-one (drop-cons xs i x (slice_get_within xs i x h) ∙ ap (λ (y : A). y ∷ drop (suc i) xs) (get_or_from_slice_get xs i x x h))
 
 -- a place in the list holds something
 pub not_past : {A : Type 0} (xs : List A) (i : ℕ) → i < length xs → slice_get xs i ≡ None → ⊥
@@ -131,7 +127,7 @@ rows_all p b keep s rows es i same at «end» so_far =
 -- one more name
 rows_for-more : (es : List (List ℕ × State)) (fs : List Final) (i : ℕ) (e : List ℕ × State) (f : Final) → slice_get es i ≡ Some e → slice_get fs i ≡ Some f →
     rows_for (keys_of (drop i es)) (drop i fs) ≡ row_for e.0 f ∷ rows_for (keys_of (drop (i + 1) es)) (drop (i + 1) fs)
-rows_for-more es fs i e f he hf = λ j. rows_for (keys_of (drop_at es i e he j)) (drop_at fs i f hf j)
+rows_for-more es fs i e f he hf = λ j. rows_for (keys_of (drop_next es i e he j)) (drop_next fs i f hf j)
 
 pub row_put : (es : List (List ℕ × State)) (fs : List Final) (i : ℕ) (e : List ℕ × State) (f : Final) (all rows more : List Symbol) → slice_get es i ≡ Some e → slice_get fs i ≡ Some f →
     all ≡ rows ++ rows_for (keys_of (drop i es)) (drop i fs) → more ≡ rows ++ row_for e.0 f ∷ [] → all ≡ more ++ rows_for (keys_of (drop (i + 1) es)) (drop (i + 1) fs)
@@ -152,7 +148,7 @@ table_whole p os keep es fs locals rows same others here names last put =
     ∙ sym (rows_kept-others p.choices.keep (local_rows p os ++ external_rows p) (λ e. others (sym same ∙ e)))
 
 -- how long the table is
-pub table_length : (p : Plan) (os : List Contents) (keep : Keep) (count : ℕ) → p.choices.keep ≡ keep → (keep ≡ keeps.Nothing → ⊥) → count ≡ length (names_by_first_mention p.said) →
+table_length : (p : Plan) (os : List Contents) (keep : Keep) (count : ℕ) → p.choices.keep ≡ keep → (keep ≡ keeps.Nothing → ⊥) → count ≡ length (names_by_first_mention p.said) →
     length (table p os) ≡ kept_count keep os + count
 table_length p os keep count same others names =
     ap (λ (l : List Symbol). length l) (rows_kept-others p.choices.keep (local_rows p os ++ external_rows p) (λ e. others (sym same ∙ e)))

@@ -1,3 +1,4 @@
+-- The definitions that the contracts of this crate are written in.
 pub mod Choices
 pub mod Layouts
 pub mod Plans

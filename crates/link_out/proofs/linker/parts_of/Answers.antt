@@ -5,7 +5,10 @@ use Rattle.aout_core.specs.WellFormed.{IsWellFormed}
 use Rattle.link_session.specs.Labelled.{objects}
 use Rattle.link_out.specs.InOrder.{plan_of}
 use Rattle.link_out.specs.Tables.{table}
-use Rattle.link_out.proofs.FinishLemmas.{near_text, near_data, words_planned, relocs_planned, header_planned, linked_parts, objects_fit, linked_object, well_formed}
+use Rattle.link_out.proofs.FinishLemmas.{near_text, near_data, words_planned, relocs_planned, header_planned, linked_parts}
+use Rattle.link_out.proofs.FitLemmas.{linked_fits}
+use Rattle.link_out.proofs.ObjectLemmas.{linked_object}
+use Rattle.link_session.proofs.AdditionLemmas.{well_formed}
 use Rattle.link_out.proofs.linker.parts_of.Goals as goal
 
 pub kept_relocs-requires : goal.kept_relocs-requires
@@ -41,10 +44,10 @@ returns-clause-value c =
 pub returns-clause-fits : goal.returns-clause-fits
 returns-clause-fits c =
     let s = c.args.session.now in
-    subst Fits (sym (returns-clause-value c)) (objects_fit (plan_of s c.args.options.now) (objects s.entries) c.entries-objects.ensures.objects)
+    subst Fits (sym (returns-clause-value c)) (linked_fits (plan_of s c.args.options.now) (objects s.entries) c.entries-objects.ensures.objects)
 
 pub returns-clause-object : goal.returns-clause-object
 returns-clause-object c = λ kept.
     let s = c.args.session.now in
     let os = objects s.entries in
-    subst IsWellFormed (sym (returns-clause-value c)) (linked_object s.forced os (well_formed os c.entries-objects.ensures.objects) c.args.options.now c.requires.passed.allowed kept)
+    subst IsWellFormed (sym (returns-clause-value c)) (linked_object s.forced os c.args.options.now c.requires.passed.allowed kept (well_formed os c.entries-objects.ensures.objects))
