@@ -1,5 +1,5 @@
 -- The lines of a script, taken off its bytes one by one.
-use Rattle.std.proofs.Common.{◌≡◌, ◌≢◌, ◌+◌, ◌<◌, ◌≤◌, ℕ, Bool, true, false, cond, if◌then◌else◌, List, [], ◌∷◌, ◌++◌, length, Option, Some, None, Ok, refl, sym, ap, ◌∙◌, arith, append_assoc, append-nil, length-append}
+use Rattle.std.proofs.Common.{◌≡◌, ◌≢◌, ◌+◌, ◌<◌, ◌≤◌, ℕ, Bool, true, false, cond, if◌then◌else◌, List, [], ◌∷◌, ◌++◌, length, Option, Some, None, Ok, refl, sym, ap, subst, ◌∙◌, ◌↔◌, arith, append_assoc, append-nil, length-append}
 use Rattle.std.specs.Prelude.{nat_lt, IsSome}
 use Rattle.std.specs.Io.KnownBytes.{Consumes, IsAtEnd}
 use Rattle.std.proofs.lemmas.Bool.{ne_eqb, lt-leb, lt-ltb, le-ltb}
@@ -23,6 +23,10 @@ lines_of_line (x ∷ line) rest h =
 behind_whole_line : (line rest : List ℕ) → HasNone line → behind_line (line ++ 10 ∷ rest) ≡ rest
 behind_whole_line [] rest h = refl
 behind_whole_line (x ∷ line) rest h = ap (λ (c : Bool). cond c (line ++ 10 ∷ rest) (behind_line (line ++ 10 ∷ rest))) (ne_eqb x 10 h.0) ∙ behind_whole_line line rest h.1
+
+newline_inside : (line rest : List ℕ) → HasNone (line ++ 10 ∷ rest) → ⊥
+newline_inside [] rest h = h.0 refl
+newline_inside (x ∷ line) rest h = newline_inside line rest h.1
 
 -- a last line without a newline
 lines_of_last : (x : ℕ) (line : List ℕ) → HasNone (x ∷ line) → lines_in (x ∷ line) ≡ (x ∷ line) ∷ []
@@ -86,7 +90,7 @@ line_told n (Some bytes) (Some left) line few short none taken =
     let whole : bytes ≡ line ++ 10 ∷ left = taken ∙ append_assoc line (10 ∷ []) left in (
       sym (ap behind_line whole ∙ behind_whole_line line left none),
       ap (given_behind n) (ap lines_in whole ∙ lines_of_line line left none) ∙ given_line n line (lines_in left) few short,
-      λ never. absurd (cc),
+      (λ never. absurd (cc), λ h. absurd (newline_inside line left (subst HasNone whole h))),
     )
 
 last_lines : (n : ℕ) (line : List ℕ) → n < 1000000 → length line ≤ 4096 → (length line ≡ 0 → ⊥) → HasNone line → given_behind n (lines_in line) ≡ and_given (asked line) (given_behind (n + 1) [])
@@ -101,12 +105,12 @@ last_told n (Some bytes) (Some left) line few short some none taken end =
     let whole : bytes ≡ line = taken ∙ ap (λ (l : List ℕ). line ++ l) end ∙ append-nil line in (
       end ∙ sym (ap behind_line whole ∙ behind_last_line line none),
       ap (λ (b : List ℕ). given_behind n (lines_in b)) whole ∙ last_lines n line few short some none ∙ ap (λ (l : List ℕ). and_given (asked line) (given_behind (n + 1) (lines_in l))) (sym end),
-      λ _. end,
+      (λ _. subst HasNone (sym whole) none, λ _. refl),
     )
 
 -- ---- the answers
 
-pub line_answered : (n : ℕ) (settled : Option Answer) (line : List ℕ) (is_last : Bool) (it : Line) (bytes left : List ℕ) → asked_by it ≡ asked line → (IsSome settled → is_last ≡ true) →
+pub line_answered : (n : ℕ) (settled : Option Answer) (line : List ℕ) (is_last : Bool) (it : Line) (bytes left : List ℕ) → asked_by it ≡ asked line → (IsSome settled ↔ is_last ≡ true) →
     IsTakenOf n bytes left line (Ok is_last) → IsNextOf n bytes left settled (Ok (Some it))
 line_answered n settled line is_last it bytes left same last h =
-    (h.0, h.1 ∙ ap (λ a. and_given a (given_behind (n + 1) (lines_in left))) (sym same), λ some. h.2 (last some))
+    (h.0, h.1 ∙ ap (λ a. and_given a (given_behind (n + 1) (lines_in left))) (sym same), (λ some. h.2.0 (last.0 some), λ none. last.1 (h.2.1 none)))

@@ -6,7 +6,7 @@ use Rattle.clap.specs.declared.parser.matches.Found.{Found}
 use Rattle.clap.specs.Matches.{first_value, matched_of, raw_values}
 use Rattle.clap.specs.Walk.{first_of, rows_of}
 use Rattle.clap.proofs.WalkLemmas.{first_value-rows, raw_values-rows}
-use Rattle.v7tools.specs.LinkWords.{forced_asked, name_in, with_names}
+use Rattle.v7tools.specs.LinkWords.{forced_asked, name_in, values_of, with_names}
 use Rattle.v7tools.specs.declared.link_words.TheConstants.{FORCED}
 use Rattle.v7tools.specs.declared.words.TheConstants.{OUT}
 
@@ -26,9 +26,16 @@ output_given f o other path e h = ap (λ (p : Bor (List ℕ)). p.now) h ∙ now_
 abbrev or_none : Option (List (List ℕ)) → List (List ℕ)
 or_none texts = unwrap_or texts []
 
+-- the values that were read
+pub values_given : (f : Found) (id : List ℕ) (texts : List (List ℕ)) → option_map raw_values (matched_of f id) ≡ Some texts → values_of (rows_of f) id ≡ texts
+values_given f id texts e = ap or_none (sym (raw_values-rows f id) ∙ e)
+
+pub no_values_given : (f : Found) (id : List ℕ) → option_map raw_values (matched_of f id) ≡ None → values_of (rows_of f) id ≡ []
+no_values_given f id e = ap or_none (sym (raw_values-rows f id) ∙ e)
+
 -- the forced names, by the values that were read
 pub forced_given : (f : Found) (texts names : List (List ℕ)) → option_map raw_values (matched_of f FORCED.now) ≡ Some texts → names ≡ [] → forced_asked (rows_of f) ≡ with_names names texts
-forced_given f texts names e h = ap (λ (o : Option (List (List ℕ))). with_names [] (or_none o)) (sym (raw_values-rows f FORCED.now) ∙ e) ∙ ap (λ (ns : List (List ℕ)). with_names ns texts) (sym h)
+forced_given f texts names e h = ap (with_names []) (values_given f FORCED.now texts e) ∙ ap (λ (ns : List (List ℕ)). with_names ns texts) (sym h)
 
 pub none_forced : (f : Found) (names : List (List ℕ)) → option_map raw_values (matched_of f FORCED.now) ≡ None → names ≡ [] → Ok names ≡ forced_asked (rows_of f)
-none_forced f names e h = ap (λ (ns : List (List ℕ)). Ok ns) h ∙ ap (λ (o : Option (List (List ℕ))). with_names [] (or_none o)) (sym e ∙ raw_values-rows f FORCED.now)
+none_forced f names e h = ap (λ (ns : List (List ℕ)). Ok ns) h ∙ ap (with_names []) (sym (no_values_given f FORCED.now e))

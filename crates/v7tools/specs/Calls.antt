@@ -1,5 +1,5 @@
 -- What every call of a tool keeps, and what it takes over from the words.
-use Rattle.std.specs.Prelude.{◌≡◌, ◌<◌, List, Ok, string_bytes, unwrap_or, vec_len}
+use Rattle.std.specs.Prelude.{◌≡◌, ◌<◌, ℕ, List, [], ◌∷◌, map, Ok, codes, string_bytes, unwrap_or, vec_len}
 use Rattle.clap.specs.Walk.{Row, first_of}
 use Rattle.clap.specs.declared.error.kind.ErrorKind.{ErrorKind}
 use Rattle.clap.specs.declared.error.kind.ErrorKind.TheVariants.{OutOfMemory}
@@ -19,6 +19,11 @@ IsWhole (Size files) = 0 < vec_len files
 IsWhole (Strip files) = 0 < vec_len files
 IsWhole (Session options forced) = AreAllowed options × AreForced forced
 
+-- the program, where no file is named
+abbrev pub or_program : List (List ℕ) → List (List ℕ)
+or_program [] = PROGRAM.now ∷ []
+or_program (file ∷ files) = file ∷ files
+
 abbrev pub list_asked : List Row → NmOptions
 list_asked rows = record {
   external = is_given rows EXTERNAL.now;
@@ -29,13 +34,22 @@ list_asked rows = record {
   undefined = is_given rows UNDEFINED.now;
 }
 
--- the options, the forced names and the output are those that were read
-abbrev pub Asks : List Row → Call → Type 0
-Asks rows (Ld options forced out files) = (options_asked rows ≡ Ok options) × (forced_asked rows ≡ Ok forced) × (string_bytes out ≡ unwrap_or (first_of OUT.now rows) PROGRAM.now)
-Asks rows (Session options forced) = (options_asked rows ≡ Ok options) × (forced_asked rows ≡ Ok forced)
-Asks rows (Nm options files) = options ≡ list_asked rows
-Asks rows (Size files) = Unit {0}
-Asks rows (Strip files) = Unit {0}
+-- the options, the forced names and the output are those that were read, and the files are these
+abbrev pub Asks : List Row → List (List ℕ) → Call → Type 0
+Asks rows paths (Ld options forced out files) =
+    (options_asked rows ≡ Ok options) × (forced_asked rows ≡ Ok forced) × (string_bytes out ≡ unwrap_or (first_of OUT.now rows) PROGRAM.now) × (map string_bytes files.items ≡ paths)
+Asks rows paths (Session options forced) = (options_asked rows ≡ Ok options) × (forced_asked rows ≡ Ok forced)
+Asks rows paths (Nm options files) = (options ≡ list_asked rows) × (map string_bytes files.items ≡ or_program paths)
+Asks rows paths (Size files) = map string_bytes files.items ≡ or_program paths
+Asks rows paths (Strip files) = map string_bytes files.items ≡ paths
+
+-- the word that asks for a call
+abbrev pub name_of : Call → List ℕ
+name_of (Ld options forced out files) = codes "ld"
+name_of (Nm options files) = codes "nm"
+name_of (Size files) = codes "size"
+name_of (Strip files) = codes "strip"
+name_of (Session options forced) = codes "session"
 
 -- want of memory is told from all other causes
 abbrev pub fault_of_words : ErrorKind → CliFault

@@ -1,5 +1,5 @@
 -- What the reader of a script answers, call by call.
-use Rattle.std.specs.Prelude.{◌≡◌, ◌≢◌, ◌+◌, ℕ, Bool, true, cond, eqb, List, [], ◌∷◌, ◌++◌, Option, Some, None, Result, Ok, Err, IfSome, IsSome, string_bytes}
+use Rattle.std.specs.Prelude.{◌≡◌, ◌≢◌, ◌↔◌, ◌+◌, ℕ, Bool, true, cond, eqb, List, [], ◌∷◌, ◌++◌, Option, Some, None, Result, Ok, Err, IfSome, IsSome, string_bytes}
 use Rattle.std.specs.Io.KnownBytes.{Consumes, IsAtEnd}
 use Rattle.aout_core.specs.Wires.{Latched}
 use Rattle.v7tools.specs.declared.fault.CliFault.{CliFault}
@@ -57,10 +57,16 @@ abbrev pub behind_line : List ℕ → List ℕ
 behind_line [] = []
 behind_line (b ∷ bs) = cond (eqb b 10) bs (behind_line bs)
 
--- behind so many lines, the answer is the next that these bytes give, and leaves those behind it
+-- none of the bytes is a newline
+abbrev pub HasNone : List ℕ → Type 0
+HasNone [] = Unit {0}
+HasNone (b ∷ bs) = (b ≢ 10) × HasNone bs
+
+-- behind so many lines, the answer is the next that these bytes give, and leaves those behind it; with a last line that
+-- lacks its newline, and with no other, the end is settled
 abbrev pub IsNextOf : ℕ → List ℕ → List ℕ → Option Answer → Answer → Type 0
 IsNextOf n bytes left settled (Ok (Some line)) =
-    (left ≡ behind_line bytes) × (given_behind n (lines_in bytes) ≡ and_given (asked_by line) (given_behind (n + 1) (lines_in left))) × (IsSome settled → left ≡ [])
+    (left ≡ behind_line bytes) × (given_behind n (lines_in bytes) ≡ and_given (asked_by line) (given_behind (n + 1) (lines_in left))) × (IsSome settled ↔ HasNone bytes)
 IsNextOf n bytes left settled (Ok None) = (left ≡ []) × (given_behind n (lines_in bytes) ≡ record { lines = []; fault = None })
 IsNextOf n bytes left settled (Err faults.LongLine) = given_behind n (lines_in bytes) ≡ ends_with_fault long_line
 IsNextOf n bytes left settled (Err faults.ManyLines) = given_behind n (lines_in bytes) ≡ ends_with_fault many_lines
@@ -73,11 +79,6 @@ answer_of stops.LongLine = Err faults.LongLine
 answer_of stops.ManyLines = Err faults.ManyLines
 answer_of stops.ReadFailed = Err faults.ScriptFailed
 answer_of stops.Memory = Err faults.Memory
-
--- none of the bytes is a newline
-abbrev pub HasNone : List ℕ → Type 0
-HasNone [] = Unit {0}
-HasNone (b ∷ bs) = (b ≢ 10) × HasNone bs
 
 -- a line was read: what ended it, what was left before and after, and its bytes
 abbrev pub EndsLine : Ending → Option (List ℕ) → Option (List ℕ) → List ℕ → Type 0
@@ -96,5 +97,5 @@ IsStopOf n bytes left _ = Unit {0}
 -- a line was taken behind so many others, the last one or not, or why none was
 abbrev pub IsTakenOf : ℕ → List ℕ → List ℕ → List ℕ → Result Bool Stop → Type 0
 IsTakenOf n bytes left line (Ok is_last) =
-    (left ≡ behind_line bytes) × (given_behind n (lines_in bytes) ≡ and_given (asked line) (given_behind (n + 1) (lines_in left))) × (is_last ≡ true → left ≡ [])
+    (left ≡ behind_line bytes) × (given_behind n (lines_in bytes) ≡ and_given (asked line) (given_behind (n + 1) (lines_in left))) × (is_last ≡ true ↔ HasNone bytes)
 IsTakenOf n bytes left line (Err stop) = IsStopOf n bytes left stop

@@ -173,7 +173,7 @@ impl<R: Read + Drop> Script<R> {
     }
 
     /// The next line, or `None` at the end and at every later call. A line ends at a newline; a last one without it
-    /// counts if it is not empty. (own choice)
+    /// counts if it is not empty, and the reader is not asked again behind it. (own choice)
     ///
     /// Errors: `LongLine`, 11, for more than 4,096 bytes before a newline; `ManyLines`, 12, where there is anything
     /// behind 1,000,000 lines; `ScriptFailed`, 13, where the device failed; `Memory`, 9, where there is no room for a

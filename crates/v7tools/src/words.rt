@@ -1,9 +1,10 @@
 //! The words of a command.
-ghost use Rattle.std.specs.Prelude.{◌≡◌, ◌<◌, IfErr, IfOk, codes, filter, bytes_eq, length, string_bytes, unwrap_or, vec_len};
+ghost use Rattle.std.specs.Prelude.{◌≡◌, ◌<◌, ℕ, List, IfErr, IfOk, codes, filter, bytes_eq, length, map, string_bytes, unwrap_or, vec_len};
 ghost use Rattle.clap.specs.Matches.{found_of};
 ghost use Rattle.clap.specs.Values.{kind_of};
 ghost use Rattle.clap.specs.Walk.{first_of, rows_of};
-ghost use Rattle.v7tools.specs.Calls.{Asks, IsOfWords, IsWhole, fault_of_words};
+ghost use Rattle.v7tools.specs.Calls.{Asks, IsOfWords, IsWhole, fault_of_words, name_of, or_program};
+ghost use Rattle.v7tools.specs.LinkWords.{values_of};
 
 use crate::fault::CliFault;
 use crate::link_words::{flag, forced_names, is_set, link_options, valued, with_link_options};
@@ -128,13 +129,15 @@ fn tools<'a>(alloc: Global) -> Result<Command<'a>, AllocError> {
 
 /// The files of a command, owned.
 fn owned_files(alloc: Global, matches: &ArgMatches<'_>) -> Result<Vec<String>, CliFault>
+    ensures value { IfOk result (λ owned. map string_bytes owned.items ≡ values_of (rows_of (found_of matches.now)) FILE.now) }
     ensures faults { IfErr result IsOfWords }
 {
     let mut owned = Vec::new(alloc);
-    if let Some(given) = matches.get_strs(FILE) {
-        for file in given {
-            owned.push(String::from_str(alloc, file)?)?;
-        }
+    let Some(given) = matches.get_strs(FILE) else {
+        return Ok(owned);
+    };
+    for file in given {
+        owned.push(String::from_str(alloc, file)?)?;
     }
     Ok(owned)
 }
@@ -142,6 +145,7 @@ fn owned_files(alloc: Global, matches: &ArgMatches<'_>) -> Result<Vec<String>, C
 /// The files, or the program where none is named.
 fn files_or_program(alloc: Global, mut files: Vec<String>) -> Result<Vec<String>, CliFault>
     ensures whole { IfOk result (λ files. 0 < vec_len files) }
+    ensures value { IfOk result (λ given. map string_bytes given.items ≡ or_program (map string_bytes files.items)) }
     ensures faults { IfErr result IsOfWords }
 {
     if !files.is_empty() {
@@ -162,7 +166,8 @@ fn output(alloc: Global, given: &ArgMatches<'_>) -> Result<String, CliFault>
 
 fn ld_call(alloc: Global, given: &ArgMatches<'_>, files: Vec<String>) -> Result<Call, CliFault>
     ensures whole { IfOk result IsWhole }
-    ensures asked { IfOk result (Asks (rows_of (found_of given.now))) }
+    ensures named { IfOk result (λ call. name_of call ≡ codes "ld") }
+    ensures asked { IfOk result (Asks (rows_of (found_of given.now)) (map string_bytes files.items)) }
     ensures faults { IfErr result IsOfWords }
 {
     if files.is_empty() {
@@ -178,7 +183,8 @@ fn ld_call(alloc: Global, given: &ArgMatches<'_>, files: Vec<String>) -> Result<
 
 fn nm_call(alloc: Global, given: &ArgMatches<'_>, files: Vec<String>) -> Result<Call, CliFault>
     ensures whole { IfOk result IsWhole }
-    ensures asked { IfOk result (Asks (rows_of (found_of given.now))) }
+    ensures named { IfOk result (λ call. name_of call ≡ codes "nm") }
+    ensures asked { IfOk result (Asks (rows_of (found_of given.now)) (map string_bytes files.items)) }
     ensures faults { IfErr result IsOfWords }
 {
     Ok(Call::Nm {
@@ -196,13 +202,38 @@ fn nm_call(alloc: Global, given: &ArgMatches<'_>, files: Vec<String>) -> Result<
 
 fn session_call(given: &ArgMatches<'_>) -> Result<Call, CliFault>
     ensures whole { IfOk result IsWhole }
-    ensures asked { IfOk result (Asks (rows_of (found_of given.now))) }
+    ensures named { IfOk result (λ call. name_of call ≡ codes "session") }
+    ensures asked { (files : List (List ℕ)) → IfOk result (Asks (rows_of (found_of given.now)) files) }
     ensures faults { IfErr result IsOfWords }
 {
     Ok(Call::Session {
         options: link_options(given)?,
         forced: forced_names(given)?,
     })
+}
+
+/// What a command's name, options and files ask for.
+fn call_of(
+    alloc: Global,
+    name: &str,
+    given: &ArgMatches<'_>,
+    files: Vec<String>,
+) -> Result<Call, CliFault>
+    ensures whole { IfOk result IsWhole }
+    ensures named { IfOk result (λ call. name_of call ≡ name.now) }
+    ensures asked { IfOk result (Asks (rows_of (found_of given.now)) (map string_bytes files.items)) }
+    ensures faults { IfErr result IsOfWords }
+{
+    match name {
+        "ld" => ld_call(alloc, given, files),
+        "nm" => nm_call(alloc, given, files),
+        "session" => session_call(given),
+        "size" => Ok(Call::Size {
+            files: files_or_program(alloc, files)?,
+        }),
+        "strip" if !files.is_empty() => Ok(Call::Strip { files }),
+        _ => Err(CliFault::Usage),
+    }
 }
 
 /// How many of the words are a dash alone.
@@ -239,14 +270,5 @@ pub fn parse(alloc: Global, words: Vec<String>) -> Result<Call, CliFault>
     if dashes(&words) != dashes(&files) {
         return Err(CliFault::Usage);
     }
-    match name {
-        "ld" => ld_call(alloc, given, files),
-        "nm" => nm_call(alloc, given, files),
-        "session" => session_call(given),
-        "size" => Ok(Call::Size {
-            files: files_or_program(alloc, files)?,
-        }),
-        _ if files.is_empty() => Err(CliFault::Usage),
-        _ => Ok(Call::Strip { files }),
-    }
+    call_of(alloc, name, given, files)
 }

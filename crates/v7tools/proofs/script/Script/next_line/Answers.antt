@@ -8,7 +8,8 @@ use Rattle.v7tools.proofs.script.Script.next_line.Goals as goal
 pub returns-clause-next : goal.returns-clause-next
 returns-clause-next g c =
     let same : c.take_line.new.wire ≡ c.if-is_last.self.wire = search rules in
-    let last : IsSome c.if-is_last.self.settled → c.in-Ok.is_last ≡ true = search rules in
+    let settled : IsSome c.if-is_last.self.settled → c.in-Ok.is_last ≡ true = search rules in
+    let last : c.in-Ok.is_last ≡ true → IsSome c.if-is_last.self.settled = search rules in
     let text : c.deref.result.now ≡ c.take_line.new.line.items = search rules in
     let meant : asked_by c.in-Ok-from_bytes.line ≡ asked c.take_line.new.line.items = c.in-Ok-from_bytes.ensures ∙ ap asked text in
     λ _. subst (λ (P : Type 0). P)
@@ -17,5 +18,5 @@ returns-clause-next g c =
     (told_map (g.R.Read.remaining c.self.inside.wire.device) (g.R.Read.remaining c.take_line.new.wire.device)
     (λ bytes left. IsTakenOf c.self.inside.line_count bytes left c.take_line.new.line.items (Ok c.in-Ok.is_last))
     (λ bytes left. IsNextOf c.self.inside.line_count bytes left c.if-is_last.self.settled (Ok (Some c.in-Ok-from_bytes.line)))
-    (λ bytes left h. line_answered c.self.inside.line_count c.if-is_last.self.settled c.take_line.new.line.items c.in-Ok.is_last c.in-Ok-from_bytes.line bytes left meant last h)
+    (λ bytes left h. line_answered c.self.inside.line_count c.if-is_last.self.settled c.take_line.new.line.items c.in-Ok.is_last c.in-Ok-from_bytes.line bytes left meant (settled, last) h)
     c.in-Ok.ensures.value)
