@@ -1,11 +1,16 @@
 -- What the options of a link take over from the words, by the rows that were read of them.
-use Rattle.std.proofs.Common.{◌≡◌, ℕ, List, [], Option, Some, None, option_map, Ok, refl, sym, ap, ◌∙◌}
-use Rattle.std.specs.Prelude.{unwrap_or}
+use Rattle.std.proofs.Common.{◌≡◌, ℕ, suc, Bool, true, false, cond, List, [], ◌∷◌, length, map, filter, Option, Some, None, option_map, Result, Ok, Err, refl, sym, ap, ◌∙◌}
+use Rattle.std.specs.declared.alloc.Global.{Global}
+use Rattle.std.specs.Prelude.{String, string_bytes, bytes_eq, codes, unwrap_or, IfOk}
 use Rattle.std.specs.Borrow.{Bor}
 use Rattle.clap.specs.declared.parser.matches.Found.{Found}
 use Rattle.clap.specs.Matches.{first_value, matched_of, raw_values}
-use Rattle.clap.specs.Walk.{first_of, rows_of}
+use Rattle.clap.specs.Walk.{Row, first_of, rows_of}
 use Rattle.clap.proofs.WalkLemmas.{first_value-rows, raw_values-rows}
+use Rattle.v7tools.specs.declared.fault.CliFault.{CliFault}
+use Rattle.v7tools.specs.declared.words.Call.{Call}
+use Rattle.v7tools.specs.declared.words.Call.TheVariants.{Ld, Nm, Size, Strip, Session}
+use Rattle.v7tools.specs.Calls.{Asks, dashes_in, files_of, or_program}
 use Rattle.v7tools.specs.LinkWords.{forced_asked, name_in, values_of, with_names}
 use Rattle.v7tools.specs.declared.link_words.TheConstants.{FORCED}
 use Rattle.v7tools.specs.declared.words.TheConstants.{OUT}
@@ -39,3 +44,36 @@ forced_given f texts names e h = ap (with_names []) (values_given f FORCED.now t
 
 pub none_forced : (f : Found) (names : List (List ℕ)) → option_map raw_values (matched_of f FORCED.now) ≡ None → names ≡ [] → Ok names ≡ forced_asked (rows_of f)
 none_forced f names e h = ap (λ (ns : List (List ℕ)). Ok ns) h ∙ ap (with_names []) (sym (no_values_given f FORCED.now e))
+
+-- ---- dashes
+
+abbrev is_dash : String Global → Bool
+is_dash word = bytes_eq (string_bytes word) (codes "-")
+
+dashes-bytes : (words : List (String Global)) → length (filter is_dash words) ≡ dashes_in (map string_bytes words)
+dashes-bytes [] = refl
+dashes-bytes (word ∷ words) = by_test (is_dash word) (dashes-bytes words)
+  where
+    by_test : (t : Bool) → length (filter is_dash words) ≡ dashes_in (map string_bytes words) →
+        length (cond t (word ∷ filter is_dash words) (filter is_dash words))
+        ≡ length (cond t (string_bytes word ∷ filter (λ w. bytes_eq w (codes "-")) (map string_bytes words)) (filter (λ w. bytes_eq w (codes "-")) (map string_bytes words)))
+    by_test true h = ap suc h
+    by_test false h = h
+
+or_program-dashes : (paths : List (List ℕ)) → dashes_in paths ≡ dashes_in (or_program paths)
+or_program-dashes [] = refl
+or_program-dashes (path ∷ paths) = refl
+
+-- the files of a call have the dashes of the paths that it was made of
+dashes-asked : (rows : List Row) (paths : List (List ℕ)) (call : Call) → Asks rows paths call → dashes_in paths ≡ dashes_in (files_of call)
+dashes-asked rows paths (Ld options forced out files) h = ap dashes_in (sym h.3)
+dashes-asked rows paths (Session options forced) h = ap dashes_in h.2
+dashes-asked rows paths (Nm options files) h = or_program-dashes paths ∙ ap dashes_in (sym h.1)
+dashes-asked rows paths (Size files) h = or_program-dashes paths ∙ ap dashes_in (sym h)
+dashes-asked rows paths (Strip files) h = ap dashes_in (sym h)
+
+pub dashes-kept : (rows : List Row) (words files : List (String Global)) (in_words in_files : ℕ) (r : Result Call CliFault) → in_words ≡ length (filter is_dash words) → in_files ≡ length (filter is_dash files) →
+    in_words ≡ in_files → IfOk r (Asks rows (map string_bytes files)) → IfOk r (λ call. dashes_in (map string_bytes words) ≡ dashes_in (files_of call))
+dashes-kept rows words files in_words in_files (Err fault) w f same asked = tt
+dashes-kept rows words files in_words in_files (Ok call) w f same asked =
+    sym (dashes-bytes words) ∙ sym w ∙ same ∙ f ∙ dashes-bytes files ∙ dashes-asked rows (map string_bytes files) call asked

@@ -1,5 +1,5 @@
 -- What every call of a tool keeps, and what it takes over from the words.
-use Rattle.std.specs.Prelude.{◌≡◌, ◌<◌, ℕ, List, [], ◌∷◌, map, Ok, codes, string_bytes, unwrap_or, vec_len}
+use Rattle.std.specs.Prelude.{◌≡◌, ◌<◌, ℕ, List, [], ◌∷◌, map, filter, length, Ok, bytes_eq, codes, string_bytes, unwrap_or, vec_len}
 use Rattle.clap.specs.Walk.{Row, first_of}
 use Rattle.clap.specs.declared.error.kind.ErrorKind.{ErrorKind}
 use Rattle.clap.specs.declared.error.kind.ErrorKind.TheVariants.{OutOfMemory}
@@ -34,14 +34,26 @@ list_asked rows = record {
   undefined = is_given rows UNDEFINED.now;
 }
 
--- the options, the forced names and the output are those that were read, and the files are these
+-- the options, the forced names and the output are those that were read, and the files are these; a session has none
 abbrev pub Asks : List Row → List (List ℕ) → Call → Type 0
 Asks rows paths (Ld options forced out files) =
     (options_asked rows ≡ Ok options) × (forced_asked rows ≡ Ok forced) × (string_bytes out ≡ unwrap_or (first_of OUT.now rows) PROGRAM.now) × (map string_bytes files.items ≡ paths)
-Asks rows paths (Session options forced) = (options_asked rows ≡ Ok options) × (forced_asked rows ≡ Ok forced)
+Asks rows paths (Session options forced) = (options_asked rows ≡ Ok options) × (forced_asked rows ≡ Ok forced) × (paths ≡ [])
 Asks rows paths (Nm options files) = (options ≡ list_asked rows) × (map string_bytes files.items ≡ or_program paths)
 Asks rows paths (Size files) = map string_bytes files.items ≡ or_program paths
 Asks rows paths (Strip files) = map string_bytes files.items ≡ paths
+
+-- the paths of the files of a call
+abbrev pub files_of : Call → List (List ℕ)
+files_of (Ld options forced out files) = map string_bytes files.items
+files_of (Nm options files) = map string_bytes files.items
+files_of (Size files) = map string_bytes files.items
+files_of (Strip files) = map string_bytes files.items
+files_of (Session options forced) = []
+
+-- how many of the words are a dash alone
+abbrev pub dashes_in : List (List ℕ) → ℕ
+dashes_in words = length (filter (λ word. bytes_eq word (codes "-")) words)
 
 -- the word that asks for a call
 abbrev pub name_of : Call → List ℕ

@@ -1,9 +1,9 @@
 //! The words of a command.
-ghost use Rattle.std.specs.Prelude.{◌≡◌, ◌<◌, ℕ, List, IfErr, IfOk, codes, filter, bytes_eq, length, map, string_bytes, unwrap_or, vec_len};
+ghost use Rattle.std.specs.Prelude.{◌≡◌, ◌<◌, [], IfErr, IfOk, bytes_eq, codes, filter, length, map, string_bytes, unwrap_or, vec_len};
 ghost use Rattle.clap.specs.Matches.{found_of};
 ghost use Rattle.clap.specs.Values.{kind_of};
 ghost use Rattle.clap.specs.Walk.{first_of, rows_of};
-ghost use Rattle.v7tools.specs.Calls.{Asks, IsOfWords, IsWhole, fault_of_words, name_of, or_program};
+ghost use Rattle.v7tools.specs.Calls.{Asks, IsOfWords, IsWhole, dashes_in, fault_of_words, files_of, name_of, or_program};
 ghost use Rattle.v7tools.specs.LinkWords.{values_of};
 
 use crate::fault::CliFault;
@@ -203,7 +203,7 @@ fn nm_call(alloc: Global, given: &ArgMatches<'_>, files: Vec<String>) -> Result<
 fn session_call(given: &ArgMatches<'_>) -> Result<Call, CliFault>
     ensures whole { IfOk result IsWhole }
     ensures named { IfOk result (λ call. name_of call ≡ codes "session") }
-    ensures asked { (files : List (List ℕ)) → IfOk result (Asks (rows_of (found_of given.now)) files) }
+    ensures asked { IfOk result (Asks (rows_of (found_of given.now)) []) }
     ensures faults { IfErr result IsOfWords }
 {
     Ok(Call::Session {
@@ -227,7 +227,7 @@ fn call_of(
     match name {
         "ld" => ld_call(alloc, given, files),
         "nm" => nm_call(alloc, given, files),
-        "session" => session_call(given),
+        "session" if files.is_empty() => session_call(given),
         "size" => Ok(Call::Size {
             files: files_or_program(alloc, files)?,
         }),
@@ -252,7 +252,7 @@ fn dashes(words: &[String]) -> usize
 /// - `session [-rsxXnid] [-u NAME]... [-e NAME]`.
 ///
 /// A flag may be repeated, but not `-e` and `-o`. The value of an option stands in the same word, or in the next one if
-/// that does not begin with `-`. Options may stand after files, and `--` ends them.
+/// that does not begin with `-`. Options may stand after files, and `--` ends them. A dash alone is a file.
 ///
 /// (ld(1), nm(1), size(1), strip(1); the session and the limit are an own choice)
 ///
@@ -260,6 +260,7 @@ fn dashes(words: &[String]) -> usize
 /// names after `-u`; `Memory`, 9, where there is no room for what the words ask for.
 pub fn parse(alloc: Global, words: Vec<String>) -> Result<Call, CliFault>
     ensures whole { IfOk result IsWhole }
+    ensures dashes { IfOk result (λ call. dashes_in (map string_bytes words.items) ≡ dashes_in (files_of call)) }
     ensures faults { IfErr result IsOfWords }
 {
     let matches = tools(alloc)?.try_get_matches_from(words.as_slice())?;
