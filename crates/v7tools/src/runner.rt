@@ -1,4 +1,6 @@
 //! The whole of a command, over any runtime.
+ghost use Rattle.std.specs.Prelude.{◌≡◌, ◌≤◌, IfOk};
+
 use crate::fault::CliFault;
 use crate::inputs::ld;
 use crate::loading::load;
@@ -37,7 +39,9 @@ fn link_files<H: Runtime + AllocGlobal>(
     forced: &Forced,
     out: String,
     files: Vec<String>,
-) -> Result<u8, CliFault> {
+) -> Result<u8, CliFault>
+    ensures { IfOk result (λ status. status ≤ 1) }
+{
     let linked = ld(rt.alloc(), open_all(rt, files)?, forced, options)?;
     let Ok(file) = fs::create(rt, out.as_str()) else {
         return Err(CliFault::CannotCreate(out));
@@ -68,7 +72,9 @@ fn list_files<H: Runtime + AllocGlobal>(
     rt: &H,
     options: NmOptions,
     files: Vec<String>,
-) -> Result<u8, CliFault> {
+) -> Result<u8, CliFault>
+    ensures { IfOk result (λ status. status ≡ 0) }
+{
     let loaded = load_all(rt, files)?;
     let mut out = Wire::new(io::writer(rt));
     nm(rt.alloc(), &loaded, options, &mut out)?;
@@ -77,7 +83,9 @@ fn list_files<H: Runtime + AllocGlobal>(
 }
 
 /// Writes the sizes of the files to standard output.
-fn size_files<H: Runtime + AllocGlobal>(rt: &H, files: Vec<String>) -> Result<u8, CliFault> {
+fn size_files<H: Runtime + AllocGlobal>(rt: &H, files: Vec<String>) -> Result<u8, CliFault>
+    ensures { IfOk result (λ status. status ≡ 0) }
+{
     let loaded = load_all(rt, files)?;
     let mut out = Wire::new(io::writer(rt));
     size(&loaded, &mut out)?;
@@ -86,7 +94,9 @@ fn size_files<H: Runtime + AllocGlobal>(rt: &H, files: Vec<String>) -> Result<u8
 }
 
 /// Writes each file stripped to its own place, in order; a fault leaves those behind it as they were.
-fn strip_files<H: Runtime + AllocGlobal>(rt: &H, files: Vec<String>) -> Result<u8, CliFault> {
+fn strip_files<H: Runtime + AllocGlobal>(rt: &H, files: Vec<String>) -> Result<u8, CliFault>
+    ensures { IfOk result (λ status. status ≡ 0) }
+{
     for (path, file) in load_all(rt, files)? {
         let stripped = strip_file(file);
         let Ok(device) = fs::create(rt, path.as_str()) else {
@@ -99,7 +109,9 @@ fn strip_files<H: Runtime + AllocGlobal>(rt: &H, files: Vec<String>) -> Result<u
     Ok(0)
 }
 
-fn run<H: Runtime + AllocGlobal>(rt: &H, words: Vec<String>) -> Result<u8, CliFault> {
+fn run<H: Runtime + AllocGlobal>(rt: &H, words: Vec<String>) -> Result<u8, CliFault>
+    ensures { IfOk result (λ status. status ≤ 1) }
+{
     match parse(rt.alloc(), words)? {
         Call::Ld {
             options,
@@ -118,7 +130,9 @@ fn run<H: Runtime + AllocGlobal>(rt: &H, words: Vec<String>) -> Result<u8, CliFa
 /// 1 where there was something to report, or 2 for a fault, whose line goes to standard error. With 2 no output was
 /// opened, or a device failed while it was written, or a script could not be answered to its end; what its links stored
 /// before then stays. (own choice)
-pub fn command<H: Runtime + AllocGlobal>(rt: &H, words: Vec<String>) -> u8 {
+pub fn command<H: Runtime + AllocGlobal>(rt: &H, words: Vec<String>) -> u8
+    ensures { result ≤ 2 }
+{
     match run(rt, words) {
         Ok(status) => status,
         Err(fault) => {

@@ -1,4 +1,7 @@
 //! The session as a command: each line of a script is answered before the next one is asked for.
+ghost use Rattle.std.specs.Prelude.{◌≤◌, IfOk};
+ghost use Rattle.v7tools.specs.ScriptAnswers.{IsCommandOf};
+
 use crate::answers::step;
 use crate::commands::{Command, Step};
 use crate::fault::CliFault;
@@ -31,7 +34,9 @@ fn link_into<H: Runtime + AllocGlobal, W: Write>(
     options: &Options,
     path: &str,
     answers: &mut Wire<W>,
-) -> Result<u8, CliFault> {
+) -> Result<u8, CliFault>
+    ensures { IfOk result (λ status. status ≤ 1) }
+{
     let command: Command<H::File> = Command::Link;
     match step(rt.alloc(), session, options, command, answers)? {
         Step::ToStore(linked) => {
@@ -44,7 +49,9 @@ fn link_into<H: Runtime + AllocGlobal, W: Write>(
 }
 
 /// The command of a line that asks for no link; the file of an addition is opened.
-fn command_of<H: Runtime + AllocGlobal>(rt: &H, line: Line) -> Command<H::File> {
+fn command_of<H: Runtime + AllocGlobal>(rt: &H, line: Line) -> Command<H::File>
+    ensures { IsCommandOf line result }
+{
     match line {
         Line::Add(path) => {
             let wire = match fs::open(rt, path.as_str()) {
@@ -68,7 +75,9 @@ fn answer_line<H: Runtime + AllocGlobal, W: Write>(
     options: &Options,
     line: Line,
     answers: &mut Wire<W>,
-) -> Result<u8, CliFault> {
+) -> Result<u8, CliFault>
+    ensures { IfOk result (λ status. status ≤ 1) }
+{
     if let Line::Link(path) = &line {
         return link_into(rt, session, options, path.as_str(), answers);
     }
@@ -84,7 +93,9 @@ pub(crate) fn answer_script<H: Runtime + AllocGlobal>(
     rt: &H,
     options: &Options,
     forced: &Forced,
-) -> Result<u8, CliFault> {
+) -> Result<u8, CliFault>
+    ensures { IfOk result (λ status. status ≤ 1) }
+{
     let mut session = Session::with_forced(rt.alloc(), forced)?;
     let mut script = Script::new(rt.alloc(), Wire::new(rt.reader()))?;
     let mut answers = Wire::new(io::writer(rt));
@@ -93,7 +104,8 @@ pub(crate) fn answer_script<H: Runtime + AllocGlobal>(
         let Some(line) = script.next_line()? else {
             break;
         };
-        status |= answer_line(rt, &mut session, options, line, &mut answers)?;
+        let answered = answer_line(rt, &mut session, options, line, &mut answers)?;
+        status = status.max(answered);
         answers.flush()?;
     }
     Ok(status)
