@@ -1,8 +1,9 @@
 -- The lines of a script, taken off its bytes one by one.
-use Rattle.std.proofs.Common.{◌≡◌, ◌≢◌, ◌+◌, ◌<◌, ◌≤◌, ℕ, Bool, true, false, cond, if◌then◌else◌, List, [], ◌∷◌, ◌++◌, length, Option, Some, None, Ok, refl, sym, ap, subst, ◌∙◌, ◌↔◌, arith, append_assoc, append-nil, length-append}
+use Rattle.std.proofs.Common.{◌≡◌, ◌≢◌, ◌+◌, ◌<◌, ◌≤◌, ℕ, Bool, true, false, cond, if◌then◌else◌, List, [], ◌∷◌, ◌++◌, length, Option, Some, None, Ok, refl, sym, ap, ◌∙◌, ◌↔◌, Err, subst, drop, drop_at, arith, append_assoc, append-nil, length-append}
 use Rattle.std.specs.Prelude.{nat_lt, IsSome}
 use Rattle.std.specs.Io.KnownBytes.{Consumes, IsAtEnd}
 use Rattle.std.proofs.lemmas.Bool.{ne_eqb, lt-leb, lt-ltb, le-ltb}
+use Rattle.v7tools.specs.declared.fault.CliFault.TheVariants as faults
 use Rattle.v7tools.specs.declared.lines.Line.{Line}
 use Rattle.v7tools.specs.declared.script.Stop.TheVariants as stops
 use Rattle.v7tools.specs.Scripts.{asked, lines_in, on_first, long_line, many_lines, and_given, ends_with_fault, given_behind}
@@ -80,7 +81,10 @@ pub long_told : (n : ℕ) (old new : Option (List ℕ)) (line : List ℕ) (b : �
 long_told n None new line b few long none taken = tt
 long_told n (Some bytes) None line b few long none taken = absurd taken
 long_told n (Some bytes) (Some left) line b few long none taken =
-    ap (λ (x : List ℕ). given_behind n (lines_in x)) taken ∙ long_lines n (line ++ b ∷ []) left few (omega (arith, length-append line (b ∷ []))) none
+    let size : length (line ++ b ∷ []) ≡ 4097 = length-append line (b ∷ []) ∙ ap (λ (k : ℕ). k + 1) long in (
+      sym (ap (drop 4097) taken ∙ drop_at (line ++ b ∷ []) left 4097 size),
+      ap (λ (x : List ℕ). given_behind n (lines_in x)) taken ∙ long_lines n (line ++ b ∷ []) left few (omega (arith, size)) none,
+    )
 
 pub line_told : (n : ℕ) (old new : Option (List ℕ)) (line : List ℕ) → n < 1000000 → length line ≤ 4096 → HasNone line → Consumes old new (line ++ 10 ∷ []) →
     IfTold old new (λ bytes left. IsTakenOf n bytes left line (Ok false))
@@ -88,8 +92,10 @@ line_told n None new line few short none taken = tt
 line_told n (Some bytes) None line few short none taken = absurd taken
 line_told n (Some bytes) (Some left) line few short none taken =
     let whole : bytes ≡ line ++ 10 ∷ left = taken ∙ append_assoc line (10 ∷ []) left in (
-      sym (ap behind_line whole ∙ behind_whole_line line left none),
-      ap (given_behind n) (ap lines_in whole ∙ lines_of_line line left none) ∙ given_line n line (lines_in left) few short,
+      (
+        sym (ap behind_line whole ∙ behind_whole_line line left none),
+        ap (given_behind n) (ap lines_in whole ∙ lines_of_line line left none) ∙ given_line n line (lines_in left) few short,
+      ),
       (λ never. absurd (cc), λ h. absurd (newline_inside line left (subst HasNone whole h))),
     )
 
@@ -103,14 +109,28 @@ last_told n None new line few short some none taken end = tt
 last_told n (Some bytes) None line few short some none taken end = absurd taken
 last_told n (Some bytes) (Some left) line few short some none taken end =
     let whole : bytes ≡ line = taken ∙ ap (λ (l : List ℕ). line ++ l) end ∙ append-nil line in (
-      end ∙ sym (ap behind_line whole ∙ behind_last_line line none),
-      ap (λ (b : List ℕ). given_behind n (lines_in b)) whole ∙ last_lines n line few short some none ∙ ap (λ (l : List ℕ). and_given (asked line) (given_behind (n + 1) (lines_in l))) (sym end),
+      (
+        end ∙ sym (ap behind_line whole ∙ behind_last_line line none),
+        ap (λ (b : List ℕ). given_behind n (lines_in b)) whole ∙ last_lines n line few short some none ∙ ap (λ (l : List ℕ). and_given (asked line) (given_behind (n + 1) (lines_in l))) (sym end),
+      ),
       (λ _. subst HasNone (sym whole) none, λ _. refl),
     )
+
+pub failed_told : (n : ℕ) (old new : Option (List ℕ)) (front : List ℕ) → length front ≤ 4096 → HasNone front → Consumes old new front → IfTold old new (λ bytes left. IsStopOf n bytes left stops.ReadFailed)
+failed_told n None new front short none taken = tt
+failed_told n (Some bytes) None front short none taken = absurd taken
+failed_told n (Some bytes) (Some left) front short none taken = (front, none, short, taken)
 
 -- ---- the answers
 
 pub line_answered : (n : ℕ) (settled : Option Answer) (line : List ℕ) (is_last : Bool) (it : Line) (bytes left : List ℕ) → asked_by it ≡ asked line → (IsSome settled ↔ is_last ≡ true) →
     IsTakenOf n bytes left line (Ok is_last) → IsNextOf n bytes left settled (Ok (Some it))
 line_answered n settled line is_last it bytes left same last h =
-    (h.0, h.1 ∙ ap (λ a. and_given a (given_behind (n + 1) (lines_in left))) (sym same), (λ some. h.2.0 (last.0 some), λ none. last.1 (h.2.1 none)))
+    ((h.0.0, h.0.1 ∙ ap (λ a. and_given a (given_behind (n + 1) (lines_in left))) (sym same)), (λ some. h.1.0 (last.0 some), λ none. last.1 (h.1.1 none)))
+
+-- no memory for the line that was taken
+pub lost_told : (n : ℕ) (old new : Option (List ℕ)) (settled : Option Answer) (answer : Answer) (line : List ℕ) (is_last : Bool) → answer ≡ Err faults.Memory →
+    IfTold old new (λ bytes left. IsTakenOf n bytes left line (Ok is_last)) → IfTold old new (λ bytes left. IsNextOf n bytes left settled answer)
+lost_told n old new settled answer line is_last is =
+    told_map old new (λ bytes left. IsTakenOf n bytes left line (Ok is_last)) (λ bytes left. IsNextOf n bytes left settled answer)
+    (λ bytes left h. subst (IsNextOf n bytes left settled) (sym is) (asked line, h.0))

@@ -1,5 +1,5 @@
 -- What the reader of a script answers, call by call.
-use Rattle.std.specs.Prelude.{◌≡◌, ◌≢◌, ◌↔◌, ◌+◌, ℕ, Bool, true, cond, eqb, List, [], ◌∷◌, ◌++◌, Option, Some, None, Result, Ok, Err, IfSome, IsSome, string_bytes}
+use Rattle.std.specs.Prelude.{◌≡◌, ◌≢◌, ◌↔◌, ◌+◌, ◌≤◌, ℕ, Bool, true, cond, eqb, List, [], ◌∷◌, ◌++◌, drop, length, Option, Some, None, Result, Ok, Err, IfSome, IsSome, string_bytes}
 use Rattle.std.specs.Io.KnownBytes.{Consumes, IsAtEnd}
 use Rattle.aout_core.specs.Wires.{Latched}
 use Rattle.v7tools.specs.declared.commands.Command.{Command}
@@ -74,14 +74,35 @@ abbrev pub HasNone : List ℕ → Type 0
 HasNone [] = Unit {0}
 HasNone (b ∷ bs) = (b ≢ 10) × HasNone bs
 
+-- behind so many lines there is one more, which asks for this, and it was taken with its newline
+abbrev pub TakesLine : ℕ → List ℕ → List ℕ → Asked → Type 0
+TakesLine n bytes left asks = (left ≡ behind_line bytes) × (given_behind n (lines_in bytes) ≡ and_given asks (given_behind (n + 1) (lines_in left)))
+
+-- behind so many lines there is none
+abbrev pub TakesNone : ℕ → List ℕ → List ℕ → Type 0
+TakesNone n bytes left = (left ≡ []) × (given_behind n (lines_in bytes) ≡ record { lines = []; fault = None })
+
+-- behind so many lines the next is too long, and it was taken up to the byte that is one too many
+abbrev pub StopsInLine : ℕ → List ℕ → List ℕ → Type 0
+StopsInLine n bytes left = (left ≡ drop 4097 bytes) × (given_behind n (lines_in bytes) ≡ ends_with_fault long_line)
+
+-- behind so many lines there is one too many, of which one byte was taken
+abbrev pub StopsBehind : ℕ → List ℕ → List ℕ → Type 0
+StopsBehind n bytes left = (left ≡ drop 1 bytes) × (given_behind n (lines_in bytes) ≡ ends_with_fault many_lines)
+
+-- the reader failed within a line, of which these bytes were taken
+abbrev pub FailsInLine : List ℕ → List ℕ → Type 0
+FailsInLine bytes left = (front : List ℕ) × HasNone front × (length front ≤ 4096) × (bytes ≡ front ++ left)
+
 -- behind so many lines, the answer is the next that these bytes give, and leaves those behind it; with a last line that
 -- lacks its newline, and with no other, the end is settled
 abbrev pub IsNextOf : ℕ → List ℕ → List ℕ → Option Answer → Answer → Type 0
-IsNextOf n bytes left settled (Ok (Some line)) =
-    (left ≡ behind_line bytes) × (given_behind n (lines_in bytes) ≡ and_given (asked_by line) (given_behind (n + 1) (lines_in left))) × (IsSome settled ↔ HasNone bytes)
-IsNextOf n bytes left settled (Ok None) = (left ≡ []) × (given_behind n (lines_in bytes) ≡ record { lines = []; fault = None })
-IsNextOf n bytes left settled (Err faults.LongLine) = given_behind n (lines_in bytes) ≡ ends_with_fault long_line
-IsNextOf n bytes left settled (Err faults.ManyLines) = given_behind n (lines_in bytes) ≡ ends_with_fault many_lines
+IsNextOf n bytes left settled (Ok (Some line)) = TakesLine n bytes left (asked_by line) × (IsSome settled ↔ HasNone bytes)
+IsNextOf n bytes left settled (Ok None) = TakesNone n bytes left
+IsNextOf n bytes left settled (Err faults.LongLine) = StopsInLine n bytes left
+IsNextOf n bytes left settled (Err faults.ManyLines) = StopsBehind n bytes left
+IsNextOf n bytes left settled (Err faults.Memory) = (asks : Asked) × TakesLine n bytes left asks
+IsNextOf n bytes left settled (Err faults.ScriptFailed) = FailsInLine bytes left
 IsNextOf n bytes left settled (Err _) = Unit {0}
 
 -- the answer of a script that gives no further line
@@ -97,17 +118,17 @@ abbrev pub EndsLine : Ending → Option (List ℕ) → Option (List ℕ) → Lis
 EndsLine endings.Newline old new line = HasNone line × Consumes old new (line ++ 10 ∷ [])
 EndsLine endings.End old new line = HasNone line × Consumes old new line × IsAtEnd new
 EndsLine endings.Long old new line = (b : ℕ) × HasNone (line ++ b ∷ []) × Consumes old new (line ++ b ∷ [])
-EndsLine endings.Failed old new line = Consumes old new line
+EndsLine endings.Failed old new line = HasNone line × Consumes old new line
 
 -- behind so many lines these bytes give no further line
 abbrev pub IsStopOf : ℕ → List ℕ → List ℕ → Stop → Type 0
-IsStopOf n bytes left stops.End = (left ≡ []) × (given_behind n (lines_in bytes) ≡ record { lines = []; fault = None })
-IsStopOf n bytes left stops.LongLine = given_behind n (lines_in bytes) ≡ ends_with_fault long_line
-IsStopOf n bytes left stops.ManyLines = given_behind n (lines_in bytes) ≡ ends_with_fault many_lines
-IsStopOf n bytes left _ = Unit {0}
+IsStopOf n bytes left stops.End = TakesNone n bytes left
+IsStopOf n bytes left stops.LongLine = StopsInLine n bytes left
+IsStopOf n bytes left stops.ManyLines = StopsBehind n bytes left
+IsStopOf n bytes left stops.ReadFailed = FailsInLine bytes left
+IsStopOf n bytes left stops.Memory = ⊥
 
 -- a line was taken behind so many others, the last one or not, or why none was
 abbrev pub IsTakenOf : ℕ → List ℕ → List ℕ → List ℕ → Result Bool Stop → Type 0
-IsTakenOf n bytes left line (Ok is_last) =
-    (left ≡ behind_line bytes) × (given_behind n (lines_in bytes) ≡ and_given (asked line) (given_behind (n + 1) (lines_in left))) × (is_last ≡ true ↔ HasNone bytes)
+IsTakenOf n bytes left line (Ok is_last) = TakesLine n bytes left (asked line) × (is_last ≡ true ↔ HasNone bytes)
 IsTakenOf n bytes left line (Err stop) = IsStopOf n bytes left stop

@@ -1,8 +1,9 @@
-use Rattle.std.proofs.Common.{◌≡◌, ◌∙◌, true, Ok, Some, subst, ap, rules}
+use Rattle.std.proofs.Common.{◌≡◌, ◌∙◌, true, Ok, Err, Some, subst, ap, rules}
 use Rattle.std.specs.Prelude.{IsSome}
+use Rattle.v7tools.specs.declared.fault.CliFault.TheVariants.{Memory}
 use Rattle.v7tools.specs.Scripts.{asked}
 use Rattle.v7tools.specs.ScriptAnswers.{asked_by, IfTold, IsNextOf, IsTakenOf}
-use Rattle.v7tools.proofs.ScriptLemmas.{told_map, line_answered}
+use Rattle.v7tools.proofs.ScriptLemmas.{told_map, line_answered, lost_told}
 use Rattle.v7tools.proofs.script.Script.next_line.Goals as goal
 
 pub returns-clause-next : goal.returns-clause-next
@@ -20,3 +21,12 @@ returns-clause-next g c =
     (λ bytes left. IsNextOf c.self.inside.line_count bytes left c.if-is_last.self.settled (Ok (Some c.in-Ok-from_bytes.line)))
     (λ bytes left h. line_answered c.self.inside.line_count c.if-is_last.self.settled c.take_line.new.line.items c.in-Ok.is_last c.in-Ok-from_bytes.line bytes left meant (settled, last) h)
     c.in-Ok.ensures.value)
+
+pub returns-in_default-from_bytes-clause-next : goal.returns-in_default-from_bytes-clause-next
+returns-in_default-from_bytes-clause-next g c =
+    let taken = subst (λ (P : Type 0). P)
+    (λ i. IfTold (g.R.Read.remaining (c.self.view_is i).wire.device) (g.R.Read.remaining c.take_line.new.wire.device)
+    (λ bytes left. IsTakenOf (c.self.view_is i).line_count bytes left c.take_line.new.line.items (Ok c.in-Ok.is_last)))
+    c.in-Ok.ensures.value in
+    λ _. lost_told c.args.self.now.line_count (g.R.Read.remaining c.args.self.now.wire.device) (g.R.Read.remaining c.take_line.new.wire.device) (Some (Err Memory)) c.answer-in_default-from_bytes.result
+    c.take_line.new.line.items c.in-Ok.is_last (search rules) taken
