@@ -46,8 +46,10 @@ fn link_files<H: Runtime + AllocGlobal>(
     let Ok(file) = fs::create(rt, out.as_str()) else {
         return Err(CliFault::CannotCreate(out));
     };
+    let mut program = Wire::new(file);
     let mut report = Wire::new(io::writer(rt));
-    let status = emit(&linked, &mut Wire::new(file), &mut report)?;
+    let status = emit(&linked, &mut program, &mut report)?;
+    program.flush()?;
     report.flush()?;
     Ok(status)
 }
