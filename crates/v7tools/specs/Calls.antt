@@ -1,5 +1,5 @@
 -- What every call of a tool keeps, and what it takes over from the words.
-use Rattle.std.specs.Prelude.{◌≡◌, ◌<◌, ℕ, List, [], ◌∷◌, map, filter, length, Ok, bytes_eq, codes, string_bytes, unwrap_or, vec_len}
+use Rattle.std.specs.Prelude.{◌≡◌, ◌<◌, ◌⊎◌, IsErr, ℕ, List, [], ◌∷◌, map, filter, length, Ok, bytes_eq, codes, string_bytes, unwrap_or, vec_len}
 use Rattle.clap.specs.Walk.{Row, first_of}
 use Rattle.clap.specs.declared.error.kind.ErrorKind.{ErrorKind}
 use Rattle.clap.specs.declared.error.kind.ErrorKind.TheVariants.{OutOfMemory}
@@ -67,6 +67,10 @@ name_of (Session options forced) = codes "session"
 abbrev pub fault_of_words : ErrorKind → CliFault
 fault_of_words OutOfMemory = faults.Memory
 fault_of_words kind = faults.Usage
+
+-- options that exclude each other, or too many forced names
+abbrev pub IsMisuse : List Row → Type 0
+IsMisuse rows = IsErr (options_asked rows) ⊎ IsErr (forced_asked rows)
 
 -- words are refused for what they ask, or for want of memory
 abbrev pub IsOfWords : CliFault → Type 0

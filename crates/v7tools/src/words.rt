@@ -1,9 +1,10 @@
 //! The words of a command.
-ghost use Rattle.std.specs.Prelude.{◌≡◌, ◌<◌, [], IfErr, IfOk, bytes_eq, codes, filter, length, map, string_bytes, unwrap_or, vec_len};
+ghost use Rattle.std.specs.Prelude.{◌≡◌, ◌<◌, ◌⊎◌, [], Err, IfErr, IfOk, bytes_eq, codes, filter, length, map, string_bytes, unwrap_or, vec_len};
 ghost use Rattle.clap.specs.Matches.{found_of};
 ghost use Rattle.clap.specs.Values.{kind_of};
 ghost use Rattle.clap.specs.Walk.{first_of, rows_of};
-ghost use Rattle.v7tools.specs.Calls.{Asks, IsOfWords, IsWhole, dashes_in, fault_of_words, files_of, name_of, or_program};
+ghost use Rattle.v7tools.specs.declared.fault.CliFault.TheVariants.{Memory, Usage};
+ghost use Rattle.v7tools.specs.Calls.{Asks, IsMisuse, IsOfWords, IsWhole, dashes_in, fault_of_words, files_of, name_of, or_program};
 ghost use Rattle.v7tools.specs.LinkWords.{values_of};
 
 use crate::fault::CliFault;
@@ -130,7 +131,7 @@ fn tools<'a>(alloc: Global) -> Result<Command<'a>, AllocError> {
 /// The files of a command, owned.
 fn owned_files(alloc: Global, matches: &ArgMatches<'_>) -> Result<Vec<String>, CliFault>
     ensures value { IfOk result (λ owned. map string_bytes owned.items ≡ values_of (rows_of (found_of matches.now)) FILE.now) }
-    ensures faults { IfErr result IsOfWords }
+    ensures faults { IfErr result (λ fault. fault ≡ Memory) }
 {
     let mut owned = Vec::new(alloc);
     let Some(given) = matches.get_strs(FILE) else {
@@ -146,7 +147,7 @@ fn owned_files(alloc: Global, matches: &ArgMatches<'_>) -> Result<Vec<String>, C
 fn files_or_program(alloc: Global, mut files: Vec<String>) -> Result<Vec<String>, CliFault>
     ensures whole { IfOk result (λ files. 0 < vec_len files) }
     ensures value { IfOk result (λ given. map string_bytes given.items ≡ or_program (map string_bytes files.items)) }
-    ensures faults { IfErr result IsOfWords }
+    ensures faults { IfErr result (λ fault. fault ≡ Memory) }
 {
     if !files.is_empty() {
         return Ok(files);
@@ -158,7 +159,7 @@ fn files_or_program(alloc: Global, mut files: Vec<String>) -> Result<Vec<String>
 /// The path of the output.
 fn output(alloc: Global, given: &ArgMatches<'_>) -> Result<String, CliFault>
     ensures value { IfOk result (λ out. string_bytes out ≡ unwrap_or (first_of OUT.now (rows_of (found_of given.now))) PROGRAM.now) }
-    ensures faults { IfErr result IsOfWords }
+    ensures faults { IfErr result (λ fault. fault ≡ Memory) }
 {
     let path = given.get_str(OUT).unwrap_or(PROGRAM);
     Ok(String::from_str(alloc, path)?)
@@ -169,6 +170,7 @@ fn ld_call(alloc: Global, given: &ArgMatches<'_>, files: Vec<String>) -> Result<
     ensures named { IfOk result (λ call. name_of call ≡ codes "ld") }
     ensures asked { IfOk result (Asks (rows_of (found_of given.now)) (map string_bytes files.items)) }
     ensures faults { IfErr result IsOfWords }
+    ensures usage { result ≡ Err Usage → IsMisuse (rows_of (found_of given.now)) ⊎ (files.items ≡ []) }
 {
     if files.is_empty() {
         return Err(CliFault::Usage);
@@ -185,7 +187,7 @@ fn nm_call(alloc: Global, given: &ArgMatches<'_>, files: Vec<String>) -> Result<
     ensures whole { IfOk result IsWhole }
     ensures named { IfOk result (λ call. name_of call ≡ codes "nm") }
     ensures asked { IfOk result (Asks (rows_of (found_of given.now)) (map string_bytes files.items)) }
-    ensures faults { IfErr result IsOfWords }
+    ensures faults { IfErr result (λ fault. fault ≡ Memory) }
 {
     Ok(Call::Nm {
         options: NmOptions {
@@ -205,6 +207,7 @@ fn session_call(given: &ArgMatches<'_>) -> Result<Call, CliFault>
     ensures named { IfOk result (λ call. name_of call ≡ codes "session") }
     ensures asked { IfOk result (Asks (rows_of (found_of given.now)) []) }
     ensures faults { IfErr result IsOfWords }
+    ensures usage { result ≡ Err Usage → IsMisuse (rows_of (found_of given.now)) }
 {
     Ok(Call::Session {
         options: link_options(given)?,
