@@ -1,5 +1,5 @@
 //! The words of a command.
-ghost use Rattle.std.specs.Prelude.{◌≡◌, ◌<◌, ◌⊎◌, [], Err, IfErr, IfOk, bytes_eq, codes, filter, length, map, string_bytes, unwrap_or, vec_len};
+ghost use Rattle.std.specs.Prelude.{◌≡◌, ◌≢◌, ◌<◌, ◌⊎◌, [], Err, IfErr, IfOk, bytes_eq, codes, filter, length, map, string_bytes, unwrap_or, vec_len};
 ghost use Rattle.clap.specs.Matches.{found_of};
 ghost use Rattle.clap.specs.Values.{kind_of};
 ghost use Rattle.clap.specs.Walk.{first_of, rows_of};
@@ -225,6 +225,10 @@ fn call_of(
     ensures whole { IfOk result IsWhole }
     ensures named { IfOk result (λ call. name_of call ≡ name.now) }
     ensures asked { IfOk result (Asks (rows_of (found_of given.now)) (map string_bytes files.items)) }
+    ensures lists { result ≡ Err Usage → (name.now ≢ codes "nm") × (name.now ≢ codes "size") }
+    ensures links { result ≡ Err Usage → name.now ≡ codes "ld" → IsMisuse (rows_of (found_of given.now)) ⊎ (files.items ≡ []) }
+    ensures sessions { result ≡ Err Usage → name.now ≡ codes "session" → IsMisuse (rows_of (found_of given.now)) ⊎ (files.items ≢ []) }
+    ensures strips { result ≡ Err Usage → name.now ≡ codes "strip" → files.items ≡ [] }
     ensures faults { IfErr result IsOfWords }
 {
     match name {
