@@ -1,15 +1,12 @@
 //! Files read, checked, stripped and written.
-use aout_core::samples::{A_O, B_O, C_O, D_O, G_O, I_O, S_O, TestReader, TestWriter};
+use crate::fixtures::{TWO_OBJECTS, replaced};
+use crate::outputs::written;
+use aout_core::samples::{A_O, B_O, C_O, D_O, G_O, I_O, S_O, TestReader};
 use aout_core::{Object, ObjectFault, ReadFault, Wire, read_file, strip_file, write_file};
-use std::alloc::{AllocError, Global};
+use std::alloc::Global;
 use std::io::ErrorKind;
 use std::test::Fail;
-
-/// The 24 bytes of `v7 ld -s a.o b.o`.
-const LINKED: [u8; 24] = [
-    0x07, 0x01, 0x06, 0x00, 0x02, 0x00, 0x00, 0x00, 0x00, 0x00, 0x00, 0x00, 0x00, 0x00, 0x01, 0x00,
-    0xc0, 0x15, 0x06, 0x00, 0x87, 0x00, 0x22, 0x00,
-];
+use v7tools::{CliFault, load};
 
 /// Why the bytes are no file, and how many of them were left unread.
 fn read(alloc: Global, bytes: &[u8]) -> (Option<ReadFault>, usize) {
@@ -28,20 +25,9 @@ fn object_fault(alloc: Global, bytes: &[u8]) -> Result<Option<ObjectFault>, Read
 }
 
 /// The bytes of the file that these bytes spell, written again.
-fn written(alloc: Global, bytes: &[u8]) -> Result<Vec<u8>, ReadFault> {
+fn rewritten(alloc: Global, bytes: &[u8]) -> Result<Vec<u8>, Fail> {
     let file = read_file(alloc, &mut Wire::new(TestReader::whole(bytes)))?;
-    let mut out = Wire::new(TestWriter::whole(Vec::new(alloc)));
-    write_file(&file, &mut out)?;
-    Ok(out.into_inner().into_taken())
-}
-
-/// The bytes with one of them replaced.
-fn with(alloc: Global, bytes: &[u8], place: usize, byte: u8) -> Result<Vec<u8>, AllocError> {
-    let mut changed = bytes.to_vec(alloc)?;
-    if let Some(old) = changed.get_mut(place) {
-        *old = byte;
-    }
-    Ok(changed)
+    written(alloc, &file)
 }
 
 #[test]
@@ -54,15 +40,15 @@ fn damaged_files(rt: HostRuntime) -> Result<(), Fail> {
     longer.extend_from_slice(&[1, 2, 3])?;
     assert_eq!(rt; read(alloc, &longer), (None, 3));
     assert_eq!(rt;
-        read(alloc, &with(alloc, &A_O, 0, 0o4)?),
+        read(alloc, &replaced(alloc, &A_O, 0, 0o4)?),
         (Some(ReadFault::BadMagic), 12)
     );
     assert_eq!(rt;
-        read(alloc, &with(alloc, &A_O, 2, 3)?),
+        read(alloc, &replaced(alloc, &A_O, 2, 3)?),
         (Some(ReadFault::OddSize), 12)
     );
     assert_eq!(rt;
-        read(alloc, &with(alloc, &A_O, 8, 13)?),
+        read(alloc, &replaced(alloc, &A_O, 8, 13)?),
         (Some(ReadFault::OddSize), 12)
     );
     Ok(())
@@ -71,9 +57,9 @@ fn damaged_files(rt: HostRuntime) -> Result<(), Fail> {
 #[test]
 fn first_refusal(rt: HostRuntime) -> Result<(), Fail> {
     let alloc = rt.alloc();
-    let odd = with(alloc, &A_O, 2, 3)?;
+    let odd = replaced(alloc, &A_O, 2, 3)?;
     assert_eq!(rt;
-        read(alloc, &with(alloc, &odd, 0, 0o4)?),
+        read(alloc, &replaced(alloc, &odd, 0, 0o4)?),
         (Some(ReadFault::BadMagic), 12)
     );
     let Some(header) = odd.get(..16) else {
@@ -107,7 +93,7 @@ fn longest_header(rt: HostRuntime) {
 #[test]
 fn odd_flag(rt: HostRuntime) -> Result<(), Fail> {
     let alloc = rt.alloc();
-    let flagged = with(alloc, &B_O, 14, 2)?;
+    let flagged = replaced(alloc, &B_O, 14, 2)?;
     let mut wire = Wire::new(TestReader::whole(&flagged));
     let file = read_file(alloc, &mut wire)?;
     assert_eq!(rt; file.text_words(), [0o207].as_slice());
@@ -123,24 +109,24 @@ fn odd_flag(rt: HostRuntime) -> Result<(), Fail> {
 #[test]
 fn name_junk(rt: HostRuntime) -> Result<(), Fail> {
     let alloc = rt.alloc();
-    let junk = with(alloc, &with(alloc, &G_O, 17, 0x66)?, 19, 0x41)?;
+    let junk = replaced(alloc, &replaced(alloc, &G_O, 17, 0x66)?, 19, 0x41)?;
     let file = read_file(alloc, &mut Wire::new(TestReader::whole(&junk)))?;
     let Some(symbol) = file.symbols().first() else {
         return Err(Fail::from("no symbol"));
     };
     assert_eq!(rt; symbol.name.as_bytes(), b"_f".as_slice());
-    let clean = with(alloc, &junk, 19, 0)?;
-    assert_eq!(rt; written(alloc, &junk)?, clean);
+    let clean = replaced(alloc, &junk, 19, 0)?;
+    assert_eq!(rt; rewritten(alloc, &junk)?, clean);
     Ok(())
 }
 
 #[test]
 fn damaged_objects(rt: HostRuntime) -> Result<(), Fail> {
     let alloc = rt.alloc();
-    let pure = with(alloc, &with(alloc, &B_O, 0, 0o10)?, 14, 1)?;
+    let pure = replaced(alloc, &replaced(alloc, &B_O, 0, 0o10)?, 14, 1)?;
     assert_eq!(rt; object_fault(alloc, &pure)?, Some(ObjectFault::NotAnObject));
     assert_eq!(rt;
-        object_fault(alloc, &LINKED)?,
+        object_fault(alloc, &TWO_OBJECTS)?,
         Some(ObjectFault::NoRelocation)
     );
     for (bytes, place, byte, want) in [
@@ -150,7 +136,7 @@ fn damaged_objects(rt: HostRuntime) -> Result<(), Fail> {
         (C_O.as_slice(), 22, 0o31, ObjectFault::BadSymbolNumber(1)),
         (D_O.as_slice(), 22, 0o10, ObjectFault::BadSymbolNumber(1)),
     ] {
-        let damaged = with(alloc, bytes, place, byte)?;
+        let damaged = replaced(alloc, bytes, place, byte)?;
         assert_eq!(rt;
             object_fault(alloc, &damaged)?,
             Some(want),
@@ -164,7 +150,7 @@ fn damaged_objects(rt: HostRuntime) -> Result<(), Fail> {
 fn bad_words_everywhere(rt: HostRuntime) -> Result<(), Fail> {
     let alloc = rt.alloc();
     for kind in [0o12, 0o14, 0o16] {
-        let damaged = with(alloc, &C_O, 20, kind)?;
+        let damaged = replaced(alloc, &C_O, 20, kind)?;
         assert_eq!(rt;
             object_fault(alloc, &damaged)?,
             Some(ObjectFault::BadRelocation(0))
@@ -172,7 +158,7 @@ fn bad_words_everywhere(rt: HostRuntime) -> Result<(), Fail> {
     }
     for number in 1..4096u16 {
         let [low, high] = (16 * number + 0o10).to_le_bytes();
-        let damaged = with(alloc, &with(alloc, &C_O, 22, low)?, 23, high)?;
+        let damaged = replaced(alloc, &replaced(alloc, &C_O, 22, low)?, 23, high)?;
         let fault = object_fault(alloc, &damaged)?;
         assert_eq!(rt; fault, Some(ObjectFault::BadSymbolNumber(1)), "{number}");
     }
@@ -204,9 +190,9 @@ fn written_as_read(rt: HostRuntime) -> Result<(), Fail> {
         B_O.as_slice(),
         I_O.as_slice(),
         S_O.as_slice(),
-        LINKED.as_slice(),
+        TWO_OBJECTS.as_slice(),
     ] {
-        let again = written(alloc, bytes)?;
+        let again = rewritten(alloc, bytes)?;
         assert_eq!(rt; again.as_slice(), bytes);
     }
     Ok(())
@@ -234,6 +220,26 @@ fn memory_refused_reading(rt: HostRuntime) {
             let _ = rt.eprint("refused\n");
             assert_eq!(rt; fault, ReadFault::Memory);
             assert_eq!(rt; wire.into_inner().left().len(), 32);
+        }
+    }
+}
+
+#[test]
+fn memory_refused_reading_at_a_path(rt: HostRuntime) {
+    let Ok(path) = String::from_str(rt.alloc(), "c.o") else {
+        let _ = rt.eprint("no fixture\n");
+        return;
+    };
+    let mut wire = Wire::new(TestReader::whole(&C_O));
+    match load(rt.alloc(), path, &mut wire) {
+        Ok((path, _)) => {
+            assert_eq!(rt; path.as_str(), "c.o");
+            assert_eq!(rt; wire.into_inner().left().len(), 0);
+        }
+        Err(fault) => {
+            let _ = rt.eprint("refused\n");
+            assert!(rt; matches!(fault, CliFault::Memory));
+            assert!(rt; wire.into_inner().left().len() <= 32);
         }
     }
 }

@@ -3,9 +3,17 @@
 #![tactic(auto)]
 
 #[cfg(test)]
+mod consoles;
+#[cfg(test)]
+mod examples;
+#[cfg(test)]
 mod failing_devices;
 #[cfg(test)]
+mod faults;
+#[cfg(test)]
 mod files;
+#[cfg(test)]
+mod fixtures;
 #[cfg(test)]
 mod flushes;
 #[cfg(test)]
@@ -13,25 +21,19 @@ mod folders;
 #[cfg(test)]
 mod forced_names;
 #[cfg(test)]
-mod link_commands;
-#[cfg(test)]
 mod link_limits;
-#[cfg(test)]
-mod linked_bytes;
-#[cfg(test)]
-mod linking;
 #[cfg(test)]
 mod links;
 #[cfg(test)]
 mod merged_image;
+#[cfg(test)]
+mod outputs;
 #[cfg(test)]
 mod partial_links;
 #[cfg(test)]
 mod refused_memory;
 #[cfg(test)]
 mod runs;
-#[cfg(test)]
-mod scripted_sessions;
 #[cfg(test)]
 mod scripts;
 #[cfg(test)]

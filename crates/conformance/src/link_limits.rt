@@ -1,10 +1,8 @@
 //! Links at the limits of addresses, names and symbols.
-use crate::linked_bytes::{
-    file_of, forced, link, link_bytes, link_forced, names_of, output_of, plain, refusal,
-    relocatable, silent, sized,
-};
+use crate::fixtures::{file_of, forced, laid_out, names_of, plain, relocatable, sized};
+use crate::outputs::{link, link_bytes, output_of, refusal, silent};
 use aout_core::Reloc;
-use link_out::{Keep, Layout, LinkFault, Options};
+use link_out::{Keep, Layout, LinkFault};
 use link_session::{AddFault, Forced};
 use std::alloc::{AllocError, Global};
 use std::test::Fail;
@@ -23,8 +21,6 @@ fn limits_of_a_session_linked(rt: HostRuntime) -> Result<(), Fail> {
     let alloc = rt.alloc();
     let text = sized(alloc, 65_534, 0, 0, &[])?;
     let data = sized(alloc, 0, 2, 0, &[])?;
-    let pure = Options::new(Layout::Pure, false, Keep::All, None)?;
-    let split = Options::new(Layout::Split, false, Keep::All, None)?;
     let words = vec![in alloc; 0; 32_767]?;
     let file = file_of(
         alloc,
@@ -32,13 +28,14 @@ fn limits_of_a_session_linked(rt: HostRuntime) -> Result<(), Fail> {
         &words,
         &[("_end", 0o44, 65_534)],
     )?;
-    let output = link_forced(alloc, &forced("_end"), &[&text], &plain(Keep::All)?)?;
-    assert_eq!(rt; output, silent(alloc, file));
-    let unlinked = refusal(alloc, &[&text], &pure)?;
+    let options = plain(Keep::All);
+    let linked = link_bytes(alloc, &[("x.o", &text)], &forced("_end"), &options)?;
+    assert_eq!(rt; output_of(alloc, &linked)?, silent(alloc, file));
+    let unlinked = refusal(alloc, &[&text], &laid_out(Layout::Pure))?;
     assert!(rt; is_unlinked(unlinked, LinkFault::DoesNotFit));
-    let unlinked = refusal(alloc, &[&text, &data], &plain(Keep::All)?)?;
+    let unlinked = refusal(alloc, &[&text, &data], &options)?;
     assert!(rt; is_unlinked(unlinked, LinkFault::DoesNotFit));
-    assert!(rt; refusal(alloc, &[&text, &data], &split)?.is_none());
+    assert!(rt; refusal(alloc, &[&text, &data], &laid_out(Layout::Split))?.is_none());
     Ok(())
 }
 
@@ -52,10 +49,10 @@ fn limits_of_a_session_with_commons(rt: HostRuntime) -> Result<(), Fail> {
         &[],
         &[("_c", 0o44, 0)],
     )?;
-    let output = link(alloc, &[&longest], &plain(Keep::All)?)?;
+    let output = link(alloc, &[&longest], &plain(Keep::All))?;
     assert_eq!(rt; output, silent(alloc, file));
     let longer = sized(alloc, 0, 0, 0, &[("_c", 0o40, 65_535)])?;
-    let unlinked = refusal(alloc, &[&longer], &plain(Keep::All)?)?;
+    let unlinked = refusal(alloc, &[&longer], &plain(Keep::All))?;
     assert!(rt; is_unlinked(unlinked, LinkFault::DoesNotFit));
     let file = file_of(
         alloc,
@@ -78,8 +75,8 @@ fn many_names(alloc: Global, more: u16) -> Result<Vec<Vec<u8>>, AllocError> {
     Ok(objects)
 }
 
-/// The objects as inputs.
-fn inputs_of(alloc: Global, objects: &[Vec<u8>]) -> Result<Vec<(&str, &[u8])>, AllocError> {
+/// The objects as inputs, each at the same path.
+fn all_at_n(alloc: Global, objects: &[Vec<u8>]) -> Result<Vec<(&'static str, &[u8])>, AllocError> {
     let mut inputs = Vec::new(alloc);
     for object in objects {
         inputs.push(("n.o", object.as_slice()))?;
@@ -92,19 +89,19 @@ fn many_names_linked(rt: HostRuntime) -> Result<(), Fail> {
     let alloc = rt.alloc();
     let none = Forced::none();
     let four = many_names(alloc, 4)?;
-    let inputs = inputs_of(alloc, &four)?;
+    let inputs = all_at_n(alloc, &four)?;
     let Err(CliFault::NotAdded(path, cause)) = link_bytes(
         alloc,
         &inputs,
         &none,
-        &plain(Keep::Nothing)?,
+        &plain(Keep::Nothing),
     ) else {
         return Ok(assert!(rt; false));
     };
     assert_eq!(rt; (path.as_str(), cause), ("n.o", AddFault::NamesFull));
     let three = many_names(alloc, 3)?;
-    let inputs = inputs_of(alloc, &three)?;
-    let unlinked = link_bytes(alloc, &inputs, &none, &plain(Keep::Externals)?).err();
+    let inputs = all_at_n(alloc, &three)?;
+    let unlinked = link_bytes(alloc, &inputs, &none, &plain(Keep::Externals)).err();
     assert!(rt; is_unlinked(unlinked, LinkFault::TooManySymbols));
     Ok(())
 }
@@ -113,8 +110,8 @@ fn many_names_linked(rt: HostRuntime) -> Result<(), Fail> {
 fn many_names_reported(rt: HostRuntime) -> Result<(), Fail> {
     let alloc = rt.alloc();
     let objects = many_names(alloc, 3)?;
-    let inputs = inputs_of(alloc, &objects)?;
-    let linked = link_bytes(alloc, &inputs, &Forced::none(), &plain(Keep::Nothing)?)?;
+    let inputs = all_at_n(alloc, &objects)?;
+    let linked = link_bytes(alloc, &inputs, &Forced::none(), &plain(Keep::Nothing))?;
     let output = output_of(alloc, &linked)?;
     assert_eq!(rt; (output.file.len(), output.status), (16, 1));
     let lines = output.report.iter().filter(|byte| **byte == b'\n').count();
@@ -128,12 +125,12 @@ fn most_symbols(rt: HostRuntime) -> Result<(), Fail> {
     let alloc = rt.alloc();
     let most = names_of(alloc, b'a', 5_461)?;
     let one = names_of(alloc, b'b', 1)?;
-    let all = plain(Keep::All)?;
+    let all = plain(Keep::All);
     let linked = link_bytes(alloc, &[("a.o", &most)], &Forced::none(), &all)?;
     assert_eq!(rt; linked.file.header().symbol_size, 65_532);
     let unlinked = refusal(alloc, &[&most, &one], &all)?;
     assert!(rt; is_unlinked(unlinked, LinkFault::TooManySymbols));
-    assert!(rt; refusal(alloc, &[&most, &one], &plain(Keep::Nothing)?)?.is_none());
+    assert!(rt; refusal(alloc, &[&most, &one], &plain(Keep::Nothing))?.is_none());
     Ok(())
 }
 

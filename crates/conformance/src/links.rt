@@ -1,101 +1,105 @@
 //! Links without relocation: words, symbols, addresses and the report.
-use crate::folders::{enter_folder, status_of};
-use crate::linked_bytes::{add, file_of, link, output_of, plain, reported, silent, sized, written};
-use aout_core::samples::{
-    B_O, C_O, D_O, D2_O, G_O, I_O, K_O, L_O, P_O, Q_O, R_O, TestReader, Y1_O, Y2_O,
+use crate::fixtures::{
+    CALL, CALL_STRIPPED, COMMONS, ONE_OBJECT, TWO_OBJECTS, UNDEFINED, add, file_of, laid_out,
+    plain, sized,
 };
-use aout_core::{Name, Wire, read_file, strip_file};
-use link_out::{Keep, Layout, Options, finish};
+use crate::folders::{assert_runs, enter_folder, enter_objects};
+use crate::outputs::{assert_links, link, output_of, reported, silent, written};
+use aout_core::samples::{C_O, D_O, D2_O, G_O, K_O, L_O, TestReader};
+use aout_core::{Wire, read_file, strip_file};
+use link_out::{Keep, Layout, finish};
 use link_session::Session;
 use std::fs;
 use std::test::Fail;
 
 #[test]
+fn strip_two_objects(rt: HostRuntime) -> Result<(), Fail> {
+    let alloc = rt.alloc();
+    enter_objects(&rt, "strip_two_objects")?;
+    let want = silent(alloc, TWO_OBJECTS.to_vec(alloc)?);
+    assert_links(&rt, "ld -s -o out a.o b.o", &want)
+}
+
+#[test]
+fn default_output(rt: HostRuntime) -> Result<(), Fail> {
+    enter_objects(&rt, "default_output")?;
+    assert_runs(&rt, "ld -s a.o", "", (0, "", ""))?;
+    assert_eq!(rt; fs::read(&rt, "a.out")?.as_slice(), ONE_OBJECT.as_slice());
+    Ok(())
+}
+
+#[test]
+fn nothing_added_without_files(rt: HostRuntime) -> Result<(), Fail> {
+    enter_folder(&rt, "nothing_added_without_files")?;
+    for line in ["ld", "ld -s", "ld -s -o out", "", "strip"] {
+        assert_runs(&rt, line, "", (2, "", "v7: usage\n"))?;
+    }
+    Ok(())
+}
+
+#[test]
+fn nothing_added_but_linked(rt: HostRuntime) -> Result<(), Fail> {
+    let alloc = rt.alloc();
+    let linked = finish(alloc, &Session::new(alloc), &plain(Keep::All))?;
+    let empty = [7, 1, 0, 0, 0, 0, 0, 0, 0, 0, 0, 0, 0, 0, 1, 0].to_vec(alloc)?;
+    assert_eq!(rt; output_of(alloc, &linked)?, silent(alloc, empty));
+    Ok(())
+}
+
+#[test]
 fn undefined_word_stripped(rt: HostRuntime) -> Result<(), Fail> {
     let alloc = rt.alloc();
-    let file = file_of(
-        alloc,
-        [0o407, 6, 0, 0, 0, 0, 0, 1],
-        &[0o207, 0o4767, 0o177772],
-        &[],
-    )?;
+    enter_objects(&rt, "undefined_word_stripped")?;
+    let header = [0o407, 6, 0, 0, 0, 0, 0, 1];
+    let file = file_of(alloc, header, &[0o207, 0o4767, 0o177772], &[])?;
     let want = reported(alloc, file, "Undefined:\n_f\n")?;
-    let output = link(alloc, &[&B_O, &C_O], &plain(Keep::Nothing)?)?;
-    assert_eq!(rt; output, want);
-    enter_folder(&rt, "undefined_word_stripped")?;
-    fs::write(&rt, "b.o", B_O.as_slice())?;
-    fs::write(&rt, "c.o", C_O.as_slice())?;
-    let status = status_of(&rt, &["ld", "-s", "-o", "out", "b.o", "c.o"])?;
-    assert_eq!(rt; status, 1);
-    assert_eq!(rt; fs::read(&rt, "out")?, want.file);
-    Ok(())
+    assert_links(&rt, "ld -s -o out b.o c.o", &want)
 }
 
 #[test]
 fn call_forward_linked(rt: HostRuntime) -> Result<(), Fail> {
     let alloc = rt.alloc();
-    let file = file_of(
-        alloc,
-        [0o407, 0o10, 0, 0, 0o30, 0, 0, 1],
-        &[0o4767, 0o2, 0o240, 0o207],
-        &[("L1", 0o2, 0), ("_f", 0o42, 6)],
-    )?;
-    assert_eq!(rt; file.len(), 48);
-    let output = link(alloc, &[&C_O, &D_O], &plain(Keep::All)?)?;
-    assert_eq!(rt; output, silent(alloc, file));
-    Ok(())
+    enter_objects(&rt, "call_forward_linked")?;
+    let header = [0o407, 0o10, 0, 0, 0o30, 0, 0, 1];
+    let words = [0o4767, 0o2, 0o240, 0o207];
+    let file = file_of(alloc, header, &words, &[("L1", 0o2, 0), ("_f", 0o42, 6)])?;
+    assert_eq!(rt; file.as_slice(), CALL.as_slice());
+    assert_links(&rt, "ld -o out c.o d.o", &silent(alloc, file))
 }
 
 #[test]
 fn call_backward(rt: HostRuntime) -> Result<(), Fail> {
     let alloc = rt.alloc();
-    let file = file_of(
-        alloc,
-        [0o407, 8, 0, 0, 24, 0, 0, 1],
-        &[0o240, 0o207, 0o4767, 0o177772],
-        &[("L1", 0o2, 4), ("_f", 0o42, 2)],
-    )?;
-    let output = link(alloc, &[&D_O, &C_O], &plain(Keep::All)?)?;
-    assert_eq!(rt; output, silent(alloc, file));
-    Ok(())
+    enter_objects(&rt, "call_backward")?;
+    let header = [0o407, 8, 0, 0, 24, 0, 0, 1];
+    let words = [0o240, 0o207, 0o4767, 0o177772];
+    let file = file_of(alloc, header, &words, &[("L1", 0o2, 4), ("_f", 0o42, 2)])?;
+    assert_links(&rt, "ld -o out d.o c.o", &silent(alloc, file))
 }
 
 #[test]
 fn pc_word_in_data(rt: HostRuntime) -> Result<(), Fail> {
     let alloc = rt.alloc();
+    enter_objects(&rt, "pc_word_in_data")?;
     let words = [0o240, 0o207, 0o207, 0o207, 1, 0o177772];
     let stripped = file_of(alloc, [0o407, 8, 4, 0, 0, 0, 0, 1], &words, &[])?;
-    let output = link(alloc, &[&P_O, &Q_O, &R_O], &plain(Keep::Nothing)?)?;
-    assert_eq!(rt; output, silent(alloc, stripped));
-    let whole = file_of(
-        alloc,
-        [0o407, 8, 4, 0, 12, 0, 0, 1],
-        &words,
-        &[("_g", 0o42, 6)],
-    )?;
-    let output = link(alloc, &[&P_O, &Q_O, &R_O], &plain(Keep::All)?)?;
-    assert_eq!(rt; output, silent(alloc, whole));
-    Ok(())
+    assert_links(&rt, "ld -s -o out p.o q.o r.o", &silent(alloc, stripped))?;
+    let header = [0o407, 8, 4, 0, 12, 0, 0, 1];
+    let whole = file_of(alloc, header, &words, &[("_g", 0o42, 6)])?;
+    assert_links(&rt, "ld -o out p.o q.o r.o", &silent(alloc, whole))
 }
 
 #[test]
 fn pure_boundary(rt: HostRuntime) -> Result<(), Fail> {
     let alloc = rt.alloc();
-    let options = Options::new(Layout::Pure, false, Keep::All, None)?;
+    let options = laid_out(Layout::Pure);
     for (text, data_end) in [(8_190, 0o20002), (8_192, 0o20002), (8_194, 0o40002)] {
         let object = sized(alloc, text, 2, 0, &[("_edata", 0o40, 0)])?;
         let words = vec![in alloc; 0; usize::from(text / 2) + 1]?;
-        let file = file_of(
-            alloc,
-            [0o410, text, 2, 0, 12, 0, 0, 1],
-            &words,
-            &[("_edata", 0o43, data_end)],
-        )?;
-        assert_eq!(rt;
-            link(alloc, &[&object], &options)?,
-            silent(alloc, file),
-            "{text}"
-        );
+        let header = [0o410, text, 2, 0, 12, 0, 0, 1];
+        let file = file_of(alloc, header, &words, &[("_edata", 0o43, data_end)])?;
+        let output = link(alloc, &[&object], &options)?;
+        assert_eq!(rt; output, silent(alloc, file), "{text}");
     }
     Ok(())
 }
@@ -103,66 +107,48 @@ fn pure_boundary(rt: HostRuntime) -> Result<(), Fail> {
 #[test]
 fn split_layout(rt: HostRuntime) -> Result<(), Fail> {
     let alloc = rt.alloc();
-    let split = file_of(
-        alloc,
-        [0o411, 6, 4, 6, 0o60, 0, 0, 1],
-        &[0, 0, 0, 0, 0],
-        &[
+    enter_objects(&rt, "split_layout")?;
+    for (line, magic, data_end, end, x) in [
+        ("ld -i -o out i.o", 0o411, 4, 0o12, 4),
+        ("ld -o out i.o", 0o407, 0o12, 0o20, 0o12),
+        ("ld -n -o out i.o", 0o410, 0o20004, 0o20012, 0o20004),
+    ] {
+        let rows = [
             ("_etext", 0o42, 6),
-            ("_edata", 0o43, 4),
-            ("_end", 0o44, 0o12),
-            ("_x", 0o44, 4),
-        ],
-    )?;
-    let options = Options::new(Layout::Split, false, Keep::All, None)?;
-    assert_eq!(rt; link(alloc, &[&I_O], &options)?, silent(alloc, split));
-    let file = file_of(
-        alloc,
-        [0o407, 6, 4, 6, 0o60, 0, 0, 1],
-        &[0, 0, 0, 0, 0],
-        &[
-            ("_etext", 0o42, 6),
-            ("_edata", 0o43, 0o12),
-            ("_end", 0o44, 0o20),
-            ("_x", 0o44, 0o12),
-        ],
-    )?;
-    let output = link(alloc, &[&I_O], &plain(Keep::All)?)?;
-    assert_eq!(rt; output, silent(alloc, file));
+            ("_edata", 0o43, data_end),
+            ("_end", 0o44, end),
+            ("_x", 0o44, x),
+        ];
+        let header = [magic, 6, 4, 6, 0o60, 0, 0, 1];
+        let file = file_of(alloc, header, &[0, 0, 0, 0, 0], &rows)?;
+        assert_links(&rt, line, &silent(alloc, file))?;
+    }
     Ok(())
 }
 
 #[test]
 fn commons_and_end(rt: HostRuntime) -> Result<(), Fail> {
     let alloc = rt.alloc();
-    let file = file_of(
-        alloc,
-        [0o407, 2, 2, 12, 36, 0, 0, 1],
-        &[0o207, 1],
-        &[("_x", 0o44, 4), ("_y", 0o44, 0o12), ("_end", 0o44, 0o20)],
-    )?;
-    let output = link(alloc, &[&Y1_O, &Y2_O], &plain(Keep::All)?)?;
-    assert_eq!(rt; output, silent(alloc, file));
-    Ok(())
+    enter_objects(&rt, "commons_and_end")?;
+    let header = [0o407, 2, 2, 12, 36, 0, 0, 1];
+    let rows = [("_x", 0o44, 4), ("_y", 0o44, 0o12), ("_end", 0o44, 0o20)];
+    let file = file_of(alloc, header, &[0o207, 1], &rows)?;
+    assert_eq!(rt; file.as_slice(), COMMONS.as_slice());
+    assert_links(&rt, "ld -o out y1.o y2.o", &silent(alloc, file))
 }
 
 #[test]
 fn undefined_report_linked(rt: HostRuntime) -> Result<(), Fail> {
     let alloc = rt.alloc();
-    let options = plain(Keep::All)?;
-    let output = link(alloc, &[&C_O, &G_O], &options)?;
-    assert_eq!(rt;
-        output.report.as_slice(),
-        b"Undefined:\n_f\n_g\n".as_slice()
-    );
-    assert_eq!(rt; output.status, 1);
+    let options = plain(Keep::All);
+    enter_objects(&rt, "undefined_report_linked")?;
+    let want = reported(alloc, UNDEFINED.to_vec(alloc)?, "Undefined:\n_f\n_g\n")?;
+    assert_links(&rt, "ld -o out c.o g.o", &want)?;
     let mut session = Session::new(alloc);
-    add(&mut session, alloc, "c.o", &C_O).ok_or("c.o")?;
-    add(&mut session, alloc, "g.o", &G_O).ok_or("g.o")?;
-    assert_eq!(rt;
-        output_of(alloc, &finish(alloc, &session, &options)?)?,
-        output
-    );
+    add(&mut session, alloc, "c.o", &C_O)?;
+    add(&mut session, alloc, "g.o", &G_O)?;
+    let linked = finish(alloc, &session, &options)?;
+    assert_eq!(rt; output_of(alloc, &linked)?, want);
     assert!(rt; session.withdraw().is_some());
     assert_eq!(rt; session.external_count(), 1);
     let output = output_of(alloc, &finish(alloc, &session, &options)?)?;
@@ -174,22 +160,17 @@ fn undefined_report_linked(rt: HostRuntime) -> Result<(), Fail> {
 #[test]
 fn multiply_defined_linked(rt: HostRuntime) -> Result<(), Fail> {
     let alloc = rt.alloc();
-    let options = plain(Keep::All)?;
-    let file = file_of(
-        alloc,
-        [0o407, 6, 0, 0, 12, 0, 0, 1],
-        &[0o240, 0o207, 0o207],
-        &[("_f", 0o42, 2)],
-    )?;
+    let options = plain(Keep::All);
+    enter_objects(&rt, "multiply_defined_linked")?;
+    let header = [0o407, 6, 0, 0, 12, 0, 0, 1];
+    let file = file_of(alloc, header, &[0o240, 0o207, 0o207], &[("_f", 0o42, 2)])?;
     let want = reported(alloc, file, "_f: Multiply defined\n")?;
-    assert_eq!(rt; link(alloc, &[&D_O, &D2_O], &options)?, want);
+    assert_links(&rt, "ld -o out d.o d2.o", &want)?;
     let mut session = Session::new(alloc);
-    add(&mut session, alloc, "d.o", &D_O).ok_or("d.o")?;
-    add(&mut session, alloc, "d2.o", &D2_O).ok_or("d2.o")?;
-    assert_eq!(rt;
-        output_of(alloc, &finish(alloc, &session, &options)?)?,
-        want
-    );
+    add(&mut session, alloc, "d.o", &D_O)?;
+    add(&mut session, alloc, "d2.o", &D2_O)?;
+    let linked = finish(alloc, &session, &options)?;
+    assert_eq!(rt; output_of(alloc, &linked)?, want);
     assert!(rt; session.withdraw().is_some());
     let output = output_of(alloc, &finish(alloc, &session, &options)?)?;
     assert_eq!(rt; (output.report.len(), output.status), (0, 0));
@@ -199,7 +180,7 @@ fn multiply_defined_linked(rt: HostRuntime) -> Result<(), Fail> {
 #[test]
 fn multiply_defined_absolute(rt: HostRuntime) -> Result<(), Fail> {
     let alloc = rt.alloc();
-    let options = plain(Keep::All)?;
+    let options = plain(Keep::All);
     let seven = sized(alloc, 0, 0, 0, &[("_a", 0o41, 7)])?;
     let eight = sized(alloc, 0, 0, 0, &[("_a", 0o41, 8)])?;
     let file = file_of(
@@ -226,7 +207,7 @@ fn reserved_defined(rt: HostRuntime) -> Result<(), Fail> {
         &[("_end", 0o41, 5), ("_etext", 0o44, 0)],
     )?;
     let report = "_etext: Multiply defined\n_end: Multiply defined\n";
-    let output = link(alloc, &[&object], &plain(Keep::All)?)?;
+    let output = link(alloc, &[&object], &plain(Keep::All))?;
     assert_eq!(rt; output, reported(alloc, file, report)?);
     Ok(())
 }
@@ -234,53 +215,40 @@ fn reserved_defined(rt: HostRuntime) -> Result<(), Fail> {
 #[test]
 fn file_name_symbol_linked(rt: HostRuntime) -> Result<(), Fail> {
     let alloc = rt.alloc();
+    enter_objects(&rt, "file_name_symbol_linked")?;
     let object = sized(alloc, 0, 0, 0, &[("main.o", 0o37, 0)])?;
-    let kept = file_of(
-        alloc,
-        [0o407, 2, 0, 0, 12, 0, 0, 1],
-        &[0o207],
-        &[("main.o", 0o37, 0)],
-    )?;
-    let output = link(alloc, &[&B_O, &object], &plain(Keep::All)?)?;
-    assert_eq!(rt; output, silent(alloc, kept));
+    fs::write(&rt, "named.o", object.as_slice())?;
+    assert_runs(&rt, "nm named.o", "", (0, "000000 f main.o\n", ""))?;
+    let header = [0o407, 2, 0, 0, 12, 0, 0, 1];
+    let kept = file_of(alloc, header, &[0o207], &[("main.o", 0o37, 0)])?;
+    assert_links(&rt, "ld -o out b.o named.o", &silent(alloc, kept))?;
     let dropped = file_of(alloc, [0o407, 2, 0, 0, 0, 0, 0, 1], &[0o207], &[])?;
-    let output = link(alloc, &[&B_O, &object], &plain(Keep::Externals)?)?;
-    assert_eq!(rt; output, silent(alloc, dropped));
-    Ok(())
+    assert_links(&rt, "ld -x -o out b.o named.o", &silent(alloc, dropped))
 }
 
 #[test]
 fn entry_and_usage_linked(rt: HostRuntime) -> Result<(), Fail> {
     let alloc = rt.alloc();
-    let entry = Some(Name::from_bytes(b"_f"));
-    let file = file_of(
-        alloc,
-        [0o407, 8, 0, 0, 24, 6, 0, 1],
-        &[0o4767, 0o2, 0o240, 0o207],
-        &[("L1", 0o2, 0), ("_f", 0o42, 6)],
-    )?;
-    let options = Options::new(Layout::Plain, false, Keep::All, entry)?;
-    assert_eq!(rt; link(alloc, &[&C_O, &D_O], &options)?, silent(alloc, file));
-    let entry = Some(Name::from_bytes(b"_x"));
-    let file = file_of(
-        alloc,
-        [0o407, 4, 0, 4, 12, 0, 0, 1],
-        &[0o6, 0o177774],
-        &[("_x", 0o44, 4)],
-    )?;
-    let options = Options::new(Layout::Plain, false, Keep::All, entry)?;
+    enter_objects(&rt, "entry_and_usage_linked")?;
+    let header = [0o407, 8, 0, 0, 24, 6, 0, 1];
+    let words = [0o4767, 0o2, 0o240, 0o207];
+    let file = file_of(alloc, header, &words, &[("L1", 0o2, 0), ("_f", 0o42, 6)])?;
+    assert_links(&rt, "ld -e _f -o out c.o d.o", &silent(alloc, file))?;
+    let header = [0o407, 4, 0, 4, 12, 0, 0, 1];
+    let file = file_of(alloc, header, &[0o6, 0o177774], &[("_x", 0o44, 4)])?;
     let want = reported(alloc, file, "_x: Entry point not in text\n")?;
-    assert_eq!(rt; link(alloc, &[&K_O], &options)?, want);
-    Ok(())
+    assert_links(&rt, "ld -e _x -o out k.o", &want)?;
+    assert_runs(&rt, "ld -r -s c.o", "", (2, "", "v7: usage\n"))?;
+    assert_runs(&rt, "ld -n -i c.o", "", (2, "", "v7: usage\n"))
 }
 
 #[test]
 fn bind_and_unbind_linked(rt: HostRuntime) -> Result<(), Fail> {
     let alloc = rt.alloc();
-    let options = plain(Keep::All)?;
+    let options = plain(Keep::All);
     let mut session = Session::new(alloc);
-    add(&mut session, alloc, "k.o", &K_O).ok_or("k.o")?;
-    add(&mut session, alloc, "l.o", &L_O).ok_or("l.o")?;
+    add(&mut session, alloc, "k.o", &K_O)?;
+    add(&mut session, alloc, "l.o", &L_O)?;
     let linked = finish(alloc, &session, &options)?;
     assert_eq!(rt; linked.file.text_words(), [0o10, 0o177776].as_slice());
     assert!(rt; session.withdraw().is_some());
@@ -293,23 +261,17 @@ fn bind_and_unbind_linked(rt: HostRuntime) -> Result<(), Fail> {
 #[test]
 fn strip_a_link(rt: HostRuntime) -> Result<(), Fail> {
     let alloc = rt.alloc();
-    let want = [
-        0x07, 0x01, 0x08, 0x00, 0x00, 0x00, 0x00, 0x00, 0x00, 0x00, 0x00, 0x00, 0x00, 0x00, 0x01,
-        0x00, 0xf7, 0x09, 0x02, 0x00, 0xa0, 0x00, 0x87, 0x00,
-    ];
-    let output = link(alloc, &[&C_O, &D_O], &plain(Keep::Nothing)?)?;
-    assert_eq!(rt; output.file.as_slice(), want.as_slice());
-    let whole = link(alloc, &[&C_O, &D_O], &plain(Keep::All)?)?.file;
-    let file = read_file(alloc, &mut Wire::new(TestReader::whole(&whole)))?;
+    enter_objects(&rt, "strip_a_link")?;
+    let want = silent(alloc, CALL_STRIPPED.to_vec(alloc)?);
+    assert_links(&rt, "ld -s -o out c.o d.o", &want)?;
+    let file = read_file(alloc, &mut Wire::new(TestReader::whole(&CALL)))?;
     let stripped = strip_file(file);
-    assert_eq!(rt; written(alloc, &stripped)?.as_slice(), want.as_slice());
-    let again = strip_file(stripped);
-    assert_eq!(rt; written(alloc, &again)?.as_slice(), want.as_slice());
-    enter_folder(&rt, "strip_a_link")?;
-    fs::write(&rt, "out", whole.as_slice())?;
+    assert_eq!(rt; written(alloc, &stripped)?, want.file);
+    assert_eq!(rt; written(alloc, &strip_file(stripped))?, want.file);
+    fs::write(&rt, "out", CALL.as_slice())?;
     for _ in 0..2 {
-        assert_eq!(rt; status_of(&rt, &["strip", "out"])?, 0);
-        assert_eq!(rt; fs::read(&rt, "out")?.as_slice(), want.as_slice());
+        assert_runs(&rt, "strip out", "", (0, "", ""))?;
+        assert_eq!(rt; fs::read(&rt, "out")?, want.file);
     }
     Ok(())
 }

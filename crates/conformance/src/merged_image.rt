@@ -1,8 +1,9 @@
 //! The merged image while objects are added and taken out.
-use aout_core::samples::{C_O, D_O, D2_O, G_O, K_O, L_O, TestReader, X4_O, X10_O};
-use aout_core::{File, Header, Name, Object, Parts, Reloc, Segment, Symbol, Wire, read_file};
+use crate::fixtures::{add, forced, object, sized};
+use crate::outputs::written;
+use aout_core::samples::{C_O, D_O, D2_O, G_O, K_O, L_O, X4_O, X10_O};
+use aout_core::{Name, Segment};
 use link_session::{AddFault, Cell, Forced, Mark, Session, State, Target};
-use std::alloc::Global;
 use std::process::Abort;
 use std::test::Fail;
 
@@ -20,81 +21,23 @@ const H_O: [u8; 56] = [
     0x00, 0x00, 0x00, 0x00, 0x20, 0x00, 0x00, 0x00,
 ];
 
-pub fn object(alloc: Global, bytes: &[u8]) -> Option<Object> {
-    let mut wire = Wire::new(TestReader::whole(bytes));
-    Object::from_file(read_file(alloc, &mut wire).ok()?).ok()
-}
-
-/// An object of these sizes in bytes, all of its words 0.
-pub fn sized(
-    alloc: Global,
-    text: u16,
-    data: u16,
-    bss: u16,
-    symbols: &[Symbol],
-) -> Result<Object, Fail> {
-    let parts = Parts {
-        header: Header {
-            magic: 0o407,
-            text_size: text,
-            data_size: data,
-            bss_size: bss,
-            symbol_size: u16::try_from(symbols.len().saturating_mul(12))?,
-            entry_point: 0,
-            unused: 0,
-            flag: 0,
-        },
-        text_words: vec![in alloc; 0; text as usize / 2]?,
-        data_words: vec![in alloc; 0; data as usize / 2]?,
-        text_reloc: vec![in alloc; Reloc(0); text as usize / 2]?,
-        data_reloc: vec![in alloc; Reloc(0); data as usize / 2]?,
-        symbols: Vec::from_slice(alloc, symbols)?,
-    };
-    if !parts.fits() {
-        return Err("the parts do not fit".into());
-    }
-    Ok(
-        Object::from_file(File::from_parts(parts))
-            .ok()
-            .ok_or("no object")?,
-    )
-}
-
-pub fn symbol(name: &[u8], type_bits: u16, value: u16) -> Symbol {
-    Symbol {
-        name: Name::from_bytes(name),
-        type_bits,
-        value,
-    }
-}
-
 fn cell(value: u16, target: Target, pc: bool) -> Cell {
     Cell { value, target, pc }
 }
 
-/// Adds the object that the bytes spell.
-pub fn try_add(session: &mut Session, alloc: Global, label: &str, bytes: &[u8]) -> Option<()> {
-    let object = object(alloc, bytes)?;
-    session
-        .add(String::from_str(alloc, label).ok()?, object)
-        .ok()
-}
-
-pub fn add(session: &mut Session, alloc: Global, label: &str, bytes: &[u8]) -> Result<(), Fail> {
-    Ok(try_add(session, alloc, label, bytes).ok_or("it was not added")?)
-}
-
-/// Why an object is refused, if it is; its label comes back.
+/// Why the object that the bytes spell is refused, if it is; it comes back with its label.
 pub fn outcome(
-    rt: &impl Abort,
+    rt: &(impl Abort + AllocGlobal),
     session: &mut Session,
-    alloc: Global,
-    object: Object,
+    bytes: &[u8],
 ) -> Result<Option<AddFault>, Fail> {
+    let alloc = rt.alloc();
+    let object = object(alloc, bytes).ok_or("no object")?;
     match session.add(String::from_str(alloc, "more.o")?, object) {
         Ok(()) => Ok(None),
         Err(refused) => {
             assert_eq!(rt; refused.label.as_str(), "more.o");
+            assert_eq!(rt; written(alloc, refused.object.file())?.as_slice(), bytes);
             Ok(Some(refused.cause))
         }
     }
@@ -104,6 +47,14 @@ pub fn outcome(
 pub fn withdraw(rt: &impl Abort, session: &mut Session, label: &str) -> Result<(), Fail> {
     let back = session.withdraw().ok_or("nothing was there")?;
     assert_eq!(rt; back.0.as_str(), label);
+    Ok(())
+}
+
+#[test]
+fn add_always_memory(rt: HostRuntime) -> Result<(), Fail> {
+    let mut session = Session::new(rt.alloc());
+    assert_eq!(rt; outcome(&rt, &mut session, &X4_O)?, None);
+    assert_eq!(rt; session.external_count(), 1);
     Ok(())
 }
 
@@ -178,9 +129,7 @@ fn call_forward(rt: HostRuntime) -> Result<(), Fail> {
 fn forced_in_session(rt: HostRuntime) -> Result<(), Fail> {
     let alloc = rt.alloc();
     let z = Name::from_bytes(b"_z");
-    let mut forced = Forced::none();
-    assert!(rt; forced.push(z));
-    let mut session = Session::with_forced(alloc, &forced)?;
+    let mut session = Session::with_forced(alloc, &forced("_z"))?;
     assert_eq!(rt; session.forced_count(), 1);
     add(&mut session, alloc, "c.o", &C_O)?;
     assert_eq!(rt; session.find(&z), Some(0));
@@ -248,8 +197,8 @@ fn multiply_defined(rt: HostRuntime) -> Result<(), Fail> {
 
     let mut session = Session::new(alloc);
     for (value, count) in [(7, 0), (7, 0), (8, 1)] {
-        let object = sized(alloc, 0, 0, 0, &[symbol(b"_a", 0o41, value)])?;
-        assert_eq!(rt; outcome(&rt, &mut session, alloc, object)?, None);
+        let object = sized(alloc, 0, 0, 0, &[("_a", 0o41, value)])?;
+        assert_eq!(rt; outcome(&rt, &mut session, &object)?, None);
         assert_eq!(rt; session.multiples().len(), count);
     }
     assert_eq!(rt; session.multiples().first(), Some(&Name::from_bytes(b"_a")));
@@ -291,14 +240,8 @@ fn chain_after_withdrawal(rt: HostRuntime) -> Result<(), Fail> {
     add(&mut session, alloc, "h.o", &H_O)?;
     add(&mut session, alloc, "j.o", &J_O)?;
     withdraw(&rt, &mut session, "j.o")?;
-    let both = sized(
-        alloc,
-        0,
-        0,
-        0,
-        &[symbol(b"_x", 0o41, 7), symbol(b"_y", 0o41, 5)],
-    )?;
-    assert_eq!(rt; outcome(&rt, &mut session, alloc, both)?, None);
+    let both = sized(alloc, 0, 0, 0, &[("_x", 0o41, 7), ("_y", 0o41, 5)])?;
+    assert_eq!(rt; outcome(&rt, &mut session, &both)?, None);
     let seven = cell(7, Target::Absolute, false);
     let five = cell(5, Target::Absolute, false);
     assert_eq!(rt; session.text_cells(), [seven, five, seven, five].as_slice());

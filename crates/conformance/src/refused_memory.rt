@@ -1,24 +1,24 @@
 //! Links that are refused memory, and links that are not.
 //!
 //! A test whose name begins with `memory_refused` answers Ok where its fixture found no memory.
+use crate::fixtures::{TWO_OBJECTS, plain, try_add};
 use crate::folders::{enter_folder, words};
-use crate::linked_bytes::{add, link, output_of, plain, wires};
-use crate::linking::TWO_OBJECTS;
+use crate::outputs::wires;
 use aout_core::samples::{A_O, B_O, D_O, D2_O};
-use aout_core::{Name, Segment};
-use link_out::{Keep, LinkFault, Options, finish};
+use aout_core::{Name, Segment, Wire};
+use link_out::{Keep, Layout, LinkFault, Linked, Options, finish};
 use link_session::{Cell, Forced, Session, State, Target};
 use std::alloc::Global;
 use std::process::Abort;
 use std::test::Fail;
 use std::{fs, io};
-use v7tools::{Call, CliFault, command, ld, parse};
+use v7tools::{Call, CliFault, command, emit, ld, parse};
 
 /// A session of two objects that define the same name.
 fn doubly_defined(alloc: Global) -> Option<Session> {
     let mut session = Session::new(alloc);
-    add(&mut session, alloc, "d.o", &D_O)?;
-    add(&mut session, alloc, "d2.o", &D2_O)?;
+    try_add(&mut session, alloc, "d.o", &D_O)?;
+    try_add(&mut session, alloc, "d2.o", &D2_O)?;
     Some(session)
 }
 
@@ -43,7 +43,7 @@ fn assert_doubly_defined(rt: &impl Abort, session: &Session) {
 #[test]
 fn memory_refused_linking(rt: HostRuntime) -> Result<(), Fail> {
     let alloc = rt.alloc();
-    let options = plain(Keep::All)?;
+    let options = plain(Keep::All);
     let Some(session) = doubly_defined(alloc) else {
         let _ = rt.eprint("no fixture\n");
         return Ok(());
@@ -83,7 +83,7 @@ fn is_stripped(call: Call, stripped: Options) -> bool {
 #[test]
 fn memory_refused_commands_parsing(rt: HostRuntime) -> Result<(), Fail> {
     let alloc = rt.alloc();
-    let options = plain(Keep::Nothing)?;
+    let options = plain(Keep::Nothing);
     let Ok(all) = words(alloc, &["ld", "-sx", "-o", "out", "a.o"]) else {
         let _ = rt.eprint("no fixture\n");
         return Ok(());
@@ -101,7 +101,7 @@ fn memory_refused_commands_parsing(rt: HostRuntime) -> Result<(), Fail> {
 #[test]
 fn memory_refused_commands_linking(rt: HostRuntime) -> Result<(), Fail> {
     let alloc = rt.alloc();
-    let options = plain(Keep::Nothing)?;
+    let options = plain(Keep::Nothing);
     let Ok(inputs) = wires(alloc, &[("a.o", &A_O), ("b.o", &B_O)]) else {
         let _ = rt.eprint("no fixture\n");
         return Ok(());
@@ -149,21 +149,46 @@ fn memory_refused_commands_running(rt: HostRuntime) {
     }
 }
 
+/// The link of two files, where there is memory for it.
+fn two_linked(alloc: Global) -> Option<Linked> {
+    let session = doubly_defined(alloc)?;
+    finish(alloc, &session, &plain(Keep::All)).ok()
+}
+
 #[test]
-fn run_always_memory_of_finish(rt: HostRuntime) -> Result<(), Fail> {
-    let alloc = rt.alloc();
-    let linked = finish(alloc, &Session::new(alloc), &plain(Keep::All)?)?;
-    let output = output_of(alloc, &linked)?;
-    let empty = [7, 1, 0, 0, 0, 0, 0, 0, 0, 0, 0, 0, 0, 0, 1, 0];
-    assert_eq!(rt; output.file.as_slice(), empty.as_slice());
-    assert_eq!(rt; output.status, 0);
+fn no_memory_needed_by_links(rt: HostRuntime) -> Result<(), Fail> {
+    let options = Options::new(Layout::Plain, true, Keep::All, None)?;
+    assert!(rt; options.force_commons() != options);
+    let Some(linked) = two_linked(rt.alloc()) else {
+        let _ = rt.eprint("no fixture\n");
+        return Ok(());
+    };
+    assert_eq!(rt; linked.report.status(), 1);
+    let mut room = [0u8; 21];
+    let mut out = Wire::new(room.as_mut_slice());
+    assert!(rt; linked.report.write(&mut out).is_ok());
+    assert_eq!(rt; room.as_slice(), b"_f: Multiply defined\n".as_slice());
     Ok(())
 }
 
 #[test]
-fn run_always_memory_of_ld(rt: HostRuntime) -> Result<(), Fail> {
-    let output = link(rt.alloc(), &[&A_O, &B_O], &plain(Keep::Nothing)?)?;
-    assert_eq!(rt; output.file.as_slice(), TWO_OBJECTS.as_slice());
-    assert_eq!(rt; output.status, 0);
-    Ok(())
+fn no_memory_needed_by_commands(rt: HostRuntime) {
+    let Some(linked) = two_linked(rt.alloc()) else {
+        let _ = rt.eprint("no fixture\n");
+        return;
+    };
+    let mut file_room = [0u8; 34];
+    let mut report_room = [0u8; 21];
+    let mut file = Wire::new(file_room.as_mut_slice());
+    let mut report = Wire::new(report_room.as_mut_slice());
+    assert!(rt; matches!(emit(&linked, &mut file, &mut report), Ok(1)));
+    assert_eq!(rt;
+        report_room.as_slice(),
+        b"_f: Multiply defined\n".as_slice()
+    );
+    let mut line_room = [0u8; 17];
+    let mut line = Wire::new(line_room.as_mut_slice());
+    let fault = CliFault::NotLinked(LinkFault::DoesNotFit);
+    assert!(rt; fault.write(&mut line).is_ok());
+    assert_eq!(rt; line_room.as_slice(), b"v7: does not fit\n".as_slice());
 }

@@ -1,6 +1,7 @@
 //! The lines of scripts.
 ghost use Rattle.std.specs.Prelude.{◌<◌};
 
+use crate::fixtures::SCRIPT;
 use aout_core::Wire;
 use aout_core::samples::TestReader;
 use std::alloc::Global;
@@ -8,11 +9,7 @@ use std::io::{ErrorKind, Read};
 use std::test::Fail;
 use v7tools::{CliFault, Line, Script};
 
-/// A script with each command, and a line that is none.
-const SCRIPT: [u8; 77] =
-    *b"add c.o\nadd d.o\nexternals\nwithdraw\nundefined\nlink out\nwithdraw\nwithdraw\nfrob\n";
-
-/// What the lines of that script ask for.
+/// What the lines of the script ask for.
 const ASKED: [(&str, &str); 9] = [
     ("add", "c.o"),
     ("add", "d.o"),
@@ -62,7 +59,7 @@ fn long_line(alloc: Global, path_length: usize) -> Result<Vec<u8>, Fail> {
 }
 
 #[test]
-fn session_bad_commands(rt: HostRuntime) -> Result<(), Fail> {
+fn session_bad_commands_as_lines(rt: HostRuntime) -> Result<(), Fail> {
     let mut script = script(rt.alloc(), b"withdraw \nadd \nlink\n\nadd \xff\n", 512)?;
     for _ in 0..5 {
         assert_eq!(rt; told(&script.next_line()), ("bad", ""));
@@ -72,7 +69,7 @@ fn session_bad_commands(rt: HostRuntime) -> Result<(), Fail> {
 }
 
 #[test]
-fn session_last_line(rt: HostRuntime) -> Result<(), Fail> {
+fn session_last_line_alone(rt: HostRuntime) -> Result<(), Fail> {
     let mut script = script(rt.alloc(), b"add a.o", 512)?;
     assert_eq!(rt; told(&script.next_line()), ("add", "a.o"));
     assert_eq!(rt; told(&script.next_line()), ("end", ""));
@@ -151,7 +148,7 @@ fn script_with_one_line_more(rt: HostRuntime) -> Result<(), Fail> {
 fn gives_its_lines(alloc: Global, most: usize) -> Result<bool, Fail>
     requires { 0 < most }
 {
-    let mut script = script(alloc, &SCRIPT, most)?;
+    let mut script = script(alloc, SCRIPT.as_bytes(), most)?;
     for asked in ASKED {
         if told(&script.next_line()) != asked {
             return Ok(false);
@@ -182,7 +179,7 @@ fn script_device_fails(rt: HostRuntime) -> Result<(), Fail> {
 
 #[test]
 fn memory_refused_script(rt: HostRuntime) {
-    let reader = TestReader::whole(&SCRIPT);
+    let reader = TestReader::whole(SCRIPT.as_bytes());
     let mut script = match Script::new(rt.alloc(), Wire::new(reader)) {
         Ok(script) => script,
         Err(fault) => {

@@ -1,22 +1,15 @@
 //! The steps of a session over memory, and their answers.
+use crate::fixtures::{ANSWERS, plain, sized};
+use crate::outputs::written;
+use aout_core::Wire;
 use aout_core::samples::{A_O, C_O, D_O, Failing, G_O, TestReader, TestWriter};
-use aout_core::{Header, Name, Wire, write_file};
-use link_out::{Keep, Layout, Linked, OptionFault, Options, finish};
-use link_session::{Forced, Session};
+use link_out::{Keep, Linked, finish};
+use link_session::Session;
 use std::alloc::{AllocError, Global};
 use std::io::ErrorKind;
 use std::process::Abort;
 use std::test::Fail;
 use v7tools::{CliFault, Command, Step, Stored, link_answer, step};
-
-/// What `session_script` answers.
-const SCRIPT_ANSWERS: &str =
-    "added c.o\nadded d.o\n000006 T _f\nwithdrew d.o\n_f\nUndefined:\n_f\nlinked out 1\n\
-withdrew c.o\nnothing to withdraw\nbad command\n";
-
-fn plain() -> Result<Options, OptionFault> {
-    Options::new(Layout::Plain, false, Keep::All, None)
-}
 
 /// The addition of these bytes at a path.
 fn add<'a>(
@@ -55,14 +48,13 @@ fn take_step(
     command: Command<TestReader<'_>>,
     answers: &mut Wire<TestWriter>,
 ) -> Result<(&'static str, Option<(Vec<u8>, u8)>), Fail> {
-    match step(alloc, session, &plain()?, command, answers)? {
+    match step(alloc, session, &plain(Keep::All), command, answers)? {
         Step::Done => Ok(("done", None)),
         Step::Refused => Ok(("refused", None)),
         Step::ToStore(linked) => {
-            let mut out = Wire::new(TestWriter::whole(Vec::new(alloc)));
-            write_file(&linked.file, &mut out)?;
+            let file = written(alloc, &linked.file)?;
             let status = link_answer(&linked, "out", Stored::Kept, answers)?;
-            Ok(("to store", Some((out.into_inner().into_taken(), status))))
+            Ok(("to store", Some((file, status))))
         }
     }
 }
@@ -86,61 +78,15 @@ fn session_script_steps(rt: HostRuntime) -> Result<(), Fail> {
             assert_eq!(rt; status, 1);
         }
     }
-    assert_eq!(rt; out.into_inner().taken(), SCRIPT_ANSWERS.as_bytes());
+    assert_eq!(rt; out.into_inner().taken(), ANSWERS.as_bytes());
     Ok(())
-}
-
-#[test]
-fn session_missing_file(rt: HostRuntime) -> Result<(), Fail> {
-    let alloc = rt.alloc();
-    let mut session = Session::new(alloc);
-    let mut out = answers(alloc);
-    let missing = Command::Add(String::from_str(alloc, "nofile")?, None);
-    let (verdict, _) = take_step(alloc, &mut session, missing, &mut out)?;
-    assert_eq!(rt; verdict, "refused");
-    let (verdict, _) = take_step(alloc, &mut session, add(alloc, "a.o", &A_O)?, &mut out)?;
-    assert_eq!(rt; verdict, "done");
-    let (_, stored) = take_step(alloc, &mut session, Command::Link, &mut out)?;
-    let Some((bytes, status)) = stored else {
-        return Err(Fail::from("no link"));
-    };
-    let default_output = [
-        0x07, 0x01, 0x04, 0x00, 0x02, 0x00, 0x00, 0x00, 0x00, 0x00, 0x00, 0x00, 0x00, 0x00, 0x01,
-        0x00, 0xc0, 0x15, 0x04, 0x00, 0x22, 0x00,
-    ];
-    assert_eq!(rt; bytes.as_slice(), default_output.as_slice());
-    assert_eq!(rt; status, 0);
-    assert_eq!(rt;
-        out.into_inner().taken(),
-        b"nofile: cannot open\nadded a.o\nlinked out 0\n".as_slice()
-    );
-    Ok(())
-}
-
-/// An object of zeros.
-fn object_of(alloc: Global, text_size: u16, data_size: u16) -> Result<Vec<u8>, AllocError> {
-    let header = Header {
-        magic: 0o407,
-        text_size,
-        data_size,
-        bss_size: 0,
-        symbol_size: 0,
-        entry_point: 0,
-        unused: 0,
-        flag: 0,
-    };
-    let mut bytes = Vec::from_slice(alloc, &header.to_bytes())?;
-    for _ in 0..2 * (u32::from(text_size) + u32::from(data_size)) {
-        bytes.push(0)?;
-    }
-    Ok(bytes)
 }
 
 #[test]
 fn session_link_refused(rt: HostRuntime) -> Result<(), Fail> {
     let alloc = rt.alloc();
-    let text = object_of(alloc, 65_534, 0)?;
-    let data = object_of(alloc, 0, 2)?;
+    let text = sized(alloc, 65_534, 0, 0, &[])?;
+    let data = sized(alloc, 0, 2, 0, &[])?;
     let mut session = Session::new(alloc);
     let mut out = answers(alloc);
     take_step(alloc, &mut session, add(alloc, "t.o", &text)?, &mut out)?;
@@ -159,7 +105,7 @@ fn session_link_refused(rt: HostRuntime) -> Result<(), Fail> {
 #[test]
 fn refused_additions(rt: HostRuntime) -> Result<(), Fail> {
     let alloc = rt.alloc();
-    let text = object_of(alloc, 65_534, 0)?;
+    let text = sized(alloc, 65_534, 0, 0, &[])?;
     let mut bad_kind = A_O;
     bad_kind[24] = 0o12;
     let cases: [(&[u8], &str); 3] = [
@@ -198,7 +144,8 @@ fn link_answers(rt: HostRuntime) -> Result<(), Fail> {
     take_step(alloc, &mut session, add(alloc, "c.o", &C_O)?, &mut out)?;
     take_step(alloc, &mut session, add(alloc, "g.o", &G_O)?, &mut out)?;
     let command: Command<TestReader<'static>> = Command::Link;
-    let Step::ToStore(linked) = step(alloc, &mut session, &plain()?, command, &mut out)? else {
+    let Step::ToStore(linked) = step(alloc, &mut session, &plain(Keep::All), command, &mut out)?
+    else {
         return Err(Fail::from("no link"));
     };
     for (stored, lines, want) in [
@@ -211,21 +158,6 @@ fn link_answers(rt: HostRuntime) -> Result<(), Fail> {
         assert_eq!(rt; status, want);
         assert_eq!(rt; answer.into_inner().taken(), lines.as_bytes());
     }
-    Ok(())
-}
-
-#[test]
-fn session_forced(rt: HostRuntime) -> Result<(), Fail> {
-    let alloc = rt.alloc();
-    let mut forced = Forced::none();
-    assert!(rt; forced.push(Name::from_bytes(b"_z")));
-    let mut session = Session::with_forced(alloc, &forced)?;
-    let mut out = answers(alloc);
-    for command in [Command::Externals, Command::Undefined] {
-        let (verdict, _) = take_step(alloc, &mut session, command, &mut out)?;
-        assert_eq!(rt; verdict, "done");
-    }
-    assert_eq!(rt; out.into_inner().taken(), b"       U _z\n_z\n".as_slice());
     Ok(())
 }
 
@@ -256,7 +188,7 @@ fn fails_behind(rt: &(impl Abort + AllocGlobal), n: usize, failing: Failing) -> 
         .zip(session_script(alloc)?);
     for (command, again) in commands {
         take_step(alloc, &mut beside, again, &mut whole)?;
-        let answer = match step(alloc, &mut session, &plain()?, command, &mut out) {
+        let answer = match step(alloc, &mut session, &plain(Keep::All), command, &mut out) {
             Ok(Step::ToStore(linked)) => link_answer(&linked, "out", Stored::Kept, &mut out).err(),
             Ok(_) => None,
             Err(fault) => Some(fault),
@@ -266,16 +198,13 @@ fn fails_behind(rt: &(impl Abort + AllocGlobal), n: usize, failing: Failing) -> 
         assert!(rt; is_same(&session, &beside));
     }
     assert!(rt; out.failed());
-    assert_eq!(rt;
-        Some(out.into_inner().taken()),
-        SCRIPT_ANSWERS.as_bytes().get(..n)
-    );
+    assert_eq!(rt; Some(out.into_inner().taken()), ANSWERS.as_bytes().get(..n));
     Ok(())
 }
 
 #[test]
 fn answers_fail_everywhere(rt: HostRuntime) -> Result<(), Fail> {
-    for n in 0..SCRIPT_ANSWERS.len() {
+    for n in 0..ANSWERS.len() {
         fails_behind(&rt, n, Failing::Fails(ErrorKind::Interrupted))?;
         fails_behind(&rt, n, Failing::TakesNothing)?;
     }
@@ -306,7 +235,7 @@ fn done_or_refused(
     let count = session.entries().len();
     let names = session.external_count();
     let marks = session.last_marks().len();
-    let answer = step(alloc, session, &plain()?, command, &mut out);
+    let answer = step(alloc, session, &plain(Keep::All), command, &mut out);
     let text = out.into_inner().into_taken();
     if matches!(answer, Ok(Step::Refused)) {
         let _ = rt.eprint("refused\n");
@@ -343,7 +272,7 @@ fn memory_refused_steps(rt: HostRuntime) -> Result<(), Fail> {
 fn linked_c_o(alloc: Global) -> Option<(Session, Linked)> {
     let mut session = Session::new(alloc);
     let mut out = answers_with_room(alloc)?;
-    let options = plain().ok()?;
+    let options = plain(Keep::All);
     let command = add(alloc, "c.o", &C_O).ok()?;
     let Ok(Step::Done) = step(alloc, &mut session, &options, command, &mut out) else {
         return None;
@@ -353,7 +282,7 @@ fn linked_c_o(alloc: Global) -> Option<(Session, Linked)> {
 }
 
 #[test]
-fn no_memory_needed(rt: HostRuntime) -> Result<(), Fail> {
+fn no_memory_needed_by_steps(rt: HostRuntime) -> Result<(), Fail> {
     let alloc = rt.alloc();
     let (Some((mut session, linked)), Some(mut out)) = (linked_c_o(alloc), answers_with_room(alloc))
     else {

@@ -1,30 +1,12 @@
 //! nm, size and strip on files.
-use crate::folders::{enter_folder, status_of, words};
-use crate::linking::writes;
+use crate::faults::writes;
+use crate::fixtures::{CALL, ONE_OBJECT};
+use crate::folders::{assert_runs, enter_folder, words};
 use aout_core::Wire;
 use aout_core::samples::{A_O, B_O, S_O, TestReader};
 use std::fs;
 use std::test::Fail;
 use v7tools::{Call, load, parse};
-
-/// What strip makes of `a.o`.
-const STRIPPED: [u8; 22] = [
-    0x07, 0x01, 0x04, 0x00, 0x02, 0x00, 0x00, 0x00, 0x00, 0x00, 0x00, 0x00, 0x00, 0x00, 0x01, 0x00,
-    0xc0, 0x15, 0x04, 0x00, 0x22, 0x00,
-];
-
-/// What `v7 ld c.o d.o` writes.
-const LINKED: [u8; 48] = [
-    0x07, 0x01, 0x08, 0x00, 0x00, 0x00, 0x00, 0x00, 0x18, 0x00, 0x00, 0x00, 0x00, 0x00, 0x01, 0x00,
-    0xf7, 0x09, 0x02, 0x00, 0xa0, 0x00, 0x87, 0x00, 0x4c, 0x31, 0x00, 0x00, 0x00, 0x00, 0x00, 0x00,
-    0x02, 0x00, 0x00, 0x00, 0x5f, 0x66, 0x00, 0x00, 0x00, 0x00, 0x00, 0x00, 0x22, 0x00, 0x06, 0x00,
-];
-
-/// The same without symbols.
-const LINKED_STRIPPED: [u8; 24] = [
-    0x07, 0x01, 0x08, 0x00, 0x00, 0x00, 0x00, 0x00, 0x00, 0x00, 0x00, 0x00, 0x00, 0x00, 0x01, 0x00,
-    0xf7, 0x09, 0x02, 0x00, 0xa0, 0x00, 0x87, 0x00,
-];
 
 /// An overlay with one word of text, its relocation and a symbol; its entry point is 4.
 const OVERLAY: [u8; 32] = [
@@ -40,14 +22,12 @@ const OVERLAY_STRIPPED: [u8; 18] = [
 #[test]
 fn strip_an_object(rt: HostRuntime) -> Result<(), Fail> {
     enter_folder(&rt, "strip_an_object")?;
-    fs::write(&rt, "a.o", A_O.as_slice())?;
-    assert_eq!(rt; status_of(&rt, &["strip", "a.o"])?, 0);
-    let bytes = fs::read(&rt, "a.o")?;
-    assert_eq!(rt; bytes.as_slice(), STRIPPED.as_slice());
-    fs::write(&rt, "a.o", A_O.as_slice())?;
-    assert_eq!(rt; status_of(&rt, &["strip", "a.o", "a.o"])?, 0);
-    let bytes = fs::read(&rt, "a.o")?;
-    assert_eq!(rt; bytes.as_slice(), STRIPPED.as_slice());
+    for line in ["strip a.o", "strip a.o a.o"] {
+        fs::write(&rt, "a.o", A_O.as_slice())?;
+        assert_runs(&rt, line, "", (0, "", ""))?;
+        let bytes = fs::read(&rt, "a.o")?;
+        assert_eq!(rt; bytes.as_slice(), ONE_OBJECT.as_slice());
+    }
     Ok(())
 }
 
@@ -55,33 +35,21 @@ fn strip_an_object(rt: HostRuntime) -> Result<(), Fail> {
 fn strip_missing_file(rt: HostRuntime) -> Result<(), Fail> {
     enter_folder(&rt, "strip_missing_file")?;
     fs::write(&rt, "b.o", B_O.as_slice())?;
-    assert_eq!(rt; status_of(&rt, &["strip", "b.o", "none.o"])?, 2);
+    let missing = "v7: none.o: cannot open\n";
+    assert_runs(&rt, "strip b.o none.o", "", (2, "", missing))?;
     let bytes = fs::read(&rt, "b.o")?;
     assert_eq!(rt; bytes.as_slice(), B_O.as_slice());
-    assert_eq!(rt; status_of(&rt, &["strip"])?, 2);
-    assert_eq!(rt; status_of(&rt, &["strip", "/dev/null"])?, 2);
-    Ok(())
+    let short = "v7: /dev/null: short header\n";
+    assert_runs(&rt, "strip /dev/null", "", (2, "", short))
 }
 
 #[test]
 fn strip_overlay(rt: HostRuntime) -> Result<(), Fail> {
     enter_folder(&rt, "strip_overlay")?;
     fs::write(&rt, "overlay", OVERLAY.as_slice())?;
-    assert_eq!(rt; status_of(&rt, &["strip", "overlay"])?, 0);
+    assert_runs(&rt, "strip overlay", "", (0, "", ""))?;
     let bytes = fs::read(&rt, "overlay")?;
     assert_eq!(rt; bytes.as_slice(), OVERLAY_STRIPPED.as_slice());
-    Ok(())
-}
-
-#[test]
-fn strip_a_link_of_bytes(rt: HostRuntime) -> Result<(), Fail> {
-    enter_folder(&rt, "strip_a_link_of_bytes")?;
-    fs::write(&rt, "a.out", LINKED.as_slice())?;
-    for _ in 0..2 {
-        assert_eq!(rt; status_of(&rt, &["strip", "a.out"])?, 0);
-        let bytes = fs::read(&rt, "a.out")?;
-        assert_eq!(rt; bytes.as_slice(), LINKED_STRIPPED.as_slice());
-    }
     Ok(())
 }
 
@@ -107,18 +75,22 @@ fn lists_as_commands(rt: HostRuntime) -> Result<(), Fail> {
     enter_folder(&rt, "lists_as_commands")?;
     fs::write(&rt, "s.o", S_O.as_slice())?;
     for tool in ["nm", "size"] {
-        assert_eq!(rt; status_of(&rt, &[tool, "s.o"])?, 0);
-        assert_eq!(rt; status_of(&rt, &[tool])?, 2);
-        assert_eq!(rt; status_of(&rt, &[tool, "s.o", "none.o"])?, 2);
-        assert_eq!(rt; status_of(&rt, &[tool, "s.o", "."])?, 2);
-        assert_eq!(rt; status_of(&rt, &[tool, "/dev/null"])?, 2);
-        assert_eq!(rt; status_of(&rt, &[tool, "-z", "s.o"])?, 2);
+        for (words, fault) in [
+            ("", "v7: a.out: cannot open\n"),
+            ("s.o none.o", "v7: none.o: cannot open\n"),
+            ("s.o .", "v7: .: read error\n"),
+            ("/dev/null", "v7: /dev/null: short header\n"),
+            ("-z s.o", "v7: usage\n"),
+        ] {
+            let line = format!(in rt.alloc(); "{tool} {words}")?;
+            assert_runs(&rt, line.as_str(), "", (2, "", fault))?;
+        }
     }
-    fs::write(&rt, "a.out", LINKED.as_slice())?;
-    assert_eq!(rt; status_of(&rt, &["nm"])?, 0);
-    assert_eq!(rt; status_of(&rt, &["size"])?, 0);
-    assert_eq!(rt; status_of(&rt, &["nm", "-gn", "-o", "s.o", "-r"])?, 0);
-    Ok(())
+    fs::write(&rt, "a.out", CALL.as_slice())?;
+    assert_runs(&rt, "nm", "", (0, "000000 t L1\n000006 T _f\n", ""))?;
+    assert_runs(&rt, "size", "", (0, "8+0+0 = 8b = 010b\n", ""))?;
+    let list = "s.o:000004 C _x\ns.o:000000 T _m\ns.o:       U _f\n";
+    assert_runs(&rt, "nm -gn -o s.o -r", "", (0, list, ""))
 }
 
 #[test]

@@ -1,7 +1,8 @@
 //! Objects refused, and taken out again.
-use crate::merged_image::{add, object, outcome, sized, symbol, try_add, withdraw};
+use crate::fixtures::{add, forced, names_of, object, sized, try_add};
+use crate::merged_image::{outcome, withdraw};
+use aout_core::Name;
 use aout_core::samples::{C_O, E_O, G_O, K_O, L_O, X10_O};
-use aout_core::{Name, Object};
 use link_session::{AddFault, Entry, Forced, Memory, Session, State};
 use std::alloc::Global;
 use std::process::Abort;
@@ -23,40 +24,40 @@ fn assert_empty(rt: &impl Abort, session: &Session) {
 fn limits_of_a_session(rt: HostRuntime) -> Result<(), Fail> {
     let alloc = rt.alloc();
     let mut session = Session::new(alloc);
-    for (text, data, bss, want) in [
-        (65_534, 0, 0, None),
-        (0, 2, 0, None),
-        (2, 0, 0, Some(AddFault::TextFull)),
-        (0, 65_532, 0, None),
-        (0, 2, 0, Some(AddFault::DataFull)),
-        (0, 0, 65_534, None),
-        (0, 0, 2, Some(AddFault::BssFull)),
-    ] {
-        let object = sized(alloc, text, data, bss, &[])?;
-        assert_eq!(rt; outcome(&rt, &mut session, alloc, object)?, want);
-    }
-    assert_eq!(rt; session.entries().len(), 4);
-    assert_eq!(rt; session.bss_total(), 65_534);
+    let text = sized(alloc, 65_534, 0, 0, &[])?;
+    let more_data = sized(alloc, 0, 2, 0, &[])?;
+    let more_text = sized(alloc, 2, 0, 0, &[])?;
+    assert_eq!(rt; outcome(&rt, &mut session, &text)?, None);
+    assert_eq!(rt; outcome(&rt, &mut session, &more_data)?, None);
+    let refused = outcome(&rt, &mut session, &more_text)?;
+    assert_eq!(rt; refused, Some(AddFault::TextFull));
+    assert_eq!(rt; session.entries().len(), 2);
     Ok(())
 }
 
-/// An object with so many undefined names, each with the letter in it.
-fn names(alloc: Global, letter: u8, count: u16) -> Result<Object, Fail> {
-    let mut symbols = Vec::new(alloc);
-    for i in 0..count {
-        let low = b'@' | (i % 64) as u8;
-        let middle = b'@' | (i / 64 % 64) as u8;
-        let high = b'@' | (i / 4096) as u8;
-        symbols.push(symbol(&[letter, high, middle, low], 0o40, 0))?;
+#[test]
+fn limits_of_a_session_of_data_and_bss(rt: HostRuntime) -> Result<(), Fail> {
+    let alloc = rt.alloc();
+    for (data, bss, more_data, more_bss, want) in [
+        (65_534, 0, 2, 0, AddFault::DataFull),
+        (0, 65_534, 0, 2, AddFault::BssFull),
+    ] {
+        let mut session = Session::new(alloc);
+        let first = sized(alloc, 0, data, bss, &[])?;
+        let more = sized(alloc, 0, more_data, more_bss, &[])?;
+        assert_eq!(rt; outcome(&rt, &mut session, &first)?, None);
+        assert_eq!(rt; outcome(&rt, &mut session, &more)?, Some(want));
+        assert_eq!(rt; session.entries().len(), 1);
+        assert_eq!(rt; session.bss_total(), bss);
     }
-    sized(alloc, 0, 0, 0, &symbols)
+    Ok(())
 }
 
 /// Adds twelve objects with 5,461 names each.
-fn add_many_names(rt: &impl Abort, session: &mut Session, alloc: Global) -> Result<(), Fail> {
+fn add_many_names(rt: &(impl Abort + AllocGlobal), session: &mut Session) -> Result<(), Fail> {
     for letter in b'a'..=b'l' {
-        let object = names(alloc, letter, 5_461)?;
-        assert_eq!(rt; outcome(rt, session, alloc, object)?, None);
+        let object = names_of(rt.alloc(), letter, 5_461)?;
+        assert_eq!(rt; outcome(rt, session, &object)?, None);
     }
     assert_eq!(rt; session.external_count(), 65_532);
     Ok(())
@@ -66,15 +67,13 @@ fn add_many_names(rt: &impl Abort, session: &mut Session, alloc: Global) -> Resu
 fn many_names(rt: HostRuntime) -> Result<(), Fail> {
     let alloc = rt.alloc();
     let mut session = Session::new(alloc);
-    add_many_names(&rt, &mut session, alloc)?;
-    let four = names(alloc, b'z', 4)?;
-    assert_eq!(rt;
-        outcome(&rt, &mut session, alloc, four)?,
-        Some(AddFault::NamesFull)
-    );
+    add_many_names(&rt, &mut session)?;
+    let four = names_of(alloc, b'z', 4)?;
+    let refused = outcome(&rt, &mut session, &four)?;
+    assert_eq!(rt; refused, Some(AddFault::NamesFull));
     assert_eq!(rt; session.external_count(), 65_532);
-    let three = names(alloc, b'z', 3)?;
-    assert_eq!(rt; outcome(&rt, &mut session, alloc, three)?, None);
+    let three = names_of(alloc, b'z', 3)?;
+    assert_eq!(rt; outcome(&rt, &mut session, &three)?, None);
     assert_eq!(rt; session.external_count(), 65_535);
     Ok(())
 }
@@ -83,13 +82,11 @@ fn many_names(rt: HostRuntime) -> Result<(), Fail> {
 fn withdraw_after_refusal(rt: HostRuntime) -> Result<(), Fail> {
     let alloc = rt.alloc();
     let mut session = Session::new(alloc);
-    add_many_names(&rt, &mut session, alloc)?;
+    add_many_names(&rt, &mut session)?;
     add(&mut session, alloc, "k.o", &K_O)?;
-    let four = names(alloc, b'z', 4)?;
-    assert_eq!(rt;
-        outcome(&rt, &mut session, alloc, four)?,
-        Some(AddFault::NamesFull)
-    );
+    let four = names_of(alloc, b'z', 4)?;
+    let refused = outcome(&rt, &mut session, &four)?;
+    assert_eq!(rt; refused, Some(AddFault::NamesFull));
     withdraw(&rt, &mut session, "k.o")?;
     assert_eq!(rt; session.external_count(), 65_532);
     Ok(())
@@ -187,19 +184,17 @@ fn add_behind<R: Eprint + Abort + AllocGlobal>(
 
 #[test]
 fn memory_refused_adding(rt: HostRuntime) -> Result<(), Fail> {
-    let mut forced = Forced::none();
-    add_behind(&rt, &forced, &K_O, &L_O)?;
-    add_behind(&rt, &forced, &C_O, &G_O)?;
-    forced.push(Name::from_bytes(b"_z"));
+    let none = Forced::none();
+    add_behind(&rt, &none, &K_O, &L_O)?;
+    add_behind(&rt, &none, &C_O, &G_O)?;
+    let forced = forced("_z");
     add_behind(&rt, &forced, &K_O, &L_O)?;
     add_behind(&rt, &forced, &C_O, &G_O)
 }
 
 #[test]
 fn memory_refused_forcing(rt: HostRuntime) {
-    let mut forced = Forced::none();
-    forced.push(Name::from_bytes(b"_z"));
-    match Session::with_forced(rt.alloc(), &forced) {
+    match Session::with_forced(rt.alloc(), &forced("_z")) {
         Ok(session) => assert_eq!(rt; session.external_count(), 1),
         Err(refused) => {
             let _ = rt.eprint("refused\n");
@@ -211,10 +206,8 @@ fn memory_refused_forcing(rt: HostRuntime) {
 #[test]
 fn no_memory_needed_by_sessions(rt: HostRuntime) -> Result<(), Fail> {
     let alloc = rt.alloc();
-    let mut forced = Forced::none();
-    assert!(rt; forced.push(Name::from_bytes(b"_z")));
     assert_empty(&rt, &Session::new(alloc));
-    let Some(mut session) = one_added(alloc, &forced, &K_O) else {
+    let Some(mut session) = one_added(alloc, &forced("_z"), &K_O) else {
         let _ = rt.eprint("no fixture\n");
         return Ok(());
     };

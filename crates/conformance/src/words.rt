@@ -1,4 +1,5 @@
 //! What the words of a command ask for.
+use crate::fixtures::{laid_out, plain};
 use crate::folders::words;
 use aout_core::Name;
 use link_out::{Keep, Layout, Options};
@@ -85,11 +86,6 @@ fn is_session(
     Ok(given == options && forced.names() == names)
 }
 
-/// The options of a plain link.
-fn plain(keep: Keep) -> Options {
-    Options::new(Layout::Plain, false, keep, None).unwrap()
-}
-
 #[test]
 fn entry_and_usage(rt: HostRuntime) -> Result<(), Fail> {
     let alloc = rt.alloc();
@@ -102,7 +98,7 @@ fn entry_and_usage(rt: HostRuntime) -> Result<(), Fail> {
 }
 
 #[test]
-fn forced_repeated(rt: HostRuntime) -> Result<(), Fail> {
+fn forced_repeated_in_words(rt: HostRuntime) -> Result<(), Fail> {
     let alloc = rt.alloc();
     let all = ["ld", "-u", "_z", "-u", "_z", "-o", "out", "a.o"];
     assert!(rt; has_forced(alloc, &all, &[Name::from_bytes(b"_z")])?);
@@ -186,7 +182,7 @@ fn kept_symbols(rt: HostRuntime) -> Result<(), Fail> {
 #[test]
 fn layouts_and_relocation(rt: HostRuntime) -> Result<(), Fail> {
     let alloc = rt.alloc();
-    let pure = Options::new(Layout::Pure, false, Keep::All, None).unwrap();
+    let pure = laid_out(Layout::Pure);
     let split = Options::new(Layout::Split, false, Keep::NotL, None).unwrap();
     let partial = Options::new(Layout::Plain, true, Keep::Externals, None).unwrap();
     assert!(rt; has_options(alloc, &["ld", "-n", "a.o"], pure)?);
