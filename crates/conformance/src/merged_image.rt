@@ -2,7 +2,7 @@
 use crate::fixtures::{add, forced, object, sized};
 use crate::outputs::written;
 use aout_core::samples::{C_O, D_O, D2_O, G_O, K_O, L_O, X4_O, X10_O};
-use aout_core::{Name, Segment};
+use aout_core::{Name, Segment, Wire, write_file};
 use link_session::{AddFault, Cell, Forced, Mark, Session, State, Target};
 use std::process::Abort;
 use std::test::Fail;
@@ -43,10 +43,19 @@ pub fn outcome(
     }
 }
 
-/// Takes the last object out, which has this label.
-pub fn withdraw(rt: &impl Abort, session: &mut Session, label: &str) -> Result<(), Fail> {
-    let back = session.withdraw().ok_or("nothing was there")?;
-    assert_eq!(rt; back.0.as_str(), label);
+/// Takes the last object out, which has this label and at most 84 bytes, these. It asks for no memory.
+pub fn withdraw(
+    rt: &impl Abort,
+    session: &mut Session,
+    label: &str,
+    bytes: &[u8],
+) -> Result<(), Fail> {
+    let (back, object) = session.withdraw().ok_or("nothing was there")?;
+    assert_eq!(rt; back.as_str(), label);
+    let mut room = [0; 84];
+    let mut out = Wire::new(room.as_mut_slice());
+    write_file(object.file(), &mut out)?;
+    assert_eq!(rt; room.get(..bytes.len()), Some(bytes));
     Ok(())
 }
 
@@ -72,7 +81,7 @@ fn common_grows_and_shrinks(rt: HostRuntime) -> Result<(), Fail> {
         session.last_marks(),
         [Mark::StateWas(0, State::Wanted(4))].as_slice()
     );
-    withdraw(&rt, &mut session, "x10.o")?;
+    withdraw(&rt, &mut session, "x10.o", &X10_O)?;
     assert_eq!(rt; session.external(0), Some((x, State::Wanted(4))));
     Ok(())
 }
@@ -99,7 +108,7 @@ fn bind_and_unbind(rt: HostRuntime) -> Result<(), Fail> {
     );
     assert_eq!(rt; session.text_cells(), bound.as_slice());
     assert_eq!(rt; session.data_cells().len(), 2);
-    withdraw(&rt, &mut session, "l.o")?;
+    withdraw(&rt, &mut session, "l.o", &L_O)?;
     assert_eq!(rt; session.external(0), Some((x, State::Wanted(4))));
     assert_eq!(rt; session.text_cells(), waiting.as_slice());
     assert_eq!(rt; session.data_cells().len(), 0);
@@ -140,7 +149,7 @@ fn forced_in_session(rt: HostRuntime) -> Result<(), Fail> {
         cell(0o177774, Target::External(1), true),
     ];
     assert_eq!(rt; session.text_cells(), cells.as_slice());
-    withdraw(&rt, &mut session, "c.o")?;
+    withdraw(&rt, &mut session, "c.o", &C_O)?;
     assert_eq!(rt; session.external_count(), 1);
     assert_eq!(rt; session.external(0), Some((z, State::Wanted(0))));
     assert!(rt; session.withdraw().is_none());
@@ -174,7 +183,7 @@ fn undefined_report(rt: HostRuntime) -> Result<(), Fail> {
         session.external(1),
         Some((Name::from_bytes(b"_g"), State::Wanted(0)))
     );
-    withdraw(&rt, &mut session, "g.o")?;
+    withdraw(&rt, &mut session, "g.o", &G_O)?;
     assert_eq!(rt; session.external_count(), 1);
     assert_eq!(rt; session.find(&Name::from_bytes(b"_g")), None);
     Ok(())
@@ -192,7 +201,7 @@ fn multiply_defined(rt: HostRuntime) -> Result<(), Fail> {
         session.external(0),
         Some((f, State::Defined(Segment::TextSeg, 2)))
     );
-    withdraw(&rt, &mut session, "d2.o")?;
+    withdraw(&rt, &mut session, "d2.o", &D2_O)?;
     assert_eq!(rt; session.multiples().len(), 0);
 
     let mut session = Session::new(alloc);
@@ -223,7 +232,7 @@ fn chain_binds_one_name(rt: HostRuntime) -> Result<(), Fail> {
     add(&mut session, alloc, "j.o", &J_O)?;
     assert_one_bound(&rt, &session);
     assert!(rt; session.last_marks().len() <= 3);
-    withdraw(&rt, &mut session, "j.o")?;
+    withdraw(&rt, &mut session, "j.o", &J_O)?;
     let first = cell(0, Target::External(0), false);
     let second = cell(0, Target::External(1), false);
     assert_eq!(rt;
@@ -239,13 +248,13 @@ fn chain_after_withdrawal(rt: HostRuntime) -> Result<(), Fail> {
     let mut session = Session::new(alloc);
     add(&mut session, alloc, "h.o", &H_O)?;
     add(&mut session, alloc, "j.o", &J_O)?;
-    withdraw(&rt, &mut session, "j.o")?;
+    withdraw(&rt, &mut session, "j.o", &J_O)?;
     let both = sized(alloc, 0, 0, 0, &[("_x", 0o41, 7), ("_y", 0o41, 5)])?;
     assert_eq!(rt; outcome(&rt, &mut session, &both)?, None);
     let seven = cell(7, Target::Absolute, false);
     let five = cell(5, Target::Absolute, false);
     assert_eq!(rt; session.text_cells(), [seven, five, seven, five].as_slice());
-    withdraw(&rt, &mut session, "more.o")?;
+    withdraw(&rt, &mut session, "more.o", &both)?;
     add(&mut session, alloc, "j.o", &J_O)?;
     assert_one_bound(&rt, &session);
     Ok(())
@@ -257,7 +266,7 @@ fn chain_of_two_objects(rt: HostRuntime) -> Result<(), Fail> {
     let mut session = Session::new(alloc);
     add(&mut session, alloc, "h.o", &H_O)?;
     add(&mut session, alloc, "again.o", &H_O)?;
-    withdraw(&rt, &mut session, "again.o")?;
+    withdraw(&rt, &mut session, "again.o", &H_O)?;
     add(&mut session, alloc, "j.o", &J_O)?;
     assert_one_bound(&rt, &session);
     Ok(())

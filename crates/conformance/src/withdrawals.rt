@@ -87,7 +87,7 @@ fn withdraw_after_refusal(rt: HostRuntime) -> Result<(), Fail> {
     let four = names_of(alloc, b'z', 4)?;
     let refused = outcome(&rt, &mut session, &four)?;
     assert_eq!(rt; refused, Some(AddFault::NamesFull));
-    withdraw(&rt, &mut session, "k.o")?;
+    withdraw(&rt, &mut session, "k.o", &K_O)?;
     assert_eq!(rt; session.external_count(), 65_532);
     Ok(())
 }
@@ -99,7 +99,7 @@ fn nothing_added(rt: HostRuntime) -> Result<(), Fail> {
     assert!(rt; session.withdraw().is_none());
     add(&mut session, alloc, "e.o", &E_O)?;
     assert_eq!(rt; session.entries().first().map(Entry::label), Some("e.o"));
-    withdraw(&rt, &mut session, "e.o")?;
+    withdraw(&rt, &mut session, "e.o", &E_O)?;
     assert_empty(&rt, &session);
     Ok(())
 }
@@ -114,7 +114,7 @@ fn marks_bound(rt: HostRuntime) -> Result<(), Fail> {
     assert!(rt; marks.len() <= 3);
     add(&mut session, alloc, "e.o", &E_O)?;
     assert_eq!(rt; session.last_marks().len(), 0);
-    withdraw(&rt, &mut session, "e.o")?;
+    withdraw(&rt, &mut session, "e.o", &E_O)?;
     assert_eq!(rt; session.last_marks(), marks.as_slice());
     Ok(())
 }
@@ -126,9 +126,9 @@ fn withdraw_all(rt: HostRuntime) -> Result<(), Fail> {
     add(&mut session, alloc, "k.o", &K_O)?;
     add(&mut session, alloc, "l.o", &L_O)?;
     add(&mut session, alloc, "x10.o", &X10_O)?;
-    withdraw(&rt, &mut session, "x10.o")?;
-    withdraw(&rt, &mut session, "l.o")?;
-    withdraw(&rt, &mut session, "k.o")?;
+    withdraw(&rt, &mut session, "x10.o", &X10_O)?;
+    withdraw(&rt, &mut session, "l.o", &L_O)?;
+    withdraw(&rt, &mut session, "k.o", &K_O)?;
     assert_empty(&rt, &session);
     assert!(rt; session.withdraw().is_none());
     Ok(())
@@ -179,7 +179,7 @@ fn add_behind<R: Eprint + Abort + AllocGlobal>(
     assert_eq!(rt; session.external_count(), count);
     assert_eq!(rt; session.external(count.saturating_sub(1)), last);
     assert_eq!(rt; session.last_marks().len(), 0);
-    withdraw(rt, &mut session, "first.o")
+    withdraw(rt, &mut session, "first.o", first)
 }
 
 #[test]
@@ -216,9 +216,9 @@ fn no_memory_needed_by_sessions(rt: HostRuntime) -> Result<(), Fail> {
         return Ok(());
     }
     assert_eq!(rt; session.last_marks().len(), 3);
-    withdraw(&rt, &mut session, "l.o")?;
+    withdraw(&rt, &mut session, "l.o", &L_O)?;
     assert_eq!(rt; session.find(&Name::from_bytes(b"_x")), Some(1));
-    withdraw(&rt, &mut session, "first.o")?;
+    withdraw(&rt, &mut session, "first.o", &K_O)?;
     assert!(rt; session.withdraw().is_none());
     assert_eq!(rt;
         session.external(0),
