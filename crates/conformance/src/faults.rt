@@ -150,7 +150,8 @@ fn damaged_inputs(rt: HostRuntime) -> Result<(), Fail> {
     enter_folder(&rt, "damaged_inputs")?;
     fs::write(&rt, "a.o", A_O.as_slice())?;
     for (length, line) in CUTS {
-        assert!(rt; is_refused_twice(&rt, &A_O[..length], line)?);
+        let cut = A_O.get(..length).ok_or("no such front")?;
+        assert!(rt; is_refused_twice(&rt, cut, line)?);
     }
     for (place, byte, line) in DAMAGES {
         let damaged = replaced(rt.alloc(), &A_O, place, byte)?;
