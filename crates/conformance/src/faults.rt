@@ -126,7 +126,7 @@ const DAMAGES: [(usize, u8, &str); 5] = [
     (24, 0o10, "v7: x.o: bad symbol number at word 1\n"),
 ];
 
-/// A line each that ends at a place, and its fault.
+/// A command with a file that can't be opened, read, made or written, and its fault.
 const BAD_PLACES: [(&str, &str); 4] = [
     ("ld -s -o out none.o", "v7: none.o: cannot open\n"),
     ("ld -s -o out .", "v7: .: read error\n"),
@@ -134,7 +134,7 @@ const BAD_PLACES: [(&str, &str); 4] = [
     ("ld -s -o /dev/full a.o", "v7: write error\n"),
 ];
 
-/// Both over memory and as a command, a link of `a.o` and these bytes is refused with this line.
+/// Whether a link of `a.o` and these bytes is refused with this line, as a command and over memory.
 fn is_refused_twice<R: Runtime + AllocGlobal + Abort>(
     rt: &R,
     bytes: &[u8],

@@ -1,4 +1,4 @@
-//! Whole sessions over memory: the words, the script, its steps and their answers together.
+//! Whole sessions: the words, the script, its steps and their answers together, over memory and as a command.
 ghost use Rattle.std.specs.Prelude.{◌<◌};
 
 use crate::fixtures::{ANSWERS, ONE_OBJECT, SCRIPT};
