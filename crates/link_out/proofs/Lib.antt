@@ -2,12 +2,9 @@
 pub mod CellWordLemmas
 pub mod StripLemmas
 pub mod PartialLemmas
-pub mod FirstMentions
 pub mod PartialNames
 pub mod ObjectLemmas
-pub mod PartialLinks
 pub mod CellRelocLemmas
-pub mod PartialLaw
 pub mod FitLemmas
 pub mod NeighbourMentions
 pub mod NeighbourMultiples

@@ -1,9 +1,8 @@
 -- The rows of the table, object by object and name by name, are those of the whole list.
-use Rattle.std.proofs.Common.{◌≡◌, ℕ, ◌+◌, ◌%◌, ◌<◌, Bool, true, false, List, [], ◌∷◌, ◌++◌, map, length, drop, refl, sym, subst, ◌∙◌, ap, arith, append_assoc, length-append, append-nil, drop_of_length-le, ◌≤◌}
-use Rattle.std.specs.Prelude.{filter, cond, nat_lt, slice_get, Option, Some, None, IsNone, IsTrue, IfSome, ◌↔◌}
+use Rattle.std.proofs.Common.{◌≡◌, ℕ, ◌+◌, ◌%◌, Bool, true, false, List, [], ◌∷◌, ◌++◌, map, length, drop, refl, sym, subst, ◌∙◌, ap, arith, append_assoc, length-append, append-nil, drop_of_length-le, ◌≤◌}
+use Rattle.std.specs.Prelude.{filter, cond, nat_lt, slice_get, Option, Some, IsNone, IsTrue, IfSome, ◌↔◌}
 use Rattle.std.specs.List.{flat_map}
 use Rattle.std.specs.Map.{keys_of}
-use Rattle.std.proofs.lemmas.Option.{slice_get-get_or}
 use Rattle.std.proofs.lemmas.List.{length-map}
 use Rattle.std.proofs.lemmas.List.Sums.{sum_by-append}
 use Rattle.aout_core.specs.declared.symbol.Symbol.{Symbol}
@@ -26,8 +25,8 @@ use Rattle.link_out.specs.Finals.{Final, final}
 use Rattle.link_out.specs.FromCells.{finals}
 use Rattle.link_out.specs.Plans.{Plan}
 use Rattle.link_out.specs.Tables.{is_kept_local, moved_value, moved_local, local_rows, external_row, external_rows, rows_kept, table}
-use Rattle.link_out.proofs.InOrderLemmas.{drop_next}
 use Rattle.link_out.specs.Rows.{starts_behind, next_starts, moves_at, value_moved, symbol_moved, rows_in, no_starts, rows_from, kept_count, row_for, rows_for}
+use Rattle.link_out.proofs.InOrderLemmas.{drop_next}
 
 -- a start modulo 65,536 moves as the start does
 moved_from : (v b t own : ℕ) → plus v (plus b (minus (t % 65536) own)) ≡ plus v (plus b (minus t own))
@@ -103,16 +102,11 @@ nothing_counted [] = refl
 nothing_counted (o ∷ os) = omega (arith, ap (λ (l : List Symbol). length l) (nothing_kept o.symbols), nothing_counted os)
 
 -- with any other choice the rows are all kept
-rows_kept-others : (keep : Keep) (rows : List Symbol) → (keep ≡ keeps.Nothing → ⊥) → rows_kept keep rows ≡ rows
+pub rows_kept-others : (keep : Keep) (rows : List Symbol) → (keep ≡ keeps.Nothing → ⊥) → rows_kept keep rows ≡ rows
 rows_kept-others keeps.All rows h = refl
 rows_kept-others keeps.NotL rows h = refl
 rows_kept-others keeps.Externals rows h = refl
 rows_kept-others keeps.Nothing rows h = absurd (h refl)
-
--- a place in the list holds something
-pub not_past : {A : Type 0} (xs : List A) (i : ℕ) → i < length xs → slice_get xs i ≡ None → ⊥
-not_past [] i within e = absurd (omega (arith, within))
-not_past (x ∷ xs) i within e = absurd (cc (slice_get-get_or (x ∷ xs) i x within, e))
 
 -- the rows of all objects, with none left
 pub rows_all : (p : Plan) (b : Bases) (keep : Keep) (s : Starts) (rows : List Symbol) (es : List Labelled) (i : ℕ) → p.choices.keep ≡ keep → p.at ≡ b → length es ≤ i →

@@ -1,8 +1,7 @@
 -- An image that takes in an object becomes the image of the objects with that one.
-use Rattle.std.proofs.Common.{◌≡◌, ℕ, zero, suc, ◌+◌, Bool, true, false, cond, ◌||◌, List, [], ◌∷◌, ◌++◌, map, Option, Some, None, refl, sym, ◌∙◌, ap, add-one}
-use Rattle.std.specs.Prelude.{bytes_eq, slice_get, slice_index_or, ⊤}
-use Rattle.std.specs.List.{AllByRecursion, flat_map}
-use Rattle.std.proofs.lemmas.Slice.Eq.{bytes_eq-Decides}
+use Rattle.std.proofs.Common.{◌≡◌, ℕ, ◌+◌, List, [], ◌∷◌, ◌++◌, map, Option, Some, None, refl, sym, ◌∙◌, ap}
+use Rattle.std.specs.Prelude.{slice_get, ⊤}
+use Rattle.std.specs.List.{AllByRecursion}
 use Rattle.aout_core.specs.declared.symbol.Symbol.{Symbol}
 use Rattle.aout_core.specs.declared.symbol.Segment.{Segment}
 use Rattle.aout_core.specs.declared.symbol.Segment.TheVariants as segments
@@ -17,22 +16,22 @@ use Rattle.link_session.specs.declared.cell.Target.{Target}
 use Rattle.link_session.specs.declared.cell.Target.TheVariants as targets
 use Rattle.link_session.specs.declared.state.State.{State}
 use Rattle.link_session.specs.declared.own.Shifts.{Shifts}
-use Rattle.link_session.specs.Earlier.{with_earlier}
 use Rattle.link_session.specs.Starts.{shift}
-use Rattle.link_session.specs.Mentions.{Mention, mention, statement, mentions, mentions_in, externals_in, names_of, names_by_first_mention, new_names, is_among, place_of}
+use Rattle.link_session.specs.Mentions.{Mention, mention, statement, mentions, mentions_in, externals_in, names_of, names_by_first_mention, new_names, place_of}
 use Rattle.link_session.specs.States.{Definition, state, state_by, first_definition, wanted_size, multiple_names}
-use Rattle.link_session.specs.Cells.{Referent, to_segment, to_name, referent, referent_by, segment_target, name_target, name_in, target_of, target_shift, offset_in, if_pc, cell, words_of, cells_in, cells}
+use Rattle.link_session.specs.Cells.{Referent, to_segment, to_name, referent, referent_by, segment_target, name_target, name_in, target_of, target_shift, offset_in, if_pc, cell, words_of, cells}
 use Rattle.link_session.specs.Image.{named_states, image}
 use Rattle.link_session.specs.Sessions.{IsObject}
 use Rattle.link_session.specs.Additions.{state_in, state_at, state_for, place_in, all_mentioned, all_clashes, bound_by, binding_at, binding, bound_or, settled, statement_by, mention_by, mentions_by, referred, own_cell, own_cells, next_shifts, next_mentions, next_named, joined_image}
 use Rattle.link_session.proofs.StateLemmas.{first_definition-append}
-use Rattle.link_session.proofs.MentionLemmas.{names_by_first_mention-append, is_among-externals}
-use Rattle.link_session.proofs.CellLemmas.{rebound, bound, RefersAmong, AllReferAmong, cells_more}
-use Rattle.link_session.proofs.MarkLemmas.{awaited, bound-awaited, get_mapped}
-use Rattle.link_session.proofs.WellFormedLemmas.{objects_refer, all_map}
+use Rattle.link_session.proofs.MentionLemmas.{names_by_first_mention-append, is_among-externals, get_place}
+use Rattle.link_session.proofs.CellLemmas.{rebound, bound, RefersAmong, AllReferAmong, cells_more, all_made}
+use Rattle.link_session.proofs.MarkLemmas.{awaited, bound-awaited}
+use Rattle.link_session.proofs.WellFormedLemmas.{objects_refer}
 use Rattle.link_session.proofs.UpdateLemmas.{image_own}
 use Rattle.link_session.proofs.MentionedLemmas.{keys-named_states, state_for-named_states, all_mentioned-named_states, all_clashes-named_states}
 use Rattle.link_session.proofs.TotalLemmas.{text_total, data_total}
+use Rattle.link_session.proofs.ListLemmas.{all_map, get_append, index_get, get_mapped}
 
 -- the cell, bound, if its name has a definition among later mentions
 abbrev pub rebinding : Option Definition → Cell → Option Cell
@@ -52,15 +51,6 @@ segment_waits ms segments.DataSeg = tt
 segment_waits ms segments.BssSeg = tt
 segment_waits ms segments.Other = tt
 
-get_place : (names : List (List ℕ)) (name : List ℕ) → is_among names name ≡ true → slice_get names (place_of name names) ≡ Some name
-get_place [] name h = absurd (cc)
-get_place (n ∷ ns) name h = by_test (bytes_eq name n) refl h (get_place ns name)
-  where
-    by_test : (t : Bool) → bytes_eq name n ≡ t → (t || is_among ns name) ≡ true → (is_among ns name ≡ true → slice_get ns (place_of name ns) ≡ Some name) →
-        slice_get (n ∷ ns) (cond t 0 (place_of name ns + 1)) ≡ Some name
-    by_test true e h rest = ap (λ (k : List ℕ). let o : Option (List ℕ) = Some k in o) (sym ((bytes_eq-Decides name n).0 e))
-    by_test false e h rest = rw add-one (rest h)
-
 referent_waits : (ms : List Mention) (q : Referent) → RefersAmong (names_of ms) q → WaitsAmong ms (target_of ms q)
 referent_waits ms (to_segment segment) h = segment_waits ms segment
 referent_waits ms (to_name name) h = by_definition (first_definition ms name) refl
@@ -69,36 +59,11 @@ referent_waits ms (to_name name) h = by_definition (first_definition ms name) re
     by_definition (Some d) e = segment_waits ms d.0
     by_definition None e = (name, get_place (names_by_first_mention ms) name (is_among-externals ms name ∙ h), e)
 
-pub all_append : {A : Type 0} (P : A → Type 0) (xs ys : List A) → AllByRecursion P xs → AllByRecursion P ys → AllByRecursion P (xs ++ ys)
-all_append P [] ys h k = k
-all_append P (x ∷ xs) ys h k = (h.0, all_append P xs ys h.1 k)
-
 -- so do all cells of the objects
 pub cells_wait : (ms : List Mention) (segment : Segment) (os : List Contents) → AllByRecursion (λ o. AllReferAmong (names_of ms) o (words_of segment o)) os →
     AllByRecursion (λ c. WaitsAmong ms c.target) (cells ms segment os)
-cells_wait ms segment os h = from [] os h
-  where
-    of_words : (earlier : List Contents) (o : Contents) (words : List (ℕ × Reloc)) → AllReferAmong (names_of ms) o words →
-        AllByRecursion (λ c. WaitsAmong ms c.target) (map (λ wr. cell ms earlier o segment wr.0 wr.1) words)
-    of_words earlier o [] h = tt
-    of_words earlier o (wr ∷ words) h = (referent_waits ms (referent o wr.1) h.0, of_words earlier o words h.1)
-
-    from : (earlier rest : List Contents) → AllByRecursion (λ o. AllReferAmong (names_of ms) o (words_of segment o)) rest →
-        AllByRecursion (λ c. WaitsAmong ms c.target) (flat_map (λ p. cells_in ms segment p.0 p.1) (with_earlier earlier rest))
-    from earlier [] h = tt
-    from earlier (o ∷ rest) h =
-        all_append (λ c. WaitsAmong ms c.target) (cells_in ms segment earlier o) (flat_map (λ p. cells_in ms segment p.0 p.1) (with_earlier (earlier ++ o ∷ []) rest))
-        (of_words earlier o (words_of segment o) h.0) (from (earlier ++ o ∷ []) rest h.1)
-
-pub get_append : {A : Type 0} (xs ys : List A) (i : ℕ) (x : A) → slice_get xs i ≡ Some x → slice_get (xs ++ ys) i ≡ Some x
-get_append [] ys i x e = absurd (cc)
-get_append (z ∷ xs) ys zero x e = e
-get_append (z ∷ xs) ys (suc i) x e = get_append xs ys i x e
-
-index_get : (xs : List (List ℕ)) (i : ℕ) (x : List ℕ) → slice_get xs i ≡ Some x → slice_index_or xs i [] ≡ x
-index_get [] i x e = absurd (cc)
-index_get (z ∷ xs) zero x e = cc
-index_get (z ∷ xs) (suc i) x e = index_get xs i x e
+cells_wait ms segment os h =
+    all_made (λ c. WaitsAmong ms c.target) (λ earlier o wr. cell ms earlier o segment wr.0 wr.1) (names_of ms) segment (λ earlier o wr k. referent_waits ms (referent o wr.1) k) os h
 
 -- such a cell is bound by the states after more mentions just where one of these defines its name
 pub binding-awaited : (ms ns : List Mention) (c : Cell) → WaitsAmong ms c.target → binding (named_states (ms ++ ns)) c ≡ rebinding (awaited (names_by_first_mention ms) ns c.target) c
@@ -118,7 +83,7 @@ binding-awaited ms ns c h = by_target c.target h
         first_definition-append ms ns h.0 ∙ ap (λ (d : Option Definition). first_of d (first_definition ns h.0)) h.2 in
         ap (λ (s : State). bound_by s c) (at ∙ ap (λ (d : Option Definition). state_by d (wanted_size (ms ++ ns) h.0)) first)
         ∙ by_definition (first_definition ns h.0)
-        ∙ ap (λ (n : List ℕ). rebinding (first_definition ns n) c) (sym (index_get (names_by_first_mention ms) i h.0 h.1))
+        ∙ ap (λ (n : List ℕ). rebinding (first_definition ns n) c) (sym (index_get (names_by_first_mention ms) i h.0 [] h.1))
       where
         by_definition : (d : Option Definition) → bound_by (state_by d (wanted_size (ms ++ ns) h.0)) c ≡ rebinding d c
         by_definition None = refl

@@ -14,7 +14,6 @@ use Rattle.link_session.specs.declared.state.State.{State}
 use Rattle.link_session.specs.declared.state.State.TheVariants.{Defined, Wanted}
 use Rattle.link_session.specs.declared.mark.Mark.{Mark}
 use Rattle.link_session.specs.declared.mark.Mark.TheVariants.{CellWas, StateWas}
-use Rattle.link_session.specs.declared.mark.Place.TheVariants.{InText, InData}
 use Rattle.link_session.specs.Mentions.{Mention, mentions, mentions_in, externals_in, externals, is_among, names_by_first_mention}
 use Rattle.link_session.specs.States.{Definition}
 use Rattle.link_session.specs.Image.{Image, named_states, image}
@@ -23,11 +22,13 @@ use Rattle.link_session.specs.Sessions.{IsObject}
 use Rattle.link_session.specs.Undo.{with_state, put_back, put_all_back, cut_to, undo, IsInside}
 use Rattle.link_session.specs.Updates.{updated}
 use Rattle.link_session.specs.Additions.{Named, state_at, state_for, place_in, mentioned, all_mentioned, changes, state_mark, state_marks, binding, bound_or, settled, mark_if, place_at, cell_marks, own_cells, all_clashes, mention_by, next_shifts, next_named, next_mentions, next_marks, joined_image}
+use Rattle.link_session.specs.Cells.{cells}
 use Rattle.link_session.proofs.WellFormedLemmas.{objects_refer}
 use Rattle.link_session.proofs.BoundLemmas.{is_defined_by-awaited}
 use Rattle.link_session.proofs.MarkLemmas.{put_all_back-append, take_grown, take_with_state, cut_front, awaited}
 use Rattle.link_session.proofs.AdditionLemmas.{rebinding, WaitsAmong, cells_wait, binding-awaited, next_named-states, well_formed}
 use Rattle.link_session.proofs.MentionedLemmas.{mentioned-is, next_state}
+use Rattle.link_session.proofs.ListLemmas.{all_append}
 
 -- States.
 
@@ -104,44 +105,22 @@ set_at [] now was rest (suc i) e = absurd (omega arith)
 set_at (c ∷ front) now was rest zero e = absurd (omega arith)
 set_at (c ∷ front) now was rest (suc i) e = ap (λ (cs : List Cell). c ∷ cs) (set_at front now was rest i (omega arith))
 
-put_text : (m : Image) (front : List Cell) (b c : Cell) (rest : List Cell) (i : ℕ) → length front ≡ i →
-    put_back (CellWas (InText i) c) (record m { text_cells = front ++ b ∷ rest }) ≡ record m { text_cells = front ++ c ∷ rest }
-put_text m front b c rest i e = ap (λ (cs : List Cell). let n : Image = record m { text_cells = cs } in n) (set_at front b c rest i e)
-
-put_data : (m : Image) (front : List Cell) (b c : Cell) (rest : List Cell) (i : ℕ) → length front ≡ i →
-    put_back (CellWas (InData i) c) (record m { data_cells = front ++ b ∷ rest }) ≡ record m { data_cells = front ++ c ∷ rest }
-put_data m front b c rest i e = ap (λ (cs : List Cell). let n : Image = record m { data_cells = cs } in n) (set_at front b c rest i e)
-
--- the cells of the text that were bound are put back
-pub text_back : (m : Image) (es : Named) (front : List Cell) (i : ℕ) (cs : List Cell) → length front ≡ i →
-    put_all_back (cell_marks segments.TextSeg es i cs) (record m { text_cells = front ++ map (settled es) cs }) ≡ record m { text_cells = front ++ cs }
-text_back m es front i [] e = refl
-text_back m es front i (c ∷ cs) e =
-    put_all_back-append (mark_if (binding es c) (CellWas (InText i) c)) (cell_marks segments.TextSeg es (i + 1) cs) (record m { text_cells = front ++ settled es c ∷ map (settled es) cs })
-    ∙ ap (λ (l : List Cell). put_all_back (mark_if (binding es c) (CellWas (InText i) c)) (put_all_back (cell_marks segments.TextSeg es (i + 1) cs) (record m { text_cells = l })))
+-- the cells of a segment that were bound are put back, in an image around them
+cells_back : (segment : Segment) (around : List Cell → Image) → ((i : ℕ) (c : Cell) (cs : List Cell) → put_back (CellWas (place_at segment i) c) (around cs) ≡ around (slice_set cs i c)) →
+    (es : Named) (front : List Cell) (i : ℕ) (cs : List Cell) → length front ≡ i → put_all_back (cell_marks segment es i cs) (around (front ++ map (settled es) cs)) ≡ around (front ++ cs)
+cells_back segment around sets es front i [] e = refl
+cells_back segment around sets es front i (c ∷ cs) e =
+    put_all_back-append (mark_if (binding es c) (CellWas (place_at segment i) c)) (cell_marks segment es (i + 1) cs) (around (front ++ settled es c ∷ map (settled es) cs))
+    ∙ ap (λ (l : List Cell). put_all_back (mark_if (binding es c) (CellWas (place_at segment i) c)) (put_all_back (cell_marks segment es (i + 1) cs) (around l)))
     (sym (append_assoc front (settled es c ∷ []) (map (settled es) cs)))
-    ∙ ap (λ (n : Image). put_all_back (mark_if (binding es c) (CellWas (InText i) c)) n) (text_back m es (front ++ settled es c ∷ []) (i + 1) cs (omega (arith, length-append front (settled es c ∷ []))))
-    ∙ ap (λ (l : List Cell). put_all_back (mark_if (binding es c) (CellWas (InText i) c)) (record m { text_cells = l })) (append_assoc front (settled es c ∷ []) cs)
+    ∙ ap (λ (n : Image). put_all_back (mark_if (binding es c) (CellWas (place_at segment i) c)) n)
+    (cells_back segment around sets es (front ++ settled es c ∷ []) (i + 1) cs (omega (arith, length-append front (settled es c ∷ []))))
+    ∙ ap (λ (l : List Cell). put_all_back (mark_if (binding es c) (CellWas (place_at segment i) c)) (around l)) (append_assoc front (settled es c ∷ []) cs)
     ∙ by_binding (binding es c)
   where
-    by_binding : (b : Option Cell) → put_all_back (mark_if b (CellWas (InText i) c)) (record m { text_cells = front ++ bound_or b c ∷ cs }) ≡ record m { text_cells = front ++ c ∷ cs }
+    by_binding : (b : Option Cell) → put_all_back (mark_if b (CellWas (place_at segment i) c)) (around (front ++ bound_or b c ∷ cs)) ≡ around (front ++ c ∷ cs)
     by_binding None = refl
-    by_binding (Some b) = put_text m front b c cs i e
-
-pub data_back : (m : Image) (es : Named) (front : List Cell) (i : ℕ) (cs : List Cell) → length front ≡ i →
-    put_all_back (cell_marks segments.DataSeg es i cs) (record m { data_cells = front ++ map (settled es) cs }) ≡ record m { data_cells = front ++ cs }
-data_back m es front i [] e = refl
-data_back m es front i (c ∷ cs) e =
-    put_all_back-append (mark_if (binding es c) (CellWas (InData i) c)) (cell_marks segments.DataSeg es (i + 1) cs) (record m { data_cells = front ++ settled es c ∷ map (settled es) cs })
-    ∙ ap (λ (l : List Cell). put_all_back (mark_if (binding es c) (CellWas (InData i) c)) (put_all_back (cell_marks segments.DataSeg es (i + 1) cs) (record m { data_cells = l })))
-    (sym (append_assoc front (settled es c ∷ []) (map (settled es) cs)))
-    ∙ ap (λ (n : Image). put_all_back (mark_if (binding es c) (CellWas (InData i) c)) n) (data_back m es (front ++ settled es c ∷ []) (i + 1) cs (omega (arith, length-append front (settled es c ∷ []))))
-    ∙ ap (λ (l : List Cell). put_all_back (mark_if (binding es c) (CellWas (InData i) c)) (record m { data_cells = l })) (append_assoc front (settled es c ∷ []) cs)
-    ∙ by_binding (binding es c)
-  where
-    by_binding : (b : Option Cell) → put_all_back (mark_if b (CellWas (InData i) c)) (record m { data_cells = front ++ bound_or b c ∷ cs }) ≡ record m { data_cells = front ++ c ∷ cs }
-    by_binding None = refl
-    by_binding (Some b) = put_data m front b c cs i e
+    by_binding (Some b) = sets i c (front ++ b ∷ cs) ∙ ap around (set_at front b c cs i e)
 
 module _ (m : Image) (o : Contents) where
   abbrev named : Named
@@ -174,8 +153,8 @@ module _ (m : Image) (o : Contents) where
       put_all_back-append (states ++ texts) datas (cut_to m (joined_image m o))
       ∙ put_all_back-append states texts (put_all_back datas (cut_to m (joined_image m o)))
       ∙ ap (λ (n : Image). put_all_back states (put_all_back texts (put_all_back datas n))) cut
-      ∙ ap (λ (n : Image). put_all_back states (put_all_back texts n)) (data_back (at (map (settled named) m.text_cells) [] (take (length m.externals) named)) named [] 0 m.data_cells refl)
-      ∙ ap (λ (n : Image). put_all_back states n) (text_back (at [] m.data_cells (take (length m.externals) named)) named [] 0 m.text_cells refl)
+      ∙ ap (λ (n : Image). put_all_back states (put_all_back texts n)) (cells_back segments.DataSeg (λ cs. at (map (settled named) m.text_cells) cs (take (length m.externals) named)) (λ i c cs. refl) named [] 0 m.data_cells refl)
+      ∙ ap (λ (n : Image). put_all_back states n) (cells_back segments.TextSeg (λ cs. at cs m.data_cells (take (length m.externals) named)) (λ i c cs. refl) named [] 0 m.text_cells refl)
       ∙ mentions_back (at m.text_cells m.data_cells []) (length m.externals) m.externals (next_mentions m o) (omega arith)
       ∙ ap (λ (es : Named). at m.text_cells m.data_cells es) (take-length m.externals)
 
@@ -194,43 +173,33 @@ module _ (m : Image) (o : Contents) where
 
 -- Where the marks lie.
 
-inside_append : (m : Image) (ks ls : List Mark) → AllByRecursion (IsInside m) ks → AllByRecursion (IsInside m) ls → AllByRecursion (IsInside m) (ks ++ ls)
-inside_append m [] ls h k = k
-inside_append m (x ∷ ks) ls h k = (h.0, inside_append m ks ls h.1 k)
-
 states_inside : (m : Image) (es : Named) (ms : List Mention) → AllByRecursion (IsInside m) (state_marks (length m.externals) es ms)
 states_inside m es [] = tt
 states_inside m es (k ∷ ms) =
-    inside_append m (state_mark (length m.externals) es k) (state_marks (length m.externals) (mentioned es k) ms) (by_place (nat_lt (place_in es k.name) (length m.externals)) refl (changes (state_for es k.name) k.says)) (states_inside m (mentioned es k) ms)
+    all_append (IsInside m) (state_mark (length m.externals) es k) (state_marks (length m.externals) (mentioned es k) ms) (by_place (nat_lt (place_in es k.name) (length m.externals)) refl (changes (state_for es k.name) k.says)) (states_inside m (mentioned es k) ms)
   where
     by_place : (t : Bool) → nat_lt (place_in es k.name) (length m.externals) ≡ t → (u : Bool) → AllByRecursion (IsInside m) (cond (t && u) (StateWas (place_in es k.name) (state_for es k.name) ∷ []) [])
     by_place true e true = (ltb-true (place_in es k.name) (length m.externals) e, tt)
     by_place true e false = tt
     by_place false e u = tt
 
-text_inside : (m : Image) (es : Named) (i : ℕ) (cs : List Cell) → i + length cs ≤ length m.text_cells → AllByRecursion (IsInside m) (cell_marks segments.TextSeg es i cs)
-text_inside m es i [] h = tt
-text_inside m es i (c ∷ cs) h = inside_append m (mark_if (binding es c) (CellWas (InText i) c)) (cell_marks segments.TextSeg es (i + 1) cs) (by_binding (binding es c)) (text_inside m es (i + 1) cs (omega arith))
+cells_inside : (m : Image) (segment : Segment) (n : ℕ) → ((i : ℕ) (c : Cell) → i < n → IsInside m (CellWas (place_at segment i) c)) → (es : Named) (i : ℕ) (cs : List Cell) → i + length cs ≤ n →
+    AllByRecursion (IsInside m) (cell_marks segment es i cs)
+cells_inside m segment n lies es i [] h = tt
+cells_inside m segment n lies es i (c ∷ cs) h =
+    all_append (IsInside m) (mark_if (binding es c) (CellWas (place_at segment i) c)) (cell_marks segment es (i + 1) cs) (by_binding (binding es c)) (cells_inside m segment n lies es (i + 1) cs (omega arith))
   where
-    by_binding : (b : Option Cell) → AllByRecursion (IsInside m) (mark_if b (CellWas (InText i) c))
+    by_binding : (b : Option Cell) → AllByRecursion (IsInside m) (mark_if b (CellWas (place_at segment i) c))
     by_binding None = tt
-    by_binding (Some b) = (let lt : i < length m.text_cells = omega arith in lt, tt)
-
-data_inside : (m : Image) (es : Named) (i : ℕ) (cs : List Cell) → i + length cs ≤ length m.data_cells → AllByRecursion (IsInside m) (cell_marks segments.DataSeg es i cs)
-data_inside m es i [] h = tt
-data_inside m es i (c ∷ cs) h = inside_append m (mark_if (binding es c) (CellWas (InData i) c)) (cell_marks segments.DataSeg es (i + 1) cs) (by_binding (binding es c)) (data_inside m es (i + 1) cs (omega arith))
-  where
-    by_binding : (b : Option Cell) → AllByRecursion (IsInside m) (mark_if b (CellWas (InData i) c))
-    by_binding None = tt
-    by_binding (Some b) = (let lt : i < length m.data_cells = omega arith in lt, tt)
+    by_binding (Some b) = (lies i c (omega arith), tt)
 
 -- all marks of an addition lie inside the earlier image
 pub addition_inside : (m : Image) (o : Contents) → AllByRecursion (IsInside m) (next_marks m o)
 addition_inside m o =
-    inside_append m (state_marks (length m.externals) m.externals (next_mentions m o) ++ cell_marks segments.TextSeg (next_named m o) 0 m.text_cells) (cell_marks segments.DataSeg (next_named m o) 0 m.data_cells)
-    (inside_append m (state_marks (length m.externals) m.externals (next_mentions m o)) (cell_marks segments.TextSeg (next_named m o) 0 m.text_cells)
-    (states_inside m m.externals (next_mentions m o)) (text_inside m (next_named m o) 0 m.text_cells (omega arith)))
-    (data_inside m (next_named m o) 0 m.data_cells (omega arith))
+    all_append (IsInside m) (state_marks (length m.externals) m.externals (next_mentions m o) ++ cell_marks segments.TextSeg (next_named m o) 0 m.text_cells) (cell_marks segments.DataSeg (next_named m o) 0 m.data_cells)
+    (all_append (IsInside m) (state_marks (length m.externals) m.externals (next_mentions m o)) (cell_marks segments.TextSeg (next_named m o) 0 m.text_cells)
+    (states_inside m m.externals (next_mentions m o)) (cells_inside m segments.TextSeg (length m.text_cells) (λ i c lt. lt) (next_named m o) 0 m.text_cells (omega arith)))
+    (cells_inside m segments.DataSeg (length m.data_cells) (λ i c lt. lt) (next_named m o) 0 m.data_cells (omega arith))
 
 -- How many marks there are.
 
@@ -265,7 +234,7 @@ cells_few ms os o segment i (c ∷ cs) h =
 -- no more marks than earlier cells that waited for a name of the object, and external entries of it
 pub addition_few : (forced : List (List ℕ)) (os : List Contents) (o : Contents) → AllByRecursion IsObject os → length (next_marks (image forced os) o) ≤ most_marks forced os o
 addition_few forced os o h =
-    omega (arith, length-append (states ++ texts) datas, length-append states texts, few, text_few, data_few)
+    omega (arith, length-append (states ++ texts) datas, length-append states texts, few, waiting_few segments.TextSeg, waiting_few segments.DataSeg)
   where
     m : Image
     m = image forced os
@@ -282,12 +251,7 @@ addition_few forced os o h =
     few : length states ≤ length (externals_in o)
     few = omega (arith, states_few (length (image forced os).externals) (image forced os).externals (next_mentions (image forced os) o), length-map (externals_in o) (mention_by (next_shifts (image forced os) o)))
 
-    text_few : length texts ≡ waiting_in (externals forced os) o (image forced os).text_cells
-    text_few =
-        ap (λ (es : Named). length (cell_marks segments.TextSeg es 0 (image forced os).text_cells)) (next_named-states forced os o h)
-        ∙ cells_few (mentions forced os) os o segments.TextSeg 0 (image forced os).text_cells (cells_wait (mentions forced os) segments.TextSeg os (objects_refer forced segments.TextSeg os (well_formed os h)))
-
-    data_few : length datas ≡ waiting_in (externals forced os) o (image forced os).data_cells
-    data_few =
-        ap (λ (es : Named). length (cell_marks segments.DataSeg es 0 (image forced os).data_cells)) (next_named-states forced os o h)
-        ∙ cells_few (mentions forced os) os o segments.DataSeg 0 (image forced os).data_cells (cells_wait (mentions forced os) segments.DataSeg os (objects_refer forced segments.DataSeg os (well_formed os h)))
+    waiting_few : (segment : Segment) → length (cell_marks segment (next_named (image forced os) o) 0 (cells (mentions forced os) segment os)) ≡ waiting_in (externals forced os) o (cells (mentions forced os) segment os)
+    waiting_few segment =
+        ap (λ (es : Named). length (cell_marks segment es 0 (cells (mentions forced os) segment os))) (next_named-states forced os o h)
+        ∙ cells_few (mentions forced os) os o segment 0 (cells (mentions forced os) segment os) (cells_wait (mentions forced os) segment os (objects_refer forced segment os (well_formed os h)))

@@ -1,17 +1,18 @@
 -- The image while an object is joined to it.
-use Rattle.std.proofs.Common.{◌≡◌, ℕ, ◌+◌, ◌*◌, ◌≤◌, List, [], ◌∷◌, ◌++◌, map, length, refl, ◌∙◌, ap, arith, None}
+use Rattle.std.proofs.Common.{◌≡◌, ℕ, ◌+◌, ◌*◌, ◌≤◌, List, ◌++◌, map, length, refl, ◌∙◌, ap, arith, None}
 use Rattle.std.specs.Prelude.{filter}
 use Rattle.std.specs.Map.{keys_of}
 use Rattle.aout_core.specs.declared.symbol.Symbol.{Symbol}
 use Rattle.aout_core.specs.Contents.{Contents}
 use Rattle.aout_core.specs.WellFormed.{is_external}
 use Rattle.link_session.specs.declared.own.Shifts.{Shifts}
-use Rattle.link_session.specs.Mentions.{new_names, names_of}
+use Rattle.link_session.specs.Mentions.{new_names}
 use Rattle.link_session.specs.Image.{Image}
 use Rattle.link_session.specs.Fields.{IsSmall}
 use Rattle.link_session.specs.Additions.{Named, all_mentioned, all_clashes, mention_by, mentions_by, settled, own_cells, new_count, next_limit, next_shifts, next_mentions, next_named, entered, joined_image}
 use Rattle.link_session.proofs.MentionedLemmas.{length-all_mentioned}
 use Rattle.link_session.proofs.TotalLemmas.{within_limit}
+use Rattle.link_session.proofs.MentionLemmas.{names_of-map}
 
 -- the fields once the mentions are entered
 pub entered-is : (m n : Image) (o f : Contents) (shifts : Shifts) (symbols : List Symbol) (es : Named) (xs : List (List ℕ)) → n ≡ m → f ≡ o → symbols ≡ f.symbols → shifts ≡ next_shifts m o →
@@ -27,15 +28,11 @@ entered-is m n o f shifts symbols es xs made file table moved names multiples = 
     all : symbols ≡ o.symbols
     all = table ∙ ap (λ (c : Contents). c.symbols) file
 
-said : (shifts : Shifts) (ss : List Symbol) → names_of (map (mention_by shifts) ss) ≡ map (λ (s : Symbol). s.name) ss
-said shifts [] = refl
-said shifts (s ∷ ss) = ap (λ (ns : List (List ℕ)). s.name ∷ ns) (said shifts ss)
-
 -- the names stay within their limit
 pub few_named : (m : Image) (o : Contents) → next_limit m o ≡ None → length (next_named m o) ≤ 65535
 few_named m o h =
     let w = within_limit (2 * length m.text_cells + o.header.text_size) (2 * length m.data_cells + o.header.data_size) (m.bss_total + o.header.bss_size) (length m.externals + new_count (keys_of m.externals) o.symbols) h in
-    let same = ap (λ (ns : List (List ℕ)). length (new_names (keys_of m.externals) ns)) (said (next_shifts m o) (filter is_external o.symbols)) in
+    let same = ap (λ (ns : List (List ℕ)). length (new_names (keys_of m.externals) ns)) (names_of-map (mention_by (next_shifts m o)) (λ (s : Symbol). s.name) (λ s. refl) (filter is_external o.symbols)) in
     omega (arith, length-all_mentioned m.externals (next_mentions m o), same, w.names)
 
 pub entered_small : (m : Image) (o : Contents) → IsSmall m → next_limit m o ≡ None → IsSmall (entered m o)

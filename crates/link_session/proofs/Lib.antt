@@ -1,3 +1,4 @@
+pub mod ListLemmas
 pub mod WordLemmas
 pub mod EarlierLemmas
 pub mod MentionLemmas

@@ -1,6 +1,6 @@
 -- Marks put back in turn, the fronts of lists that grow, and what cells await.
-use Rattle.std.proofs.Common.{◌≡◌, ℕ, zero, suc, ◌≤◌, List, [], ◌∷◌, ◌++◌, map, take, length, Option, Some, None, refl, ap, arith}
-use Rattle.std.specs.Prelude.{slice_get, slice_index_or}
+use Rattle.std.proofs.Common.{◌≡◌, ℕ, zero, suc, ◌≤◌, List, [], ◌∷◌, ◌++◌, map, take, length, Option, None, refl, ap, arith}
+use Rattle.std.specs.Prelude.{slice_index_or}
 use Rattle.std.proofs.lemmas.List.{length-map, take_at}
 use Rattle.link_session.specs.declared.cell.Cell.{Cell}
 use Rattle.link_session.specs.declared.cell.Target.{Target}
@@ -44,11 +44,6 @@ bound-awaited names later c = by_target c.target
     by_target targets.DataSeg = refl
     by_target targets.BssSeg = refl
     by_target (targets.External i) = refl
-
-pub get_mapped : {A B : Type 0} (f : A → B) (xs : List A) (i : ℕ) (x : A) → slice_get xs i ≡ Some x → slice_get (map f xs) i ≡ Some (f x)
-get_mapped f [] i x e = absurd (cc)
-get_mapped {A = A} {B = B} f (y ∷ ys) zero x e = let same : y ≡ x = cc in ap (λ (z : A). let o : Option B = Some (f z) in o) same
-get_mapped f (y ∷ ys) (suc i) x e = get_mapped f ys i x e
 
 -- the first elements of a longer list, each changed
 pub cut_front : {A : Type 0} (f : A → A) (xs ys : List A) → take (length xs) (map f xs ++ ys) ≡ map f xs

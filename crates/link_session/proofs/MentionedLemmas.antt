@@ -3,18 +3,18 @@ use Rattle.std.proofs.Common.{◌≡◌, ℕ, zero, suc, ◌+◌, Bool, true, fa
 use Rattle.std.specs.Prelude.{bytes_eq}
 use Rattle.std.specs.Map.{keys_of}
 use Rattle.std.proofs.lemmas.List.{map-append, length-map}
-use Rattle.std.proofs.lemmas.Slice.Eq.{bytes_eq-Decides}
 use Rattle.indexmap.specs.IndexMap.{insert_entry}
 use Rattle.link_session.specs.declared.state.State.{State}
-use Rattle.link_session.specs.declared.state.State.TheVariants.{Defined, Wanted}
+use Rattle.link_session.specs.declared.state.State.TheVariants.{Wanted}
 use Rattle.link_session.specs.Mentions.{Mention, is_among, new_names, names_of, names_by_first_mention, place_of}
 use Rattle.link_session.specs.States.{state, multiple_names}
 use Rattle.link_session.specs.Image.{named_states}
 use Rattle.link_session.specs.Undo.{with_state}
 use Rattle.link_session.specs.Updates.{updated, clashes}
-use Rattle.link_session.specs.Additions.{Named, state_at, state_for, place_in, mentioned, all_mentioned, all_clashes}
-use Rattle.link_session.proofs.MentionLemmas.{is_among-append, is_among-externals}
-use Rattle.link_session.proofs.UpdateLemmas.{unmentioned, externals_mention, multiples_mention}
+use Rattle.link_session.specs.Additions.{Named, state_at, state_for, place_in, mentioned, all_mentioned, all_clashes, state_in}
+use Rattle.link_session.proofs.MentionLemmas.{is_among-externals, seen_again, new_names-seen, get_place}
+use Rattle.link_session.proofs.UpdateLemmas.{unmentioned, externals_mention, multiples_mention, says_alone}
+use Rattle.link_session.proofs.ListLemmas.{get_mapped}
 
 -- the names stay where a state is replaced
 keys-with_state : (es : Named) (i : ℕ) (s : State) → keys_of (with_state es i s) ≡ keys_of es
@@ -54,16 +54,6 @@ keys-mentioned es m =
     last true = refl
     last false = refl
 
--- what is new depends only on which names are seen
-pub new_names-seen : (a b xs : List (List ℕ)) → ((n : List ℕ) → is_among a n ≡ is_among b n) → new_names a xs ≡ new_names b xs
-new_names-seen a b [] h = refl
-new_names-seen a b (x ∷ xs) h =
-    let rest : new_names (a ++ x ∷ []) xs ≡ new_names (b ++ x ∷ []) xs = new_names-seen (a ++ x ∷ []) (b ++ x ∷ []) xs more in
-    λ i. cond (h x i) (rest i) (x ∷ rest i)
-  where
-    more : (n : List ℕ) → is_among (a ++ x ∷ []) n ≡ is_among (b ++ x ∷ []) n
-    more n = is_among-append a (x ∷ []) n ∙ ap (λ (t : Bool). t || is_among (x ∷ []) n) (h n) ∙ sym (is_among-append b (x ∷ []) n)
-
 -- how many names there are after the mentions
 pub length-all_mentioned : (es : Named) (ms : List Mention) → length (all_mentioned es ms) ≡ length es + length (new_names (keys_of es) (names_of ms))
 length-all_mentioned es [] = omega arith
@@ -79,23 +69,12 @@ length-all_mentioned es (m ∷ ms) =
         ∙ length-append (keys_of es) (cond (is_among (keys_of es) m.name) [] (m.name ∷ []))
         ∙ ap (λ (n : ℕ). n + length (cond (is_among (keys_of es) m.name) [] (m.name ∷ []))) (length-map es (λ (e : List ℕ × State). e.0))
 
-    seen_twice : is_among (keys_of es) m.name ≡ true → (n : List ℕ) → is_among (keys_of es) n ≡ is_among (keys_of es ++ m.name ∷ []) n
-    seen_twice h n = by_name (bytes_eq n m.name) refl ∙ sym (is_among-append (keys_of es) (m.name ∷ []) n)
-      where
-        by_name : (t : Bool) → bytes_eq n m.name ≡ t → is_among (keys_of es) n ≡ (is_among (keys_of es) n || (t || false))
-        by_name true e = let same : n ≡ m.name = (bytes_eq-Decides n m.name).0 e in let known : is_among (keys_of es) n ≡ true = rw same h in rw known refl
-        by_name false e = or_false (is_among (keys_of es) n)
-          where
-            or_false : (t : Bool) → t ≡ (t || false)
-            or_false true = refl
-            or_false false = refl
-
     by_test : (t : Bool) → is_among (keys_of es) m.name ≡ t →
         (length es + length (cond t [] (m.name ∷ []))) + length (new_names (keys_of es ++ cond t [] (m.name ∷ [])) (names_of ms))
         ≡ length es + length (cond t (new_names (keys_of es ++ m.name ∷ []) (names_of ms)) (m.name ∷ new_names (keys_of es ++ m.name ∷ []) (names_of ms)))
     by_test true h =
         let same : new_names (keys_of es ++ []) (names_of ms) ≡ new_names (keys_of es ++ m.name ∷ []) (names_of ms) =
-        rw append-nil (new_names-seen (keys_of es) (keys_of es ++ m.name ∷ []) (names_of ms) (seen_twice h)) in
+        rw append-nil (new_names-seen (keys_of es) (keys_of es ++ m.name ∷ []) (names_of ms) (λ n. sym (seen_again (keys_of es) m.name h n))) in
         let lengths = ap (λ (ns : List (List ℕ)). length ns) same in omega arith
     by_test false h = omega arith
 
@@ -104,13 +83,7 @@ pub keys-named_states : (ms : List Mention) → keys_of (named_states ms) ≡ na
 keys-named_states ms = keys-beside (state ms) (names_by_first_mention ms)
 
 at_place : (f : List ℕ → State) (ns : List (List ℕ)) (name : List ℕ) → is_among ns name ≡ true → state_at (map {B = List ℕ × State} (λ n. (n, f n)) ns) (place_of name ns) ≡ f name
-at_place f [] name h = absurd (cc)
-at_place f (n ∷ ns) name h = by_test (bytes_eq name n) refl h (at_place f ns name)
-  where
-    by_test : (t : Bool) → bytes_eq name n ≡ t → (t || is_among ns name) ≡ true → (is_among ns name ≡ true → state_at (map {B = List ℕ × State} (λ k. (k, f k)) ns) (place_of name ns) ≡ f name) →
-        state_at ((n, f n) ∷ map {B = List ℕ × State} (λ k. (k, f k)) ns) (cond t 0 (place_of name ns + 1)) ≡ f name
-    by_test true e h rest = ap f (sym ((bytes_eq-Decides name n).0 e))
-    by_test false e h rest = rw add-one (rest h)
+at_place f ns name h = ap state_in (get_mapped {B = List ℕ × State} (λ n. (n, f n)) ns (place_of name ns) name (get_place ns name h))
 
 behind_place : (f : List ℕ → State) (ns : List (List ℕ)) (name : List ℕ) → is_among ns name ≡ false → state_at (map {B = List ℕ × State} (λ n. (n, f n)) ns) (place_of name ns) ≡ Wanted 0
 behind_place f [] name h = refl
@@ -142,10 +115,6 @@ mentioned-named_states ms m =
     ∙ ap (λ (l : Named). with_state (named_states ms) (place_of m.name (names_by_first_mention ms)) (updated (state ms m.name) m.says) ++ l) (last (is_among (names_by_first_mention ms) m.name) refl)
     ∙ sym (externals_mention ms m)
   where
-    says_alone : (s : State) → updated (Wanted 0) s ≡ s
-    says_alone (Defined segment offset) = refl
-    says_alone (Wanted size) = ap (λ (n : ℕ). Wanted n) (omega arith)
-
     last : (t : Bool) → is_among (names_by_first_mention ms) m.name ≡ t →
         cond t [] (one m.name (updated (state ms m.name) m.says)) ≡ cond (is_among (names_of ms) m.name) [] (one m.name m.says)
     last true h = let known : is_among (names_of ms) m.name ≡ true = sym (is_among-externals ms m.name) ∙ h in rw known refl

@@ -1,22 +1,15 @@
 -- The multiples after more mentions.
-use Rattle.std.proofs.Common.{◌≡◌, Bool, true, false, cond, List, [], ◌∷◌, ◌++◌, map, Option, Some, None, refl, ◌∙◌, ap, append_assoc}
+use Rattle.std.proofs.Common.{◌≡◌, true, List, [], ◌∷◌, ◌++◌, map, Option, Some, None, refl, ◌∙◌, ap, append_assoc}
 use Rattle.std.specs.Prelude.{bytes_eq, filter}
 use Rattle.std.proofs.lemmas.List.{map-append}
 use Rattle.std.proofs.lemmas.Slice.Eq.{bytes_eq-Decides}
+use Rattle.std.proofs.lemmas.List.Elements.{filter-append}
 use Rattle.aout_core.specs.WellFormed.{first_of}
 use Rattle.link_session.specs.declared.state.State.{State}
 use Rattle.link_session.specs.declared.state.State.TheVariants.{Defined, Wanted}
 use Rattle.link_session.specs.Mentions.{Mention}
 use Rattle.link_session.specs.States.{Definition, definition_by, first_definition, differs, multiple_names}
 use Rattle.link_session.proofs.StateLemmas.{first_definition-append}
-
-filter-append : {A : Type 0} (p : A → Bool) (xs ys : List A) → filter p (xs ++ ys) ≡ filter p xs ++ filter p ys
-filter-append p [] ys = refl
-filter-append {A = A} p (x ∷ xs) ys = by_test (p x) (filter-append p xs ys)
-  where
-    by_test : (t : Bool) → filter p (xs ++ ys) ≡ filter p xs ++ filter p ys → cond t (x ∷ filter p (xs ++ ys)) (filter p (xs ++ ys)) ≡ cond t (x ∷ filter p xs) (filter p xs) ++ filter p ys
-    by_test true h = ap (λ (zs : List A). x ∷ zs) h
-    by_test false h = h
 
 -- a mention among these differs from the first definition as it did, whatever comes later
 differs_still : (front : List Mention) (m : Mention) (back later : List Mention) →

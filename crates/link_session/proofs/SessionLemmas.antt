@@ -23,8 +23,9 @@ use Rattle.link_session.proofs.JournalLemmas.{UndoesLast, journal_push, journal_
 use Rattle.link_session.proofs.MentionedLemmas.{keys-named_states, all_mentioned-named_states}
 use Rattle.link_session.proofs.LimitLemmas.{length-new_names}
 use Rattle.link_session.proofs.TotalLemmas.{refusal-next_limit, image_small, within_before, limit_within}
-use Rattle.link_session.proofs.AdditionLemmas.{all_append, joined_image-is}
+use Rattle.link_session.proofs.AdditionLemmas.{joined_image-is}
 use Rattle.link_session.proofs.BackLemmas.{addition_back, addition_inside, addition_few}
+use Rattle.link_session.proofs.ListLemmas.{all_append, all_split}
 
 pub small : (forced : List (List ℕ)) (es : List Labelled) (steps : List Step) (m : Image) → IsSession forced es steps m → IsSmall m
 small forced es steps m s = subst IsSmall (sym s.image) (image_small forced (objects es) s.good s.within)
@@ -91,10 +92,6 @@ last_same {A = A} (a ∷ xs) (b ∷ ys) x y e =
     let rest : xs ++ x ∷ [] ≡ ys ++ y ∷ [] = cc in
     let both = last_same xs ys x y rest in ((λ i. first i ∷ both.0 i), both.1)
 
-all_front : {A : Type 0} (P : A → Type 0) (xs ys : List A) → AllByRecursion P (xs ++ ys) → AllByRecursion P xs
-all_front P [] ys h = tt
-all_front P (x ∷ xs) ys h = (h.0, all_front P xs ys h.1)
-
 -- the fields after a withdrawal
 pub withdrawn_session : (forced : List (List ℕ)) (es : List Labelled) (steps : List Step) (m : Image) (e : Labelled) (step : Step) →
     IsSession forced (es ++ e ∷ []) (steps ++ step ∷ []) m → IsSession forced es steps (put_all_back step.marks.items (cut_by step.sizes m))
@@ -108,7 +105,7 @@ withdrawn_session forced es steps m e step s =
       image = (λ i. put_all_back step.marks.items (cut_by (sizes.1 i) ((s.image ∙ ap (λ (xs : List Contents). image forced xs) one_more) i))) ∙ pop.1;
       journal = pop.0;
       sizes = sizes.0;
-      good = all_front IsObject (objects es) (e.object ∷ []) (subst (λ (xs : List Contents). AllByRecursion IsObject xs) one_more s.good);
+      good = (all_split IsObject (objects es) (e.object ∷ []) (subst (λ (xs : List Contents). AllByRecursion IsObject xs) one_more s.good)).0;
       within = within_before forced (objects es) e.object (ap (λ (xs : List Contents). limit_passed forced xs) (sym one_more) ∙ s.within);
     }
 

@@ -1,6 +1,5 @@
 -- Sizes, limits and shifts read off an image.
-use Rattle.std.proofs.Common.{◌≡◌, ℕ, ◌+◌, ◌*◌, ◌≤◌, Bool, true, false, cond, not, eqb, List, [], ◌∷◌, ◌++◌, map, length, Option, Some, None, refl, sym, ◌∙◌, ap, arith, length-append, nat_lt}
-use Rattle.std.specs.Prelude.{zip}
+use Rattle.std.proofs.Common.{◌≡◌, ℕ, ◌+◌, ◌*◌, ◌≤◌, Bool, true, false, cond, List, [], ◌∷◌, ◌++◌, length, Option, Some, None, refl, sym, ◌∙◌, ap, arith, length-append, nat_lt}
 use Rattle.std.specs.List.{flat_map, AllByRecursion}
 use Rattle.std.specs.Map.{keys_of}
 use Rattle.std.proofs.lemmas.Bool.{ltb-false, le-ltb}
@@ -10,76 +9,64 @@ use Rattle.std.proofs.lemmas.Slice.Zip.{length-zip}
 use Rattle.aout_core.specs.declared.symbol.Symbol.{Symbol}
 use Rattle.aout_core.specs.declared.symbol.Segment.{Segment}
 use Rattle.aout_core.specs.declared.symbol.Segment.TheVariants as segments
-use Rattle.aout_core.specs.declared.object.ObjectFault.TheVariants as faults
 use Rattle.aout_core.specs.declared.reloc.Reloc.{Reloc}
 use Rattle.aout_core.specs.Contents.{Contents, with_relocation}
-use Rattle.aout_core.specs.WellFormed.{first_bad_word, IsWellFormed}
+use Rattle.aout_core.specs.WellFormed.{IsWellFormed}
 use Rattle.link_session.specs.declared.entry.AddFault.{AddFault}
 use Rattle.link_session.specs.declared.entry.AddFault.TheVariants.{TextFull, DataFull, BssFull, NamesFull}
 use Rattle.link_session.specs.declared.state.State.{State}
-use Rattle.link_session.specs.declared.cell.Cell.{Cell}
 use Rattle.link_session.specs.Earlier.{with_earlier}
 use Rattle.link_session.specs.Starts.{total, size_of}
 use Rattle.link_session.specs.Mentions.{Mention, mentions, mentions_in, names_of, new_names, externals, externals_in, mention, is_among}
 use Rattle.link_session.specs.States.{state}
-use Rattle.link_session.specs.Cells.{cells, cells_in, cell}
+use Rattle.link_session.specs.Cells.{cells, cells_in, cell, words_of}
 use Rattle.link_session.specs.Image.{image}
 use Rattle.link_session.specs.Edits.{limit_passed, refusal}
 use Rattle.link_session.specs.Sessions.{IsObject}
 use Rattle.link_session.specs.Fields.{IsSmall}
 use Rattle.link_session.specs.Additions.{external_names, next_limit}
-use Rattle.link_session.proofs.MentionLemmas.{externals_push, is_among-externals}
-use Rattle.link_session.proofs.MentionedLemmas.{keys-named_states, new_names-seen}
+use Rattle.link_session.proofs.MentionLemmas.{externals_push, is_among-externals, new_names-seen, names_of-map}
+use Rattle.link_session.proofs.MentionedLemmas.{keys-named_states}
+use Rattle.link_session.proofs.WellFormedLemmas.{well_formed_parts}
 
 -- an object has its relocation words
 with_all : (o : Contents) → IsWellFormed o → (size : ℕ) → with_relocation o.header size ≡ size
-with_all o h size = by_tests (eqb o.header.magic 263) (eqb o.header.flag 0) h
-  where
-    by_tests : (a b : Bool) → cond (not a) (Some faults.NotAnObject) (cond (not b) (Some faults.NoRelocation) (first_bad_word o.symbols 0 (o.text_reloc ++ o.data_reloc))) ≡ None → cond b size 0 ≡ size
-    by_tests false b h = absurd (cc)
-    by_tests true false h = absurd (cc)
-    by_tests true true h = refl
+with_all o h size = ap (λ (t : Bool). cond t size 0) (well_formed_parts o h).0
 
 -- as many relocation words as words
-pub text_beside : (o : Contents) → IsObject o → length o.text_words ≡ length o.text_reloc
+text_beside : (o : Contents) → IsObject o → length o.text_words ≡ length o.text_reloc
 text_beside o h = omega (arith, h.fits.text, h.fits.text_relocation, with_all o h.well o.header.text_size)
 
-pub data_beside : (o : Contents) → IsObject o → length o.data_words ≡ length o.data_reloc
+data_beside : (o : Contents) → IsObject o → length o.data_words ≡ length o.data_reloc
 data_beside o h = omega (arith, h.fits.data, h.fits.data_relocation, with_all o h.well o.header.data_size)
 
-total-first : (segment : Segment) (o : Contents) (rest : List Contents) → total segment (o ∷ rest) ≡ size_of segment o + total segment rest
+pub total-first : (segment : Segment) (o : Contents) (rest : List Contents) → total segment (o ∷ rest) ≡ size_of segment o + total segment rest
 total-first segment o rest = sum_by-append (size_of segment) (o ∷ []) rest ∙ omega arith
 
-both : (cs ds : List Cell) (m n : ℕ) → 2 * length cs ≡ m → 2 * length ds ≡ n → 2 * length (cs ++ ds) ≡ m + n
-both cs ds m n c d = omega (arith, length-append cs ds)
+-- an object has so many words
+pub text_counted : (o : Contents) → IsObject o → 2 * length (words_of segments.TextSeg o) ≡ size_of segments.TextSeg o
+text_counted o h = omega (arith, length-zip o.text_words o.text_reloc, text_beside o h, h.fits.text)
+
+pub data_counted : (o : Contents) → IsObject o → 2 * length (words_of segments.DataSeg o) ≡ size_of segments.DataSeg o
+data_counted o h = omega (arith, length-zip o.data_words o.data_reloc, data_beside o h, h.fits.data)
+
+-- a list made of blocks, one for each object, each as long as its words
+pub blocks_counted : {A : Type 0} (segment : Segment) (f : List Contents × Contents → List A) → ((q : List Contents × Contents) → length (f q) ≡ length (words_of segment q.1)) →
+    ((o : Contents) → IsObject o → 2 * length (words_of segment o) ≡ size_of segment o) → (earlier os : List Contents) → AllByRecursion IsObject os → 2 * length (flat_map f (with_earlier earlier os)) ≡ total segment os
+blocks_counted segment f same counted earlier [] h = refl
+blocks_counted segment f same counted earlier (o ∷ os) h =
+    omega (arith, length-append (f (earlier, o)) (flat_map f (with_earlier (earlier ++ o ∷ []) os)), same (earlier, o), counted o h.0, blocks_counted segment f same counted (earlier ++ o ∷ []) os h.1, total-first segment o os)
 
 module _ (ms : List Mention) where
-  text_length : (earlier : List Contents) (o : Contents) → IsObject o → 2 * length (cells_in ms segments.TextSeg earlier o) ≡ o.header.text_size
-  text_length earlier o h =
-      omega (arith, length-map (zip o.text_words o.text_reloc) (λ (wr : ℕ × Reloc). cell ms earlier o segments.TextSeg wr.0 wr.1), length-zip o.text_words o.text_reloc, text_beside o h, h.fits.text)
-
-  data_length : (earlier : List Contents) (o : Contents) → IsObject o → 2 * length (cells_in ms segments.DataSeg earlier o) ≡ o.header.data_size
-  data_length earlier o h =
-      omega (arith, length-map (zip o.data_words o.data_reloc) (λ (wr : ℕ × Reloc). cell ms earlier o segments.DataSeg wr.0 wr.1), length-zip o.data_words o.data_reloc, data_beside o h, h.fits.data)
+  cells_counted : (segment : Segment) (q : List Contents × Contents) → length (cells_in ms segment q.0 q.1) ≡ length (words_of segment q.1)
+  cells_counted segment q = length-map (words_of segment q.1) (λ (wr : ℕ × Reloc). cell ms q.0 q.1 segment wr.0 wr.1)
 
   -- two bytes for each cell
   pub text_total : (os : List Contents) → AllByRecursion IsObject os → 2 * length (cells ms segments.TextSeg os) ≡ total segments.TextSeg os
-  text_total os h = from [] os h
-    where
-      from : (earlier rest : List Contents) → AllByRecursion IsObject rest → 2 * length (flat_map (λ p. cells_in ms segments.TextSeg p.0 p.1) (with_earlier earlier rest)) ≡ total segments.TextSeg rest
-      from earlier [] h = refl
-      from earlier (o ∷ rest) h =
-          both (cells_in ms segments.TextSeg earlier o) (flat_map (λ p. cells_in ms segments.TextSeg p.0 p.1) (with_earlier (earlier ++ o ∷ []) rest)) o.header.text_size (total segments.TextSeg rest) (text_length earlier o h.0) (from (earlier ++ o ∷ []) rest h.1)
-          ∙ sym (total-first segments.TextSeg o rest)
+  text_total os h = blocks_counted segments.TextSeg (λ q. cells_in ms segments.TextSeg q.0 q.1) (cells_counted segments.TextSeg) text_counted [] os h
 
   pub data_total : (os : List Contents) → AllByRecursion IsObject os → 2 * length (cells ms segments.DataSeg os) ≡ total segments.DataSeg os
-  data_total os h = from [] os h
-    where
-      from : (earlier rest : List Contents) → AllByRecursion IsObject rest → 2 * length (flat_map (λ p. cells_in ms segments.DataSeg p.0 p.1) (with_earlier earlier rest)) ≡ total segments.DataSeg rest
-      from earlier [] h = refl
-      from earlier (o ∷ rest) h =
-          both (cells_in ms segments.DataSeg earlier o) (flat_map (λ p. cells_in ms segments.DataSeg p.0 p.1) (with_earlier (earlier ++ o ∷ []) rest)) o.header.data_size (total segments.DataSeg rest) (data_length earlier o h.0) (from (earlier ++ o ∷ []) rest h.1)
-          ∙ sym (total-first segments.DataSeg o rest)
+  data_total os h = blocks_counted segments.DataSeg (λ q. cells_in ms segments.DataSeg q.0 q.1) (cells_counted segments.DataSeg) data_counted [] os h
 
 total-push : (segment : Segment) (os : List Contents) (o : Contents) → total segment (os ++ o ∷ []) ≡ total segment os + size_of segment o
 total-push segment os o = sum_by-append (size_of segment) os (o ∷ []) ∙ omega arith
@@ -97,15 +84,11 @@ refusal-next_limit forced os o h = λ i. limit (text i) (datas i) (total-push se
     datas : total segments.DataSeg (os ++ o ∷ []) ≡ 2 * length (image forced os).data_cells + o.header.data_size
     datas = total-push segments.DataSeg os o ∙ ap (λ (n : ℕ). n + o.header.data_size) (sym (data_total (mentions forced os) os h))
 
-    said : (ss : List Symbol) → names_of (map (mention os o) ss) ≡ map (λ (s : Symbol). s.name) ss
-    said [] = refl
-    said (s ∷ ss) = ap (λ (ns : List (List ℕ)). s.name ∷ ns) (said ss)
-
     seen : (n : List ℕ) → is_among (names_of (mentions forced os)) n ≡ is_among (keys_of (image forced os).externals) n
     seen n = sym (is_among-externals (mentions forced os) n) ∙ ap (λ (ns : List (List ℕ)). is_among ns n) (sym (keys-named_states (mentions forced os)))
 
     new : new_names (names_of (mentions forced os)) (names_of (mentions_in os o)) ≡ new_names (keys_of (image forced os).externals) (external_names o.symbols)
-    new = ap (λ (ns : List (List ℕ)). new_names (names_of (mentions forced os)) ns) (said (externals_in o)) ∙ new_names-seen (names_of (mentions forced os)) (keys_of (image forced os).externals) (external_names o.symbols) seen
+    new = ap (λ (ns : List (List ℕ)). new_names (names_of (mentions forced os)) ns) (names_of-map (mention os o) (λ (s : Symbol). s.name) (λ s. refl) (externals_in o)) ∙ new_names-seen (names_of (mentions forced os)) (keys_of (image forced os).externals) (external_names o.symbols) seen
 
     names : length (externals forced (os ++ o ∷ [])) ≡ length (image forced os).externals + length (new_names (keys_of (image forced os).externals) (external_names o.symbols))
     names =

@@ -13,7 +13,7 @@ use Rattle.link_session.specs.declared.state.State.{State}
 use Rattle.link_session.specs.declared.state.State.TheVariants.{Defined, Wanted}
 use Rattle.link_session.specs.Starts.{size_of, total}
 use Rattle.link_session.specs.Mentions.{Mention, mentions_in, mentions, is_among, new_names, names_of, names_by_first_mention, place_of}
-use Rattle.link_session.specs.States.{Definition, definition_by, size_wanted_by, first_definition, wanted_size, state_by, state, is_definition, differs, multiple_names}
+use Rattle.link_session.specs.States.{Definition, definition_by, size_wanted_by, first_definition, wanted_size, state_by, state, is_definition, differs, multiple_names, segment_number}
 use Rattle.link_session.specs.Cells.{cells_in}
 use Rattle.link_session.specs.Image.{named_states, image_by, image}
 use Rattle.link_session.specs.Undo.{with_state}
@@ -36,12 +36,15 @@ state_mention ms m name =
     by_test false (Some d) w s = refl
     by_test false None w s = ap (λ (k : ℕ). Wanted k) (omega arith)
 
-definition_of : (ms : List Mention) (name : List ℕ) → first_definition ms name ≡ definition_by (state ms name)
+pub definition_of : (ms : List Mention) (name : List ℕ) → first_definition ms name ≡ definition_by (state ms name)
 definition_of ms name = by_definition (first_definition ms name)
   where
     by_definition : (d : Option Definition) → d ≡ definition_by (state_by d (wanted_size ms name))
     by_definition None = refl
     by_definition (Some d) = refl
+
+pub own_definition : (segment : Segment) (offset : ℕ) → is_definition segment offset (Some (segment, offset)) ≡ true
+own_definition segment offset = let a = eq-eqb (segment_number segment) (segment_number segment) refl in let b = eq-eqb offset offset refl in rw (a, b) refl
 
 pub own_name : (name : List ℕ) → bytes_eq name name ≡ true
 own_name name = (bytes_eq-Decides name name).1 refl
@@ -58,13 +61,10 @@ multiples_mention ms m =
     by_test true = refl
     by_test false = refl
 
-    itself : (segment : Segment) (offset : ℕ) → is_definition segment offset (Some (segment, offset)) ≡ true
-    itself segment offset = let a = eq-eqb (Rattle.link_session.specs.States.segment_number segment) (Rattle.link_session.specs.States.segment_number segment) refl in let b = eq-eqb offset offset refl in rw (a, b) refl
-
     by_states : (was says : State) → differs (definition_by (updated was says)) says ≡ clashes was says
     by_states (Defined segment offset) (Defined again place) = refl
     by_states (Defined segment offset) (Wanted size) = refl
-    by_states (Wanted size) (Defined segment offset) = ap not (itself segment offset)
+    by_states (Wanted size) (Defined segment offset) = ap not (own_definition segment offset)
     by_states (Wanted size) (Wanted more) = refl
 
     same : differs (first_definition (ms ++ m ∷ []) m.name) m.says ≡ clashes (state ms m.name) m.says
@@ -144,6 +144,11 @@ unmentioned ms name h = rw (no_definition ms h, no_size ms h) refl
     no_size [] h = refl
     no_size (m ∷ ms) h = let parts = or_parts (bytes_eq name m.name) (is_among (names_of ms) name) h in rw parts.0 (no_size ms parts.1)
 
+-- a name that was not wanted takes what is said
+pub says_alone : (s : State) → updated (Wanted 0) s ≡ s
+says_alone (Defined segment offset) = refl
+says_alone (Wanted size) = ap (λ (n : ℕ). Wanted n) (omega arith)
+
 -- the names and states after one more mention: the state of a known name is updated, a new name stands last
 pub externals_mention : (ms : List Mention) (m : Mention) →
     named_states (ms ++ m ∷ []) ≡ with_state (named_states ms) (place_of m.name (names_by_first_mention ms)) (updated (state ms m.name) m.says) ++ cond (is_among (names_of ms) m.name) [] ((m.name, m.says) ∷ [])
@@ -158,10 +163,6 @@ externals_mention ms m =
         by_test : (t : Bool) → bytes_eq n m.name ≡ t → cond t (updated (state ms n) m.says) (state ms n) ≡ cond t (updated (state ms m.name) m.says) (state ms n)
         by_test true e = ap (λ (k : List ℕ). updated (state ms k) m.says) ((bytes_eq-Decides n m.name).0 e)
         by_test false e = refl
-
-    says_alone : (s : State) → updated (Wanted 0) s ≡ s
-    says_alone (Defined segment offset) = refl
-    says_alone (Wanted size) = ap (λ (n : ℕ). Wanted n) (omega arith)
 
     last : (t : Bool) → is_among (names_of ms) m.name ≡ t →
         map {B = List ℕ × State} (λ n. (n, state (ms ++ m ∷ []) n)) (cond t [] (m.name ∷ [])) ≡ cond t [] ((m.name, m.says) ∷ [])

@@ -18,6 +18,7 @@ use Rattle.link_session.specs.Mentions.{mention, mentions_in, mentions, is_among
 use Rattle.link_session.specs.Cells.{Referent, to_segment, to_name, referent_by, referent, name_in, words_of}
 use Rattle.link_session.proofs.MentionLemmas.{names_of-append, is_among-append}
 use Rattle.link_session.proofs.CellLemmas.{RefersAmong, AllReferAmong}
+use Rattle.link_session.proofs.ListLemmas.{all_split, all_map}
 
 -- an external entry of the table is mentioned
 external_is_among : (earlier : List Contents) (o : Contents) (symbols : List Symbol) (i : ℕ) → is_wanted (slice_get symbols i) ≡ true →
@@ -61,28 +62,20 @@ words_refer earlier o i (r ∷ rs) h =
     let both = first_of_none (word_fault o.symbols i r) (first_bad_word o.symbols (i + 1) rs) h in
     (word_refers earlier o i (symbol_number r) (kind_of r) both.0, words_refer earlier o (i + 1) rs both.1)
 
-all_split : {A : Type 0} (P : A → Type 0) (xs ys : List A) → AllByRecursion P (xs ++ ys) → AllByRecursion P xs × AllByRecursion P ys
-all_split P [] ys h = (tt, h)
-all_split P (x ∷ xs) ys h = let both = all_split P xs ys h.1 in ((h.0, both.0), both.1)
-
 all_zip : {A B : Type 0} (P : B → Type 0) (xs : List A) (ys : List B) → AllByRecursion P ys → AllByRecursion (λ (xy : A × B). P xy.1) (zip xs ys)
 all_zip P [] ys h = tt
 all_zip P (x ∷ xs) [] h = tt
 all_zip P (x ∷ xs) (y ∷ ys) h = (h.0, all_zip P xs ys h.1)
 
-pub all_map : {A : Type 0} (P Q : A → Type 0) → ((x : A) → P x → Q x) → (xs : List A) → AllByRecursion P xs → AllByRecursion Q xs
-all_map P Q f [] h = tt
-all_map P Q f (x ∷ xs) h = (f x h.0, all_map P Q f xs h.1)
-
--- the list of relocation words of an object has no bad word
-no_bad_word : (o : Contents) → IsWellFormed o → first_bad_word o.symbols 0 (o.text_reloc ++ o.data_reloc) ≡ None
-no_bad_word o h = by_magic (eqb o.header.magic 263) (eqb o.header.flag 0) h
+-- an object has its relocation words, and none of them is bad
+pub well_formed_parts : (o : Contents) → IsWellFormed o → (eqb o.header.flag 0 ≡ true) × (first_bad_word o.symbols 0 (o.text_reloc ++ o.data_reloc) ≡ None)
+well_formed_parts o h = by_tests (eqb o.header.magic 263) (eqb o.header.flag 0) h
   where
-    by_magic : (a b : Bool) → cond (not a) (Some ObjectFault.NotAnObject) (cond (not b) (Some ObjectFault.NoRelocation) (first_bad_word o.symbols 0 (o.text_reloc ++ o.data_reloc))) ≡ None →
-        first_bad_word o.symbols 0 (o.text_reloc ++ o.data_reloc) ≡ None
-    by_magic false b h = absurd (cc)
-    by_magic true false h = absurd (cc)
-    by_magic true true h = h
+    by_tests : (a b : Bool) → cond (not a) (Some ObjectFault.NotAnObject) (cond (not b) (Some ObjectFault.NoRelocation) (first_bad_word o.symbols 0 (o.text_reloc ++ o.data_reloc))) ≡ None →
+        (b ≡ true) × (first_bad_word o.symbols 0 (o.text_reloc ++ o.data_reloc) ≡ None)
+    by_tests false b h = absurd (cc)
+    by_tests true false h = absurd (cc)
+    by_tests true true h = (refl, h)
 
 pub object_refers : (earlier : List Contents) (o : Contents) (segment : Segment) → IsWellFormed o →
     AllReferAmong (names_of (mentions_in earlier o)) o (words_of segment o)
@@ -92,7 +85,7 @@ object_refers earlier o segment h = of_segment segment
     P = λ r. RefersAmong (names_of (mentions_in earlier o)) (referent o r)
 
     both : AllByRecursion (λ r. RefersAmong (names_of (mentions_in earlier o)) (referent o r)) o.text_reloc × AllByRecursion (λ r. RefersAmong (names_of (mentions_in earlier o)) (referent o r)) o.data_reloc
-    both = all_split (λ r. RefersAmong (names_of (mentions_in earlier o)) (referent o r)) o.text_reloc o.data_reloc (words_refer earlier o 0 (o.text_reloc ++ o.data_reloc) (no_bad_word o h))
+    both = all_split (λ r. RefersAmong (names_of (mentions_in earlier o)) (referent o r)) o.text_reloc o.data_reloc (words_refer earlier o 0 (o.text_reloc ++ o.data_reloc) (well_formed_parts o h).1)
 
     of_segment : (segment : Segment) → AllReferAmong (names_of (mentions_in earlier o)) o (words_of segment o)
     of_segment segments.TextSeg = all_zip (λ r. RefersAmong (names_of (mentions_in earlier o)) (referent o r)) o.text_words o.text_reloc both.0

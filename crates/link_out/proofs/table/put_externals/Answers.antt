@@ -1,4 +1,4 @@
-use Rattle.std.proofs.Common.{◌≡◌, ◌<◌, ℕ, List, ◌++◌, rules, sym, Some, None, length}
+use Rattle.std.proofs.Common.{◌≡◌, ◌<◌, ℕ, List, ◌++◌, rules, arith, sym, Some, None, length}
 use Rattle.std.specs.Prelude.{slice_get}
 use Rattle.std.proofs.lemmas.Option.{slice_get_read}
 use Rattle.link_session.specs.declared.state.State.{State}
@@ -6,7 +6,8 @@ use Rattle.link_session.specs.Undo.{image_of}
 use Rattle.std.specs.Map.{keys_of}
 use Rattle.link_out.specs.Rows.{rows_for}
 use Rattle.link_out.specs.Finals.{Final}
-use Rattle.link_out.proofs.RowLemmas.{not_past, row_put}
+use Rattle.link_out.proofs.InOrderLemmas.{none_behind}
+use Rattle.link_out.proofs.RowLemmas.{row_put}
 use Rattle.link_out.proofs.table.put_externals.Goals.{in-Some+in_ok-push, in_default}
 use Rattle.link_out.proofs.table.put_externals.Goals as goal
 
@@ -24,5 +25,5 @@ loop-index-preserved c =
           row_put es fs i e w.index-finals-index.result (c.args.rows.now.items ++ rows_for (keys_of es) fs) c.loop-index.rows.items c.match-external.rows.items found last c.loop-index.invariant (search rules)
       | in_default w ↦
           let none : slice_get es i ≡ None = search rules in
-          absurd (not_past es i inside none)
+          absurd (omega (arith, none_behind es i none, inside))
     ]
