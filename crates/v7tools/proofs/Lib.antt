@@ -5,3 +5,4 @@ pub mod ScriptLemmas
 pub mod ListingLemmas
 pub mod AdditionLemmas
 pub mod StepLemmas
+pub mod ToolLemmas

@@ -1,5 +1,6 @@
 -- What every call of a tool keeps, and what it takes over from the words.
-use Rattle.std.specs.Prelude.{◌≡◌, ◌<◌, ◌⊎◌, IsErr, ℕ, List, [], ◌∷◌, map, filter, length, Ok, bytes_eq, codes, string_bytes, unwrap_or, vec_len}
+use Rattle.std.specs.Prelude.{◌≡◌, ◌<◌, ℕ, List, [], ◌∷◌, map, filter, length, Ok, Some, bytes_eq, codes, string_bytes, unwrap_or, vec_len}
+use Rattle.clap.specs.Simple.{subcommand_of}
 use Rattle.clap.specs.Walk.{Row, first_of}
 use Rattle.clap.specs.declared.error.kind.ErrorKind.{ErrorKind}
 use Rattle.clap.specs.declared.error.kind.ErrorKind.TheVariants.{OutOfMemory}
@@ -8,8 +9,9 @@ use Rattle.v7tools.specs.declared.fault.CliFault.{CliFault}
 use Rattle.v7tools.specs.declared.fault.CliFault.TheVariants as faults
 use Rattle.v7tools.specs.declared.words.Call.{Call}
 use Rattle.v7tools.specs.declared.words.Call.TheVariants.{Ld, Nm, Size, Strip, Session}
-use Rattle.v7tools.specs.declared.words.TheConstants.{OUT, PROGRAM, EXTERNAL, BY_VALUE, EACH_LINE, TABLE_ORDER, REVERSE, UNDEFINED}
-use Rattle.v7tools.specs.LinkWords.{AreAllowed, AreForced, forced_asked, is_given, options_asked}
+use Rattle.v7tools.specs.declared.words.TheConstants.{FILE, OUT, PROGRAM, EXTERNAL, BY_VALUE, EACH_LINE, TABLE_ORDER, REVERSE, UNDEFINED}
+use Rattle.v7tools.specs.LinkWords.{AreAllowed, AreForced, forced_asked, is_given, options_asked, values_of}
+use Rattle.v7tools.specs.Tools.{v7_app}
 
 -- a call of a tool has files, and no option of a link excludes another
 abbrev pub IsWhole : Call → Type 0
@@ -62,6 +64,10 @@ name_of (Nm options files) = codes "nm"
 name_of (Size files) = codes "size"
 name_of (Strip files) = codes "strip"
 name_of (Session options forced) = codes "session"
+
+-- the words name the tool of a call, and its options and files are those that `clap` reads of them
+abbrev pub IsAsked : List (List ℕ) → Call → Type 0
+IsAsked words call = (rows : List Row) × (subcommand_of v7_app words ≡ Some (name_of call, rows)) × Asks rows (values_of rows FILE.now) call
 
 -- want of memory is told from all other causes
 abbrev pub fault_of_words : ErrorKind → CliFault

@@ -1,8 +1,11 @@
 //! The options that ld and session share.
-ghost use Rattle.std.specs.Prelude.{◌≡◌, IfErr, option_map};
-ghost use Rattle.clap.specs.Walk.{first_of, rows_of};
+ghost use Rattle.std.specs.Prelude.{◌≡◌, false, IfErr, IfOk, option_map};
+ghost use Rattle.clap.specs.Walk.{first_of, rows_of, rule_of};
 ghost use Rattle.clap.specs.Matches.{found_of};
+ghost use Rattle.clap.specs.Simple.{app_of};
+ghost use Rattle.clap.specs.declared.builder.action.ArgAction.TheVariants.{Count};
 ghost use Rattle.v7tools.specs.Calls.{IsOfWords};
+ghost use Rattle.v7tools.specs.Tools.{letter_rule, link_rules, with_rules};
 ghost use Rattle.v7tools.specs.LinkWords.{forced_asked, is_given, keep_asked, layout_asked, name_in, options_asked};
 
 use crate::fault::CliFault;
@@ -32,12 +35,18 @@ const FORCED: &str = "forced";
 const ENTRY: &str = "entry";
 
 /// A flag, which may be repeated.
-pub(crate) fn flag<'a>(alloc: Global, id: &'a str, short: char) -> Arg<'a> {
+pub(crate) fn flag<'a>(alloc: Global, id: &'a str, short: char) -> Arg<'a>
+    ensures rule { rule_of result ≡ letter_rule id.entry.now short Count }
+    ensures local { result.global ≡ false }
+{
     Arg::new(alloc, id).short(short).action(ArgAction::Count)
 }
 
 /// An option with a value.
-pub(crate) fn valued<'a>(alloc: Global, id: &'a str, short: char, action: ArgAction) -> Arg<'a> {
+pub(crate) fn valued<'a>(alloc: Global, id: &'a str, short: char, action: ArgAction) -> Arg<'a>
+    ensures rule { rule_of result ≡ letter_rule id.entry.now short action }
+    ensures local { result.global ≡ false }
+{
     Arg::new(alloc, id).short(short).action(action)
 }
 
@@ -45,7 +54,9 @@ pub(crate) fn valued<'a>(alloc: Global, id: &'a str, short: char, action: ArgAct
 pub(crate) fn with_link_options<'a>(
     alloc: Global,
     command: Command<'a>,
-) -> Result<Command<'a>, AllocError> {
+) -> Result<Command<'a>, AllocError>
+    ensures { IfOk result (λ r. app_of r ≡ with_rules (app_of command.entry) link_rules) }
+{
     command
         .arg(flag(alloc, RELOCATABLE, 'r'))?
         .arg(flag(alloc, STRIP, 's'))?

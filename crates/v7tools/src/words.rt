@@ -1,11 +1,12 @@
 //! The words of a command.
-ghost use Rattle.std.specs.Prelude.{◌≡◌, ◌≢◌, ◌<◌, ◌⊎◌, [], Err, IfErr, IfOk, bytes_eq, codes, filter, length, map, string_bytes, unwrap_or, vec_len};
+ghost use Rattle.std.specs.Prelude.{◌≡◌, ◌<◌, false, [], IfErr, IfOk, bytes_eq, codes, filter, length, map, string_bytes, unwrap_or, vec_len};
 ghost use Rattle.clap.specs.Matches.{found_of};
+ghost use Rattle.clap.specs.Simple.{app_of};
 ghost use Rattle.clap.specs.Values.{kind_of};
-ghost use Rattle.clap.specs.Walk.{first_of, rows_of};
-ghost use Rattle.v7tools.specs.declared.fault.CliFault.TheVariants.{Memory, Usage};
-ghost use Rattle.v7tools.specs.Calls.{Asks, IsMisuse, IsOfWords, IsWhole, dashes_in, fault_of_words, files_of, name_of, or_program};
+ghost use Rattle.clap.specs.Walk.{first_of, rows_of, rule_of};
+ghost use Rattle.v7tools.specs.Calls.{Asks, IsAsked, IsOfWords, IsWhole, dashes_in, fault_of_words, files_of, name_of, or_program};
 ghost use Rattle.v7tools.specs.LinkWords.{values_of};
+ghost use Rattle.v7tools.specs.Tools.{bare, files_rule, ld_app, nm_app, v7_alone, v7_app};
 
 use crate::fault::CliFault;
 use crate::link_words::{flag, forced_names, is_set, link_options, valued, with_link_options};
@@ -86,7 +87,10 @@ impl From<clap::Error> for CliFault {
     }
 }
 
-fn tool<'a>(alloc: Global, name: &'a str) -> Command<'a> {
+/// A command without help and version.
+fn tool<'a>(alloc: Global, name: &'a str) -> Command<'a>
+    ensures { app_of result ≡ bare name.entry.now }
+{
     Command::new(alloc, name)
         .disable_help_flag(true)
         .disable_version_flag(true)
@@ -94,19 +98,26 @@ fn tool<'a>(alloc: Global, name: &'a str) -> Command<'a> {
 }
 
 /// The files of a command, any number of them.
-fn files<'a>(alloc: Global) -> Arg<'a> {
+fn files<'a>(alloc: Global) -> Arg<'a>
+    ensures rule { rule_of result ≡ files_rule }
+    ensures local { result.global ≡ false }
+{
     Arg::new(alloc, FILE)
         .action(ArgAction::Append)
         .num_args(0..)
 }
 
-fn ld_tool<'a>(alloc: Global) -> Result<Command<'a>, AllocError> {
+fn ld_tool<'a>(alloc: Global) -> Result<Command<'a>, AllocError>
+    ensures { IfOk result (λ r. app_of r ≡ ld_app) }
+{
     with_link_options(alloc, tool(alloc, "ld"))?
         .arg(valued(alloc, OUT, 'o', ArgAction::Set))?
         .arg(files(alloc))
 }
 
-fn nm_tool<'a>(alloc: Global) -> Result<Command<'a>, AllocError> {
+fn nm_tool<'a>(alloc: Global) -> Result<Command<'a>, AllocError>
+    ensures { IfOk result (λ r. app_of r ≡ nm_app) }
+{
     tool(alloc, "nm")
         .arg(flag(alloc, EXTERNAL, 'g'))?
         .arg(flag(alloc, BY_VALUE, 'n'))?
@@ -117,10 +128,19 @@ fn nm_tool<'a>(alloc: Global) -> Result<Command<'a>, AllocError> {
         .arg(files(alloc))
 }
 
-fn tools<'a>(alloc: Global) -> Result<Command<'a>, AllocError> {
+/// The program, whose words begin with the name of a tool.
+fn program<'a>(alloc: Global) -> Command<'a>
+    ensures { app_of result ≡ v7_alone }
+{
     tool(alloc, "v7")
         .no_binary_name(true)
         .subcommand_required(true)
+}
+
+fn tools<'a>(alloc: Global) -> Result<Command<'a>, AllocError>
+    ensures { IfOk result (λ r. app_of r ≡ v7_app) }
+{
+    program(alloc)
         .subcommand(ld_tool(alloc)?)?
         .subcommand(nm_tool(alloc)?)?
         .subcommand(tool(alloc, "size").arg(files(alloc))?)?
@@ -267,6 +287,7 @@ fn dashes(words: &[String]) -> usize
 /// names after `-u`; `Memory`, 9, where there is no room for what the words ask for.
 pub fn parse(alloc: Global, words: Vec<String>) -> Result<Call, CliFault>
     ensures whole { IfOk result IsWhole }
+    ensures asked { IfOk result (IsAsked (map string_bytes words.items)) }
     ensures dashes { IfOk result (λ call. dashes_in (map string_bytes words.items) ≡ dashes_in (files_of call)) }
     ensures faults { IfErr result IsOfWords }
 {
