@@ -1,4 +1,4 @@
-use Rattle.std.proofs.Common.{refl, ap, ◌∙◌}
+use Rattle.std.proofs.Common.{refl}
 use Rattle.std.proofs.lemmas.Result.{IfOk-weaker}
 use Rattle.v7tools.proofs.ToolLemmas.{adds_rule}
 use Rattle.v7tools.proofs.link_words.with_link_options.Goals as goal
