@@ -47,10 +47,10 @@ none_forced f names e h = ap (λ (ns : List (List ℕ)). Ok ns) h ∙ ap (with_n
 
 -- ---- dashes
 
-abbrev is_dash : String Global → Bool
+abbrev pub is_dash : String Global → Bool
 is_dash word = bytes_eq (string_bytes word) (codes "-")
 
-dashes-bytes : (words : List (String Global)) → length (filter is_dash words) ≡ dashes_in (map string_bytes words)
+pub dashes-bytes : (words : List (String Global)) → length (filter is_dash words) ≡ dashes_in (map string_bytes words)
 dashes-bytes [] = refl
 dashes-bytes (word ∷ words) = by_test (is_dash word) (dashes-bytes words)
   where
@@ -65,7 +65,7 @@ or_program-dashes [] = refl
 or_program-dashes (path ∷ paths) = refl
 
 -- the files of a call have the dashes of the paths that it was made of
-dashes-asked : (rows : List Row) (paths : List (List ℕ)) (call : Call) → Asks rows paths call → dashes_in paths ≡ dashes_in (files_of call)
+pub dashes-asked : (rows : List Row) (paths : List (List ℕ)) (call : Call) → Asks rows paths call → dashes_in paths ≡ dashes_in (files_of call)
 dashes-asked rows paths (Ld options forced out files) h = ap dashes_in (sym h.3)
 dashes-asked rows paths (Session options forced) h = ap dashes_in h.2
 dashes-asked rows paths (Nm options files) h = or_program-dashes paths ∙ ap dashes_in (sym h.1)

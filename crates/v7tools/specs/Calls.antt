@@ -1,5 +1,6 @@
 -- What every call of a tool keeps, and what it takes over from the words.
 use Rattle.std.specs.Prelude.{◌≡◌, ◌<◌, ℕ, List, [], ◌∷◌, map, filter, length, Ok, Some, bytes_eq, codes, string_bytes, unwrap_or, vec_len}
+use Rattle.clap.specs.Faults.{fault_of}
 use Rattle.clap.specs.Simple.{subcommand_of}
 use Rattle.clap.specs.Walk.{Row, first_of}
 use Rattle.clap.specs.declared.error.kind.ErrorKind.{ErrorKind}
@@ -65,9 +66,9 @@ name_of (Size files) = codes "size"
 name_of (Strip files) = codes "strip"
 name_of (Session options forced) = codes "session"
 
--- the words name the tool of a call, and its options and files are those that `clap` reads of them
+-- `clap` takes the words, which name the tool of a call, and its options and files are those that are read of them
 abbrev pub IsAsked : List (List ℕ) → Call → Type 0
-IsAsked words call = (rows : List Row) × (subcommand_of v7_app words ≡ Some (name_of call, rows)) × Asks rows (values_of rows FILE.now) call
+IsAsked words call = (fault_of v7_app words ≡ []) × (rows : List Row) × (subcommand_of v7_app words ≡ Some (name_of call, rows)) × Asks rows (values_of rows FILE.now) call
 
 -- want of memory is told from all other causes
 abbrev pub fault_of_words : ErrorKind → CliFault
@@ -92,3 +93,11 @@ IsOfWords faults.WriteFailed = ⊥
 IsOfWords faults.LongLine = ⊥
 IsOfWords faults.ManyLines = ⊥
 IsOfWords faults.ScriptFailed = ⊥
+
+-- a call of this name, with these options and files, fails for want of memory alone
+abbrev pub HasNoCall : List ℕ → List Row → List (List ℕ) → CliFault → Type 0
+HasNoCall name rows paths fault = (call : Call) → IsWhole call → name_of call ≡ name → Asks rows paths call → fault ≡ faults.Memory
+
+-- words that ask for a call fail for want of memory alone
+abbrev pub AsksForNone : List (List ℕ) → CliFault → Type 0
+AsksForNone words fault = (call : Call) → IsWhole call → IsAsked words call → dashes_in words ≡ dashes_in (files_of call) → fault ≡ faults.Memory

@@ -4,7 +4,8 @@ ghost use Rattle.clap.specs.Matches.{found_of};
 ghost use Rattle.clap.specs.Simple.{app_of};
 ghost use Rattle.clap.specs.Values.{kind_of};
 ghost use Rattle.clap.specs.Walk.{first_of, rows_of, rule_of};
-ghost use Rattle.v7tools.specs.Calls.{Asks, IsAsked, IsOfWords, IsWhole, dashes_in, fault_of_words, files_of, name_of, or_program};
+ghost use Rattle.v7tools.specs.declared.fault.CliFault.TheVariants.{Memory};
+ghost use Rattle.v7tools.specs.Calls.{Asks, AsksForNone, HasNoCall, IsAsked, IsOfWords, IsWhole, dashes_in, fault_of_words, files_of, name_of, or_program};
 ghost use Rattle.v7tools.specs.LinkWords.{values_of};
 ghost use Rattle.v7tools.specs.Tools.{bare, files_rule, ld_app, nm_app, v7_alone, v7_app};
 
@@ -190,7 +191,7 @@ fn ld_call(alloc: Global, given: &ArgMatches<'_>, files: Vec<String>) -> Result<
     ensures named { IfOk result (λ call. name_of call ≡ codes "ld") }
     ensures asked { IfOk result (Asks (rows_of (found_of given.now)) (map string_bytes files.items)) }
     ensures faults { IfErr result IsOfWords }
-    ensures usage { result ≡ Err Usage → IsMisuse (rows_of (found_of given.now)) ⊎ (files.items ≡ []) }
+    ensures none { IfErr result (HasNoCall (codes "ld") (rows_of (found_of given.now)) (map string_bytes files.items)) }
 {
     if files.is_empty() {
         return Err(CliFault::Usage);
@@ -207,7 +208,8 @@ fn nm_call(alloc: Global, given: &ArgMatches<'_>, files: Vec<String>) -> Result<
     ensures whole { IfOk result IsWhole }
     ensures named { IfOk result (λ call. name_of call ≡ codes "nm") }
     ensures asked { IfOk result (Asks (rows_of (found_of given.now)) (map string_bytes files.items)) }
-    ensures faults { IfErr result (λ fault. fault ≡ Memory) }
+    ensures faults { IfErr result IsOfWords }
+    ensures none { IfErr result (HasNoCall (codes "nm") (rows_of (found_of given.now)) (map string_bytes files.items)) }
 {
     Ok(Call::Nm {
         options: NmOptions {
@@ -227,7 +229,7 @@ fn session_call(given: &ArgMatches<'_>) -> Result<Call, CliFault>
     ensures named { IfOk result (λ call. name_of call ≡ codes "session") }
     ensures asked { IfOk result (Asks (rows_of (found_of given.now)) []) }
     ensures faults { IfErr result IsOfWords }
-    ensures usage { result ≡ Err Usage → IsMisuse (rows_of (found_of given.now)) }
+    ensures none { IfErr result (HasNoCall (codes "session") (rows_of (found_of given.now)) []) }
 {
     Ok(Call::Session {
         options: link_options(given)?,
@@ -250,6 +252,7 @@ fn call_of(
     ensures sessions { result ≡ Err Usage → name.now ≡ codes "session" → IsMisuse (rows_of (found_of given.now)) ⊎ (files.items ≢ []) }
     ensures strips { result ≡ Err Usage → name.now ≡ codes "strip" → files.items ≡ [] }
     ensures faults { IfErr result IsOfWords }
+    ensures none { IfErr result (HasNoCall name.now (rows_of (found_of given.now)) (map string_bytes files.items)) }
 {
     match name {
         "ld" => ld_call(alloc, given, files),
@@ -290,6 +293,7 @@ pub fn parse(alloc: Global, words: Vec<String>) -> Result<Call, CliFault>
     ensures asked { IfOk result (IsAsked (map string_bytes words.items)) }
     ensures dashes { IfOk result (λ call. dashes_in (map string_bytes words.items) ≡ dashes_in (files_of call)) }
     ensures faults { IfErr result IsOfWords }
+    ensures none { IfErr result (AsksForNone (map string_bytes words.items)) }
 {
     let matches = tools(alloc)?.try_get_matches_from(words.as_slice())?;
     let Some((name, given)) = matches.subcommand() else {
