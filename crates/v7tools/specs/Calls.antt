@@ -75,10 +75,6 @@ abbrev pub fault_of_words : ErrorKind → CliFault
 fault_of_words OutOfMemory = faults.Memory
 fault_of_words kind = faults.Usage
 
--- options that exclude each other, or too many forced names
-abbrev pub IsMisuse : List Row → Type 0
-IsMisuse rows = IsErr (options_asked rows) ⊎ IsErr (forced_asked rows)
-
 -- words are refused for what they ask, or for want of memory
 abbrev pub IsOfWords : CliFault → Type 0
 IsOfWords faults.Usage = Unit {0}

@@ -247,10 +247,6 @@ fn call_of(
     ensures whole { IfOk result IsWhole }
     ensures named { IfOk result (λ call. name_of call ≡ name.now) }
     ensures asked { IfOk result (Asks (rows_of (found_of given.now)) (map string_bytes files.items)) }
-    ensures lists { result ≡ Err Usage → (name.now ≢ codes "nm") × (name.now ≢ codes "size") }
-    ensures links { result ≡ Err Usage → name.now ≡ codes "ld" → IsMisuse (rows_of (found_of given.now)) ⊎ (files.items ≡ []) }
-    ensures sessions { result ≡ Err Usage → name.now ≡ codes "session" → IsMisuse (rows_of (found_of given.now)) ⊎ (files.items ≢ []) }
-    ensures strips { result ≡ Err Usage → name.now ≡ codes "strip" → files.items ≡ [] }
     ensures faults { IfErr result IsOfWords }
     ensures none { IfErr result (HasNoCall name.now (rows_of (found_of given.now)) (map string_bytes files.items)) }
 {
