@@ -6,3 +6,4 @@ pub mod ListingLemmas
 pub mod AdditionLemmas
 pub mod StepLemmas
 pub mod ToolLemmas
+mod WordExamples
