@@ -100,6 +100,7 @@ pub(crate) fn answer_script<H: Runtime + AllocGlobal>(
     let mut script = Script::new(rt.alloc(), Wire::new(rt.reader()))?;
     let mut answers = Wire::new(io::writer(rt));
     let mut status = 0;
+    // a script ends at its limit of lines, long before this
     for _ in 0..u64::MAX {
         let Some(line) = script.next_line()? else {
             break;
