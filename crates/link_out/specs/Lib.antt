@@ -14,6 +14,8 @@ pub mod Rows
 pub mod Reach
 pub mod Runs
 pub mod Laws
+pub mod Meaning
+pub mod Beyond
 pub mod InOrder
 pub mod Entries
 pub mod Passes

@@ -1,5 +1,7 @@
 //! Laws of linking, over its definitions alone: each is the contract of a function with an empty body.
 ghost use Rattle.link_out.specs.Laws.{StripLaw, StripsOnce, PartialIsObject, PartialStandsAlone, PartialStandsAmong};
+ghost use Rattle.link_out.specs.Meaning.{WordsAreRelocated, ObjectsFill, DefinitionsHold, NamesHaveAddresses, EntriesStandOnce, CommonsHaveRoom, CommonsLieApart, EntryIsFound, MissingHaveNoAddress, PartialMayBeAdded};
+ghost use Rattle.link_out.specs.Beyond.{PartialStandsFor, PartialStandsAlways, PartialStandsAmongOthers, PartialAgain, GroupingChangesNothing, PartialIsAccepted};
 
 /// Stripping and linking go together: wherever a link without relocation gives a file, that file stripped is what the
 /// link gives that keeps no symbols, and the reports are the same; and stripping twice is stripping once. (strip(1))
@@ -16,4 +18,50 @@ pub fn partial_law()
     ensures object { PartialIsObject }
     ensures alone { PartialStandsAlone }
     ensures among { PartialStandsAmong }
+{}
+
+/// What a linked file means, told by the files that were linked and by its own header and symbol table. (a.out(5),
+/// ld(1))
+///
+/// - `words`: each word of each object stands behind those of the objects before it, with the address added of what
+///   its relocation word names: how far that segment was carried, or what the table gives for the name; less how far
+///   its own segment was carried, where it is relative to the pc.
+/// - `fill`: the segments hold the objects' bytes and no others, and bss what commons take besides.
+/// - `definitions`: where no name is multiply defined, each definition of each object is in the table, carried.
+/// - `names`: without relocation, and where no name is reported undefined, each external entry gives an address.
+/// - `once`: each external of the objects, and each forced name, has one external entry, in order of first mention.
+/// - `room`, `apart`: commons that are laid out lie between data and bss, each on bytes of its own.
+/// - `entry`: the entry word is the address of its name where that is an external in text; else it is 0, and reported.
+/// - `missing`: a name that is reported undefined has an entry without an address.
+/// - `added`: the file of a link with relocation is an object, so that a session takes it.
+pub fn meaning_law()
+    ensures words { WordsAreRelocated }
+    ensures fill { ObjectsFill }
+    ensures definitions { DefinitionsHold }
+    ensures names { NamesHaveAddresses }
+    ensures once { EntriesStandOnce }
+    ensures room { CommonsHaveRoom }
+    ensures apart { CommonsLieApart }
+    ensures entry { EntryIsFound }
+    ensures missing { MissingHaveNoAddress }
+    ensures added { PartialMayBeAdded }
+{}
+
+/// Partial links under weaker premises than those of `partial_law`, again and again, and grouped in any way. The
+/// names that were forced in the partial link are a part of those that are forced later, or none. (ld(1), the option
+/// `-r`)
+///
+/// - `stands`: it stands for its objects, but for the multiples, wherever what these define stands in the whole.
+/// - `always`: alone it always does.
+/// - `others`: multiples included, if its objects define none of the names that are multiply defined in the whole.
+/// - `again`: linked again alone by its own options it is itself, and has no multiples to report.
+/// - `grouping`: where no name is multiply defined, links with `-r` grouped in any way change nothing.
+/// - `accepted`: a session takes it where it takes its objects, and refuses it at the same limit.
+pub fn beyond_law()
+    ensures stands { PartialStandsFor }
+    ensures always { PartialStandsAlways }
+    ensures others { PartialStandsAmongOthers }
+    ensures again { PartialAgain }
+    ensures grouping { GroupingChangesNothing }
+    ensures accepted { PartialIsAccepted }
 {}

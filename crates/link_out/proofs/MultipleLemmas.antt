@@ -1,0 +1,128 @@
+-- Mentions that agree with the first definition of their name, and names that are not multiply defined.
+use Rattle.std.proofs.Common.{◌≡◌, ℕ, Bool, true, false, cond, not, ◌||◌, List, [], ◌∷◌, map, Option, Some, None, refl, sym, ◌∙◌, ap, eqb, eqb-true}
+use Rattle.std.specs.Prelude.{bytes_eq, filter}
+use Rattle.std.specs.List.{AllByRecursion}
+use Rattle.std.proofs.lemmas.Bool.{and_parts}
+use Rattle.std.proofs.lemmas.Slice.Eq.{bytes_eq-Decides}
+use Rattle.aout_core.specs.declared.symbol.Segment.{Segment}
+use Rattle.aout_core.specs.declared.symbol.Segment.TheVariants.{Undefined, Absolute, TextSeg, DataSeg, BssSeg, Other}
+use Rattle.aout_core.specs.WellFormed.{first_of}
+use Rattle.link_session.specs.declared.state.State.{State}
+use Rattle.link_session.specs.declared.state.State.TheVariants.{Defined, Wanted}
+use Rattle.link_session.specs.Mentions.{Mention, is_among}
+use Rattle.link_session.specs.States.{Definition, definition_by, first_definition, is_definition, differs, segment_number}
+use Rattle.link_session.proofs.UpdateLemmas.{own_definition}
+
+-- a mention that says what the first definition of its name among all mentions says
+abbrev pub AgreesIn : List Mention → Mention → Type 0
+AgreesIn all m = differs (first_definition all m.name) m.says ≡ false
+
+-- no multiples: every mention agrees
+pub none_differ : (all ms : List Mention) → map (λ m. m.name) (filter (λ m. differs (first_definition all m.name) m.says) ms) ≡ [] → AllByRecursion (AgreesIn all) ms
+none_differ all [] h = tt
+none_differ all (m ∷ ms) h = by_test (differs (first_definition all m.name) m.says) refl h (none_differ all ms)
+  where
+    by_test : (t : Bool) → differs (first_definition all m.name) m.says ≡ t →
+        map (λ k. k.name) (cond t (m ∷ filter (λ k. differs (first_definition all k.name) k.says) ms) (filter (λ k. differs (first_definition all k.name) k.says) ms)) ≡ [] →
+        (map (λ k. k.name) (filter (λ k. differs (first_definition all k.name) k.says) ms) ≡ [] → AllByRecursion (AgreesIn all) ms) → AllByRecursion (AgreesIn all) (m ∷ ms)
+    by_test true e h rest = absurd (cc)
+    by_test false e h rest = (e, rest h)
+
+same_segment : (a b : Segment) → eqb (segment_number a) (segment_number b) ≡ true → a ≡ b
+same_segment a b e = back a ∙ ap numbered (eqb-true (segment_number a) (segment_number b) e) ∙ sym (back b)
+  where
+    numbered : ℕ → Segment
+    numbered n = cond (eqb n 0) Undefined (cond (eqb n 1) Absolute (cond (eqb n 2) TextSeg (cond (eqb n 3) DataSeg (cond (eqb n 4) BssSeg Other))))
+
+    back : (s : Segment) → s ≡ numbered (segment_number s)
+    back Undefined = refl
+    back Absolute = refl
+    back TextSeg = refl
+    back DataSeg = refl
+    back BssSeg = refl
+    back Other = refl
+
+pub definition_same : (segment : Segment) (offset : ℕ) (d : Definition) → is_definition segment offset (Some d) ≡ true → Some d ≡ Some (segment, offset)
+definition_same segment offset d h =
+    let parts = and_parts (eqb (segment_number segment) (segment_number d.0)) (eqb offset d.1) h in
+    let s : segment ≡ d.0 = same_segment segment d.0 parts.0 in
+    let o : offset ≡ d.1 = eqb-true offset d.1 parts.1 in
+    λ i. Some (sym s i, sym o i)
+
+-- what agrees with a first definition is that definition
+pub agrees_with : (first : Option Definition) (segment : Segment) (offset : ℕ) → differs first (Defined segment offset) ≡ false → first ≡ Some (segment, offset)
+agrees_with None segment offset h = absurd (cc)
+agrees_with (Some d) segment offset h = definition_same segment offset d (yes (is_definition segment offset (Some d)) h)
+  where
+    yes : (t : Bool) → not t ≡ false → t ≡ true
+    yes true h = refl
+    yes false h = absurd (cc)
+
+-- each mention of a name that is none of the multiples agrees
+pub not_multiple : (all ms : List Mention) (name : List ℕ) → is_among (map (λ m. m.name) (filter (λ m. differs (first_definition all m.name) m.says) ms)) name ≡ false →
+    AllByRecursion (λ m. bytes_eq name m.name ≡ true → AgreesIn all m) ms
+not_multiple all [] name h = tt
+not_multiple all (m ∷ ms) name h = by_test (differs (first_definition all m.name) m.says) refl h (not_multiple all ms name)
+  where
+    by_test : (t : Bool) → differs (first_definition all m.name) m.says ≡ t →
+        is_among (map (λ k. k.name) (cond t (m ∷ filter (λ k. differs (first_definition all k.name) k.says) ms) (filter (λ k. differs (first_definition all k.name) k.says) ms))) name ≡ false →
+        (is_among (map (λ k. k.name) (filter (λ k. differs (first_definition all k.name) k.says) ms)) name ≡ false → AllByRecursion (λ k. bytes_eq name k.name ≡ true → AgreesIn all k) ms) →
+        AllByRecursion (λ k. bytes_eq name k.name ≡ true → AgreesIn all k) (m ∷ ms)
+    by_test false e h rest = ((λ k. e), rest h)
+    by_test true e h rest = by_name (bytes_eq name m.name) refl h
+      where
+        by_name : (u : Bool) → bytes_eq name m.name ≡ u → (u || is_among (map (λ k. k.name) (filter (λ k. differs (first_definition all k.name) k.says) ms)) name) ≡ false →
+            AllByRecursion (λ k. bytes_eq name k.name ≡ true → AgreesIn all k) (m ∷ ms)
+        by_name true ue h = absurd (cc)
+        by_name false ue h = ((λ k. absurd (let bad : false ≡ true = sym ue ∙ k in cc)), rest h)
+
+-- of such a name there is one definition
+pub one_definition : (all ms : List Mention) (name : List ℕ) (d e : Definition) → AllByRecursion (λ m. bytes_eq name m.name ≡ true → AgreesIn all m) ms →
+    first_definition ms name ≡ Some d → first_definition all name ≡ Some e → Some e ≡ Some d
+one_definition all [] name d e h f g = absurd (cc)
+one_definition all (m ∷ ms) name d e h f g = by_test (bytes_eq name m.name) refl m.says refl f (one_definition all ms name d e h.1)
+  where
+    by_test : (t : Bool) → bytes_eq name m.name ≡ t → (s : State) → m.says ≡ s →
+        cond t (first_of (definition_by s) (first_definition ms name)) (first_definition ms name) ≡ Some d →
+        (first_definition ms name ≡ Some d → first_definition all name ≡ Some e → Some e ≡ Some d) → Some e ≡ Some d
+    by_test false te s se f rest = rest f g
+    by_test true te (Wanted size) se f rest = rest f g
+    by_test true te (Defined segment offset) se f rest =
+        let same : name ≡ m.name = (bytes_eq-Decides name m.name).0 te in
+        let here : first_definition all m.name ≡ Some e = ap (λ (n : List ℕ). first_definition all n) (sym same) ∙ g in
+        let agree : not (is_definition segment offset (Some e)) ≡ false = ap (λ (x : Option Definition). differs x (Defined segment offset)) (sym here) ∙ ap (λ (s : State). differs (first_definition all m.name) s) (sym se) ∙ h.0 te in
+        agrees_with (Some e) segment offset agree ∙ f
+
+-- of a name without definition no mention defines it
+pub none_defines : (ms : List Mention) (name : List ℕ) → first_definition ms name ≡ None → AllByRecursion (λ m. bytes_eq name m.name ≡ true → definition_by m.says ≡ None) ms
+none_defines [] name h = tt
+none_defines (m ∷ ms) name h = by_test (bytes_eq name m.name) refl (definition_by m.says) refl h (none_defines ms name)
+  where
+    by_test : (t : Bool) → bytes_eq name m.name ≡ t → (d : Option Definition) → definition_by m.says ≡ d → cond t (first_of d (first_definition ms name)) (first_definition ms name) ≡ None →
+        (first_definition ms name ≡ None → AllByRecursion (λ k. bytes_eq name k.name ≡ true → definition_by k.says ≡ None) ms) →
+        AllByRecursion (λ k. bytes_eq name k.name ≡ true → definition_by k.says ≡ None) (m ∷ ms)
+    by_test false te d de h rest = ((λ k. absurd (let bad : false ≡ true = sym te ∙ k in cc)), rest h)
+    by_test true te None de h rest = ((λ k. de), rest h)
+    by_test true te (Some d) de h rest = absurd (cc)
+
+pub no_definition : (first : Option Definition) (s : State) → definition_by s ≡ None → differs first s ≡ false
+no_definition first (Wanted size) h = refl
+no_definition first (Defined segment offset) h = absurd (cc)
+
+-- what holds of the mentions of each name holds of each mention
+pub of_each_name : (P : List ℕ → Mention → Type 0) (ms : List Mention) → ((name : List ℕ) → AllByRecursion (P name) ms) → AllByRecursion (λ m. P m.name m) ms
+of_each_name P [] h = tt
+of_each_name P (m ∷ ms) h = ((h m.name).0, of_each_name P ms (λ n. (h n).1))
+
+-- where each mention agrees there are none
+pub none_kept : (all ms : List Mention) → AllByRecursion (AgreesIn all) ms → filter (λ m. differs (first_definition all m.name) m.says) ms ≡ []
+none_kept all [] h = refl
+none_kept all (m ∷ ms) h = rw h.0 (none_kept all ms h.1)
+
+pub no_multiples : (all ms : List Mention) → AllByRecursion (AgreesIn all) ms → map (λ m. m.name) (filter (λ m. differs (first_definition all m.name) m.says) ms) ≡ []
+no_multiples all ms h = ap (λ (ks : List Mention). map (λ m. m.name) ks) (none_kept all ms h)
+
+-- what a definition says of itself agrees
+pub own_again : (s : State) (first : Option Definition) → first ≡ definition_by s → differs first s ≡ false
+own_again (Wanted size) first e = refl
+own_again (Defined segment offset) first e = ap (λ (d : Option Definition). differs d (Defined segment offset)) e ∙ ap not (own_definition segment offset)
