@@ -1,7 +1,7 @@
 # v7: see README.md. The command `rt` of the Rattle kit has to be on the PATH.
 PREFIX ?= /usr/local
 
-.PHONY: all demo test memory bench install clean
+.PHONY: all demo test memory bench check-manual check-examples install clean
 
 all: build/v7
 
@@ -34,9 +34,19 @@ memory:
 bench:
 	cd crates/bench && rt run -- full
 
+# the manual pages: mandoc finds nothing to say of them, and their examples, and those of the documents, come out as shown
+check-manual: check-examples
+	cd man && mandoc -T lint *.1 *.5
+
+check-examples: build/v7
+	sh tests/manual.sh
+
+# the program, and its manual pages
 install: build/v7
-	mkdir -p $(DESTDIR)$(PREFIX)/bin
+	mkdir -p $(DESTDIR)$(PREFIX)/bin $(DESTDIR)$(PREFIX)/share/man/man1 $(DESTDIR)$(PREFIX)/share/man/man5
 	cp build/v7 $(DESTDIR)$(PREFIX)/bin/v7
+	cp man/*.1 $(DESTDIR)$(PREFIX)/share/man/man1
+	cp man/*.5 $(DESTDIR)$(PREFIX)/share/man/man5
 
 clean:
 	rm -rf build

@@ -1,0 +1,86 @@
+#!/bin/sh
+# Runs the examples of the manual pages, of README.md and of docs/, and compares what is shown with what comes. It runs
+# nothing but what stands there: in a page the displays, in a document the blocks that are indented by four blanks, and
+# of both those alone whose first line begins with "$ ". There a line behind "$ " is typed to the shell, a line behind
+# "> " to the program, and all others are what is shown, standard error too. Each file has a new copy of the folder
+# examples, and its commands run in one shell, so that each sees what those before it left. A file that `cat` shows and
+# that is not there is made of what is shown.
+#
+# usage: tests/manual.sh [FILE...]       the program has to stand in build/v7
+set -u
+cd "$(dirname "$0")/.."
+top=$PWD
+[ -x build/v7 ] || { echo "build/v7 is missing: make builds it"; exit 2; }
+[ $# -gt 0 ] || set -- man/*.1 man/*.5 README.md examples/README.md docs/*.md
+room=$(mktemp -d)
+trap 'rm -rf "$room"' EXIT
+PATH=$top/build:$PATH
+export PATH
+LC_ALL=C
+export LC_ALL
+
+# the lines of the blocks with examples, and an empty line behind each block
+blocks() {
+    case $1 in
+    *.md)
+        awk '/^    / { text = substr($0, 5); if (!inside) { inside = 1; runs = text ~ /^\$ / } if (runs) print text; next }
+            inside && /^$/ { held = 1; inside = 0; if (runs) print ""; next }
+            { inside = 0 }' "$1"
+        ;;
+    *)
+        awk '/^\.Bd -literal/ { inside = 1; first = 1; next }
+            /^\.Ed/ { if (runs) print ""; inside = 0; runs = 0; next }
+            inside { if (first) { runs = /^\$ /; first = 0 } gsub(/\\&/, ""); gsub(/\\e/, "\\"); if (runs) print }' "$1"
+        ;;
+    esac
+}
+
+# for each command a file N.typed, N.input and N.shown in the room
+commands() {
+    rm -f "$room"/*.typed "$room"/*.input "$room"/*.shown
+    blocks "$1" | awk -v room="$room" '
+        function name(kind) { return sprintf("%s/%03d.%s", room, n, kind) }
+        /^\$ / { if (n) close(name("shown")); n++; print substr($0, 3) >name("typed"); close(name("typed"))
+                 printf "" >name("input"); printf "" >name("shown"); next }
+        n == 0 || /^$/ { next }
+        /^> / { print substr($0, 3) >name("input"); next }
+        { print >name("shown") }'
+}
+
+# runs them in a copy of examples
+run() {
+    rm -rf "$room/build" "$room/examples"
+    mkdir "$room/build"
+    cp -r "$top/examples" "$room/examples"
+    cd "$room/examples" || exit 2
+    status=0
+    ran=0
+    for typed in "$room"/*.typed; do
+        [ -e "$typed" ] || break
+        part=${typed%.typed}
+        line=$(cat "$typed")
+        case $line in
+        "cat "*) [ -e "${line#cat }" ] || cp "$part.shown" "${line#cat }" ;;
+        esac
+        (exit $status)
+        eval "$line" <"$part.input" >"$part.came" 2>&1
+        status=$?
+        ran=$((ran + 1))
+        if ! diff "$part.shown" "$part.came" >"$part.diff"; then
+            echo "$1: $line"
+            cat "$part.diff"
+            failed=1
+        fi
+    done
+    cd "$top" || exit 2
+}
+
+failed=0
+count=0
+for file in "$@"; do
+    commands "$file"
+    run "$file"
+    count=$((count + ran))
+done
+echo "$count commands of $# files were run"
+exit $failed
