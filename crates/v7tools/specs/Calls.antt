@@ -1,79 +1,15 @@
--- What every call of a tool keeps, and what it takes over from the words.
-use Rattle.std.specs.Prelude.{◌≡◌, ◌<◌, ℕ, List, [], ◌∷◌, map, filter, length, Ok, Some, bytes_eq, codes, string_bytes, unwrap_or, vec_len}
-use Rattle.clap.specs.Faults.{fault_of}
-use Rattle.clap.specs.Simple.{subcommand_of}
-use Rattle.clap.specs.Walk.{Row, first_of}
-use Rattle.clap.specs.declared.error.kind.ErrorKind.{ErrorKind}
-use Rattle.clap.specs.declared.error.kind.ErrorKind.TheVariants.{OutOfMemory}
-use Rattle.symtools.specs.declared.options.NmOptions.{NmOptions}
+-- Which fault of the program stands for words that ask for no call.
+use Rattle.std.specs.Prelude.{◌≡◌, ℕ, List}
+use Rattle.command_words.specs.Calls.{IsAsked, IsWhole, dashes_in, files_of}
+use Rattle.command_words.specs.declared.fault.WordsFault.{WordsFault}
+use Rattle.command_words.specs.declared.fault.WordsFault.TheVariants as words
+use Rattle.command_words.specs.declared.words.Call.{Call}
 use Rattle.v7tools.specs.declared.fault.CliFault.{CliFault}
 use Rattle.v7tools.specs.declared.fault.CliFault.TheVariants as faults
-use Rattle.v7tools.specs.declared.words.Call.{Call}
-use Rattle.v7tools.specs.declared.words.Call.TheVariants.{Ld, Nm, Size, Strip, Session}
-use Rattle.v7tools.specs.declared.words.TheConstants.{FILE, OUT, PROGRAM, EXTERNAL, BY_VALUE, EACH_LINE, TABLE_ORDER, REVERSE, UNDEFINED}
-use Rattle.v7tools.specs.LinkWords.{AreAllowed, AreForced, forced_asked, is_given, options_asked, values_of}
-use Rattle.v7tools.specs.Tools.{v7_app}
 
--- a call of a tool has files, and no option of a link excludes another
-abbrev pub IsWhole : Call → Type 0
-IsWhole (Ld options forced out files) = (0 < vec_len files) × AreAllowed options × AreForced forced
-IsWhole (Nm options files) = 0 < vec_len files
-IsWhole (Size files) = 0 < vec_len files
-IsWhole (Strip files) = 0 < vec_len files
-IsWhole (Session options forced) = AreAllowed options × AreForced forced
-
--- the program, where no file is named
-abbrev pub or_program : List (List ℕ) → List (List ℕ)
-or_program [] = PROGRAM.now ∷ []
-or_program (file ∷ files) = file ∷ files
-
-abbrev pub list_asked : List Row → NmOptions
-list_asked rows = record {
-  external = is_given rows EXTERNAL.now;
-  by_value = is_given rows BY_VALUE.now;
-  each_line = is_given rows EACH_LINE.now;
-  table_order = is_given rows TABLE_ORDER.now;
-  reverse = is_given rows REVERSE.now;
-  undefined = is_given rows UNDEFINED.now;
-}
-
--- the options, the forced names and the output are those that were read, and the files are these; a session has none
-abbrev pub Asks : List Row → List (List ℕ) → Call → Type 0
-Asks rows paths (Ld options forced out files) =
-    (options_asked rows ≡ Ok options) × (forced_asked rows ≡ Ok forced) × (string_bytes out ≡ unwrap_or (first_of OUT.now rows) PROGRAM.now) × (map string_bytes files.items ≡ paths)
-Asks rows paths (Session options forced) = (options_asked rows ≡ Ok options) × (forced_asked rows ≡ Ok forced) × (paths ≡ [])
-Asks rows paths (Nm options files) = (options ≡ list_asked rows) × (map string_bytes files.items ≡ or_program paths)
-Asks rows paths (Size files) = map string_bytes files.items ≡ or_program paths
-Asks rows paths (Strip files) = map string_bytes files.items ≡ paths
-
--- the paths of the files of a call
-abbrev pub files_of : Call → List (List ℕ)
-files_of (Ld options forced out files) = map string_bytes files.items
-files_of (Nm options files) = map string_bytes files.items
-files_of (Size files) = map string_bytes files.items
-files_of (Strip files) = map string_bytes files.items
-files_of (Session options forced) = []
-
--- how many of the words are a dash alone
-abbrev pub dashes_in : List (List ℕ) → ℕ
-dashes_in words = length (filter (λ word. bytes_eq word (codes "-")) words)
-
--- the word that asks for a call
-abbrev pub name_of : Call → List ℕ
-name_of (Ld options forced out files) = codes "ld"
-name_of (Nm options files) = codes "nm"
-name_of (Size files) = codes "size"
-name_of (Strip files) = codes "strip"
-name_of (Session options forced) = codes "session"
-
--- `clap` takes the words, which name the tool of a call, and its options and files are those that are read of them
-abbrev pub IsAsked : List (List ℕ) → Call → Type 0
-IsAsked words call = (fault_of v7_app words ≡ []) × (rows : List Row) × (subcommand_of v7_app words ≡ Some (name_of call, rows)) × Asks rows (values_of rows FILE.now) call
-
--- want of memory is told from all other causes
-abbrev pub fault_of_words : ErrorKind → CliFault
-fault_of_words OutOfMemory = faults.Memory
-fault_of_words kind = faults.Usage
+abbrev pub fault_of_words : WordsFault → CliFault
+fault_of_words words.Usage = faults.Usage
+fault_of_words words.Memory = faults.Memory
 
 -- words are refused for what they ask, or for want of memory
 abbrev pub IsOfWords : CliFault → Type 0
@@ -89,10 +25,6 @@ IsOfWords faults.WriteFailed = ⊥
 IsOfWords faults.LongLine = ⊥
 IsOfWords faults.ManyLines = ⊥
 IsOfWords faults.ScriptFailed = ⊥
-
--- a call of this name, with these options and files, fails for want of memory alone
-abbrev pub HasNoCall : List ℕ → List Row → List (List ℕ) → CliFault → Type 0
-HasNoCall name rows paths fault = (call : Call) → IsWhole call → name_of call ≡ name → Asks rows paths call → fault ≡ faults.Memory
 
 -- words that ask for a call fail for want of memory alone
 abbrev pub AsksForNone : List (List ℕ) → CliFault → Type 0

@@ -1,8 +1,6 @@
 pub mod Inputs
 pub mod FaultTexts
 pub mod Loads
-pub mod LinkWords
-pub mod Tools
 pub mod Calls
 pub mod Emits
 pub mod LinkAnswers

@@ -1,10 +1,12 @@
 //! The faults of the program, and their lines.
 ghost use Rattle.std.specs.Prelude.{◌≡◌, ◌↔◌, ◌++◌, decimal, codes, string_bytes, IsErr, IsTrue};
 ghost use Rattle.aout_core.specs.Wires.{Puts};
+ghost use Rattle.v7tools.specs.Calls.{fault_of_words};
 ghost use Rattle.v7tools.specs.declared.fault.CliFault.TheVariants.{Memory, WriteFailed};
 ghost use Rattle.v7tools.specs.FaultTexts.{add_text, at_file, cli_text, fault_line, fault_of_addition, fault_of_link, fault_of_tool, link_text, object_text, read_text};
 
 use aout_core::{DeviceFault, ObjectFault, ReadFault, Wire};
+use command_words::WordsFault;
 use itoa::Buffer;
 use link_out::LinkFault;
 use link_session::{AddFault, AddRefused};
@@ -59,6 +61,17 @@ impl From<DeviceFault> for CliFault {
 
     fn from(_fault: DeviceFault) -> CliFault {
         CliFault::WriteFailed
+    }
+}
+
+impl From<WordsFault> for CliFault {
+    ghost from_gives = { λ words fault. fault ≡ fault_of_words words };
+
+    fn from(fault: WordsFault) -> CliFault {
+        match fault {
+            WordsFault::Usage => CliFault::Usage,
+            WordsFault::Memory => CliFault::Memory,
+        }
     }
 }
 

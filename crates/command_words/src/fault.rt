@@ -1,0 +1,47 @@
+//! Why words ask for no call.
+ghost use Rattle.std.specs.Prelude.{◌≡◌};
+ghost use Rattle.clap.specs.Values.{kind_of};
+ghost use Rattle.command_words.specs.Calls.{fault_of_words};
+ghost use Rattle.command_words.specs.declared.fault.WordsFault.TheVariants.{Memory};
+
+use clap::error::ErrorKind;
+use std::alloc::{AllocError, AllocFailed};
+use thiserror::Error;
+
+/// Why there is no call. (own choice)
+#[derive(Clone, Copy, Debug, PartialEq, Eq, Error)]
+pub enum WordsFault {
+    /// 1: the words ask for nothing that there is.
+    #[error("usage")]
+    Usage,
+    /// 9: no memory.
+    #[error("no memory")]
+    Memory,
+}
+
+impl From<clap::Error> for WordsFault {
+    ghost from_gives = { λ error fault. fault ≡ fault_of_words (kind_of error) };
+
+    fn from(error: clap::Error) -> WordsFault {
+        match error.kind() {
+            ErrorKind::OutOfMemory => WordsFault::Memory,
+            _ => WordsFault::Usage,
+        }
+    }
+}
+
+impl From<AllocError> for WordsFault {
+    ghost from_gives = { λ _ fault. fault ≡ Memory };
+
+    fn from(_error: AllocError) -> WordsFault {
+        WordsFault::Memory
+    }
+}
+
+impl<T: Drop> From<AllocFailed<T>> for WordsFault {
+    ghost from_gives = { λ _ fault. fault ≡ Memory };
+
+    fn from(_error: AllocFailed<T>) -> WordsFault {
+        WordsFault::Memory
+    }
+}

@@ -1,0 +1,145 @@
+//! The options that ld and session share.
+ghost use Rattle.std.specs.Prelude.{◌≡◌, false, IfOk, option_map};
+ghost use Rattle.clap.specs.Walk.{first_of, rows_of, rule_of};
+ghost use Rattle.clap.specs.Matches.{found_of};
+ghost use Rattle.clap.specs.Simple.{app_of};
+ghost use Rattle.clap.specs.declared.builder.action.ArgAction.TheVariants.{Count};
+ghost use Rattle.command_words.specs.Tools.{letter_rule, link_rules, with_rules};
+ghost use Rattle.command_words.specs.LinkWords.{forced_asked, is_given, keep_asked, layout_asked, name_in, options_asked};
+
+use crate::fault::WordsFault;
+use aout_core::Name;
+use clap::{Arg, ArgAction, ArgMatches, Command};
+use link_out::{Keep, Layout, Options};
+use link_session::Forced;
+use std::alloc::{AllocError, Global};
+
+/// The option of a file that can be linked again.
+const RELOCATABLE: &str = "relocatable";
+/// The option without symbols.
+const STRIP: &str = "strip";
+/// The option without locals.
+const EXTERNALS: &str = "externals";
+/// The option without those locals whose names begin with `L`.
+const NOT_L: &str = "not-l";
+/// The option of text that can be shared.
+const PURE: &str = "pure";
+/// The option of data in a space of its own.
+const SPLIT: &str = "split";
+/// The option that lays out commons.
+const COMMONS: &str = "commons";
+/// The option of a forced name.
+const FORCED: &str = "forced";
+/// The option that names the entry point.
+const ENTRY: &str = "entry";
+
+/// A flag, which may be repeated.
+pub(crate) fn flag<'a>(alloc: Global, id: &'a str, short: char) -> Arg<'a>
+    ensures rule { rule_of result ≡ letter_rule id.entry.now short Count }
+    ensures local { result.global ≡ false }
+{
+    Arg::new(alloc, id).short(short).action(ArgAction::Count)
+}
+
+/// An option with a value.
+pub(crate) fn valued<'a>(alloc: Global, id: &'a str, short: char, action: ArgAction) -> Arg<'a>
+    ensures rule { rule_of result ≡ letter_rule id.entry.now short action }
+    ensures local { result.global ≡ false }
+{
+    Arg::new(alloc, id).short(short).action(action)
+}
+
+/// A command with the options of a link.
+pub(crate) fn with_link_options<'a>(
+    alloc: Global,
+    command: Command<'a>,
+) -> Result<Command<'a>, AllocError>
+    ensures { IfOk result (λ r. app_of r ≡ with_rules (app_of command.entry) link_rules) }
+{
+    command
+        .arg(flag(alloc, RELOCATABLE, 'r'))?
+        .arg(flag(alloc, STRIP, 's'))?
+        .arg(flag(alloc, EXTERNALS, 'x'))?
+        .arg(flag(alloc, NOT_L, 'X'))?
+        .arg(flag(alloc, PURE, 'n'))?
+        .arg(flag(alloc, SPLIT, 'i'))?
+        .arg(flag(alloc, COMMONS, 'd'))?
+        .arg(valued(alloc, FORCED, 'u', ArgAction::Append))?
+        .arg(valued(alloc, ENTRY, 'e', ArgAction::Set))
+}
+
+/// Whether a flag was given.
+pub(crate) fn is_set(given: &ArgMatches<'_>, id: &str) -> bool
+    ensures { result ≡ is_given (rows_of (found_of given.now)) id.now }
+{
+    given.get_count(id) > 0
+}
+
+/// Where data lies: `-n` and `-i` exclude each other.
+fn layout(given: &ArgMatches<'_>) -> Result<Layout, WordsFault>
+    ensures { result ≡ layout_asked (rows_of (found_of given.now)) }
+{
+    match (is_set(given, PURE), is_set(given, SPLIT)) {
+        (false, false) => Ok(Layout::Plain),
+        (true, false) => Ok(Layout::Pure),
+        (false, true) => Ok(Layout::Split),
+        (true, true) => Err(WordsFault::Usage),
+    }
+}
+
+/// Which symbols are kept: `-s` wins over `-x`, and that over `-X`.
+fn keep(given: &ArgMatches<'_>) -> Keep
+    ensures { result ≡ keep_asked (rows_of (found_of given.now)) }
+{
+    if is_set(given, STRIP) {
+        Keep::Nothing
+    } else if is_set(given, EXTERNALS) {
+        Keep::Externals
+    } else if is_set(given, NOT_L) {
+        Keep::NotL
+    } else {
+        Keep::All
+    }
+}
+
+/// The name of the entry point.
+fn entry(given: &ArgMatches<'_>) -> Option<Name>
+    ensures { result ≡ option_map name_in (first_of ENTRY.now (rows_of (found_of given.now))) }
+{
+    match given.get_str(ENTRY) {
+        Some(name) => Some(Name::from_bytes(name.as_bytes())),
+        None => None,
+    }
+}
+
+/// The options of a link. `Usage`: two that exclude each other.
+pub(crate) fn link_options(given: &ArgMatches<'_>) -> Result<Options, WordsFault>
+    ensures { result ≡ options_asked (rows_of (found_of given.now)) }
+{
+    let layout = layout(given)?;
+    let relocatable = is_set(given, RELOCATABLE);
+    let Ok(options) = Options::new(layout, relocatable, keep(given), entry(given)) else {
+        return Err(WordsFault::Usage);
+    };
+    if is_set(given, COMMONS) {
+        Ok(options.force_commons())
+    } else {
+        Ok(options)
+    }
+}
+
+/// The forced names, each once. `Usage`: more than 64 different ones.
+pub(crate) fn forced_names(given: &ArgMatches<'_>) -> Result<Forced, WordsFault>
+    ensures { result ≡ forced_asked (rows_of (found_of given.now)) }
+{
+    let mut forced = Forced::none();
+    let Some(names) = given.get_strs(FORCED) else {
+        return Ok(forced);
+    };
+    for name in names {
+        if !forced.push(Name::from_bytes(name.as_bytes())) {
+            return Err(WordsFault::Usage);
+        }
+    }
+    Ok(forced)
+}
