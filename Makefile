@@ -1,7 +1,7 @@
 # v7: see README.md. The command `rt` of the Rattle kit has to be on the PATH.
 PREFIX ?= /usr/local
 
-.PHONY: all demo test memory bench check-manual check-examples install clean
+.PHONY: all demo test memory bench simulate check-manual check-examples install clean
 
 all: build/v7
 
@@ -33,6 +33,13 @@ memory:
 # times of the session and of ld on a large input
 bench:
 	cd crates/bench && rt run -- full
+
+# links a program of five files, runs it on SIMH's PDP-11, and compares what it prints
+simulate: build/v7
+	cd examples && ../build/v7 ld -e _start -o ../build/doubled main.o twice.o count.o print.o start.o
+	sh examples/simulate.sh build/doubled >build/doubled.txt
+	cat build/doubled.txt
+	echo '21 doubled is 42' | cmp - build/doubled.txt
 
 # the manual pages: mandoc finds nothing to say of them, and their examples, and those of the documents, come out as shown
 check-manual: check-examples

@@ -60,6 +60,7 @@ run() {
         part=${typed%.typed}
         line=$(cat "$typed")
         case $line in
+        "sh simulate.sh "*) command -v pdp11 >/dev/null || { echo "$1: not run, as pdp11 is missing: $line"; continue; } ;;
         "cat "*) [ -e "${line#cat }" ] || cp "$part.shown" "${line#cat }" ;;
         esac
         (exit $status)
