@@ -1,6 +1,6 @@
 #!/bin/sh
 # Runs the examples of the manual pages, of README.md and of docs/, and compares what is shown with what comes. It runs
-# nothing but what stands there: in a page the displays, in a document the blocks that are indented by four blanks, and
+# nothing but what stands there: in a page the displays, in a document the blocks that are indented by four blanks or more, and
 # of both those alone whose first line begins with "$ ". There a line behind "$ " is typed to the shell, a line behind
 # "> " to the program, and all others are what is shown, standard error too. Each file has a new copy of the folder
 # examples, and its commands run in one shell, so that each sees what those before it left. A file that `cat` shows and
@@ -23,9 +23,12 @@ export LC_ALL
 blocks() {
     case $1 in
     *.md)
-        awk '/^    / { text = substr($0, 5); if (!inside) { inside = 1; runs = text ~ /^\$ / } if (runs) print text; next }
-            inside && /^$/ { held = 1; inside = 0; if (runs) print ""; next }
-            { inside = 0 }' "$1"
+        awk '/^    / {
+                if (!inside) { inside = 1; match($0, /^ +/); indent = RLENGTH; runs = substr($0, indent + 1) ~ /^\$ / }
+                if (runs) print substr($0, indent + 1)
+                next
+            }
+            { if (inside && runs) print ""; inside = 0 }' "$1"
         ;;
     *)
         awk '/^\.Bd -literal/ { inside = 1; first = 1; next }
