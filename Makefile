@@ -46,6 +46,7 @@ check-manual: check-examples
 	cd man && mandoc -T lint *.1 *.5
 
 check-examples: build/v7
+	cmp crates/write_object/stdout examples/main.o
 	sh tests/manual.sh
 
 # the program, and its manual pages
