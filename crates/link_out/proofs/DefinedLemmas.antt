@@ -1,7 +1,6 @@
 -- Where no name is multiply defined, each definition of the objects holds in the linked file.
-use Rattle.std.proofs.Common.{◌≡◌, ◌≢◌, ℕ, zero, suc, Bool, true, false, cond, eqb, List, [], ◌∷◌, ◌++◌, map, Option, Some, refl, sym, ◌∙◌, ap, subst, arith}
-use Rattle.std.specs.Prelude.{filter, slice_get, Ok}
-use Rattle.std.specs.List.{AllByRecursion}
+use Rattle.std.proofs.Common.{◌≡◌, ◌≢◌, ℕ, Bool, true, false, cond, eqb, List, [], ◌∷◌, ◌++◌, Option, Some, refl, sym, ◌∙◌, ap, subst, arith}
+use Rattle.std.specs.Prelude.{slice_get, Ok}
 use Rattle.aout_core.specs.declared.symbol.Symbol.{Symbol}
 use Rattle.aout_core.specs.declared.symbol.Segment.{Segment}
 use Rattle.aout_core.specs.declared.symbol.Segment.TheVariants.{Undefined, Absolute, TextSeg, DataSeg, BssSeg, Other}
@@ -10,10 +9,9 @@ use Rattle.aout_core.specs.Words.{plus}
 use Rattle.aout_core.specs.WellFormed.{is_external, masked_type, segment_of, segment_numbered}
 use Rattle.link_session.specs.declared.state.State.TheVariants.{Wanted}
 use Rattle.link_session.specs.Starts.{shift}
-use Rattle.link_session.specs.Mentions.{Mention, mention, statement, mentions_in, mentions, is_among, names_of, names_by_first_mention}
+use Rattle.link_session.specs.Mentions.{mention, statement, mentions, is_among, names_of, names_by_first_mention}
 use Rattle.link_session.specs.States.{Definition, first_definition, wanted_size, state_by, differs, multiple_names}
-use Rattle.link_session.proofs.ListLemmas.{all_split}
-use Rattle.link_session.proofs.MentionLemmas.{mentions-append, is_among-externals}
+use Rattle.link_session.proofs.MentionLemmas.{is_among-externals}
 use Rattle.link_session.proofs.UpdateLemmas.{unmentioned}
 use Rattle.link_out.specs.declared.options.Keep.TheVariants.{Nothing}
 use Rattle.link_out.specs.Choices.{Choices}
@@ -24,36 +22,18 @@ use Rattle.link_out.specs.Tables.{external_row}
 use Rattle.link_out.specs.Reports.{Findings}
 use Rattle.link_out.specs.Link.{Outcome, linked_file, link}
 use Rattle.link_out.specs.Meaning.{carried, external_type, IsDefined}
-use Rattle.link_out.proofs.NeighbourMentions.{blocks}
+use Rattle.link_out.proofs.SaidLemmas.{of_entry}
 use Rattle.link_out.proofs.OutcomeLemmas.{made_file, made_report}
 use Rattle.link_out.proofs.CarriedLemmas.{move_carried}
 use Rattle.link_out.proofs.ExternalLemmas.{entry_there}
 use Rattle.link_out.proofs.MultipleLemmas.{AgreesIn, none_differ, agrees_with}
-
-all_filtered : {A B : Type 0} (P : B → Type 0) (f : A → B) (q : A → Bool) (xs : List A) (i : ℕ) (x : A) → AllByRecursion P (map f (filter q xs)) → slice_get xs i ≡ Some x → q x ≡ true → P (f x)
-all_filtered P f q [] i x h e t = absurd (cc)
-all_filtered {A = A} P f q (a ∷ xs) zero x h e t =
-    let same : a ≡ x = cc in
-    let yes : q a ≡ true = ap q same ∙ t in
-    let all : AllByRecursion P (map f (a ∷ filter q xs)) = subst (λ (b : Bool). AllByRecursion P (map f (cond b (a ∷ filter q xs) (filter q xs)))) yes h in
-    subst (λ (z : A). P (f z)) same all.0
-all_filtered P f q (a ∷ xs) (suc i) x h e t = all_filtered P f q xs i x (by_test (q a) h) e t
-  where
-    by_test : (b : Bool) → AllByRecursion P (map f (cond b (a ∷ filter q xs) (filter q xs))) → AllByRecursion P (map f (filter q xs))
-    by_test true h = h.1
-    by_test false h = h
 
 -- the mention that an entry makes agrees, where all do
 entry_agrees : (forced : List (List ℕ)) (before : List Contents) (k : Contents) (after : List Contents) → multiple_names (mentions forced (before ++ k ∷ after)) ≡ [] →
     (j : ℕ) (s : Symbol) → slice_get k.symbols j ≡ Some s → is_external s ≡ true → AgreesIn (mentions forced (before ++ k ∷ after)) (mention before k s)
 entry_agrees forced before k after single j s e outer =
     let all = mentions forced (before ++ k ∷ after) in
-    let agree : AllByRecursion (AgreesIn all) all = none_differ all all single in
-    let split : AllByRecursion (AgreesIn all) (mentions forced before ++ (mentions_in before k ++ blocks mentions_in (before ++ k ∷ []) after)) =
-    subst (λ (ms : List Mention). AllByRecursion (AgreesIn all) ms) (mentions-append forced before (k ∷ after)) agree in
-    let rest = (all_split (AgreesIn all) (mentions forced before) (mentions_in before k ++ blocks mentions_in (before ++ k ∷ []) after) split).1 in
-    let own = (all_split (AgreesIn all) (mentions_in before k) (blocks mentions_in (before ++ k ∷ []) after) rest).0 in
-    all_filtered (AgreesIn all) (mention before k) is_external k.symbols j s own e outer
+    of_entry (AgreesIn all) forced before k after (none_differ all all single) j s e outer
 
 module _ (forced : List (List ℕ)) (os : List Contents) (o : Choices) (others : o.keep ≢ Nothing) (before : List Contents) (k : Contents) (s : Symbol) where
   abbrev q : Plan

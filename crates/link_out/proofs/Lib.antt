@@ -16,6 +16,8 @@ pub mod SameLinks
 pub mod PartialTheorem
 pub mod GroupingLemmas
 pub mod OutcomeLemmas
+pub mod IndexLemmas
+pub mod SaidLemmas
 pub mod CarriedLemmas
 pub mod ExternalLemmas
 pub mod RelocatedLemmas

@@ -1,6 +1,6 @@
 -- The words of a linked file: those of its objects, relocated.
 use Rattle.std.proofs.Common.{◌≡◌, ◌≢◌, ℕ, zero, suc, ◌+◌, ◌*◌, ◌/◌, ◌≤◌, Bool, true, cond, List, [], ◌∷◌, ◌++◌, map, length, Option, Some, None, refl, sym, ◌∙◌, ap, subst, arith, length-append}
-use Rattle.std.specs.Prelude.{zip, slice_get, Ok}
+use Rattle.std.specs.Prelude.{slice_get, Ok}
 use Rattle.std.specs.List.{AllByRecursion}
 use Rattle.std.proofs.lemmas.List.{length-map}
 use Rattle.std.proofs.lemmas.List.Sums.{sum_by-append}
@@ -30,32 +30,12 @@ use Rattle.link_out.specs.Words.{referent_move, final_word, final_words}
 use Rattle.link_out.specs.Tables.{external_row}
 use Rattle.link_out.specs.Link.{Outcome, linked_file, link}
 use Rattle.link_out.specs.Meaning.{IsAddressOf, IsAdded, segment_words, segment_relocs, IsRelocated, HoldsObjects}
+use Rattle.link_out.proofs.IndexLemmas.{zip_get, zip_length, all_get}
 use Rattle.link_out.proofs.NeighbourMentions.{blocks, blocks-append}
 use Rattle.link_out.proofs.OutcomeLemmas.{made_file}
 use Rattle.link_out.proofs.CarriedLemmas.{move_carried}
 use Rattle.link_out.proofs.ExternalLemmas.{entry_there, row_address}
 use Rattle.aout_core.specs.declared.reloc.Kind.TheVariants as kinds
-
--- lists
-
-zip_get : {A B : Type 0} (xs : List A) (ys : List B) (i : ℕ) (x : A) (y : B) → slice_get xs i ≡ Some x → slice_get ys i ≡ Some y → slice_get (zip xs ys) i ≡ Some (x, y)
-zip_get [] ys i x y e f = absurd (cc)
-zip_get (a ∷ xs) [] i x y e f = absurd (cc)
-zip_get {A = A} {B = B} (a ∷ xs) (b ∷ ys) zero x y e f =
-    let first : a ≡ x = cc in
-    let second : b ≡ y = cc in
-    λ i. let o : Option (A × B) = Some (first i, second i) in o
-zip_get (a ∷ xs) (b ∷ ys) (suc i) x y e f = zip_get xs ys i x y e f
-
-zip_length : {A B : Type 0} (xs : List A) (ys : List B) → length xs ≡ length ys → length (zip xs ys) ≡ length xs
-zip_length [] ys e = refl
-zip_length (x ∷ xs) [] e = absurd (omega arith)
-zip_length (x ∷ xs) (y ∷ ys) e = let rest : length (zip xs ys) ≡ length xs = zip_length xs ys (omega arith) in omega arith
-
-all_get : {A : Type 0} (P : A → Type 0) (xs : List A) (i : ℕ) (x : A) → AllByRecursion P xs → slice_get xs i ≡ Some x → P x
-all_get P [] i x h e = absurd (cc)
-all_get P (a ∷ xs) zero x h e = let same : a ≡ x = cc in subst P same h.0
-all_get P (a ∷ xs) (suc i) x h e = all_get P xs i x h.1 e
 
 -- the words of a segment
 

@@ -1,11 +1,11 @@
 -- What a linked file means, told by the files that were linked and by the linked file alone: where each word of an object
 -- stands, what was added to it, and which address each definition has.
-use Rattle.std.specs.Prelude.{◌≡◌, ◌≢◌, ℕ, ◌+◌, ◌-◌, ◌*◌, ◌/◌, ◌≤◌, ◌⊎◌, true, false, cond, ◌&&◌, eqb, if◌then◌else◌, List, [], ◌∷◌, ◌++◌, map, filter, length, Option, Some, None, Ok, slice_get, bytes_eq}
+use Rattle.std.specs.Prelude.{◌≡◌, ◌≢◌, ◌↔◌, ℕ, ◌+◌, ◌-◌, ◌*◌, ◌/◌, ◌≤◌, ◌⊎◌, true, false, cond, ◌&&◌, eqb, if◌then◌else◌, List, [], ◌∷◌, ◌++◌, map, filter, length, Option, Some, None, Ok, slice_get, bytes_eq}
 use Rattle.std.specs.List.{AllByRecursion}
 use Rattle.aout_core.specs.declared.header.Header.{Header}
 use Rattle.aout_core.specs.declared.symbol.Symbol.{Symbol}
 use Rattle.aout_core.specs.declared.symbol.Segment.{Segment}
-use Rattle.aout_core.specs.declared.symbol.Segment.TheVariants.{Absolute, TextSeg, DataSeg, BssSeg}
+use Rattle.aout_core.specs.declared.symbol.Segment.TheVariants.{TextSeg, DataSeg, BssSeg}
 use Rattle.aout_core.specs.declared.reloc.Reloc.{Reloc}
 use Rattle.aout_core.specs.declared.reloc.Kind.{Kind}
 use Rattle.aout_core.specs.declared.reloc.Kind.TheVariants as kinds
@@ -13,10 +13,11 @@ use Rattle.aout_core.specs.Contents.{Contents}
 use Rattle.aout_core.specs.Words.{plus, minus}
 use Rattle.aout_core.specs.WellFormed.{is_external, masked_type, segment_of, kind_of, is_pc_relative, symbol_number}
 use Rattle.link_session.specs.Starts.{total, own}
+use Rattle.link_session.specs.declared.state.State.{State}
 use Rattle.link_session.specs.Sessions.{IsObject}
-use Rattle.link_session.specs.Mentions.{mentions, externals, is_among}
+use Rattle.link_session.specs.Mentions.{mentions, externals, is_among, statement}
 use Rattle.link_session.specs.States.{state}
-use Rattle.link_session.specs.declared.state.State.TheVariants.{Wanted}
+use Rattle.link_session.specs.declared.state.State.TheVariants.{Defined, Wanted}
 use Rattle.link_out.specs.declared.options.Keep.TheVariants.{Nothing}
 use Rattle.link_out.specs.Choices.{Choices, lays_commons, option_fault}
 use Rattle.link_out.specs.Link.{Outcome, link}
@@ -103,13 +104,6 @@ pub record HoldsObjects (file : Contents) (os : List Contents) : Type 0 where
 abbrev pub ObjectsFill : Type 0
 ObjectsFill = (forced : List (List ℕ)) (os : List Contents) (o : Choices) (x : Outcome) → AllByRecursion IsObject os → link forced os o ≡ Ok x → HoldsObjects x.file os
 
--- the segment that a definition of this type defines its name in
-abbrev pub defined_in : Segment → Segment
-defined_in TextSeg = TextSeg
-defined_in DataSeg = DataSeg
-defined_in BssSeg = BssSeg
-defined_in _ = Absolute
-
 -- the type word of an external that is defined there
 abbrev pub external_type : Segment → ℕ
 external_type TextSeg = 34
@@ -130,6 +124,34 @@ DefinitionsHold = (forced : List (List ℕ)) (before : List Contents) (k : Conte
     o.keep ≢ Nothing → link forced (before ++ k ∷ after) o ≡ Ok x → x.report.multiples ≡ [] →
     (j : ℕ) (s : Symbol) → slice_get k.symbols j ≡ Some s → is_external s ≡ true → eqb (masked_type s) 0 ≡ false →
     IsDefined x.file (before ++ k ∷ after) before k s
+
+-- an external entry of one of the objects says so of this name; offsets are those of the merged segments
+pub record IsSaid (os : List Contents) (name : List ℕ) (says : State) : Type 0 where
+  pub before : List Contents
+  pub k : Contents
+  pub after : List Contents
+  pub all : os ≡ before ++ k ∷ after
+  pub number : ℕ
+  pub symbol : Symbol
+  pub stands : slice_get k.symbols number ≡ Some symbol
+  pub outer : is_external symbol ≡ true
+  pub names : name ≡ symbol.name
+  pub is : statement before k (segment_of symbol) symbol.value ≡ says
+
+-- two definitions of the name that differ
+pub record HasTwoDefinitions (os : List Contents) (name : List ℕ) : Type 0 where
+  pub one : Segment
+  pub two : Segment
+  pub at_one : ℕ
+  pub at_two : ℕ
+  pub first : IsSaid os name (Defined one at_one)
+  pub second : IsSaid os name (Defined two at_two)
+  pub differ : Defined one at_one ≢ Defined two at_two
+
+-- a name is reported as multiply defined exactly where the objects have two definitions of it that differ
+abbrev pub MultiplesDiffer : Type 0
+MultiplesDiffer = (forced : List (List ℕ)) (os : List Contents) (o : Choices) (x : Outcome) → link forced os o ≡ Ok x →
+    (name : List ℕ) → (is_among x.report.multiples name ≡ true) ↔ HasTwoDefinitions os name
 
 -- where no name is reported undefined, each external entry of a link without relocation gives an address
 abbrev pub NamesHaveAddresses : Type 0

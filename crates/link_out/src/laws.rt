@@ -1,6 +1,6 @@
 //! Laws of linking, over its definitions alone: each is the contract of a function with an empty body.
 ghost use Rattle.link_out.specs.Laws.{StripLaw, StripsOnce, PartialIsObject, PartialStandsAlone, PartialStandsAmong};
-ghost use Rattle.link_out.specs.Meaning.{WordsAreRelocated, ObjectsFill, DefinitionsHold, NamesHaveAddresses, EntriesStandOnce, CommonsHaveRoom, CommonsLieApart, EntryIsFound, MissingHaveNoAddress, PartialMayBeAdded};
+ghost use Rattle.link_out.specs.Meaning.{WordsAreRelocated, ObjectsFill, DefinitionsHold, MultiplesDiffer, NamesHaveAddresses, EntriesStandOnce, CommonsHaveRoom, CommonsLieApart, EntryIsFound, MissingHaveNoAddress, PartialMayBeAdded};
 ghost use Rattle.link_out.specs.Beyond.{PartialStandsFor, PartialStandsAlways, PartialStandsAmongOthers, PartialAgain, GroupingChangesNothing, PartialIsAccepted};
 
 /// Stripping and linking go together: wherever a link without relocation gives a file, that file stripped is what the
@@ -28,6 +28,7 @@ pub fn partial_law()
 ///   its own segment was carried, where it is relative to the pc.
 /// - `fill`: the segments hold the objects' bytes and no others, and bss what commons take besides.
 /// - `definitions`: where no name is multiply defined, each definition of each object is in the table, carried.
+/// - `multiples`: a name is reported so exactly where the objects have two definitions of it that differ.
 /// - `names`: without relocation, and where no name is reported undefined, each external entry gives an address.
 /// - `once`: each external of the objects, and each forced name, has one external entry, in order of first mention.
 /// - `room`, `apart`: commons that are laid out lie between data and bss, each on bytes of its own.
@@ -38,6 +39,7 @@ pub fn meaning_law()
     ensures words { WordsAreRelocated }
     ensures fill { ObjectsFill }
     ensures definitions { DefinitionsHold }
+    ensures multiples { MultiplesDiffer }
     ensures names { NamesHaveAddresses }
     ensures once { EntriesStandOnce }
     ensures room { CommonsHaveRoom }

@@ -1,5 +1,6 @@
 use Rattle.link_out.proofs.RelocatedLemmas.{words_relocated, objects_fill}
 use Rattle.link_out.proofs.DefinedLemmas.{definitions_hold}
+use Rattle.link_out.proofs.SaidLemmas.{multiples_differ}
 use Rattle.link_out.proofs.UndefinedLemmas.{names_have_addresses, missing_have_no_address}
 use Rattle.link_out.proofs.ExternalLemmas.{entries_stand_once}
 use Rattle.link_out.proofs.CommonLemmas.{commons_have_room, commons_lie_apart}
@@ -15,6 +16,9 @@ returns-clause-fill c = objects_fill
 
 pub returns-clause-definitions : goal.returns-clause-definitions
 returns-clause-definitions c = definitions_hold
+
+pub returns-clause-multiples : goal.returns-clause-multiples
+returns-clause-multiples c = multiples_differ
 
 pub returns-clause-names : goal.returns-clause-names
 returns-clause-names c = names_have_addresses
