@@ -9,3 +9,4 @@ pub mod SymbolLemmas
 pub mod FilePutLemmas
 pub mod BodyLemmas
 pub mod ReadLemmas
+pub mod BlockLemmas

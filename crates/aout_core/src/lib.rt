@@ -4,6 +4,7 @@
 //! Words have 16 bits and stand low byte first. The format is that of a.out(5); docs/FORMAT.md tells it whole.
 #![tactic(auto)]
 
+mod block;
 mod file;
 mod header;
 mod item;
@@ -19,6 +20,7 @@ mod wire;
 mod word;
 mod writer;
 
+pub use block::{BLOCK_SIZE, Block};
 pub use file::{File, Parts, ReadFault};
 pub use header::Header;
 pub use name::Name;
