@@ -10,3 +10,4 @@ pub mod FilePutLemmas
 pub mod BodyLemmas
 pub mod ReadLemmas
 pub mod BlockLemmas
+pub mod WordLemmas

@@ -4,7 +4,7 @@ ghost use Rattle.aout_core.specs.Contents.{with_relocation};
 ghost use Rattle.aout_core.specs.Spelling.{header_spelling};
 ghost use Rattle.aout_core.specs.Front.{header_in};
 
-use crate::word::word_bytes;
+use crate::word::{put_words, take_words};
 
 /// The eight words at the front of a file. Sizes are in bytes and do not count the header. (a.out(5))
 #[derive(Clone, Copy, Debug, PartialEq, Eq)]
@@ -32,15 +32,27 @@ impl Header {
     pub fn read(bytes: &[u8; 16]) -> Header
         ensures { result ≡ header_in bytes.now }
     {
+        let mut words = [0; 8];
+        take_words(bytes, &mut words);
+        let [
+            magic,
+            text_size,
+            data_size,
+            bss_size,
+            symbol_size,
+            entry_point,
+            unused,
+            flag,
+        ] = words;
         Header {
-            magic: u16::from_le_bytes([bytes[0], bytes[1]]),
-            text_size: u16::from_le_bytes([bytes[2], bytes[3]]),
-            data_size: u16::from_le_bytes([bytes[4], bytes[5]]),
-            bss_size: u16::from_le_bytes([bytes[6], bytes[7]]),
-            symbol_size: u16::from_le_bytes([bytes[8], bytes[9]]),
-            entry_point: u16::from_le_bytes([bytes[10], bytes[11]]),
-            unused: u16::from_le_bytes([bytes[12], bytes[13]]),
-            flag: u16::from_le_bytes([bytes[14], bytes[15]]),
+            magic,
+            text_size,
+            data_size,
+            bss_size,
+            symbol_size,
+            entry_point,
+            unused,
+            flag,
         }
     }
 
@@ -56,31 +68,18 @@ impl Header {
     pub fn to_bytes(&self) -> [u8; 16]
         ensures { result ≡ header_spelling self.now }
     {
-        let [magic_low, magic_high] = word_bytes(self.magic);
-        let [text_low, text_high] = word_bytes(self.text_size);
-        let [data_low, data_high] = word_bytes(self.data_size);
-        let [bss_low, bss_high] = word_bytes(self.bss_size);
-        let [symbol_low, symbol_high] = word_bytes(self.symbol_size);
-        let [entry_low, entry_high] = word_bytes(self.entry_point);
-        let [unused_low, unused_high] = word_bytes(self.unused);
-        let [flag_low, flag_high] = word_bytes(self.flag);
-        [
-            magic_low,
-            magic_high,
-            text_low,
-            text_high,
-            data_low,
-            data_high,
-            bss_low,
-            bss_high,
-            symbol_low,
-            symbol_high,
-            entry_low,
-            entry_high,
-            unused_low,
-            unused_high,
-            flag_low,
-            flag_high,
-        ]
+        let words = [
+            self.magic,
+            self.text_size,
+            self.data_size,
+            self.bss_size,
+            self.symbol_size,
+            self.entry_point,
+            self.unused,
+            self.flag,
+        ];
+        let mut bytes = [0; 16];
+        put_words(&words, &mut bytes);
+        bytes
     }
 }

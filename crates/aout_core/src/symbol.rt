@@ -6,6 +6,7 @@ ghost use Rattle.aout_core.specs.Front.{symbol_in};
 
 use crate::name::Name;
 use crate::word::word_bytes;
+use byteorder::{ByteOrder, LittleEndian};
 
 /// An entry of the symbol table, 12 bytes long. (a.out(5))
 #[derive(Clone, Copy, Debug, PartialEq, Eq)]
@@ -57,8 +58,8 @@ impl Symbol {
     {
         Symbol {
             name: Name::from_bytes(&bytes[..8]),
-            type_bits: u16::from_le_bytes([bytes[8], bytes[9]]),
-            value: u16::from_le_bytes([bytes[10], bytes[11]]),
+            type_bits: LittleEndian::read_u16(&bytes[8..]),
+            value: LittleEndian::read_u16(&bytes[10..]),
         }
     }
 
