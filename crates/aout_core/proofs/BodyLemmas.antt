@@ -1,6 +1,6 @@
 -- The bytes behind a header, cut into the parts of a file.
-use Rattle.std.proofs.Common.{◌≡◌, ℕ, ◌+◌, ◌/◌, ◌%◌, ◌≤◌, List, [], ◌∷◌, ◌++◌, take, drop, length, refl, sym, ◌∙◌, ap, arith, length-drop, drop-drop, drop_at, ◌&&◌, eqb, eqb-true}
-use Rattle.std.proofs.lemmas.List.{take-append-le, drop-append-le, length-map}
+use Rattle.std.proofs.Common.{zero, suc, ◌*◌, length-append, take_at, ◌≡◌, ℕ, ◌+◌, ◌/◌, ◌%◌, ◌≤◌, List, [], ◌∷◌, ◌++◌, take, drop, length, refl, sym, ◌∙◌, ap, arith, length-drop, drop-drop, drop_at, ◌&&◌, eqb, eqb-true}
+use Rattle.std.proofs.lemmas.List.{take-append-le, drop-append-le}
 use Rattle.std.proofs.lemmas.Bool.{and_parts}
 use Rattle.std.specs.Prelude.{IsTrue}
 use Rattle.aout_core.specs.declared.header.Header.{Header}
@@ -8,24 +8,11 @@ use Rattle.aout_core.specs.declared.reloc.Reloc.{Reloc}
 use Rattle.aout_core.specs.Words.{words_in}
 use Rattle.aout_core.specs.Contents.{Contents, has_whole_sizes, with_relocation}
 use Rattle.aout_core.specs.Spelling.{relocation_at, symbols_at, file_length}
-use Rattle.aout_core.specs.Front.{part, relocs_in, symbols_in, table_in, contents_in}
+use Rattle.aout_core.specs.Front.{part, relocs_in, symbol_in, symbols_in, contents_in}
+use Rattle.aout_core.specs.Rows.{row_in, word_in, reloc_in}
 use Rattle.aout_core.proofs.SpellingLemmas.{with_relocation-add}
-use Rattle.aout_core.proofs.FrontLemmas.{length-symbols_in}
+use Rattle.aout_core.proofs.FrontLemmas.{with_relocation-even}
 use Rattle.aout_core.proofs.SpellsLemmas.{symbols_front}
-
--- how many items there are in so many bytes
-pub length-words_in-half : (bytes : List ℕ) → length (words_in bytes) ≡ length bytes / 2
-length-words_in-half [] = refl
-length-words_in-half (a ∷ []) = refl
-length-words_in-half (a ∷ (b ∷ rest)) = omega (arith, length-words_in-half rest)
-
-pub length-relocs_in-half : (bytes : List ℕ) → length (relocs_in bytes) ≡ length bytes / 2
-length-relocs_in-half bytes = length-map (words_in bytes) (λ w. let r : Reloc = record { 0 = w } in r) ∙ length-words_in-half bytes
-
-pub length-table_in : (bytes : List ℕ) → length (table_in bytes) ≡ length bytes / 12
-length-table_in bytes = length-symbols_in (length bytes / 12) bytes
-
-pub ruleset by_length = (length-words_in-half, length-relocs_in-half, length-table_in)
 
 -- a part of the whole is a part of the bytes behind the header
 behind : (start body rest : List ℕ) (from : ℕ) → length start ≡ 16 → from ≤ length body → drop (16 + from) (start ++ (body ++ rest)) ≡ drop from body ++ rest
@@ -40,27 +27,25 @@ part_behind start body rest at from size long e within =
     ∙ take-append-le size (drop from body) rest (omega (arith, length-drop from body))
 
 -- the parts as they are cut off, one behind the other
-pub record IsCut (h : Header) (body text words first second table : List ℕ) : Type 0 where
+record IsCut (h : Header) (body text words first second table : List ℕ) : Type 0 where
   pub is_text : text ≡ take h.text_size body
   pub is_words : words ≡ take h.data_size (drop h.text_size body)
   pub is_first : first ≡ take (with_relocation h h.text_size) (drop h.data_size (drop h.text_size body))
   pub is_second : second ≡ take (with_relocation h h.data_size) (drop (with_relocation h h.text_size) (drop h.data_size (drop h.text_size body)))
   pub is_table : table ≡ drop (with_relocation h h.data_size) (drop (with_relocation h h.text_size) (drop h.data_size (drop h.text_size body)))
 
-table_behind : (start body rest : List ℕ) (at from size : ℕ) → length start ≡ 16 → at ≡ 16 + from → from + size ≡ length body → size % 12 ≡ 0 →
-    symbols_in (size / 12) (drop at (start ++ (body ++ rest))) ≡ table_in (drop from body)
-table_behind start body rest at from size long e whole twelve =
-    let left : length (drop from body) ≡ size = omega (arith, length-drop from body) in
-    ap (λ n. symbols_in (size / 12) (drop n (start ++ (body ++ rest)))) e
-    ∙ ap (symbols_in (size / 12)) (behind start body rest from long (omega arith))
-    ∙ symbols_front (size / 12) (drop from body) rest (omega arith)
-    ∙ ap (λ n. symbols_in n (drop from body)) (ap (λ n. n / 12) (sym left))
+table_behind : (start body rest : List ℕ) (at from n : ℕ) → length start ≡ 16 → at ≡ 16 + from → from + 12 * n ≤ length body →
+    symbols_in n (drop at (start ++ (body ++ rest))) ≡ symbols_in n (drop from body)
+table_behind start body rest at from n long e within =
+    ap (λ k. symbols_in n (drop k (start ++ (body ++ rest)))) e
+    ∙ ap (symbols_in n) (behind start body rest from long (omega arith))
+    ∙ symbols_front n (drop from body) rest (omega (arith, length-drop from body))
 
-pub contents_in-cut : (h : Header) (start body rest text words first second table : List ℕ) → length start ≡ 16 → 16 + length body ≡ file_length h → h.symbol_size % 12 ≡ 0 →
+contents_in-cut : (h : Header) (start body rest text words first second table : List ℕ) → length start ≡ 16 → 16 + length body ≡ file_length h →
     IsCut h body text words first second table →
-    (let c : Contents = record { header = h; text_words = words_in text; data_words = words_in words; text_reloc = relocs_in first; data_reloc = relocs_in second; symbols = table_in table } in c)
+    (let c : Contents = record { header = h; text_words = words_in text; data_words = words_in words; text_reloc = relocs_in first; data_reloc = relocs_in second; symbols = symbols_in (h.symbol_size / 12) table } in c)
     ≡ contents_in h (start ++ (body ++ rest))
-contents_in-cut h start body rest text words first second table long whole twelve cut =
+contents_in-cut h start body rest text words first second table long whole cut =
     let both = with_relocation-add h h.text_size h.data_size in
     let twice : drop h.data_size (drop h.text_size body) ≡ drop (h.text_size + h.data_size) body = drop-drop h.data_size h.text_size body in
     let thrice : drop (with_relocation h h.text_size) (drop h.data_size (drop h.text_size body)) ≡ drop (h.text_size + h.data_size + with_relocation h h.text_size) body =
@@ -75,13 +60,115 @@ contents_in-cut h start body rest text words first second table long whole twelv
     ap relocs_in (cut.is_first ∙ ap (take (with_relocation h h.text_size)) twice ∙ sym (part_behind start body rest (relocation_at h) (h.text_size + h.data_size) (with_relocation h h.text_size) long (omega arith) (omega arith))) in
     let d : relocs_in second ≡ relocs_in (part (relocation_at h + with_relocation h h.text_size) (with_relocation h h.data_size) (start ++ (body ++ rest))) =
     ap relocs_in (cut.is_second ∙ ap (take (with_relocation h h.data_size)) thrice ∙ sym (part_behind start body rest (relocation_at h + with_relocation h h.text_size) (h.text_size + h.data_size + with_relocation h h.text_size) (with_relocation h h.data_size) long (omega arith) (omega arith))) in
-    let e : table_in table ≡ symbols_in (h.symbol_size / 12) (drop (symbols_at h) (start ++ (body ++ rest))) =
-    ap table_in (cut.is_table ∙ all) ∙ sym (table_behind start body rest (symbols_at h) (h.text_size + h.data_size + with_relocation h h.text_size + with_relocation h h.data_size) h.symbol_size long (omega arith) (omega arith) twelve) in
+    let e : symbols_in (h.symbol_size / 12) table ≡ symbols_in (h.symbol_size / 12) (drop (symbols_at h) (start ++ (body ++ rest))) =
+    ap (symbols_in (h.symbol_size / 12)) (cut.is_table ∙ all) ∙ sym (table_behind start body rest (symbols_at h) (h.text_size + h.data_size + with_relocation h h.text_size + with_relocation h h.data_size) (h.symbol_size / 12) long (omega arith) (omega arith)) in
     λ i. record { header = h; text_words = a i; data_words = b i; text_reloc = c i; data_reloc = d i; symbols = e i }
 
-pub is_whole_table : (h : Header) → IsTrue (has_whole_sizes h) → h.symbol_size % 12 ≡ 0
-is_whole_table h sizes =
+-- a row of things as it was read, one by one
+row_words : (n : ℕ) (bytes : List ℕ) → length bytes ≡ 2 * n → row_in word_in 2 n bytes ≡ words_in bytes
+row_words zero [] whole = refl
+row_words zero (a ∷ rest) whole = absurd (omega arith)
+row_words (suc n) [] whole = absurd (omega arith)
+row_words (suc n) (a ∷ []) whole = absurd (omega arith)
+row_words (suc n) (a ∷ (b ∷ rest)) whole = ap (λ ws. (a + 256 * b) ∷ ws) (row_words n rest (omega arith))
+
+row_relocs : (n : ℕ) (bytes : List ℕ) → length bytes ≡ 2 * n → row_in reloc_in 2 n bytes ≡ relocs_in bytes
+row_relocs zero [] whole = refl
+row_relocs zero (a ∷ rest) whole = absurd (omega arith)
+row_relocs (suc n) [] whole = absurd (omega arith)
+row_relocs (suc n) (a ∷ []) whole = absurd (omega arith)
+row_relocs (suc n) (a ∷ (b ∷ rest)) whole = ap (λ rs. (let r : Reloc = record { 0 = a + 256 * b } in r) ∷ rs) (row_relocs n rest (omega arith))
+
+row_symbols : (n : ℕ) (bytes : List ℕ) → row_in symbol_in 12 n bytes ≡ symbols_in n bytes
+row_symbols zero bytes = refl
+row_symbols (suc n) bytes = ap (λ ss. symbol_in (take 12 bytes) ∷ ss) (row_symbols n (drop 12 bytes))
+
+-- the lists as they were read, and the bytes that they were read from
+pub record AreRows (h : Header) (text words first second table : List ℕ) (c : Contents) : Type 0 where
+  pub header : c.header ≡ h
+  pub has_text : c.text_words ≡ row_in word_in 2 (h.text_size / 2) text
+  pub has_words : c.data_words ≡ row_in word_in 2 (h.data_size / 2) words
+  pub has_first : c.text_reloc ≡ row_in reloc_in 2 (with_relocation h h.text_size / 2) first
+  pub has_second : c.data_reloc ≡ row_in reloc_in 2 (with_relocation h h.data_size / 2) second
+  pub has_table : c.symbols ≡ row_in symbol_in 12 (h.symbol_size / 12) table
+  pub text_size : length text ≡ 2 * (h.text_size / 2)
+  pub data_size : length words ≡ 2 * (h.data_size / 2)
+  pub first_size : length first ≡ 2 * (with_relocation h h.text_size / 2)
+  pub second_size : length second ≡ 2 * (with_relocation h h.data_size / 2)
+  pub table_size : length table ≡ 12 * (h.symbol_size / 12)
+
+record AreWhole (h : Header) : Type 0 where
+  text : h.text_size % 2 ≡ 0
+  words : h.data_size % 2 ≡ 0
+  first : with_relocation h h.text_size % 2 ≡ 0
+  second : with_relocation h h.data_size % 2 ≡ 0
+  table : h.symbol_size % 12 ≡ 0
+
+are_whole : (h : Header) → IsTrue (has_whole_sizes h) → AreWhole h
+are_whole h sizes =
     let p = and_parts (eqb (h.text_size % 2) 0) (eqb (h.data_size % 2) 0 && (eqb (h.bss_size % 2) 0 && eqb (h.symbol_size % 12) 0)) sizes in
     let q = and_parts (eqb (h.data_size % 2) 0) (eqb (h.bss_size % 2) 0 && eqb (h.symbol_size % 12) 0) p.1 in
     let r = and_parts (eqb (h.bss_size % 2) 0) (eqb (h.symbol_size % 12) 0) q.1 in
-    eqb-true (h.symbol_size % 12) 0 r.1
+    let t : h.text_size % 2 ≡ 0 = eqb-true (h.text_size % 2) 0 p.0 in
+    let d : h.data_size % 2 ≡ 0 = eqb-true (h.data_size % 2) 0 q.0 in
+    record {
+      text = t;
+      words = d;
+      first = with_relocation-even h h.text_size t;
+      second = with_relocation-even h h.data_size d;
+      table = eqb-true (h.symbol_size % 12) 0 r.1;
+    }
+
+-- all that was read, in one
+abbrev pub all_rows : List ℕ → List ℕ → List ℕ → List ℕ → List ℕ → List ℕ
+all_rows text words first second table = text ++ (words ++ (first ++ (second ++ table)))
+
+rows_cut : (h : Header) (text words first second table : List ℕ) → length text ≡ h.text_size → length words ≡ h.data_size → length first ≡ with_relocation h h.text_size →
+    length second ≡ with_relocation h h.data_size →
+    IsCut h (all_rows text words first second table) text words first second table
+rows_cut h text words first second table t d f s =
+    let from_second = second ++ table in
+    let from_first = first ++ from_second in
+    let from_words = words ++ from_first in
+    let behind_text : drop h.text_size (text ++ from_words) ≡ from_words = drop_at text from_words h.text_size t in
+    let behind_words : drop h.data_size (drop h.text_size (text ++ from_words)) ≡ from_first = ap (drop h.data_size) behind_text ∙ drop_at words from_first h.data_size d in
+    let a = with_relocation h h.text_size in
+    let b = with_relocation h h.data_size in
+    let behind_first : drop a (drop h.data_size (drop h.text_size (text ++ from_words))) ≡ from_second = ap (drop a) behind_words ∙ drop_at first from_second a f in
+    record {
+      is_text = sym (take_at text from_words h.text_size t);
+      is_words = sym (ap (take h.data_size) behind_text ∙ take_at words from_first h.data_size d);
+      is_first = sym (ap (take a) behind_words ∙ take_at first from_second a f);
+      is_second = sym (ap (take b) behind_first ∙ take_at second table b s);
+      is_table = sym (ap (drop b) behind_first ∙ drop_at second table b s);
+    }
+
+length-all_rows : (text words first second table : List ℕ) → length (all_rows text words first second table) ≡ length text + (length words + (length first + (length second + length table)))
+length-all_rows text words first second table =
+    omega (arith, length-append text (words ++ (first ++ (second ++ table))), length-append words (first ++ (second ++ table)), length-append first (second ++ table), length-append second table)
+
+-- a file whose lists were read so is the one that the bytes spell behind their header
+pub rows_are_body : (h : Header) (text words first second table : List ℕ) (c : Contents) → IsTrue (has_whole_sizes h) → AreRows h text words first second table c →
+    (16 + length (all_rows text words first second table) ≡ file_length h) × ((start rest : List ℕ) → length start ≡ 16 → c ≡ contents_in h (start ++ (all_rows text words first second table ++ rest)))
+rows_are_body h text words first second table c sizes rows =
+    let w = are_whole h sizes in
+    let wt = w.text in
+    let wd = w.words in
+    let wf = w.first in
+    let ws = w.second in
+    let wy = w.table in
+    let t : length text ≡ h.text_size = rows.text_size ∙ omega arith in
+    let d : length words ≡ h.data_size = rows.data_size ∙ omega arith in
+    let f : length first ≡ with_relocation h h.text_size = rows.first_size ∙ omega arith in
+    let s : length second ≡ with_relocation h h.data_size = rows.second_size ∙ omega arith in
+    let y : length table ≡ h.symbol_size = rows.table_size ∙ omega arith in
+    let whole : 16 + length (all_rows text words first second table) ≡ file_length h = omega (arith, length-all_rows text words first second table, with_relocation-add h h.text_size h.data_size) in
+    let e1 = rows.header in
+    let e2 : c.text_words ≡ words_in text = rows.has_text ∙ row_words (h.text_size / 2) text rows.text_size in
+    let e3 : c.data_words ≡ words_in words = rows.has_words ∙ row_words (h.data_size / 2) words rows.data_size in
+    let e4 : c.text_reloc ≡ relocs_in first = rows.has_first ∙ row_relocs (with_relocation h h.text_size / 2) first rows.first_size in
+    let e5 : c.data_reloc ≡ relocs_in second = rows.has_second ∙ row_relocs (with_relocation h h.data_size / 2) second rows.second_size in
+    let e6 : c.symbols ≡ symbols_in (h.symbol_size / 12) table = rows.has_table ∙ row_symbols (h.symbol_size / 12) table in
+    let made : c ≡ (let x : Contents = record { header = h; text_words = words_in text; data_words = words_in words; text_reloc = relocs_in first; data_reloc = relocs_in second; symbols = symbols_in (h.symbol_size / 12) table } in x) =
+    λ i. record { header = e1 i; text_words = e2 i; data_words = e3 i; text_reloc = e4 i; data_reloc = e5 i; symbols = e6 i } in
+    (whole, λ start rest long. made ∙ contents_in-cut h start (all_rows text words first second table) rest text words first second table long whole (rows_cut h text words first second table t d f s))

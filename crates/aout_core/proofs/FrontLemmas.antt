@@ -39,7 +39,7 @@ length-words_in (a ∷ (b ∷ rest)) h = let more : length rest % 2 ≡ 0 = omeg
 length-part : (from size : ℕ) (bytes : List ℕ) → from + size ≤ length bytes → length (part from size bytes) ≡ size
 length-part from size bytes h = omega (arith, length-take size (drop from bytes), length-drop from bytes)
 
-pub length-symbols_in : (n : ℕ) (bytes : List ℕ) → length (symbols_in n bytes) ≡ n
+length-symbols_in : (n : ℕ) (bytes : List ℕ) → length (symbols_in n bytes) ≡ n
 length-symbols_in zero bytes = refl
 length-symbols_in (suc n) bytes = ap (λ (k : ℕ). suc k) (length-symbols_in n (drop 12 bytes))
 
@@ -55,7 +55,7 @@ relocs_fit from size bytes h e =
     let m : length (relocs_in (part from size bytes)) ≡ length (words_in (part from size bytes)) = length-map (words_in (part from size bytes)) (λ w. let r : Reloc = record { 0 = w } in r) in
     omega (arith, words_fit from size bytes h e)
 
-with_relocation-even : (h : Header) (n : ℕ) → n % 2 ≡ 0 → with_relocation h n % 2 ≡ 0
+pub with_relocation-even : (h : Header) (n : ℕ) → n % 2 ≡ 0 → with_relocation h n % 2 ≡ 0
 with_relocation-even h n e = by_flag (eqb h.flag 0)
   where
     by_flag : (t : Bool) → cond t n 0 % 2 ≡ 0

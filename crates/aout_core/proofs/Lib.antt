@@ -10,4 +10,6 @@ pub mod FilePutLemmas
 pub mod BodyLemmas
 pub mod ReadLemmas
 pub mod BlockLemmas
+pub mod OutgoingLemmas
+pub mod IncomingLemmas
 pub mod WordLemmas

@@ -1,7 +1,7 @@
 //! The header of a file.
-ghost use Rattle.std.specs.Prelude.{◌≡◌, ◌≤◌};
+ghost use Rattle.std.specs.Prelude.{◌≡◌, ◌+◌, ◌≤◌};
 ghost use Rattle.aout_core.specs.Contents.{with_relocation};
-ghost use Rattle.aout_core.specs.Spelling.{header_spelling};
+ghost use Rattle.aout_core.specs.Spelling.{file_length, header_spelling};
 ghost use Rattle.aout_core.specs.Front.{header_in};
 
 use crate::word::{put_words, take_words};
@@ -62,6 +62,16 @@ impl Header {
         ensures bound { result ≤ size }
     {
         if self.flag == 0 { size } else { 0 }
+    }
+
+    /// How many bytes of a file stand behind its header.
+    pub(crate) fn body_size(&self) -> usize
+        ensures { 16 + result ≡ file_length self.now }
+    {
+        let segments = self.text_size as usize + self.data_size as usize;
+        let text_reloc = self.with_relocation(self.text_size) as usize;
+        let data_reloc = self.with_relocation(self.data_size) as usize;
+        segments + text_reloc + data_reloc + self.symbol_size as usize
     }
 
     /// The 16 bytes that spell the header. (a.out(5))

@@ -1,105 +1,159 @@
 //! What a file holds in rows: words, relocation words and symbols.
-ghost use Rattle.std.specs.Prelude.{◌≡◌, ◌+◌, ◌<◌, ◌≤◌, ◌∷◌, ◌++◌, ◌↔◌, false, [], length, IfNone, IfSome, IsErr, IsTrue, vec_len, vec_capacity};
+ghost use Rattle.std.specs.Prelude.{◌≡◌, ◌+◌, ◌*◌, ◌≤◌, ◌++◌, ◌↔◌, false, IfOk, IfErr, IsErr, IsTrue, Err, vec_len, vec_capacity};
 ghost use Rattle.std.specs.List.{flat_map};
-ghost use Rattle.aout_core.specs.Words.{word_bytes, words_in};
-ghost use Rattle.aout_core.specs.Front.{relocs_in, table_in};
+ghost use Rattle.std.specs.Io.KnownBytes.{prepend_known};
+ghost use Rattle.aout_core.specs.Words.{word_bytes};
+ghost use Rattle.aout_core.specs.Front.{symbol_in};
 ghost use Rattle.aout_core.specs.Spelling.{symbol_spelling};
-ghost use Rattle.aout_core.specs.Wires.{Puts};
+ghost use Rattle.aout_core.specs.Blocks.{awaited, EndsBefore, PutsBut};
+ghost use Rattle.aout_core.specs.Rows.{word_in, reloc_in, TakesRow};
 
+use crate::file::ReadFault;
+use crate::incoming::Incoming;
+use crate::outgoing::Outgoing;
 use crate::reloc::Reloc;
 use crate::symbol::Symbol;
 use crate::wire::{DeviceFault, Wire};
-use crate::word::word_bytes;
-use std::io::Write;
+use crate::word::{word_bytes, word_in};
+use std::io::{Read, Write};
 
 /// One of a row of things of one width.
 pub(crate) trait Item: Copy {
-    ghost use Rattle.std.specs.Prelude.{◌≡◌, ◌<◌, ◌∷◌, ◌↔◌, ℕ, List, [], false, length, IfNone, IfSome, IsErr, IsTrue};
-    ghost use Rattle.aout_core.specs.Wires.{Puts};
+    ghost use Rattle.std.specs.Prelude.{◌≡◌, ◌≤◌, ◌++◌, ◌↔◌, ℕ, List, false, IfOk, IfErr, IsErr, IsTrue, Err};
+    ghost use Rattle.std.specs.Io.KnownBytes.{prepend_known};
+    ghost use Rattle.aout_core.specs.Blocks.{awaited, EndsBefore, PutsBut};
+    ghost use Rattle.aout_core.specs.Rows.{TakesItem};
 
-    ghost items_in: { List ℕ → List Self };
+    ghost width: { ℕ };
+
+    ghost item_in: { List ℕ → Self };
 
     ghost spelling: { Self → List ℕ };
 
-    /// The first of the row that the bytes spell, and the bytes behind it; `None` where too few bytes are left.
-    fn split_first(bytes: &[u8]) -> Option<(Self, &[u8])>
-        ensures none { IfNone result (items_in bytes.now ≡ []) }
-        ensures some { IfSome result (λ split. items_in bytes.now ≡ split.0 ∷ items_in split.1.now) }
-        ensures shorter { IfSome result (λ split. length split.1.now < length bytes.now) };
+    fn take<R: Read>(incoming: &mut Incoming, wire: &mut Wire<R>) -> Result<Self, ReadFault>
+        requires works { wire.old.has_failed ≡ false }
+        requires within { width ≤ awaited incoming.old }
+        ensures device { (result ≡ Err ReadFault.Device) ↔ IsTrue wire.new.has_failed }
+        ensures value { IfOk result (λ item. TakesItem item_in width incoming.old (R.remaining wire.old.device) incoming.new (R.remaining wire.new.device) item) }
+        ensures end { IfErr result (λ fault. EndsBefore fault (prepend_known incoming.old.waiting (R.remaining wire.old.device)) (R.remaining wire.new.device) (awaited incoming.old)) };
 
-    fn put<W: Write>(&self, wire: &mut Wire<W>) -> Result<(), DeviceFault>
+    fn put<W: Write>(&self, outgoing: &mut Outgoing, wire: &mut Wire<W>) -> Result<(), DeviceFault>
+        requires { wire.old.has_failed ≡ false }
         ensures fault { IsErr result ↔ IsTrue wire.new.has_failed }
-        ensures bytes { Puts result (W.contents wire.old.device) (W.contents wire.new.device) (spelling self.now) };
+        ensures bytes { PutsBut result (W.contents wire.old.device) (W.contents wire.new.device) outgoing.new (outgoing.old ++ spelling self.now) };
 }
 
 impl Item for u16 {
-    ghost items_in = { words_in };
+    ghost width = { 2 };
+
+    ghost item_in = { word_in };
 
     ghost spelling = { word_bytes };
 
-    fn split_first(bytes: &[u8]) -> Option<(u16, &[u8])> {
-        let (word, rest) = bytes.split_first_chunk()?;
-        Some((u16::from_le_bytes(*word), rest))
+    fn take<R: Read>(incoming: &mut Incoming, wire: &mut Wire<R>) -> Result<u16, ReadFault> {
+        let mut bytes = [0; 2];
+        incoming.take(&mut bytes, wire)?;
+        Ok(word_in(&bytes))
     }
 
-    fn put<W: Write>(&self, wire: &mut Wire<W>) -> Result<(), DeviceFault> {
-        wire.put(&word_bytes(*self))
+    fn put<W: Write>(
+        &self,
+        outgoing: &mut Outgoing,
+        wire: &mut Wire<W>,
+    ) -> Result<(), DeviceFault> {
+        outgoing.put(&word_bytes(*self), wire)
     }
 }
 
 impl Item for Reloc {
-    ghost items_in = { relocs_in };
+    ghost width = { 2 };
+
+    ghost item_in = { reloc_in };
 
     ghost spelling = { λ r. word_bytes r.0 };
 
-    fn split_first(bytes: &[u8]) -> Option<(Reloc, &[u8])> {
-        let (word, rest) = u16::split_first(bytes)?;
-        Some((Reloc(word), rest))
+    fn take<R: Read>(incoming: &mut Incoming, wire: &mut Wire<R>) -> Result<Reloc, ReadFault> {
+        Ok(Reloc(u16::take(incoming, wire)?))
     }
 
-    fn put<W: Write>(&self, wire: &mut Wire<W>) -> Result<(), DeviceFault> {
-        self.0.put(wire)
+    fn put<W: Write>(
+        &self,
+        outgoing: &mut Outgoing,
+        wire: &mut Wire<W>,
+    ) -> Result<(), DeviceFault> {
+        self.0.put(outgoing, wire)
     }
 }
 
 impl Item for Symbol {
-    ghost items_in = { table_in };
+    ghost width = { 12 };
+
+    ghost item_in = { symbol_in };
 
     ghost spelling = { symbol_spelling };
 
-    fn split_first(bytes: &[u8]) -> Option<(Symbol, &[u8])> {
-        let (entry, rest) = bytes.split_first_chunk()?;
-        Some((Symbol::from_bytes(entry), rest))
+    fn take<R: Read>(incoming: &mut Incoming, wire: &mut Wire<R>) -> Result<Symbol, ReadFault> {
+        let mut bytes = [0; 12];
+        incoming.take(&mut bytes, wire)?;
+        Ok(Symbol::from_bytes(&bytes))
     }
 
-    fn put<W: Write>(&self, wire: &mut Wire<W>) -> Result<(), DeviceFault> {
-        wire.put(&self.to_bytes())
+    fn put<W: Write>(
+        &self,
+        outgoing: &mut Outgoing,
+        wire: &mut Wire<W>,
+    ) -> Result<(), DeviceFault> {
+        outgoing.put(&self.to_bytes(), wire)
     }
 }
 
-/// Puts the items that the bytes spell behind those that are there.
-pub(crate) fn take_items<T: Item>(bytes: &[u8], items: &mut Vec<T>)
-    requires { vec_len items.old + length (T.items_in bytes.now) ≤ vec_capacity items.old }
-    ensures { items.new.items ≡ items.old.items ++ T.items_in bytes.now }
+/// Puts the next `count` items behind those that are there.
+pub(crate) fn take_items<T: Item, R: Read>(
+    count: usize,
+    items: &mut Vec<T>,
+    incoming: &mut Incoming,
+    wire: &mut Wire<R>,
+) -> Result<(), ReadFault>
+    requires works { wire.old.has_failed ≡ false }
+    requires room { vec_len items.old + count ≤ vec_capacity items.old }
+    requires within { T.width * count ≤ awaited incoming.old }
+    ensures device { (result ≡ Err ReadFault.Device) ↔ IsTrue wire.new.has_failed }
+    ensures value { IfOk result (λ _. TakesRow T.item_in T.width count incoming.old (R.remaining wire.old.device) incoming.new (R.remaining wire.new.device) items.old.items items.new.items) }
+    ensures end { IfErr result (λ fault. EndsBefore fault (prepend_known incoming.old.waiting (R.remaining wire.old.device)) (R.remaining wire.new.device) (awaited incoming.old)) }
 {
-    let mut rest = bytes;
-    while let Some((item, later)) = T::split_first(rest) {
-        items.push(item).unwrap();
-        rest = later;
+    for _ in 0..count {
+        items.push(T::take(incoming, wire)?).unwrap();
     }
+    Ok(())
 }
 
 /// Writes the items, one after another.
 pub(crate) fn put_items<T: Item, W: Write>(
     items: &[T],
+    outgoing: &mut Outgoing,
     wire: &mut Wire<W>,
 ) -> Result<(), DeviceFault>
     requires { wire.old.has_failed ≡ false }
     ensures fault { IsErr result ↔ IsTrue wire.new.has_failed }
-    ensures bytes { Puts result (W.contents wire.old.device) (W.contents wire.new.device) (flat_map T.spelling items.now) }
+    ensures bytes { PutsBut result (W.contents wire.old.device) (W.contents wire.new.device) outgoing.new (outgoing.old ++ flat_map T.spelling items.now) }
 {
     for item in items {
-        item.put(wire)?;
+        item.put(outgoing, wire)?;
     }
     Ok(())
+}
+
+/// Writes one row and then another.
+pub(crate) fn put_both<T: Item, W: Write>(
+    first: &[T],
+    second: &[T],
+    outgoing: &mut Outgoing,
+    wire: &mut Wire<W>,
+) -> Result<(), DeviceFault>
+    requires { wire.old.has_failed ≡ false }
+    ensures fault { IsErr result ↔ IsTrue wire.new.has_failed }
+    ensures bytes { PutsBut result (W.contents wire.old.device) (W.contents wire.new.device) outgoing.new (outgoing.old ++ (flat_map T.spelling first.now ++ flat_map T.spelling second.now)) }
+{
+    put_items(first, outgoing, wire)?;
+    put_items(second, outgoing, wire)
 }

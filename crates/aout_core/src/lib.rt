@@ -7,10 +7,12 @@
 mod block;
 mod file;
 mod header;
+mod incoming;
 mod item;
 pub mod laws;
 mod name;
 mod object;
+mod outgoing;
 mod reader;
 mod reloc;
 pub mod samples;

@@ -1,13 +1,12 @@
 //! Reading a file.
-ghost use Rattle.std.specs.Prelude.{◌≡◌, ◌↔◌, ◌+◌, ◌≤◌, ◌++◌, ℕ, List, false, length, IfOk, IfSome, IsTrue};
+ghost use Rattle.std.specs.Prelude.{◌≡◌, ◌↔◌, false, IfOk, IfErr, IfSome, IsTrue};
 ghost use Rattle.aout_core.specs.Contents.{has_whole_sizes};
 ghost use Rattle.aout_core.specs.Parts.{contents_of};
-ghost use Rattle.aout_core.specs.Spelling.{file_length};
-ghost use Rattle.aout_core.specs.Front.{contents_in};
-ghost use Rattle.aout_core.specs.Reading.{HasRoom, IsBodyRead, IsFileHeader, IsHeaderRead, IsReadOf, LeavesAfter};
+ghost use Rattle.aout_core.specs.Reading.{HasRoom, IsBodyRead, IsFileHeader, IsHeaderRead, IsReadOf, LeavesAfter, TakesBody};
 
 use crate::file::{File, Parts, ReadFault, has_whole_sizes, is_magic};
 use crate::header::Header;
+use crate::incoming::Incoming;
 use crate::item::take_items;
 use crate::wire::Wire;
 use std::alloc::{AllocError, Global};
@@ -29,35 +28,36 @@ fn parts_with_room(alloc: Global, header: Header) -> Result<Parts, AllocError>
     })
 }
 
-/// Room for the bytes of a file behind its header.
-fn body_with_room(alloc: Global, header: &Header) -> Result<Vec<u8>, AllocError>
-    ensures { IfOk result (λ body. 16 + length body.items ≡ file_length header.now) }
-{
-    let segments = header.text_size as usize + header.data_size as usize;
-    let text_reloc = header.with_relocation(header.text_size) as usize;
-    let data_reloc = header.with_relocation(header.data_size) as usize;
-    vec![in alloc; 0; segments + text_reloc + data_reloc + header.symbol_size as usize]
-}
-
-/// The parts that the bytes behind the header spell.
-#[tactic(auto, using(crate::proofs::BodyLemmas::by_length))]
-fn with_body(mut parts: Parts, body: &[u8]) -> Parts
+/// Fills the lists of the parts, in their order.
+fn read_lists<R: Read>(mut parts: Parts, wire: &mut Wire<R>) -> Result<Parts, ReadFault>
+    requires works { wire.old.has_failed ≡ false }
     requires room { HasRoom parts.header parts }
     requires sizes { IsTrue (has_whole_sizes parts.header) }
-    requires long { 16 + length body.now ≡ file_length parts.header }
-    ensures { (start rest : List ℕ) → length start ≡ 16 → contents_of result ≡ contents_in parts.header (start ++ (body.now ++ rest)) }
+    ensures device { (result ≡ Err ReadFault.Device) ↔ IsTrue wire.new.has_failed }
+    ensures value { IfOk result (λ read. TakesBody parts.header (R.remaining wire.old.device) (R.remaining wire.new.device) (contents_of read)) }
+    ensures end { IfErr result (λ fault. IsBodyRead parts.header (R.remaining wire.old.device) (R.remaining wire.new.device) (Err fault)) }
 {
     let header = parts.header;
-    let (text, rest) = body.split_at(header.text_size as usize);
-    let (data, rest) = rest.split_at(header.data_size as usize);
-    let (text_reloc, rest) = rest.split_at(header.with_relocation(header.text_size) as usize);
-    let (data_reloc, table) = rest.split_at(header.with_relocation(header.data_size) as usize);
-    take_items(text, &mut parts.text_words);
-    take_items(data, &mut parts.data_words);
-    take_items(text_reloc, &mut parts.text_reloc);
-    take_items(data_reloc, &mut parts.data_reloc);
-    take_items(table, &mut parts.symbols);
-    parts
+    let text_reloc = header.with_relocation(header.text_size) as usize;
+    let data_reloc = header.with_relocation(header.data_size) as usize;
+    let symbols = header.symbol_size as usize;
+    let mut from = Incoming::new(header.body_size());
+    take_items(
+        header.text_size as usize / 2,
+        &mut parts.text_words,
+        &mut from,
+        wire,
+    )?;
+    take_items(
+        header.data_size as usize / 2,
+        &mut parts.data_words,
+        &mut from,
+        wire,
+    )?;
+    take_items(text_reloc / 2, &mut parts.text_reloc, &mut from, wire)?;
+    take_items(data_reloc / 2, &mut parts.data_reloc, &mut from, wire)?;
+    take_items(symbols / 12, &mut parts.symbols, &mut from, wire)?;
+    Ok(parts)
 }
 
 /// Reads a header, and refuses one that no file has.
@@ -87,12 +87,8 @@ fn read_body<R: Read>(alloc: Global, header: Header, wire: &mut Wire<R>) -> Resu
     ensures device { (result ≡ Err ReadFault.Device) ↔ IsTrue wire.new.has_failed }
     ensures value { IsBodyRead header (R.remaining wire.old.device) (R.remaining wire.new.device) result }
 {
-    let parts = parts_with_room(alloc, header)?;
-    let mut body = body_with_room(alloc, &header)?;
-    if wire.fill(&mut body)? < body.len() {
-        return Err(ReadFault::Truncated);
-    }
-    Ok(File::from_parts(with_body(parts, &body)))
+    let parts = read_lists(parts_with_room(alloc, header)?, wire)?;
+    Ok(File::from_parts(parts))
 }
 
 /// Reads one file, and leaves what stands behind its symbols. (a.out(5); the refusals: own choice)

@@ -1,52 +1,88 @@
-use Rattle.std.proofs.Common.{List, ℕ, subst, rules}
-use Rattle.std.specs.Io.KnownBytes.{Appends}
-use Rattle.aout_core.specs.declared.header.Header.{Header}
-use Rattle.aout_core.specs.declared.reloc.Reloc.{Reloc}
+use Rattle.std.proofs.Common.{◌≡◌, ◌++◌, ◌∙◌, ap, subst}
+use Rattle.std.specs.List.{flat_map}
 use Rattle.aout_core.specs.Words.{all_word_bytes}
-use Rattle.aout_core.specs.Spelling.{header_spelling, reloc_spelling}
-use Rattle.aout_core.proofs.FilePutLemmas.{broke_in_header, broke_in_text, broke_in_data, broke_in_text_reloc, broke_in_data_reloc, puts_file}
+use Rattle.aout_core.specs.Spelling.{header_spelling, reloc_spelling, symbol_spelling, spelling}
+use Rattle.aout_core.specs.Wires.{AppendsFront}
+use Rattle.aout_core.specs.Blocks.{AppendsBut}
+use Rattle.aout_core.proofs.PutsLemmas.{put_broke_off}
+use Rattle.aout_core.proofs.OutgoingLemmas.{put_at_last}
+use Rattle.aout_core.proofs.FilePutLemmas.{segments, relocation, broke_in_header, broke_in_segments, broke_in_relocation, broke_in_table, sent_segments, sent_relocation, sent_symbols}
 use Rattle.aout_core.proofs.writer.write_file.Goals as goal
 
-pub returns-in_err-put_header-clause-bytes : goal.returns-in_err-put_header-clause-bytes
-returns-in_err-put_header-clause-bytes g c =
-    let front = broke_in_header c.args.file.now (g.W.Write.contents c.args.wire.now.device) (g.W.Write.contents c.put_header.new.wire.device) (search rules) in
-    search rules
+pub returns-in_err-put-clause-bytes : goal.returns-in_err-put-clause-bytes
+returns-in_err-put-clause-bytes g c =
+    let f = c.args.file.now in
+    let a = g.W.Write.contents c.args.wire.now.device in
+    let b = g.W.Write.contents c.put.new.wire.device in
+    let header : c.new-outgoing.result ++ c.to_bytes.result ≡ header_spelling f.header = ap (λ l. l ++ c.to_bytes.result) c.new-outgoing.ensures ∙ c.to_bytes.ensures ∙ ap header_spelling c.header.ensures.value in
+    put_broke_off c.from_residual.result a b (spelling f) c.from_residual.ensures.0 (broke_in_header f a b (subst (AppendsFront a b) header c.in_err-put.ensures.bytes))
+
+pub returns-in_err-put_both-clause-bytes : goal.returns-in_err-put_both-clause-bytes
+returns-in_err-put_both-clause-bytes g c =
+    let f = c.args.file.now in
+    let a = g.W.Write.contents c.args.wire.now.device in
+    let b = g.W.Write.contents c.put.new.wire.device in
+    let header : c.new-outgoing.result ++ c.to_bytes.result ≡ header_spelling f.header = ap (λ l. l ++ c.to_bytes.result) c.new-outgoing.ensures ∙ c.to_bytes.ensures ∙ ap header_spelling c.header.ensures.value in
+    let sent_header = subst (AppendsBut a b c.put.new.self) header c.in_ok-put.ensures.bytes in
+    let d = g.W.Write.contents c.put_both.new.wire.device in
+    let words : all_word_bytes c.text_words.result.now ++ all_word_bytes c.data_words.result.now ≡ segments f =
+    ap (λ ws. all_word_bytes ws ++ all_word_bytes c.data_words.result.now) c.text_words.ensures.value ∙ ap (λ ws. all_word_bytes f.text_words ++ all_word_bytes ws) c.data_words.ensures.value in
+    put_broke_off c.from_residual-in_err-put_both.result a d (spelling f) c.from_residual-in_err-put_both.ensures.0
+    (broke_in_segments f a b d c.put.new.self sent_header (subst (λ l. AppendsFront b d (c.put.new.self ++ l)) words c.in_err-put_both.ensures.bytes))
+
+pub returns-in_err-put_both-2-clause-bytes : goal.returns-in_err-put_both-2-clause-bytes
+returns-in_err-put_both-2-clause-bytes g c =
+    let f = c.args.file.now in
+    let a = g.W.Write.contents c.args.wire.now.device in
+    let b = g.W.Write.contents c.put.new.wire.device in
+    let header : c.new-outgoing.result ++ c.to_bytes.result ≡ header_spelling f.header = ap (λ l. l ++ c.to_bytes.result) c.new-outgoing.ensures ∙ c.to_bytes.ensures ∙ ap header_spelling c.header.ensures.value in
+    let sent_header = subst (AppendsBut a b c.put.new.self) header c.in_ok-put.ensures.bytes in
+    let d = g.W.Write.contents c.put_both.new.wire.device in
+    let words : all_word_bytes c.text_words.result.now ++ all_word_bytes c.data_words.result.now ≡ segments f =
+    ap (λ ws. all_word_bytes ws ++ all_word_bytes c.data_words.result.now) c.text_words.ensures.value ∙ ap (λ ws. all_word_bytes f.text_words ++ all_word_bytes ws) c.data_words.ensures.value in
+    let sent_words = sent_segments f a b d c.put.new.self c.put_both.new.outgoing sent_header (subst (λ l. AppendsBut b d c.put_both.new.outgoing (c.put.new.self ++ l)) words c.in_ok-put_both.ensures.bytes) in
+    let e = g.W.Write.contents c.put_both-2.new.wire.device in
+    let relocs : reloc_spelling c.text_reloc.result.now ++ reloc_spelling c.data_reloc.result.now ≡ relocation f =
+    ap (λ rs. reloc_spelling rs ++ reloc_spelling c.data_reloc.result.now) c.text_reloc.ensures.value ∙ ap (λ rs. reloc_spelling f.text_reloc ++ reloc_spelling rs) c.data_reloc.ensures.value in
+    put_broke_off c.from_residual-in_err-put_both-2.result a e (spelling f) c.from_residual-in_err-put_both-2.ensures.0
+    (broke_in_relocation f a d e c.put_both.new.outgoing sent_words (subst (λ l. AppendsFront d e (c.put_both.new.outgoing ++ l)) relocs c.in_err-put_both-2.ensures.bytes))
 
 pub returns-in_err-put_items-clause-bytes : goal.returns-in_err-put_items-clause-bytes
 returns-in_err-put_items-clause-bytes g c =
-    let header = subst (λ (part : Header). Appends (g.W.Write.contents c.args.wire.now.device) (g.W.Write.contents c.put_header.new.wire.device) (header_spelling part)) c.header.ensures.value c.in_ok-put_header.ensures.bytes in
-    let front = broke_in_text c.args.file.now (g.W.Write.contents c.args.wire.now.device) (g.W.Write.contents c.put_header.new.wire.device) (g.W.Write.contents c.put_items.new.wire.device) header (search rules) in
-    search rules
-
-pub returns-in_err-put_items-2-clause-bytes : goal.returns-in_err-put_items-2-clause-bytes
-returns-in_err-put_items-2-clause-bytes g c =
-    let header = subst (λ (part : Header). Appends (g.W.Write.contents c.args.wire.now.device) (g.W.Write.contents c.put_header.new.wire.device) (header_spelling part)) c.header.ensures.value c.in_ok-put_header.ensures.bytes in
-    let text = subst (λ (part : List ℕ). Appends (g.W.Write.contents c.put_header.new.wire.device) (g.W.Write.contents c.put_items.new.wire.device) (all_word_bytes part)) c.text_words.ensures.value c.in_ok-put_items.ensures.bytes in
-    let front = broke_in_data c.args.file.now (g.W.Write.contents c.args.wire.now.device) (g.W.Write.contents c.put_header.new.wire.device) (g.W.Write.contents c.put_items.new.wire.device) (g.W.Write.contents c.put_items-2.new.wire.device) header text (search rules) in
-    search rules
-
-pub returns-in_err-put_items-3-clause-bytes : goal.returns-in_err-put_items-3-clause-bytes
-returns-in_err-put_items-3-clause-bytes g c =
-    let header = subst (λ (part : Header). Appends (g.W.Write.contents c.args.wire.now.device) (g.W.Write.contents c.put_header.new.wire.device) (header_spelling part)) c.header.ensures.value c.in_ok-put_header.ensures.bytes in
-    let text = subst (λ (part : List ℕ). Appends (g.W.Write.contents c.put_header.new.wire.device) (g.W.Write.contents c.put_items.new.wire.device) (all_word_bytes part)) c.text_words.ensures.value c.in_ok-put_items.ensures.bytes in
-    let words = subst (λ (part : List ℕ). Appends (g.W.Write.contents c.put_items.new.wire.device) (g.W.Write.contents c.put_items-2.new.wire.device) (all_word_bytes part)) c.data_words.ensures.value c.in_ok-put_items-2.ensures.bytes in
-    let front = broke_in_text_reloc c.args.file.now (g.W.Write.contents c.args.wire.now.device) (g.W.Write.contents c.put_header.new.wire.device) (g.W.Write.contents c.put_items.new.wire.device) (g.W.Write.contents c.put_items-2.new.wire.device) (g.W.Write.contents c.put_items-3.new.wire.device) header text words (search rules) in
-    search rules
-
-pub returns-in_err-put_items-4-clause-bytes : goal.returns-in_err-put_items-4-clause-bytes
-returns-in_err-put_items-4-clause-bytes g c =
-    let header = subst (λ (part : Header). Appends (g.W.Write.contents c.args.wire.now.device) (g.W.Write.contents c.put_header.new.wire.device) (header_spelling part)) c.header.ensures.value c.in_ok-put_header.ensures.bytes in
-    let text = subst (λ (part : List ℕ). Appends (g.W.Write.contents c.put_header.new.wire.device) (g.W.Write.contents c.put_items.new.wire.device) (all_word_bytes part)) c.text_words.ensures.value c.in_ok-put_items.ensures.bytes in
-    let words = subst (λ (part : List ℕ). Appends (g.W.Write.contents c.put_items.new.wire.device) (g.W.Write.contents c.put_items-2.new.wire.device) (all_word_bytes part)) c.data_words.ensures.value c.in_ok-put_items-2.ensures.bytes in
-    let first = subst (λ (part : List Reloc). Appends (g.W.Write.contents c.put_items-2.new.wire.device) (g.W.Write.contents c.put_items-3.new.wire.device) (reloc_spelling part)) c.text_reloc.ensures.value c.in_ok-put_items-3.ensures.bytes in
-    let front = broke_in_data_reloc c.args.file.now (g.W.Write.contents c.args.wire.now.device) (g.W.Write.contents c.put_header.new.wire.device) (g.W.Write.contents c.put_items.new.wire.device) (g.W.Write.contents c.put_items-2.new.wire.device) (g.W.Write.contents c.put_items-3.new.wire.device) (g.W.Write.contents c.put_items-4.new.wire.device) header text words first (search rules) in
-    search rules
+    let f = c.args.file.now in
+    let a = g.W.Write.contents c.args.wire.now.device in
+    let b = g.W.Write.contents c.put.new.wire.device in
+    let header : c.new-outgoing.result ++ c.to_bytes.result ≡ header_spelling f.header = ap (λ l. l ++ c.to_bytes.result) c.new-outgoing.ensures ∙ c.to_bytes.ensures ∙ ap header_spelling c.header.ensures.value in
+    let sent_header = subst (AppendsBut a b c.put.new.self) header c.in_ok-put.ensures.bytes in
+    let d = g.W.Write.contents c.put_both.new.wire.device in
+    let words : all_word_bytes c.text_words.result.now ++ all_word_bytes c.data_words.result.now ≡ segments f =
+    ap (λ ws. all_word_bytes ws ++ all_word_bytes c.data_words.result.now) c.text_words.ensures.value ∙ ap (λ ws. all_word_bytes f.text_words ++ all_word_bytes ws) c.data_words.ensures.value in
+    let sent_words = sent_segments f a b d c.put.new.self c.put_both.new.outgoing sent_header (subst (λ l. AppendsBut b d c.put_both.new.outgoing (c.put.new.self ++ l)) words c.in_ok-put_both.ensures.bytes) in
+    let e = g.W.Write.contents c.put_both-2.new.wire.device in
+    let relocs : reloc_spelling c.text_reloc.result.now ++ reloc_spelling c.data_reloc.result.now ≡ relocation f =
+    ap (λ rs. reloc_spelling rs ++ reloc_spelling c.data_reloc.result.now) c.text_reloc.ensures.value ∙ ap (λ rs. reloc_spelling f.text_reloc ++ reloc_spelling rs) c.data_reloc.ensures.value in
+    let sent_relocs = sent_relocation f a d e c.put_both.new.outgoing c.put_both-2.new.outgoing sent_words (subst (λ l. AppendsBut d e c.put_both-2.new.outgoing (c.put_both.new.outgoing ++ l)) relocs c.in_ok-put_both-2.ensures.bytes) in
+    let h = g.W.Write.contents c.put_items.new.wire.device in
+    let table : flat_map symbol_spelling c.symbols.result.now ≡ flat_map symbol_spelling f.symbols = ap (flat_map symbol_spelling) c.symbols.ensures.value in
+    put_broke_off c.from_residual-in_err-put_items.result a h (spelling f) c.from_residual-in_err-put_items.ensures.0
+    (broke_in_table f a e h c.put_both-2.new.outgoing sent_relocs (subst (λ l. AppendsFront e h (c.put_both-2.new.outgoing ++ l)) table c.in_err-put_items.ensures.bytes))
 
 pub returns-clause-bytes : goal.returns-clause-bytes
 returns-clause-bytes g c =
-    let header = subst (λ (part : Header). Appends (g.W.Write.contents c.args.wire.now.device) (g.W.Write.contents c.put_header.new.wire.device) (header_spelling part)) c.header.ensures.value c.in_ok-put_header.ensures.bytes in
-    let text = subst (λ (part : List ℕ). Appends (g.W.Write.contents c.put_header.new.wire.device) (g.W.Write.contents c.put_items.new.wire.device) (all_word_bytes part)) c.text_words.ensures.value c.in_ok-put_items.ensures.bytes in
-    let words = subst (λ (part : List ℕ). Appends (g.W.Write.contents c.put_items.new.wire.device) (g.W.Write.contents c.put_items-2.new.wire.device) (all_word_bytes part)) c.data_words.ensures.value c.in_ok-put_items-2.ensures.bytes in
-    let first = subst (λ (part : List Reloc). Appends (g.W.Write.contents c.put_items-2.new.wire.device) (g.W.Write.contents c.put_items-3.new.wire.device) (reloc_spelling part)) c.text_reloc.ensures.value c.in_ok-put_items-3.ensures.bytes in
-    let second = subst (λ (part : List Reloc). Appends (g.W.Write.contents c.put_items-3.new.wire.device) (g.W.Write.contents c.put_items-4.new.wire.device) (reloc_spelling part)) c.data_reloc.ensures.value c.in_ok-put_items-4.ensures.bytes in
-    puts_file c.put_items-5.result c.args.file.now (g.W.Write.contents c.args.wire.now.device) (g.W.Write.contents c.put_header.new.wire.device) (g.W.Write.contents c.put_items.new.wire.device) (g.W.Write.contents c.put_items-2.new.wire.device) (g.W.Write.contents c.put_items-3.new.wire.device) (g.W.Write.contents c.put_items-4.new.wire.device) (g.W.Write.contents c.put_items-5.new.wire.device) header text words first second (search rules)
+    let f = c.args.file.now in
+    let a = g.W.Write.contents c.args.wire.now.device in
+    let b = g.W.Write.contents c.put.new.wire.device in
+    let header : c.new-outgoing.result ++ c.to_bytes.result ≡ header_spelling f.header = ap (λ l. l ++ c.to_bytes.result) c.new-outgoing.ensures ∙ c.to_bytes.ensures ∙ ap header_spelling c.header.ensures.value in
+    let sent_header = subst (AppendsBut a b c.put.new.self) header c.in_ok-put.ensures.bytes in
+    let d = g.W.Write.contents c.put_both.new.wire.device in
+    let words : all_word_bytes c.text_words.result.now ++ all_word_bytes c.data_words.result.now ≡ segments f =
+    ap (λ ws. all_word_bytes ws ++ all_word_bytes c.data_words.result.now) c.text_words.ensures.value ∙ ap (λ ws. all_word_bytes f.text_words ++ all_word_bytes ws) c.data_words.ensures.value in
+    let sent_words = sent_segments f a b d c.put.new.self c.put_both.new.outgoing sent_header (subst (λ l. AppendsBut b d c.put_both.new.outgoing (c.put.new.self ++ l)) words c.in_ok-put_both.ensures.bytes) in
+    let e = g.W.Write.contents c.put_both-2.new.wire.device in
+    let relocs : reloc_spelling c.text_reloc.result.now ++ reloc_spelling c.data_reloc.result.now ≡ relocation f =
+    ap (λ rs. reloc_spelling rs ++ reloc_spelling c.data_reloc.result.now) c.text_reloc.ensures.value ∙ ap (λ rs. reloc_spelling f.text_reloc ++ reloc_spelling rs) c.data_reloc.ensures.value in
+    let sent_relocs = sent_relocation f a d e c.put_both.new.outgoing c.put_both-2.new.outgoing sent_words (subst (λ l. AppendsBut d e c.put_both-2.new.outgoing (c.put_both.new.outgoing ++ l)) relocs c.in_ok-put_both-2.ensures.bytes) in
+    let h = g.W.Write.contents c.put_items.new.wire.device in
+    let table : flat_map symbol_spelling c.symbols.result.now ≡ flat_map symbol_spelling f.symbols = ap (flat_map symbol_spelling) c.symbols.ensures.value in
+    let sent_table = sent_symbols f a e h c.put_both-2.new.outgoing c.put_items.new.outgoing sent_relocs (subst (λ l. AppendsBut e h c.put_items.new.outgoing (c.put_both-2.new.outgoing ++ l)) table c.in_ok-put_items.ensures.bytes) in
+    put_at_last c.finish.result a h (g.W.Write.contents c.finish.new.wire.device) c.put_items.new.outgoing (spelling f) sent_table c.finish.ensures.bytes

@@ -1,0 +1,79 @@
+//! Bytes on their way from a wire.
+ghost use Rattle.std.specs.Prelude.{◌≡◌, ◌↔◌, ◌≤◌, false};
+
+use crate::block::{BLOCK_SIZE, Block};
+use crate::file::ReadFault;
+use crate::wire::Wire;
+use std::io::Read;
+use std::marker::Model;
+
+/// The bytes of a file behind its header, read in blocks, and never more of them than are missing. Contracts see
+/// those that were read and not taken, and how many were not read.
+#[derive(Drop)]
+pub(crate) struct Incoming {
+    block: Block,
+    missing: usize,
+}
+
+impl Model for Incoming {
+    ghost use Rattle.aout_core.specs.Blocks.{Awaited};
+
+    ghost Value = { Awaited };
+
+    ghost view = { λ a. record { waiting = a.block; missing = a.missing } };
+}
+
+impl Incoming {
+    ghost use Rattle.std.specs.Prelude.{◌≡◌, ◌↔◌, ◌≤◌, [], false, length, IfOk, IfErr, IsTrue, Err};
+    ghost use Rattle.std.specs.Io.KnownBytes.{prepend_known};
+    ghost use Rattle.aout_core.specs.declared.block.TheConstants.{BLOCK_SIZE};
+    ghost use Rattle.aout_core.specs.Blocks.{awaited, EndsBefore, Refills, Takes};
+
+    /// Nothing was read yet.
+    pub(crate) fn new(missing: usize) -> Incoming
+        ensures { result ≡ record { waiting = []; missing = missing } }
+    {
+        Incoming {
+            block: Block::new(),
+            missing,
+        }
+    }
+
+    /// Reads the next block, or what is missing where that is less.
+    fn refill<R: Read>(&mut self, wire: &mut Wire<R>) -> Result<(), ReadFault>
+        requires works { wire.old.has_failed ≡ false }
+        requires empty { self.old.waiting ≡ [] }
+        ensures device { (result ≡ Err ReadFault.Device) ↔ IsTrue wire.new.has_failed }
+        ensures value { IfOk result (λ _. Refills BLOCK_SIZE self.old.missing (R.remaining wire.old.device) (R.remaining wire.new.device) self.new) }
+        ensures end { IfErr result (λ fault. EndsBefore fault (R.remaining wire.old.device) (R.remaining wire.new.device) self.old.missing) }
+    {
+        self.block.fill(self.missing, wire)?;
+        let n = self.block.waiting().len();
+        if n < self.missing.min(BLOCK_SIZE) {
+            return Err(ReadFault::Truncated);
+        }
+        self.missing -= n;
+        Ok(())
+    }
+
+    /// Fills `out` with the next bytes.
+    pub(crate) fn take<R: Read>(
+        &mut self,
+        out: &mut [u8],
+        wire: &mut Wire<R>,
+    ) -> Result<(), ReadFault>
+        requires works { wire.old.has_failed ≡ false }
+        requires short { length out.old ≤ BLOCK_SIZE }
+        requires within { length out.old ≤ awaited self.old }
+        ensures device { (result ≡ Err ReadFault.Device) ↔ IsTrue wire.new.has_failed }
+        ensures value { IfOk result (λ _. Takes self.old (R.remaining wire.old.device) self.new (R.remaining wire.new.device) out.new) }
+        ensures end { IfErr result (λ fault. EndsBefore fault (prepend_known self.old.waiting (R.remaining wire.old.device)) (R.remaining wire.new.device) (awaited self.old)) }
+    {
+        let n = self.block.give_out(out);
+        if n < out.len() {
+            self.refill(wire)?;
+            self.block.give_out(&mut out[n..]);
+        }
+        Ok(())
+    }
+}
