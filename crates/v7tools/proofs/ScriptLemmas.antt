@@ -7,11 +7,15 @@ use Rattle.v7tools.specs.declared.fault.CliFault.TheVariants as faults
 use Rattle.v7tools.specs.declared.lines.Line.{Line}
 use Rattle.v7tools.specs.declared.script.Stop.TheVariants as stops
 use Rattle.v7tools.specs.Scripts.{asked, lines_in, on_first, long_line, many_lines, and_given, ends_with_fault, given_behind}
-use Rattle.v7tools.specs.ScriptAnswers.{Answer, asked_by, HasNone, behind_line, IfTold, IsStopOf, IsTakenOf, IsNextOf}
+use Rattle.v7tools.specs.ScriptAnswers.{Answer, asked_by, HasLine, HasNone, behind_line, IfTold, IsStopOf, IsTakenOf, IsNextOf}
 
 pub has_none_push : (line : List ℕ) (b : ℕ) → HasNone line → b ≢ 10 → HasNone (line ++ b ∷ [])
 has_none_push [] b h n = (n, tt)
 has_none_push (x ∷ line) b h n = (h.0, has_none_push line b h.1 n)
+
+-- a line whose newline is not among these bytes goes on behind them
+pub goes_on : (all line held : List ℕ) → HasNone line → all ≡ line ++ held → HasLine all → held ≡ [] → ⊥
+goes_on all line held none split whole empty = whole (subst HasNone (sym (split ∙ ap (λ (l : List ℕ). line ++ l) empty ∙ append-nil line)) none)
 
 -- ---- the lines of bytes
 

@@ -1,5 +1,5 @@
 -- What the reader of a script answers, call by call.
-use Rattle.std.specs.Prelude.{◌≡◌, ◌≢◌, ◌↔◌, ◌+◌, ◌≤◌, ℕ, Bool, true, cond, eqb, List, [], ◌∷◌, ◌++◌, drop, length, Option, Some, None, Result, Ok, Err, IfSome, IsSome, string_bytes}
+use Rattle.std.specs.Prelude.{◌≡◌, ◌≢◌, ◌↔◌, ◌⊎◌, ◌+◌, ◌≤◌, ℕ, Bool, true, cond, eqb, List, [], ◌∷◌, ◌++◌, drop, length, Option, Some, None, Result, Ok, Err, IfSome, IsSome, string_bytes}
 use Rattle.std.specs.Io.KnownBytes.{Consumes, IsAtEnd}
 use Rattle.aout_core.specs.Wires.{Latched}
 use Rattle.v7tools.specs.declared.commands.Command.{Command}
@@ -37,9 +37,11 @@ IsCommandOf _ _ = ⊥
 abbrev pub Answer : Type 0
 Answer = Result (Option Line) CliFault
 
--- a script: its reader, how many lines it gave, and the answer of each further call, once that is settled
+-- a script: its reader, the bytes that were read and not taken, how many lines it gave, and the answer of each further
+-- call, once that is settled
 pub record Progress (R : Type 0) : Type 0 where
   pub wire : Latched R
+  pub held : List ℕ
   pub line_count : ℕ
   pub settled : Option Answer
 
@@ -73,6 +75,14 @@ behind_line (b ∷ bs) = cond (eqb b 10) bs (behind_line bs)
 abbrev pub HasNone : List ℕ → Type 0
 HasNone [] = Unit {0}
 HasNone (b ∷ bs) = (b ≢ 10) × HasNone bs
+
+-- there is a whole line, with its newline
+abbrev pub HasLine : List ℕ → Type 0
+HasLine bytes = HasNone bytes → ⊥
+
+-- behind so many lines these bytes tell the next answer, whatever stands behind them
+abbrev pub NeedsNoMore : ℕ → List ℕ → Type 0
+NeedsNoMore n bytes = HasLine bytes ⊎ ((n ≡ 1000000) × (bytes ≢ []))
 
 -- behind so many lines there is one more, which asks for this, and it was taken with its newline
 abbrev pub TakesLine : ℕ → List ℕ → List ℕ → Asked → Type 0

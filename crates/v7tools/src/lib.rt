@@ -3,6 +3,7 @@
 
 mod additions;
 mod answers;
+mod block_reader;
 mod commands;
 mod fault;
 mod inputs;

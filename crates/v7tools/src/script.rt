@@ -1,9 +1,11 @@
 //! The reader of a script.
-ghost use Rattle.std.specs.Prelude.{◌≡◌, ◌↔◌, ◌+◌, ◌≤◌, [], ◌∷◌, IfErr, IfNone, IfOk, IfSome, IsErr, IsTrue, Err, None, Ok, Some, vec_capacity, vec_len};
-ghost use Rattle.std.specs.Io.KnownBytes.{Consumes, IsAtEnd, Keeps};
+ghost use Rattle.std.specs.Prelude.{◌≡◌, ◌↔◌, ◌+◌, ◌<◌, ◌≤◌, [], IfErr, IfOk, IfSome, IsTrue, Err, None, Ok, Some, length, vec_capacity, vec_len};
+ghost use Rattle.std.specs.Io.KnownBytes.{prepend_known};
+ghost use Rattle.aout_core.specs.declared.block.TheConstants.{BLOCK_SIZE};
 ghost use Rattle.v7tools.specs.declared.fault.CliFault.TheVariants.{Memory, ScriptFailed};
-ghost use Rattle.v7tools.specs.ScriptAnswers.{answer_of, EndsLine, IfTold, IsNextOf, IsStopOf, IsTakenOf, lines_of, Settles};
+ghost use Rattle.v7tools.specs.ScriptAnswers.{answer_of, EndsLine, HasLine, IfTold, IsNextOf, IsStopOf, IsTakenOf, lines_of, NeedsNoMore, Settles};
 
+use crate::block_reader::BlockReader;
 use crate::fault::CliFault;
 use crate::lines::Line;
 use aout_core::{DeviceFault, Wire};
@@ -51,42 +53,30 @@ impl Stop {
     }
 }
 
-/// Asks for one byte.
-fn next_byte<R: Read>(wire: &mut Wire<R>) -> Result<Option<u8>, DeviceFault>
-    ensures fault { IsErr result ↔ IsTrue wire.new.has_failed }
-    ensures latched { IsTrue wire.old.has_failed → (wire.new ≡ wire.old) }
-    ensures byte { IfOk result (λ o. IfSome o (λ b. Consumes (R.remaining wire.old.device) (R.remaining wire.new.device) (b ∷ []))) }
-    ensures end { IfOk result (λ o. IfNone o (Consumes (R.remaining wire.old.device) (R.remaining wire.new.device) [] × IsAtEnd (R.remaining wire.new.device))) }
-    ensures kept { IfErr result (λ _. Keeps (R.remaining wire.old.device) (R.remaining wire.new.device)) }
-{
-    let mut byte = [0; 1];
-    let n = wire.read(&mut byte)?;
-    if n == 0 { Ok(None) } else { Ok(Some(byte[0])) }
-}
-
-/// Reads a line, at most `LINE_LIMIT` bytes of it.
-fn read_line<R: Read>(wire: &mut Wire<R>, line: &mut Vec<u8>) -> Ending
+/// Takes a line, at most `LINE_LIMIT` bytes of it.
+fn read_line<R: Read>(reader: &mut BlockReader<R>, line: &mut Vec<u8>) -> Ending
     requires { LINE_LIMIT ≤ vec_capacity line.old }
     ensures room { LINE_LIMIT ≤ vec_capacity line.new }
-    ensures failed { (result ≡ Ending.Failed) ↔ IsTrue wire.new.has_failed }
-    ensures latched { IsTrue wire.old.has_failed → (wire.new ≡ wire.old) }
-    ensures ends { EndsLine result (R.remaining wire.old.device) (R.remaining wire.new.device) line.new.items }
+    ensures failed { (result ≡ Ending.Failed) ↔ IsTrue reader.new.wire.has_failed }
+    ensures latched { IsTrue reader.old.wire.has_failed → (reader.new ≡ reader.old) }
+    ensures ends { EndsLine result (prepend_known reader.old.held (R.remaining reader.old.wire.device)) (prepend_known reader.new.held (R.remaining reader.new.wire.device)) line.new.items }
+    ensures unasked { HasLine reader.old.held → reader.new.wire ≡ reader.old.wire }
     ensures long { result ≡ Ending.Long → vec_len line.new ≡ LINE_LIMIT }
     ensures short { vec_len line.new ≤ LINE_LIMIT }
 {
     line.clear();
-    if wire.failed() {
+    if reader.failed() {
         return Ending::Failed;
     }
     for _ in 0..LINE_LIMIT {
-        match next_byte(wire) {
+        match reader.next_byte() {
             Ok(Some(b'\n')) => return Ending::Newline,
             Ok(Some(byte)) => line.push(byte).unwrap(),
             Ok(None) => return Ending::End,
             Err(DeviceFault) => return Ending::Failed,
         }
     }
-    match next_byte(wire) {
+    match reader.next_byte() {
         Ok(Some(b'\n')) => Ending::Newline,
         Ok(Some(_)) => Ending::Long,
         Ok(None) => Ending::End,
@@ -95,33 +85,39 @@ fn read_line<R: Read>(wire: &mut Wire<R>, line: &mut Vec<u8>) -> Ending
 }
 
 /// Asks whether there is a line behind the last one that a script may have, and answers why there is none to give.
-fn stop_at_limit<R: Read>(wire: &mut Wire<R>) -> Stop
-    ensures failed { (result ≡ Stop.ReadFailed) ↔ IsTrue wire.new.has_failed }
-    ensures latched { IsTrue wire.old.has_failed → (wire.new ≡ wire.old) }
-    ensures value { IfTold (R.remaining wire.old.device) (R.remaining wire.new.device) (λ bytes left. IsStopOf 1000000 bytes left result) }
+fn stop_at_limit<R: Read>(reader: &mut BlockReader<R>) -> Stop
+    ensures failed { (result ≡ Stop.ReadFailed) ↔ IsTrue reader.new.wire.has_failed }
+    ensures latched { IsTrue reader.old.wire.has_failed → (reader.new ≡ reader.old) }
+    ensures value { IfTold (prepend_known reader.old.held (R.remaining reader.old.wire.device)) (prepend_known reader.new.held (R.remaining reader.new.wire.device)) (λ bytes left. IsStopOf 1000000 bytes left result) }
+    ensures unasked { (reader.old.held ≡ [] → ⊥) → reader.new.wire ≡ reader.old.wire }
 {
-    match next_byte(wire) {
+    match reader.next_byte() {
         Ok(Some(_)) => Stop::ManyLines,
         Ok(None) => Stop::End,
         Err(DeviceFault) => Stop::ReadFailed,
     }
 }
 
-/// Reads the line behind `line_count` others, and answers whether the script ended with it.
-fn take_line<R: Read>(wire: &mut Wire<R>, line: &mut Vec<u8>, line_count: u32) -> Result<bool, Stop>
+/// Takes the line behind `line_count` others, and answers whether the script ended with it.
+fn take_line<R: Read>(
+    reader: &mut BlockReader<R>,
+    line: &mut Vec<u8>,
+    line_count: u32,
+) -> Result<bool, Stop>
     requires room { LINE_LIMIT ≤ vec_capacity line.old }
     requires few { line_count ≤ LINES_LIMIT }
     ensures room { LINE_LIMIT ≤ vec_capacity line.new }
     ensures few { IfOk result (λ _. line_count + 1 ≤ LINES_LIMIT) }
-    ensures failed { IfErr result (λ stop. (stop ≡ Stop.ReadFailed) ↔ IsTrue wire.new.has_failed) }
-    ensures works { IfOk result (λ _. IsTrue wire.new.has_failed → ⊥) }
-    ensures latched { IsTrue wire.old.has_failed → (wire.new ≡ wire.old) }
-    ensures value { IfTold (R.remaining wire.old.device) (R.remaining wire.new.device) (λ bytes left. IsTakenOf line_count bytes left line.new.items result) }
+    ensures failed { IfErr result (λ stop. (stop ≡ Stop.ReadFailed) ↔ IsTrue reader.new.wire.has_failed) }
+    ensures works { IfOk result (λ _. IsTrue reader.new.wire.has_failed → ⊥) }
+    ensures latched { IsTrue reader.old.wire.has_failed → (reader.new ≡ reader.old) }
+    ensures value { IfTold (prepend_known reader.old.held (R.remaining reader.old.wire.device)) (prepend_known reader.new.held (R.remaining reader.new.wire.device)) (λ bytes left. IsTakenOf line_count bytes left line.new.items result) }
+    ensures unasked { NeedsNoMore line_count reader.old.held → reader.new.wire ≡ reader.old.wire }
 {
     if line_count == LINES_LIMIT {
-        return Err(stop_at_limit(wire));
+        return Err(stop_at_limit(reader));
     }
-    match read_line(wire, line) {
+    match read_line(reader, line) {
         Ending::Newline => Ok(false),
         Ending::End if line.is_empty() => Err(Stop::End),
         Ending::End => Ok(true),
@@ -130,11 +126,11 @@ fn take_line<R: Read>(wire: &mut Wire<R>, line: &mut Vec<u8>, line_count: u32) -
     }
 }
 
-/// A script, read line by line. (own choice)
+/// A script, read in blocks and given line by line. (own choice)
 #[derive(Drop)]
 pub struct Script<R> {
     alloc: Global,
-    wire: Wire<R>,
+    reader: BlockReader<R>,
     line: Vec<u8>,
     line_count: u32,
     stop: Option<Stop>,
@@ -149,9 +145,9 @@ impl<R> Model for Script<R> {
 
     ghost Value = { Progress R };
 
-    ghost view = { λ s. record { wire = s.wire; line_count = s.line_count; settled = option_map answer_of s.stop } };
+    ghost view = { λ s. record { wire = s.reader.wire; held = s.reader.held; line_count = s.line_count; settled = option_map answer_of s.stop } };
 
-    ghost invariant = { λ s. (LINE_LIMIT ≤ vec_capacity s.line) × (s.line_count ≤ LINES_LIMIT) × IfSome s.stop (λ stop. (stop ≡ ReadFailed) ↔ IsTrue s.wire.has_failed) };
+    ghost invariant = { λ s. (LINE_LIMIT ≤ vec_capacity s.line) × (s.line_count ≤ LINES_LIMIT) × IfSome s.stop (λ stop. (stop ≡ ReadFailed) ↔ IsTrue s.reader.wire.has_failed) };
 }
 
 impl<R: Read + Drop> Script<R> {
@@ -159,13 +155,13 @@ impl<R: Read + Drop> Script<R> {
     ///
     /// Errors: `Memory`, 9, where there is no room for a line.
     pub fn new(alloc: Global, wire: Wire<R>) -> Result<Script<R>, CliFault>
-        ensures ok { IfOk result (λ s. (s.wire ≡ wire) × (s.line_count ≡ 0) × (s.settled ≡ None)) }
+        ensures ok { IfOk result (λ s. (s.wire ≡ wire) × (s.held ≡ []) × (s.line_count ≡ 0) × (s.settled ≡ None)) }
         ensures err { IfErr result (λ fault. fault ≡ Memory) }
     {
         let line = Vec::with_capacity(alloc, LINE_LIMIT)?;
         Ok(Script {
             alloc,
-            wire,
+            reader: BlockReader::new(wire),
             line,
             line_count: 0,
             stop: None,
@@ -173,7 +169,9 @@ impl<R: Read + Drop> Script<R> {
     }
 
     /// The next line, or `None` at the end and at every later call. A line ends at a newline; a last one without it
-    /// counts if it is not empty, and the reader is not asked again behind it. (own choice)
+    /// counts if it is not empty, and the reader is not asked again behind it. The reader is asked for a block, one
+    /// read at a time, only while the script holds no whole line, at most 4,096 bytes of one, and no byte behind the
+    /// last line that it may give; what a read gives is used at once. (own choice)
     ///
     /// Errors: `LongLine`, 11, for more than 4,096 bytes before a newline; `ManyLines`, 12, where there is anything
     /// behind 1,000,000 lines; `ScriptFailed`, 13, where the device failed; `Memory`, 9, where there is no room for a
@@ -185,12 +183,14 @@ impl<R: Read + Drop> Script<R> {
         ensures latched { IsTrue self.old.wire.has_failed → (self.new.wire ≡ self.old.wire) }
         ensures count { self.new.line_count ≡ self.old.line_count + lines_of result }
         ensures bound { self.new.line_count ≤ 1000000 }
-        ensures next { self.old.settled ≡ None → IfTold (R.remaining self.old.wire.device) (R.remaining self.new.wire.device) (λ bytes left. IsNextOf self.old.line_count bytes left self.new.settled result) }
+        ensures next { self.old.settled ≡ None → IfTold (prepend_known self.old.held (R.remaining self.old.wire.device)) (prepend_known self.new.held (R.remaining self.new.wire.device)) (λ bytes left. IsNextOf self.old.line_count bytes left self.new.settled result) }
+        ensures unasked { NeedsNoMore self.old.line_count self.old.held → self.new.wire ≡ self.old.wire }
+        ensures ahead { length self.new.held < BLOCK_SIZE }
     {
         if let Some(stop) = self.stop {
             return stop.answer();
         }
-        let is_last = match take_line(&mut self.wire, &mut self.line, self.line_count) {
+        let is_last = match take_line(&mut self.reader, &mut self.line, self.line_count) {
             Ok(is_last) => is_last,
             Err(stop) => {
                 self.stop = Some(stop);
