@@ -8,3 +8,4 @@ pub mod Scripts
 pub mod ScriptAnswers
 pub mod Answers
 pub mod Steps
+pub mod Blocks

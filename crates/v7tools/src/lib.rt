@@ -4,6 +4,7 @@
 mod additions;
 mod answers;
 mod block_reader;
+mod block_writer;
 mod commands;
 mod fault;
 mod inputs;
@@ -19,6 +20,7 @@ mod standard_error;
 mod words;
 
 pub use answers::step;
+pub use block_writer::BlockWriter;
 pub use command_words::Call;
 pub use commands::{Command, Step};
 pub use fault::CliFault;

@@ -1,0 +1,7 @@
+-- A writer that passes its bytes on in blocks.
+use Rattle.std.specs.Prelude.{ℕ, List}
+
+-- a device, and the bytes that wait for it
+pub record Blocked (W : Type 0) : Type 0 where
+  pub device : W
+  pub waiting : List ℕ
