@@ -27,7 +27,7 @@ data_begun Pure t = refl
 data_begun Split t = refl
 
 pub move_carried : (forced : List (List ℕ)) (os : List Contents) (o : Choices) (before : List Contents) (k : Contents) (segment : Segment) →
-    move (plan forced os o).at before k segment ≡ carried (linked_file (plan forced os o) os) os before k segment
+    move (plan forced os o).at before k segment ≡ carried (linked_file (plan forced os o) os).header os before k segment
 move_carried forced os o before k Undefined = refl
 move_carried forced os o before k Absolute = refl
 move_carried forced os o before k Other = refl

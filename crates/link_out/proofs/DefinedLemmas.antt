@@ -53,7 +53,7 @@ module _ (forced : List (List ℕ)) (os : List Contents) (o : Choices) (others :
   defined_row segment offset e = ap (λ (d : Option Definition). final_by q s.name (state_by d (wanted_size (mentions forced os) s.name))) e
 
   -- the entry of a name with this first definition
-  defined_at : (segment : Segment) (offset : ℕ) → external_type (segment_of s) ≡ type_of (Some segment) → plus (base q.at segment) offset ≡ plus s.value (carried (linked_file q os) os before k (segment_of s)) →
+  defined_at : (segment : Segment) (offset : ℕ) → external_type (segment_of s) ≡ type_of (Some segment) → plus (base q.at segment) offset ≡ plus s.value (carried (linked_file q os).header os before k (segment_of s)) →
       first_definition (mentions forced os) s.name ≡ Some (segment, offset) → IsDefined (linked_file q os) os before k s
   defined_at segment offset t v e = record {
     row = external_row q s.name;
@@ -62,14 +62,14 @@ module _ (forced : List (List ℕ)) (os : List Contents) (o : Choices) (others :
     value = ap (λ (f : Final). f.written) (defined_row segment offset e) ∙ v;
   }
 
-  carried_at : (segment : Segment) {n : ℕ} → segment_of s ≡ segment → n ≡ plus s.value (carried (linked_file q os) os before k segment) → n ≡ plus s.value (carried (linked_file q os) os before k (segment_of s))
-  carried_at segment same e = e ∙ ap (λ (g : Segment). plus s.value (carried (linked_file q os) os before k g)) (sym same)
+  carried_at : (segment : Segment) {n : ℕ} → segment_of s ≡ segment → n ≡ plus s.value (carried (linked_file q os).header os before k segment) → n ≡ plus s.value (carried (linked_file q os).header os before k (segment_of s))
+  carried_at segment same e = e ∙ ap (λ (g : Segment). plus s.value (carried (linked_file q os).header os before k g)) (sym same)
 
   sum_placed : (v b h c : ℕ) → plus b h ≡ c → plus b (plus v h) ≡ plus v c
   sum_placed v b h c e = omega arith
 
-  placed : (segment : Segment) → plus (base q.at segment) (plus s.value (shift before k segment)) ≡ plus s.value (carried (linked_file q os) os before k segment)
-  placed segment = sum_placed s.value (base q.at segment) (shift before k segment) (carried (linked_file q os) os before k segment) (move_carried forced os o before k segment)
+  placed : (segment : Segment) → plus (base q.at segment) (plus s.value (shift before k segment)) ≡ plus s.value (carried (linked_file q os).header os before k segment)
+  placed segment = sum_placed s.value (base q.at segment) (shift before k segment) (carried (linked_file q os).header os before k segment) (move_carried forced os o before k segment)
 
   defined_by : (segment : Segment) → eqb (masked_type s) 0 ≡ false → segment_of s ≡ segment → differs (first_definition (mentions forced os) s.name) (statement before k segment s.value) ≡ false → IsDefined (linked_file q os) os before k s
   defined_by Undefined inner same h = absurd (undefined_type (masked_type s) inner same)

@@ -1,5 +1,5 @@
 -- The entry point of a linked file, by its own symbol table.
-use Rattle.std.proofs.Common.{◌≡◌, ◌≢◌, ℕ, Bool, true, false, cond, ◌&&◌, eqb, List, Option, Some, None, refl, sym, ◌∙◌, ap, subst, ◌⊎◌, inl, inr, eqb-true}
+use Rattle.std.proofs.Common.{◌≡◌, ◌≢◌, ℕ, Bool, true, false, cond, ◌&&◌, eqb, List, Option, Some, None, refl, sym, ◌∙◌, ap, subst, inl, inr, eqb-true}
 use Rattle.std.specs.Prelude.{bytes_eq, Ok}
 use Rattle.aout_core.specs.declared.symbol.Symbol.{Symbol}
 use Rattle.aout_core.specs.declared.symbol.Segment.TheVariants.{TextSeg, DataSeg, BssSeg}
@@ -7,18 +7,18 @@ use Rattle.aout_core.specs.Contents.{Contents}
 use Rattle.aout_core.specs.Words.{plus}
 use Rattle.link_session.specs.declared.state.State.{State}
 use Rattle.link_session.specs.declared.state.State.TheVariants.{Defined, Wanted}
-use Rattle.link_session.specs.Mentions.{mentions, is_among, names_by_first_mention}
+use Rattle.link_session.specs.Mentions.{is_among, names_by_first_mention}
 use Rattle.link_session.specs.States.{state}
 use Rattle.link_out.specs.declared.options.Keep.TheVariants.{Nothing}
 use Rattle.link_out.specs.Choices.{Choices, lays_commons}
 use Rattle.link_out.specs.Plans.{Plan, plan, common_offset}
 use Rattle.link_out.specs.Finals.{final, final_by, type_of, bound_at, waiting, undefined_name, etext, edata, end_name}
 use Rattle.link_out.specs.Tables.{external_row, table}
-use Rattle.link_out.specs.Reports.{Findings, findings, entry_word, entry_found_bad}
-use Rattle.link_out.specs.Link.{Outcome, linked_file, link}
+use Rattle.link_out.specs.Reports.{entry_word, entry_found_bad}
+use Rattle.link_out.specs.Link.{Outcome, link}
 use Rattle.link_out.specs.Meaning.{entry_of, IsEntry}
-use Rattle.link_out.proofs.OutcomeLemmas.{made_file, made_report}
-use Rattle.link_out.proofs.ExternalLemmas.{entry_in_table, entry_there}
+use Rattle.link_out.proofs.OutcomeLemmas.{made}
+use Rattle.link_out.proofs.ExternalLemmas.{entry_in_table}
 
 -- the address of a name in text is written
 text_written : (p : Plan) (name : List ℕ) (st : State) → eqb (type_of (final_by p name st).bound) 34 ≡ true → (final_by p name st).address ≡ (final_by p name st).written
@@ -37,53 +37,34 @@ text_written p name (Wanted size) h = by_tests (plus p.at.data_end (common_offse
     by_tests a false r true = λ h. refl
     by_tests a false r false = λ h. absurd (cc)
 
-entry_made : (forced : List (List ℕ)) (os : List Contents) (o : Choices) → o.keep ≢ Nothing → (name : List ℕ) →
-    let p = plan forced os o in
-    ((row : Symbol) × (entry_of (table p os) name ≡ Some row) × (row.type_bits ≡ 34) × (entry_word p (Some name) ≡ row.value) × (entry_found_bad p (Some name) ≡ None))
-    ⊎ (((row : Symbol) → entry_of (table p os) name ≡ Some row → eqb row.type_bits 34 ≡ false) × (entry_word p (Some name) ≡ 0) × (entry_found_bad p (Some name) ≡ Some name))
-entry_made forced os o others name = by_tests (is_among (names_by_first_mention (mentions forced os)) name) refl (eqb (type_of (final (plan forced os o) name).bound) 34) refl
+pub entry_made : (p : Plan) (rows : List Symbol) → ((name : List ℕ) → entry_of rows name ≡ cond (is_among (names_by_first_mention p.said) name) (Some (external_row p name)) None) →
+    (e : Option (List ℕ)) → IsEntry rows e (entry_word p e) (entry_found_bad p e)
+entry_made p rows there None = (refl, refl)
+entry_made p rows there (Some name) = by_tests (is_among (names_by_first_mention p.said) name) (there name) (eqb (type_of (final p name).bound) 34) refl
   where
-    p : Plan
-    p = plan forced os o
-
-    by_tests : (k : Bool) → is_among (names_by_first_mention (mentions forced os)) name ≡ k → (t : Bool) → eqb (type_of (final (plan forced os o) name).bound) 34 ≡ t →
-        ((row : Symbol) × (entry_of (table (plan forced os o) os) name ≡ Some row) × (row.type_bits ≡ 34) × (entry_word (plan forced os o) (Some name) ≡ row.value) × (entry_found_bad (plan forced os o) (Some name) ≡ None))
-        ⊎ (((row : Symbol) → entry_of (table (plan forced os o) os) name ≡ Some row → eqb row.type_bits 34 ≡ false) × (entry_word (plan forced os o) (Some name) ≡ 0) × (entry_found_bad (plan forced os o) (Some name) ≡ Some name))
-    by_tests false ke t te =
-        inr (
-          (λ row e. absurd (let bad : None ≡ Some row = sym (entry_in_table (plan forced os o) os name others ∙ ap (λ (k : Bool). let r : Option Symbol = cond k (Some (external_row (plan forced os o) name)) None in r) ke) ∙ e in cc)),
-          ap (λ (k : Bool). cond (k && eqb (type_of (final (plan forced os o) name).bound) 34) (final (plan forced os o) name).address 0) ke,
-          ap (λ (k : Bool). let r : Option (List ℕ) = cond (k && eqb (type_of (final (plan forced os o) name).bound) 34) None (Some name) in r) ke,
-        )
+    by_tests : (k : Bool) → entry_of rows name ≡ cond k (Some (external_row p name)) None → (t : Bool) → eqb (type_of (final p name).bound) 34 ≡ t →
+        IsEntry rows (Some name) (cond (k && t) (final p name).address 0) (let r : Option (List ℕ) = cond (k && t) None (Some name) in r)
+    by_tests false ke t te = inr ((λ row e. absurd (let bad : None ≡ Some row = sym ke ∙ e in cc)), refl, refl)
     by_tests true ke false te =
-        inr (
-          (λ row e. let same : external_row (plan forced os o) name ≡ row = inside (external_row (plan forced os o) name) row (sym (entry_there (plan forced os o) os name others ke) ∙ e) in ap (λ (s : Symbol). eqb s.type_bits 34) (sym same) ∙ te),
-          (λ i. cond (ke i && te i) (final (plan forced os o) name).address 0),
-          (λ i. let r : Option (List ℕ) = cond (ke i && te i) None (Some name) in r),
-        )
+        inr ((λ row e. let same : external_row p name ≡ row = inside (external_row p name) row (sym ke ∙ e) in ap (λ (s : Symbol). eqb s.type_bits 34) (sym same) ∙ te), refl, refl)
       where
         inside : (a b : Symbol) → Some a ≡ Some b → a ≡ b
         inside a b e = cc
-    by_tests true ke true te =
-        inl (
-          external_row (plan forced os o) name,
-          entry_there (plan forced os o) os name others ke,
-          eqb-true _ _ te,
-          (λ i. cond (ke i && te i) (final (plan forced os o) name).address 0) ∙ text_written (plan forced os o) name (state (mentions forced os) name) te,
-          (λ i. let r : Option (List ℕ) = cond (ke i && te i) None (Some name) in r),
-        )
+    by_tests true ke true te = inl (external_row p name, ke, eqb-true _ _ te, text_written p name (state p.said name) te, refl)
 
-pub entry_is_found : (forced : List (List ℕ)) (os : List Contents) (o : Choices) (x : Outcome) → o.keep ≢ Nothing → link forced os o ≡ Ok x → IsEntry x o.entry
-entry_is_found forced os o x others linked =
-    subst (λ (f : Contents). IsEntry (record { file = f; report = x.report }) o.entry) (made_file (plan forced os o) os x linked)
-    (subst (λ (r : Findings). IsEntry (record { file = linked_file (plan forced os o) os; report = r }) o.entry) (made_report (plan forced os o) os x linked) (by_entry o.entry refl))
+-- there is one entry word at most, and one name that is bad
+pub entry_once : (rows : List Symbol) (e : Option (List ℕ)) (w v : ℕ) (b c : Option (List ℕ)) → IsEntry rows e w b → IsEntry rows e v c → (w ≡ v) × (b ≡ c)
+entry_once rows None w v b c h k = (h.0 ∙ sym k.0, h.1 ∙ sym k.1)
+entry_once rows (Some name) w v b c (inl h) (inl k) = (h.3 ∙ ap (λ (r : Symbol). r.value) (inside h.0 k.0 (sym h.1 ∙ k.1)) ∙ sym k.3, h.4 ∙ sym k.4)
   where
-    by_entry : (e : Option (List ℕ)) → o.entry ≡ e → IsEntry (record { file = linked_file (plan forced os o) os; report = findings (plan forced os o) }) e
-    by_entry None s = (ap (entry_word (plan forced os o)) s, ap (entry_found_bad (plan forced os o)) s)
-    by_entry (Some name) s = of_made (entry_made forced os o others name)
-      where
-        of_made : ((row : Symbol) × (entry_of (table (plan forced os o) os) name ≡ Some row) × (row.type_bits ≡ 34) × (entry_word (plan forced os o) (Some name) ≡ row.value) × (entry_found_bad (plan forced os o) (Some name) ≡ None))
-            ⊎ (((row : Symbol) → entry_of (table (plan forced os o) os) name ≡ Some row → eqb row.type_bits 34 ≡ false) × (entry_word (plan forced os o) (Some name) ≡ 0) × (entry_found_bad (plan forced os o) (Some name) ≡ Some name)) →
-            IsEntry (record { file = linked_file (plan forced os o) os; report = findings (plan forced os o) }) (Some name)
-        of_made (inl h) = inl (h.0, h.1, h.2, ap (entry_word (plan forced os o)) s ∙ h.3, ap (entry_found_bad (plan forced os o)) s ∙ h.4)
-        of_made (inr h) = inr (h.0, ap (entry_word (plan forced os o)) s ∙ h.1, ap (entry_found_bad (plan forced os o)) s ∙ h.2)
+    inside : (a b : Symbol) → Some a ≡ Some b → a ≡ b
+    inside a b e = cc
+entry_once rows (Some name) w v b c (inl h) (inr k) = absurd (let bad : true ≡ false = sym (ap (λ (n : ℕ). eqb n 34) h.2) ∙ k.0 h.0 h.1 in cc)
+entry_once rows (Some name) w v b c (inr h) (inl k) = absurd (let bad : true ≡ false = sym (ap (λ (n : ℕ). eqb n 34) k.2) ∙ h.0 k.0 k.1 in cc)
+entry_once rows (Some name) w v b c (inr h) (inr k) = (h.1 ∙ sym k.1, h.2 ∙ sym k.2)
+
+pub entry_is_found : (forced : List (List ℕ)) (os : List Contents) (o : Choices) (x : Outcome) → o.keep ≢ Nothing → link forced os o ≡ Ok x → IsEntry x.file.symbols o.entry x.file.header.entry_point x.report.entry_bad
+entry_is_found forced os o x others linked =
+    let p = plan forced os o in
+    subst (λ (y : Outcome). IsEntry y.file.symbols o.entry y.file.header.entry_point y.report.entry_bad) (made p os x linked).outcome
+    (entry_made p (table p os) (λ name. entry_in_table p os name others) o.entry)

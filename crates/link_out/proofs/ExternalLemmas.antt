@@ -32,7 +32,7 @@ entry_behind (s ∷ ss) ys name h = by_test (is_external s) h (entry_behind ss y
     by_test true h rest = absurd (cc)
     by_test false h rest = rest h
 
-entry_among : (p : Plan) (names : List (List ℕ)) (name : List ℕ) → entry_of (map (external_row p) names) name ≡ cond (is_among names name) (Some (external_row p name)) None
+pub entry_among : (p : Plan) (names : List (List ℕ)) (name : List ℕ) → entry_of (map (external_row p) names) name ≡ cond (is_among names name) (Some (external_row p name)) None
 entry_among p [] name = refl
 entry_among p (n ∷ ns) name = ap (λ (t : Bool). cond (t && bytes_eq name n) (Some (external_row p n)) (entry_of (map (external_row p) ns) name)) (external_row_outer p n) ∙ by_test (bytes_eq name n) refl (entry_among p ns name)
   where
@@ -89,7 +89,7 @@ row_address forced os o name = row_address_by (plan forced os o) name (state (me
 
 -- each external has one entry
 
-names_of_rows : (p : Plan) (names : List (List ℕ)) → map (λ s. s.name) (map (external_row p) names) ≡ names
+pub names_of_rows : (p : Plan) (names : List (List ℕ)) → map (λ s. s.name) (map (external_row p) names) ≡ names
 names_of_rows p [] = refl
 names_of_rows p (n ∷ ns) = ap (λ (ms : List (List ℕ)). n ∷ ms) (names_of_rows p ns)
 

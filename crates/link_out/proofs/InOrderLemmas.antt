@@ -21,7 +21,7 @@ use Rattle.link_out.specs.Reports.{is_undefined, reserved_names, undefined_names
 use Rattle.link_out.specs.InOrder.{final_at, finals_from, room_in, is_missing, missing_in}
 
 -- names with their states
-abbrev named_by : List Mention → List (List ℕ) → Named
+abbrev pub named_by : List Mention → List (List ℕ) → Named
 named_by ms names = map {B = List ℕ × State} (λ n. (n, state ms n)) names
 
 -- the next of what is left

@@ -20,10 +20,16 @@ pub mod IndexLemmas
 pub mod SaidLemmas
 pub mod CarriedLemmas
 pub mod ExternalLemmas
+pub mod SegmentLemmas
 pub mod RelocatedLemmas
 pub mod DefinedLemmas
 pub mod UndefinedLemmas
 pub mod CommonLemmas
+pub mod HasStateLemmas
+pub mod LinkedRows
+pub mod LinkedRelocs
+pub mod LinkedReports
+pub mod LinkedTheorem
 pub mod EntryPointLemmas
 pub mod ReportLemmas
 pub mod InOrderLemmas

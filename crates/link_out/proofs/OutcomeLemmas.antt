@@ -27,6 +27,10 @@ made p os x h = by_tests (nat_lt 65535 p.at.bss_end) refl (nat_lt 5461 (length (
     by_tests false te false ue true ve h = absurd (cc)
     by_tests false te false ue false ve h = record { short = te; few = ue; near = ve; outcome = cc }
 
+pub is_made : (p : Plan) (os : List Contents) (x : Outcome) → IsMade p os x → link_by p os ≡ Ok x
+is_made p os x m =
+    λ i. let r : Result Outcome LinkFault = cond (m.short i) (Err DoesNotFit) (cond (m.few i) (Err TooManySymbols) (cond (m.near i) (Err SymbolNumber) (Ok (m.outcome i)))) in r
+
 pub made_file : (p : Plan) (os : List Contents) (x : Outcome) → link_by p os ≡ Ok x → linked_file p os ≡ x.file
 made_file p os x h = ap (λ (y : Outcome). y.file) (made p os x h).outcome
 

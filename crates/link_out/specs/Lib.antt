@@ -16,6 +16,7 @@ pub mod Runs
 pub mod Laws
 pub mod Meaning
 pub mod Beyond
+pub mod LinkedFrom
 pub mod InOrder
 pub mod Entries
 pub mod Passes

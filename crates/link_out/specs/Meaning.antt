@@ -36,11 +36,11 @@ begins h bss BssSeg = data_begins h + h.data_size + (h.bss_size - bss)
 begins h bss _ = 0
 
 -- how far a segment of an object is carried, that stands behind the same segment of the objects before it
-abbrev pub carried : Contents → List Contents → List Contents → Contents → Segment → ℕ
-carried file os before k TextSeg = minus (begins file.header (total BssSeg os) TextSeg + total TextSeg before) (own k TextSeg)
-carried file os before k DataSeg = minus (begins file.header (total BssSeg os) DataSeg + total DataSeg before) (own k DataSeg)
-carried file os before k BssSeg = minus (begins file.header (total BssSeg os) BssSeg + total BssSeg before) (own k BssSeg)
-carried file os before k _ = 0
+abbrev pub carried : Header → List Contents → List Contents → Contents → Segment → ℕ
+carried h os before k TextSeg = minus (begins h (total BssSeg os) TextSeg + total TextSeg before) (own k TextSeg)
+carried h os before k DataSeg = minus (begins h (total BssSeg os) DataSeg + total DataSeg before) (own k DataSeg)
+carried h os before k BssSeg = minus (begins h (total BssSeg os) BssSeg + total BssSeg before) (own k BssSeg)
+carried h os before k _ = 0
 
 -- the external entry of a name
 abbrev pub entry_of : List Symbol → List ℕ → Option Symbol
@@ -51,22 +51,22 @@ entry_of (s ∷ ss) name = cond (is_external s && bytes_eq name s.name) (Some s)
 abbrev pub address_in : Symbol → ℕ
 address_in row = cond (eqb (masked_type row) 0) 0 row.value
 
--- the entry that a symbol number of an object names, its name's external entry in the linked file, and the address there
-pub record IsAddressOf (file k : Contents) (number address : ℕ) : Type 0 where
+-- the entry that a symbol number of an object names, its name's external entry among these, and the address there
+pub record IsAddressOf (rows : List Symbol) (k : Contents) (number address : ℕ) : Type 0 where
   pub symbol : Symbol
   pub row : Symbol
   pub named : slice_get k.symbols number ≡ Some symbol
-  pub found : entry_of file.symbols symbol.name ≡ Some row
+  pub found : entry_of rows symbol.name ≡ Some row
   pub gives : address ≡ address_in row
 
 -- what is to be added to a word whose relocation word has this kind and number
-abbrev pub IsAdded : Contents → List Contents → List Contents → Contents → Option Kind → ℕ → ℕ → Type 0
-IsAdded file os before k None number a = ⊥
-IsAdded file os before k (Some kinds.Absolute) number a = a ≡ 0
-IsAdded file os before k (Some kinds.TextSeg) number a = a ≡ carried file os before k TextSeg
-IsAdded file os before k (Some kinds.DataSeg) number a = a ≡ carried file os before k DataSeg
-IsAdded file os before k (Some kinds.BssSeg) number a = a ≡ carried file os before k BssSeg
-IsAdded file os before k (Some kinds.External) number a = IsAddressOf file k number a
+abbrev pub IsAdded : Header → List Symbol → List Contents → List Contents → Contents → Option Kind → ℕ → ℕ → Type 0
+IsAdded h rows os before k None number a = ⊥
+IsAdded h rows os before k (Some kinds.Absolute) number a = a ≡ 0
+IsAdded h rows os before k (Some kinds.TextSeg) number a = a ≡ carried h os before k TextSeg
+IsAdded h rows os before k (Some kinds.DataSeg) number a = a ≡ carried h os before k DataSeg
+IsAdded h rows os before k (Some kinds.BssSeg) number a = a ≡ carried h os before k BssSeg
+IsAdded h rows os before k (Some kinds.External) number a = IsAddressOf rows k number a
 
 -- the words, and the relocation words, of a segment
 abbrev pub segment_words : Segment → Contents → List ℕ
@@ -81,17 +81,17 @@ segment_relocs _ c = []
 
 -- word i of a segment of k, which is w with relocation word r, stands behind that segment of the objects before k, with its
 -- address added, less what its place was carried by if it is relative to the pc
-pub record IsRelocated (file : Contents) (os before : List Contents) (k : Contents) (segment : Segment) (i w : ℕ) (r : Reloc) : Type 0 where
+pub record IsRelocated (file : Contents) (rows : List Symbol) (os before : List Contents) (k : Contents) (segment : Segment) (i w : ℕ) (r : Reloc) : Type 0 where
   pub added : ℕ
-  pub is : IsAdded file os before k (kind_of r) (symbol_number r) added
-  pub word : slice_get (segment_words segment file) (total segment before / 2 + i) ≡ Some (minus (plus w added) (cond (is_pc_relative r) (carried file os before k segment) 0))
+  pub is : IsAdded file.header rows os before k (kind_of r) (symbol_number r) added
+  pub word : slice_get (segment_words segment file) (total segment before / 2 + i) ≡ Some (minus (plus w added) (cond (is_pc_relative r) (carried file.header os before k segment) 0))
 
 -- each word of each object is found in the linked file, relocated by what that file's own symbol table says
 abbrev pub WordsAreRelocated : Type 0
 WordsAreRelocated = (forced : List (List ℕ)) (before : List Contents) (k : Contents) (after : List Contents) (o : Choices) (x : Outcome) →
     AllByRecursion IsObject (before ++ k ∷ after) → o.keep ≢ Nothing → link forced (before ++ k ∷ after) o ≡ Ok x →
     (segment : Segment) (i w : ℕ) (r : Reloc) → slice_get (segment_words segment k) i ≡ Some w → slice_get (segment_relocs segment k) i ≡ Some r →
-    IsRelocated x.file (before ++ k ∷ after) before k segment i w r
+    IsRelocated x.file x.file.symbols (before ++ k ∷ after) before k segment i w r
 
 -- there is nothing else: the segments hold the objects' bytes and no more, and bss besides only commons
 pub record HoldsObjects (file : Contents) (os : List Contents) : Type 0 where
@@ -116,7 +116,7 @@ pub record IsDefined (file : Contents) (os before : List Contents) (k : Contents
   pub row : Symbol
   pub found : entry_of file.symbols s.name ≡ Some row
   pub type_bits : row.type_bits ≡ external_type (segment_of s)
-  pub value : row.value ≡ plus s.value (carried file os before k (segment_of s))
+  pub value : row.value ≡ plus s.value (carried file.header os before k (segment_of s))
 
 -- where no name is multiply defined, the linked file has each definition of each object
 abbrev pub DefinitionsHold : Type 0
@@ -188,15 +188,15 @@ CommonsLieApart = (forced : List (List ℕ)) (os : List Contents) (o : Choices) 
     (a b : List ℕ) (size more : ℕ) → IsCommon forced os a size → IsCommon forced os b more → bytes_eq a b ≡ false → (p q : Symbol) → entry_of x.file.symbols a ≡ Some p → entry_of x.file.symbols b ≡ Some q →
     (p.value + size ≤ q.value) ⊎ (q.value + more ≤ p.value)
 
--- the entry point is the address of its name where that has an external entry in text, and else it is 0 and the name is reported
-abbrev pub IsEntry : Outcome → Option (List ℕ) → Type 0
-IsEntry x None = (x.file.header.entry_point ≡ 0) × (x.report.entry_bad ≡ None)
-IsEntry x (Some name) =
-    ((row : Symbol) × (entry_of x.file.symbols name ≡ Some row) × (row.type_bits ≡ 34) × (x.file.header.entry_point ≡ row.value) × (x.report.entry_bad ≡ None))
-    ⊎ (((row : Symbol) → entry_of x.file.symbols name ≡ Some row → eqb row.type_bits 34 ≡ false) × (x.file.header.entry_point ≡ 0) × (x.report.entry_bad ≡ Some name))
+-- the entry word is the address of its name where that has an external entry in text, and else it is 0 and the name is bad
+abbrev pub IsEntry : List Symbol → Option (List ℕ) → ℕ → Option (List ℕ) → Type 0
+IsEntry rows None word bad = (word ≡ 0) × (bad ≡ None)
+IsEntry rows (Some name) word bad =
+    ((row : Symbol) × (entry_of rows name ≡ Some row) × (row.type_bits ≡ 34) × (word ≡ row.value) × (bad ≡ None))
+    ⊎ (((row : Symbol) → entry_of rows name ≡ Some row → eqb row.type_bits 34 ≡ false) × (word ≡ 0) × (bad ≡ Some name))
 
 abbrev pub EntryIsFound : Type 0
-EntryIsFound = (forced : List (List ℕ)) (os : List Contents) (o : Choices) (x : Outcome) → o.keep ≢ Nothing → link forced os o ≡ Ok x → IsEntry x o.entry
+EntryIsFound = (forced : List (List ℕ)) (os : List Contents) (o : Choices) (x : Outcome) → o.keep ≢ Nothing → link forced os o ≡ Ok x → IsEntry x.file.symbols o.entry x.file.header.entry_point x.report.entry_bad
 
 -- a name that is reported undefined has an entry without address
 abbrev pub MissingHaveNoAddress : Type 0

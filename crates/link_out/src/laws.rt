@@ -1,6 +1,7 @@
 //! Laws of linking, over its definitions alone: each is the contract of a function with an empty body.
 ghost use Rattle.link_out.specs.Laws.{StripLaw, StripsOnce, PartialIsObject, PartialStandsAlone, PartialStandsAmong};
 ghost use Rattle.link_out.specs.Meaning.{WordsAreRelocated, ObjectsFill, DefinitionsHold, MultiplesDiffer, NamesHaveAddresses, EntriesStandOnce, CommonsHaveRoom, CommonsLieApart, EntryIsFound, MissingHaveNoAddress, PartialMayBeAdded};
+ghost use Rattle.link_out.specs.LinkedFrom.{LinkedExactly, LinkedOnce};
 ghost use Rattle.link_out.specs.Beyond.{PartialStandsFor, PartialStandsAlways, PartialStandsAmongOthers, PartialAgain, GroupingChangesNothing, PartialIsAccepted};
 
 /// Stripping and linking go together: wherever a link without relocation gives a file, that file stripped is what the
@@ -66,4 +67,14 @@ pub fn beyond_law()
     ensures again { PartialAgain }
     ensures grouping { GroupingChangesNothing }
     ensures accepted { PartialIsAccepted }
+{}
+
+/// What linking is: the relation `IsLinkedFrom` of specs/LinkedFrom, told by the objects, the file and the report alone,
+/// holds exactly of what a link answers, and of one file and report at most. (ld(1), a.out(5))
+///
+/// - `exactly`: a link of objects is answered with a file and a report exactly where these are linked from them.
+/// - `once`: no two files or reports are linked from the same objects, forced names and options.
+pub fn linking_law()
+    ensures exactly { LinkedExactly }
+    ensures once { LinkedOnce }
 {}

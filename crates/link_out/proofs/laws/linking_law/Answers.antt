@@ -1,0 +1,8 @@
+use Rattle.link_out.proofs.LinkedTheorem.{linked_exactly, linked_once}
+use Rattle.link_out.proofs.laws.linking_law.Goals as goal
+
+pub returns-clause-exactly : goal.returns-clause-exactly
+returns-clause-exactly c = linked_exactly
+
+pub returns-clause-once : goal.returns-clause-once
+returns-clause-once c = linked_once
