@@ -1,7 +1,7 @@
 # v7: see README.md. The command `rt` of the Rattle kit has to be on the PATH.
 PREFIX ?= /usr/local
 
-.PHONY: all demo test memory bench simulate check-manual check-examples install clean
+.PHONY: all demo test memory bench simulate lesson check-manual check-examples install clean
 
 all: build/v7
 
@@ -41,12 +41,24 @@ simulate: build/v7
 	cat build/doubled.txt
 	echo '21 doubled is 42' | cmp - build/doubled.txt
 
+# adds the objects FILES to a session one by one and takes them out again, and shows each state; docs/LESSON.md
+FILES ?= examples/k.o examples/l.o
+lesson: build/lesson
+	build/lesson $(FILES)
+
+build/lesson: crates.txt $(shell find crates/aout_core crates/link_session crates/lesson -name out -prune -o -type f -print)
+	cd crates/lesson && rt run -- data/k.o data/l.o
+	mkdir -p build
+	cp crates/lesson/out/lesson build/lesson
+
 # the manual pages: mandoc finds nothing to say of them, and their examples, and those of the documents, come out as shown
 check-manual: check-examples
 	cd man && mandoc -T lint *.1 *.5
 
-check-examples: build/v7
+check-examples: build/v7 build/lesson
 	cmp crates/write_object/stdout examples/main.o
+	cmp crates/lesson/data/k.o examples/k.o
+	cmp crates/lesson/data/l.o examples/l.o
 	sh tests/manual.sh
 
 # the program, and its manual pages
