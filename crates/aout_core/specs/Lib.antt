@@ -12,3 +12,4 @@ pub mod Rows
 pub mod WellFormed
 pub mod Strip
 pub mod Laws
+pub mod Devices

@@ -1,8 +1,11 @@
 //! Small objects and devices over memory, for tests. (the format is that of a.out(5), the objects are an own choice)
-ghost use Rattle.std.specs.Prelude.{◌≡◌, ◌<◌, Some};
+ghost use Rattle.std.specs.Prelude.{◌≡◌, ◌<◌, ◌^◌, ◌-◌, Some};
+ghost use Rattle.aout_core.specs.declared.samples.Failing.TheVariants.{TakesNothing};
+ghost use Rattle.std.specs.declared.io.ErrorKind.TheVariants.{Other};
 
 use std::io;
 use std::io::{ErrorKind, Read, Write};
+use std::marker::Model;
 
 /// `a.o`: text 012700, 000004 (relocation 0, 04); data 000042 (relocation 0).
 pub const A_O: [u8; 28] = [
@@ -126,7 +129,7 @@ pub const Y2_O: [u8; 40] = [
 ];
 
 /// A reader over bytes in memory: it gives at most `most` bytes a call, and once `before_failure` bytes were given each
-/// call answers an error of the kind `failure`. (own choice)
+/// call answers an error of the kind `failure`. It counts its calls. (own choice)
 #[derive(Drop)]
 pub struct TestReader<'a> {
     left: &'a [u8],
@@ -134,7 +137,17 @@ pub struct TestReader<'a> {
     before_failure: usize,
     failure: ErrorKind,
     calls: u32,
-    ghost moves: { 0 < most },
+}
+
+impl<'a> Model for TestReader<'a> {
+    ghost use Rattle.std.specs.Prelude.{◌<◌};
+    ghost use Rattle.aout_core.specs.Devices.{Giving};
+
+    ghost Value = { Giving };
+
+    ghost view = { λ a. record { left = a.left.now; most = a.most; before_failure = a.before_failure; failure = a.failure; calls = a.calls } };
+
+    ghost invariant = { λ a. 0 < a.most };
 }
 
 impl<'a> TestReader<'a> {
@@ -146,7 +159,7 @@ impl<'a> TestReader<'a> {
         failure: ErrorKind,
     ) -> TestReader<'a>
         requires { 0 < most }
-        ensures { ⟦<TestReader<'a> as Read>⟧.remaining result ≡ Some bytes.now }
+        ensures { result ≡ record { left = bytes.now; most = most; before_failure = before_failure; failure = failure; calls = 0 } }
     {
         TestReader {
             left: bytes,
@@ -159,30 +172,46 @@ impl<'a> TestReader<'a> {
 
     /// A reader of these bytes that never fails.
     pub fn whole(bytes: &'a [u8]) -> TestReader<'a>
-        ensures { ⟦<TestReader<'a> as Read>⟧.remaining result ≡ Some bytes.now }
+        ensures { result ≡ record { left = bytes.now; most = 2 ^ 64 - 1; before_failure = 2 ^ 64 - 1; failure = Other; calls = 0 } }
     {
         TestReader::new(bytes, usize::MAX, usize::MAX, ErrorKind::Other)
     }
 
     /// The bytes that were not given yet.
     pub fn left(&self) -> &'a [u8]
-        ensures { ⟦<TestReader<'a> as Read>⟧.remaining self.now ≡ Some result.now }
+        ensures { result.now ≡ self.now.left }
     {
         self.left
     }
 
     /// How often it was read; the count stays at its greatest value once it is reached.
-    pub fn calls(&self) -> u32 {
+    pub fn calls(&self) -> u32
+        ensures { result ≡ self.now.calls }
+    {
         self.calls
     }
 }
 
 impl Read for TestReader<'_> {
-    ghost use Rattle.std.specs.Prelude.{Some};
+    ghost use Rattle.std.specs.Prelude.{◌≡◌, ◌↔◌, ◌+◌, ◌-◌, ◌^◌, min, length, Some, IfOk, IfErr, IsErr};
+    ghost use Rattle.std.specs.IoError.{error_kind};
+    ghost use Rattle.std.specs.Io.{ReadsAtMost};
+    ghost use Rattle.std.specs.Io.KnownBytes.{ReadConsumes};
 
-    ghost remaining = { λ r. Some r.left.now };
+    ghost remaining = { λ r. Some r.left };
 
-    fn read(&mut self, buf: &mut [u8]) -> io::Result<usize> {
+    fn read(&mut self, buf: &mut [u8]) -> io::Result<usize>
+        ensures bound { ReadsAtMost result buf.new }
+        ensures bytes { ReadConsumes (Some self.old.left) (Some self.new.left) result buf.new }
+        ensures count { IfOk result (λ n. n ≡ min (min self.old.most self.old.before_failure) (min (length self.old.left) (length buf.old))) }
+        ensures fails { IsErr result ↔ (self.old.before_failure ≡ 0) }
+        ensures kind { IfErr result (λ e. error_kind e ≡ self.old.failure) }
+        ensures later { IfOk result (λ n. self.new.before_failure ≡ self.old.before_failure - n) }
+        ensures failed { IfErr result (λ _. self.new.before_failure ≡ 0) }
+        ensures counted { self.new.calls ≡ min (self.old.calls + 1) (2 ^ 32 - 1) }
+        ensures most { self.new.most ≡ self.old.most }
+        ensures failure { self.new.failure ≡ self.old.failure }
+    {
         self.calls = self.calls.saturating_add(1);
         if self.before_failure == 0 {
             return Err(io::Error::from(self.failure));
@@ -205,7 +234,7 @@ pub enum Failing {
 }
 
 /// A writer over memory: it takes at most `most` bytes a call, and once `before_failure` bytes were taken each call
-/// answers an error or takes 0 bytes. A flush then answers the error too. (own choice)
+/// answers an error or takes 0 bytes. A flush then answers the error too. It counts its calls. (own choice)
 #[derive(Drop)]
 pub struct TestWriter {
     taken: Vec<u8>,
@@ -216,10 +245,18 @@ pub struct TestWriter {
     flushes: u32,
 }
 
+impl Model for TestWriter {
+    ghost use Rattle.aout_core.specs.Devices.{Taking};
+
+    ghost Value = { Taking };
+
+    ghost view = { λ a. record { taken = a.taken.items; most = a.most; before_failure = a.before_failure; failure = a.failure; calls = a.calls; flushes = a.flushes } };
+}
+
 impl TestWriter {
     /// A writer behind the bytes in `taken`.
     pub fn new(taken: Vec<u8>, most: usize, before_failure: usize, failure: Failing) -> TestWriter
-        ensures { ⟦<TestWriter as Write>⟧.contents result ≡ Some taken.items }
+        ensures { result ≡ record { taken = taken.items; most = most; before_failure = before_failure; failure = failure; calls = 0; flushes = 0 } }
     {
         TestWriter {
             taken,
@@ -233,43 +270,61 @@ impl TestWriter {
 
     /// A writer behind the bytes in `taken` that fails for want of memory alone.
     pub fn whole(taken: Vec<u8>) -> TestWriter
-        ensures { ⟦<TestWriter as Write>⟧.contents result ≡ Some taken.items }
+        ensures { result ≡ record { taken = taken.items; most = 2 ^ 64 - 1; before_failure = 2 ^ 64 - 1; failure = TakesNothing; calls = 0; flushes = 0 } }
     {
         TestWriter::new(taken, usize::MAX, usize::MAX, Failing::TakesNothing)
     }
 
     /// The bytes that were taken.
     pub fn taken(&self) -> &[u8]
-        ensures { ⟦<TestWriter as Write>⟧.contents self.now ≡ Some result.now }
+        ensures { result.now ≡ self.now.taken }
     {
         &self.taken
     }
 
     /// The bytes that were taken, owned.
     pub fn into_taken(self) -> Vec<u8>
-        ensures { ⟦<TestWriter as Write>⟧.contents self ≡ Some result.items }
+        ensures { result.items ≡ self.taken }
     {
         let TestWriter { taken, .. } = self;
         taken
     }
 
     /// How often it was written to; the count stays at its greatest value once it is reached.
-    pub fn calls(&self) -> u32 {
+    pub fn calls(&self) -> u32
+        ensures { result ≡ self.now.calls }
+    {
         self.calls
     }
 
     /// How often it was flushed; the count stays at its greatest value once it is reached.
-    pub fn flushes(&self) -> u32 {
+    pub fn flushes(&self) -> u32
+        ensures { result ≡ self.now.flushes }
+    {
         self.flushes
     }
 }
 
 impl Write for TestWriter {
-    ghost use Rattle.std.specs.Prelude.{Some};
+    ghost use Rattle.std.specs.Prelude.{◌≡◌, ◌+◌, ◌-◌, ◌^◌, min, length, Some, IfOk, IfErr, IsErr};
+    ghost use Rattle.std.specs.IoError.{error_kind};
+    ghost use Rattle.aout_core.specs.declared.samples.Failing.TheVariants.{Fails};
+    ghost use Rattle.std.specs.Io.{WritesAtMost};
+    ghost use Rattle.std.specs.Io.KnownBytes.{Keeps, WriteAppends};
 
-    ghost contents = { λ w. Some w.taken.items };
+    ghost contents = { λ w. Some w.taken };
 
-    fn write(&mut self, bytes: &[u8]) -> io::Result<usize> {
+    fn write(&mut self, bytes: &[u8]) -> io::Result<usize>
+        ensures bound { WritesAtMost result bytes.now }
+        ensures bytes { WriteAppends (Some self.old.taken) (Some self.new.taken) result bytes.now }
+        ensures count { IfOk result (λ n. n ≡ min (min self.old.most self.old.before_failure) (length bytes.now)) }
+        ensures fails { self.old.before_failure ≡ 0 → (kind : ErrorKind) → self.old.failure ≡ Fails kind → IfErr result (λ e. error_kind e ≡ kind) × IsErr result }
+        ensures later { IfOk result (λ n. self.new.before_failure ≡ self.old.before_failure - n) }
+        ensures counted { self.new.calls ≡ min (self.old.calls + 1) (2 ^ 32 - 1) }
+        ensures flushes { self.new.flushes ≡ self.old.flushes }
+        ensures most { self.new.most ≡ self.old.most }
+        ensures failure { self.new.failure ≡ self.old.failure }
+    {
         self.calls = self.calls.saturating_add(1);
         if self.before_failure == 0 {
             return match self.failure {
@@ -283,7 +338,11 @@ impl Write for TestWriter {
         Ok(n)
     }
 
-    fn flush(&mut self) -> io::Result<()> {
+    fn flush(&mut self) -> io::Result<()>
+        ensures bytes { Keeps (Some self.old.taken) (Some self.new.taken) }
+        ensures calls { self.new.calls ≡ self.old.calls }
+        ensures counted { self.new.flushes ≡ min (self.old.flushes + 1) (2 ^ 32 - 1) }
+    {
         self.flushes = self.flushes.saturating_add(1);
         match self.failure {
             Failing::Fails(kind) if self.before_failure == 0 => Err(io::Error::from(kind)),

@@ -65,12 +65,13 @@ impl<D> Wire<D> {
 
 impl<R: Read> Wire<R> {
     /// Reads some bytes to the front of `buf`, by one call of the device; 0 are read only at its end, or where `buf`
-    /// has no room. (own choice)
+    /// has no room. What a working device leaves behind those bytes, or on a fault, is not said. (own choice)
     pub fn read(&mut self, buf: &mut [u8]) -> Result<usize, DeviceFault>
         ensures fault { IsErr result ↔ IsTrue self.new.has_failed }
         ensures latched { IsTrue self.old.has_failed → (self.new ≡ self.old) }
         ensures bound { ReadsAtMost result buf.new }
         ensures bytes { ReadConsumes (R.remaining self.old.device) (R.remaining self.new.device) result buf.new }
+        ensures untouched { IsTrue self.old.has_failed → (buf.new ≡ buf.old) }
     {
         if self.has_failed {
             return Err(DeviceFault);
@@ -84,13 +85,15 @@ impl<R: Read> Wire<R> {
         }
     }
 
-    /// Reads until `buf` is full or the device is at its end, and answers how many bytes were read. (own choice)
+    /// Reads until `buf` is full or the device is at its end, and answers how many bytes were read. What a working
+    /// device leaves behind them, or on a fault, is not said. (own choice)
     pub fn fill(&mut self, buf: &mut [u8]) -> Result<usize, DeviceFault>
         ensures fault { IsErr result ↔ IsTrue self.new.has_failed }
         ensures latched { IsTrue self.old.has_failed → (self.new ≡ self.old) }
         ensures bound { IfOk result (λ n. n ≤ length buf.new) }
         ensures bytes { IfOk result (λ n. Consumes (R.remaining self.old.device) (R.remaining self.new.device) (take n buf.new)) }
         ensures end { IfOk result (λ n. n < length buf.new → IsAtEnd (R.remaining self.new.device)) }
+        ensures untouched { IsTrue self.old.has_failed → (buf.new ≡ buf.old) }
     {
         if self.has_failed {
             return Err(DeviceFault);
