@@ -40,7 +40,7 @@ rebinding (Some d) c = Some (record c { value = plus c.value d.1; target = segme
 
 -- a cell that waits for an external waits for one of the names, without a definition
 abbrev pub WaitsAmong : List Mention → Target → Type 0
-WaitsAmong ms (targets.External i) = (name : List ℕ) × (slice_get (names_by_first_mention ms) i ≡ Some name) × (first_definition ms name ≡ None)
+WaitsAmong ms (targets.External i) = (name : List ℕ) × (slice_get (names_by_first_mention ms) i ≡ Some name) × (first_definition ms name ≡ None) × (place_of name (names_by_first_mention ms) ≡ i)
 WaitsAmong ms _ = ⊤
 
 segment_waits : (ms : List Mention) (segment : Segment) → WaitsAmong ms (segment_target segment)
@@ -57,7 +57,7 @@ referent_waits ms (to_name name) h = by_definition (first_definition ms name) re
   where
     by_definition : (d : Option Definition) → first_definition ms name ≡ d → WaitsAmong ms (name_target (state_by d (wanted_size ms name)) (place_of name (names_by_first_mention ms)))
     by_definition (Some d) e = segment_waits ms d.0
-    by_definition None e = (name, get_place (names_by_first_mention ms) name (is_among-externals ms name ∙ h), e)
+    by_definition None e = (name, get_place (names_by_first_mention ms) name (is_among-externals ms name ∙ h), e, refl)
 
 -- so do all cells of the objects
 pub cells_wait : (ms : List Mention) (segment : Segment) (os : List Contents) → AllByRecursion (λ o. AllReferAmong (names_of ms) o (words_of segment o)) os →

@@ -20,3 +20,16 @@ pub mod AdditionLemmas
 pub mod BackLemmas
 pub mod JoinLemmas
 pub mod SessionLemmas
+pub mod ChainLemmas
+pub mod CountLemmas
+pub mod WaitLemmas
+pub mod PushLemmas
+pub mod ChainedLemmas
+pub mod NoteLemmas
+pub mod UndoLemmas
+pub mod ChainBackLemmas
+pub mod ThreadLemmas
+pub mod RestoreLemmas
+pub mod NamesLemmas
+pub mod CoverLemmas
+pub mod LawLemmas

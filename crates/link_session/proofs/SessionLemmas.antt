@@ -83,7 +83,7 @@ module _ (forced : List (List ℕ)) (es : List Labelled) (steps : List Step) (m 
   }
 
 -- the last element of a list
-last_same : {A : Type 0} (xs ys : List A) (x y : A) → xs ++ x ∷ [] ≡ ys ++ y ∷ [] → (xs ≡ ys) × (x ≡ y)
+pub last_same : {A : Type 0} (xs ys : List A) (x y : A) → xs ++ x ∷ [] ≡ ys ++ y ∷ [] → (xs ≡ ys) × (x ≡ y)
 last_same [] [] x y e = (refl, cc)
 last_same [] (b ∷ ys) x y e = absurd (let n = ap (λ l. length l) e in omega (arith, length-append ys (y ∷ [])))
 last_same (a ∷ xs) [] x y e = absurd (let n = ap (λ l. length l) e in omega (arith, length-append xs (x ∷ [])))

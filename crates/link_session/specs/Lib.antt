@@ -13,3 +13,6 @@ pub mod Updates
 pub mod Additions
 pub mod Sessions
 pub mod Fields
+pub mod Chains
+pub mod Settled
+pub mod Restores

@@ -6,9 +6,11 @@
 
 mod bind;
 mod cell;
+mod chain;
 mod entry;
 mod forced;
 mod join;
+mod laws;
 mod limits;
 mod mark;
 mod mention;
@@ -20,6 +22,7 @@ mod state;
 pub use cell::{Cell, Target};
 pub use entry::{AddFault, AddRefused, Entry};
 pub use forced::Forced;
+pub use laws::add_and_withdraw;
 pub use mark::{Mark, Place};
 pub use session::{Memory, Session};
 pub use state::State;

@@ -3,6 +3,7 @@ ghost use Rattle.std.specs.Prelude.{◌≡◌, ◌*◌, ◌≤◌, ◌<◌, ◌+
 ghost use Rattle.std.specs.List.{AllByRecursion};
 ghost use Rattle.std.specs.Map.{keys_of};
 ghost use Rattle.indexmap.specs.IndexMap.{spare};
+ghost use Rattle.link_session.specs.ForcedNames.{AreDifferent};
 ghost use Rattle.link_session.specs.Labelled.{objects};
 ghost use Rattle.link_session.specs.Mentions.{externals, forced_mention};
 ghost use Rattle.link_session.specs.Edits.{limit_passed, refusal};
@@ -116,6 +117,7 @@ impl Session {
     pub fn forced_count(&self) -> u16
         ensures value { result ≡ length self.now.forced }
         ensures few { result ≤ 64 }
+        ensures different { AreDifferent self.now.forced }
     {
         self.forced.names().len() as u16
     }

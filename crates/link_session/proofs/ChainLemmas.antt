@@ -1,0 +1,263 @@
+-- Chains as lists of places.
+use Rattle.std.proofs.Common.{◌≡◌, ◌≢◌, ◌<◌, ◌≤◌, ◌+◌, ◌⊎◌, inl, inr, ℕ, zero, suc, Bool, true, false, cond, ◌||◌, List, [], ◌∷◌, ◌++◌, map, length, Option, Some, None, nat_eq, slice_index_or, slice_set, eqb, refl, sym, ap, ◌∙◌, subst, arith, length-append, append-nil, append_assoc}
+use Rattle.std.proofs.lemmas.List.{length-map}
+use Rattle.std.specs.List.{IsDistinct, list_any, AllByRecursion}
+use Rattle.std.proofs.lemmas.Bool.{cases_eq, or_parts}
+use Rattle.std.proofs.lemmas.Bool.Decides.{nat_tests}
+use Rattle.std.proofs.lemmas.Map.Keys.{IsDistinct-cons}
+use Rattle.std.proofs.lemmas.Map.Steps.{length-le_from_distinct_below}
+use Rattle.aout_core.specs.declared.symbol.Segment.{Segment}
+use Rattle.link_session.specs.declared.cell.Cell.{Cell}
+use Rattle.link_session.specs.declared.mark.Place.{Place}
+use Rattle.link_session.specs.declared.mark.Place.TheVariants.{InText, InData}
+use Rattle.link_session.specs.Chains.{Link, link_at, IsChain, same_place, is_on, AreApart, IsWithin, bound_to, bound_one, bound_where, walk}
+
+-- One cell.
+
+pub bound_one-set : (segment : Segment) (offset i : ℕ) (cs : List Cell) (d : Cell) → i < length cs → slice_set cs i (bound_to segment offset (slice_index_or cs i d)) ≡ bound_one segment offset i cs
+bound_one-set segment offset i [] d h = absurd (omega arith)
+bound_one-set segment offset zero (c ∷ cs) d h = refl
+bound_one-set segment offset (suc i) (c ∷ cs) d h = ap (λ (l : List Cell). c ∷ l) (bound_one-set segment offset i cs d (omega arith))
+
+pub bound_one-behind : (segment : Segment) (offset i : ℕ) (cs : List Cell) → length cs ≤ i → bound_one segment offset i cs ≡ cs
+bound_one-behind segment offset i [] h = refl
+bound_one-behind segment offset zero (c ∷ cs) h = absurd (omega arith)
+bound_one-behind segment offset (suc i) (c ∷ cs) h = ap (λ (l : List Cell). c ∷ l) (bound_one-behind segment offset i cs (omega arith))
+
+pub length-bound_one : (segment : Segment) (offset i : ℕ) (cs : List Cell) → length (bound_one segment offset i cs) ≡ length cs
+length-bound_one segment offset i [] = refl
+length-bound_one segment offset zero (c ∷ cs) = refl
+length-bound_one segment offset (suc i) (c ∷ cs) = ap suc (length-bound_one segment offset i cs)
+
+-- one more cell is bound
+pub bound_where-one : (segment : Segment) (offset : ℕ) (f g : ℕ → Bool) (i : ℕ) → f i ≡ false → g i ≡ true → ((j : ℕ) → i ≢ j → f j ≡ g j) → (cs : List Cell) →
+    bound_one segment offset i (bound_where f segment offset cs) ≡ bound_where g segment offset cs
+bound_where-one segment offset f g i off on others [] = refl
+bound_where-one segment offset f g zero off on others (c ∷ cs) =
+    rw (off, on) (λ k. bound_to segment offset c ∷ bound_where (λ n. others (suc n) (λ e. omega arith) k) segment offset cs)
+bound_where-one segment offset f g (suc i) off on others (c ∷ cs) =
+    λ k. cond (others 0 (λ e. omega arith) k) (bound_to segment offset c) c ∷ bound_where-one segment offset (λ n. f (suc n)) (λ n. g (suc n)) i off on (λ j ne. others (suc j) (λ e. ne (omega arith))) cs k
+
+none_bound : (segment : Segment) (offset : ℕ) (cs : List Cell) → cs ≡ bound_where (λ i. false) segment offset cs
+none_bound segment offset [] = refl
+none_bound segment offset (c ∷ cs) = ap (λ (l : List Cell). c ∷ l) (none_bound segment offset cs)
+
+-- Places.
+
+pub on_last : (ps : List Place) (p q : Place) → is_on (ps ++ q ∷ []) p ≡ (is_on ps p || same_place p q)
+on_last [] p q = by_test (same_place p q)
+  where
+    by_test : (t : Bool) → (t || false) ≡ t
+    by_test true = refl
+    by_test false = refl
+on_last (x ∷ ps) p q = by_test (same_place p x) (on_last ps p q)
+  where
+    by_test : (t : Bool) → is_on (ps ++ q ∷ []) p ≡ (is_on ps p || same_place p q) → (t || is_on (ps ++ q ∷ []) p) ≡ ((t || is_on ps p) || same_place p q)
+    by_test true h = refl
+    by_test false h = h
+
+pub own_number : (i : ℕ) → nat_eq i i ≡ true
+own_number i = grind (arith, nat_tests)
+
+pub other_number : (i j : ℕ) → i ≢ j → nat_eq i j ≡ false
+other_number i j ne = grind (arith, nat_tests)
+
+pub or_false : (t : Bool) → (t || false) ≡ t
+or_false true = refl
+or_false false = refl
+
+pub or_true : (t : Bool) → (t || true) ≡ true
+or_true true = refl
+or_true false = refl
+
+same_sym : (p q : Place) → same_place p q ≡ same_place q p
+same_sym (InText i) (InText j) = by_order (cases_eq i j)
+  where
+    by_order : (i ≡ j) ⊎ (i ≡ j → ⊥) → nat_eq i j ≡ nat_eq j i
+    by_order (inl e) = rw e refl
+    by_order (inr ne) = other_number i j ne ∙ sym (other_number j i (λ e. ne (sym e)))
+same_sym (InData i) (InData j) = by_order (cases_eq i j)
+  where
+    by_order : (i ≡ j) ⊎ (i ≡ j → ⊥) → nat_eq i j ≡ nat_eq j i
+    by_order (inl e) = rw e refl
+    by_order (inr ne) = other_number i j ne ∙ sym (other_number j i (λ e. ne (sym e)))
+same_sym (InText i) (InData j) = refl
+same_sym (InData i) (InText j) = refl
+
+-- the place behind a front of a chain is not in that front
+pub not_behind : (done rest : List Place) (p : Place) → AreApart (done ++ p ∷ rest) → is_on done p ≡ false
+not_behind [] rest p h = refl
+not_behind (q ∷ done) rest p h =
+    let here : same_place q p ≡ false = on_middle done h.0 in
+    rw (same_sym p q ∙ here) (not_behind done rest p h.1)
+  where
+    on_middle : (ps : List Place) → is_on (ps ++ p ∷ rest) q ≡ false → same_place q p ≡ false
+    on_middle [] e = (or_parts (same_place q p) (is_on rest q) e).0
+    on_middle (x ∷ ps) e = on_middle ps (or_parts (same_place q x) (is_on (ps ++ p ∷ rest) q) e).1
+
+-- At most as many places as there are cells.
+
+abbrev number : ℕ → Place → ℕ
+number t (InText i) = i
+number t (InData j) = t + j
+
+numbers_apart : (t d : ℕ) (p q : Place) → IsWithin t d p → IsWithin t d q → same_place p q ≡ false → eqb (number t p) (number t q) ≡ false
+numbers_apart t d (InText i) (InText j) h k e = e
+numbers_apart t d (InText i) (InData j) h k e = other_number i (t + j) (λ same. omega arith)
+numbers_apart t d (InData i) (InText j) h k e = other_number (t + i) j (λ same. omega arith)
+numbers_apart t d (InData i) (InData j) h k e = by_order (cases_eq i j)
+  where
+    by_order : (i ≡ j) ⊎ (i ≡ j → ⊥) → nat_eq (t + i) (t + j) ≡ false
+    by_order (inl same) = absurd (let yes : nat_eq i j ≡ true = rw same (own_number j) in cc)
+    by_order (inr ne) = other_number (t + i) (t + j) (λ same. ne (omega arith))
+
+all_apart : (t d : ℕ) (p : Place) → IsWithin t d p → (ps : List Place) → AllByRecursion (IsWithin t d) ps → is_on ps p ≡ false → AllByRecursion (λ y. eqb (number t p) y ≡ false) (map (number t) ps)
+all_apart t d p h [] k e = tt
+all_apart t d p h (q ∷ ps) k e =
+    let parts = or_parts (same_place p q) (is_on ps p) e in (numbers_apart t d p q h k.0 parts.0, all_apart t d p h ps k.1 parts.1)
+
+distinct : (t d : ℕ) (ps : List Place) → AreApart ps → AllByRecursion (IsWithin t d) ps → IsDistinct eqb (map (number t) ps)
+unfolding IsDistinct
+distinct t d [] a h = tt
+distinct t d (p ∷ ps) a h = IsDistinct-cons eqb (number t p) (map (number t) ps) (all_apart t d p h.0 ps h.1 a.0) (distinct t d ps a.1 h.1)
+
+number_below : (t d : ℕ) (p : Place) → IsWithin t d p → number t p < t + d
+number_below t d (InText i) h = omega arith
+number_below t d (InData j) h = omega arith
+
+below : (t d : ℕ) (ps : List Place) → AllByRecursion (IsWithin t d) ps → (q : ℕ) → list_any (eqb q) (map (number t) ps) ≡ true → q < t + d
+below t d [] h q e = absurd (cc)
+below t d (p ∷ ps) h q e = by_order (cases_eq q (number t p)) (below t d ps h.1 q)
+  where
+    by_order : (q ≡ number t p) ⊎ (q ≡ number t p → ⊥) → (list_any (eqb q) (map (number t) ps) ≡ true → q < t + d) → q < t + d
+    by_order (inl same) rest = let b = number_below t d p h.0 in omega arith
+    by_order (inr ne) rest = rest (let other : eqb q (number t p) ≡ false = other_number q (number t p) ne in rw other at e)
+
+pub few_places : (t d : ℕ) (ps : List Place) → AreApart ps → AllByRecursion (IsWithin t d) ps → length ps ≤ t + d
+few_places t d ps a h =
+    let few = length-le_from_distinct_below (map (number t) ps) (t + d) (distinct t d ps a h) (below t d ps h) in
+    omega (arith, few, length-map ps (number t))
+
+-- Walks.
+
+pub chain-unique : (ts ds : List Link) (head : Link) (ps qs : List Place) → IsChain ts ds head ps → IsChain ts ds head qs → ps ≡ qs
+chain-unique ts ds head [] [] a b = refl
+chain-unique ts ds head [] (q ∷ qs) a b = absurd (let e = sym a ∙ b.0 in cc)
+chain-unique ts ds head (p ∷ ps) [] a b = absurd (let e = sym b ∙ a.0 in cc)
+chain-unique ts ds head (p ∷ ps) (q ∷ qs) a b =
+    let same : p ≡ q = (let e = sym a.0 ∙ b.0 in cc) in
+    let tail = chain-unique ts ds (link_at ts ds q) ps qs (subst (λ (r : Place). IsChain ts ds (link_at ts ds r) ps) same a.1) b.1 in
+    λ j. same j ∷ tail j
+
+pub walk-is : (n : ℕ) (ts ds : List Link) (next : Link) (rest : List Place) → IsChain ts ds next rest → length rest ≤ n → walk n ts ds next ≡ rest
+walk-is zero ts ds next [] c h = refl
+walk-is zero ts ds next (p ∷ ps) c h = absurd (omega arith)
+walk-is (suc n) ts ds next [] c h = ap (walk (suc n) ts ds) c
+walk-is (suc n) ts ds next (p ∷ ps) c h = ap (walk (suc n) ts ds) c.0 ∙ ap (λ (l : List Place). p ∷ l) (walk-is n ts ds (link_at ts ds p) ps c.1 (omega arith))
+
+-- how far a chain has been bound: the places behind and those ahead
+pub record Walked (ts ds : List Link) (head next : Link) (segment : Segment) (offset : ℕ) (texts datas new_texts new_datas : List Cell) : Type 0 where
+  pub done : List Place
+  pub rest : List Place
+  pub visits : IsChain ts ds head (done ++ rest)
+  pub ahead : IsChain ts ds next rest
+  pub apart : AreApart (done ++ rest)
+  pub inside : AllByRecursion (IsWithin (length texts) (length datas)) (done ++ rest)
+  pub text : new_texts ≡ bound_where (λ i. is_on done (InText i)) segment offset texts
+  pub «data» : new_datas ≡ bound_where (λ i. is_on done (InData i)) segment offset datas
+
+-- the first place of what is ahead
+pub record Ahead (ts ds : List Link) (rest : List Place) (p : Place) : Type 0 where
+  pub tail : List Place
+  pub is : rest ≡ p ∷ tail
+  pub goes_on : IsChain ts ds (link_at ts ds p) tail
+
+pub next_ahead : (ts ds : List Link) (next : Link) (rest : List Place) (p : Place) → IsChain ts ds next rest → next ≡ Some p → Ahead ts ds rest p
+next_ahead ts ds next [] p c e = absurd (let bad = sym c ∙ e in cc)
+next_ahead ts ds next (q ∷ rest) p c e =
+    let same : q ≡ p = (let b = sym c.0 ∙ e in cc) in
+    record { tail = rest; is = ap (λ (r : Place). r ∷ rest) same; goes_on = subst (λ (r : Place). IsChain ts ds (link_at ts ds r) rest) same c.1 }
+
+pub none_ahead : (ts ds : List Link) (next : Link) (rest : List Place) → IsChain ts ds next rest → next ≡ None → rest ≡ []
+none_ahead ts ds next [] c e = refl
+none_ahead ts ds next (q ∷ rest) c e = absurd (let bad = sym e ∙ c.0 in cc)
+
+module _ (ts ds : List Link) (head next : Link) (segment : Segment) (offset : ℕ) (texts datas new_texts new_datas : List Cell) where
+  pub begun : (ps : List Place) → IsChain ts ds head ps → AreApart ps → AllByRecursion (IsWithin (length texts) (length datas)) ps → Walked ts ds head head segment offset texts datas texts datas
+  begun ps visits apart inside = record {
+    done = [];
+    rest = ps;
+    visits = visits;
+    ahead = visits;
+    apart = apart;
+    inside = inside;
+    text = none_bound segment offset texts;
+    «data» = none_bound segment offset datas;
+  }
+
+  module _ (w : Walked ts ds head next segment offset texts datas new_texts new_datas) where
+    moved : (tail : List Place) (p : Place) → w.rest ≡ p ∷ tail → w.done ++ w.rest ≡ (w.done ++ p ∷ []) ++ tail
+    moved tail p e = ap (λ (l : List Place). w.done ++ l) e ∙ sym (append_assoc w.done (p ∷ []) tail)
+
+    fresh : (tail : List Place) (p : Place) → w.rest ≡ p ∷ tail → is_on w.done p ≡ false
+    fresh tail p e = not_behind w.done tail p (subst (λ (l : List Place). AreApart (w.done ++ l)) e w.apart)
+
+    -- a place of text is bound
+    pub step_text : (i : ℕ) → next ≡ Some (InText i) → Walked ts ds head (link_at ts ds (InText i)) segment offset texts datas (bound_one segment offset i new_texts) new_datas
+    step_text i e =
+        let a = next_ahead ts ds next w.rest (InText i) w.ahead e in record {
+          done = w.done ++ InText i ∷ [];
+          rest = a.tail;
+          visits = subst (IsChain ts ds head) (moved a.tail (InText i) a.is) w.visits;
+          ahead = a.goes_on;
+          apart = subst AreApart (moved a.tail (InText i) a.is) w.apart;
+          inside = subst (AllByRecursion (IsWithin (length texts) (length datas))) (moved a.tail (InText i) a.is) w.inside;
+          text = ap (bound_one segment offset i) w.text ∙ bound_where-one segment offset (λ j. is_on w.done (InText j)) (λ j. is_on (w.done ++ InText i ∷ []) (InText j)) i
+              (fresh a.tail (InText i) a.is)
+              (on_last w.done (InText i) (InText i) ∙ ap (λ (t : Bool). is_on w.done (InText i) || t) (own_number i) ∙ or_true (is_on w.done (InText i)))
+              (λ j ne. sym (on_last w.done (InText j) (InText i) ∙ ap (λ (t : Bool). is_on w.done (InText j) || t) (other_number j i (λ e. ne (sym e))) ∙ or_false (is_on w.done (InText j))))
+              texts;
+          «data» = w.data ∙ (λ k. bound_where (λ j. sym (on_last w.done (InData j) (InText i) ∙ or_false (is_on w.done (InData j))) k) segment offset datas);
+        }
+
+    -- a place of data is bound
+    pub step_data : (i : ℕ) → next ≡ Some (InData i) → Walked ts ds head (link_at ts ds (InData i)) segment offset texts datas new_texts (bound_one segment offset i new_datas)
+    step_data i e =
+        let a = next_ahead ts ds next w.rest (InData i) w.ahead e in record {
+          done = w.done ++ InData i ∷ [];
+          rest = a.tail;
+          visits = subst (IsChain ts ds head) (moved a.tail (InData i) a.is) w.visits;
+          ahead = a.goes_on;
+          apart = subst AreApart (moved a.tail (InData i) a.is) w.apart;
+          inside = subst (AllByRecursion (IsWithin (length texts) (length datas))) (moved a.tail (InData i) a.is) w.inside;
+          text = w.text ∙ (λ k. bound_where (λ j. sym (on_last w.done (InText j) (InData i) ∙ or_false (is_on w.done (InText j))) k) segment offset texts);
+          «data» = ap (bound_one segment offset i) w.data ∙ bound_where-one segment offset (λ j. is_on w.done (InData j)) (λ j. is_on (w.done ++ InData i ∷ []) (InData j)) i
+              (fresh a.tail (InData i) a.is)
+              (on_last w.done (InData i) (InData i) ∙ ap (λ (t : Bool). is_on w.done (InData i) || t) (own_number i) ∙ or_true (is_on w.done (InData i)))
+              (λ j ne. sym (on_last w.done (InData j) (InData i) ∙ ap (λ (t : Bool). is_on w.done (InData j) || t) (other_number j i (λ e. ne (sym e))) ∙ or_false (is_on w.done (InData j))))
+              datas;
+        }
+
+    -- what is ahead is at most as long as there are cells, and shorter behind its first place
+    few_ahead : length w.rest ≤ length texts + length datas
+    few_ahead = omega (arith, few_places (length texts) (length datas) (w.done ++ w.rest) w.apart w.inside, length-append w.done w.rest)
+
+    pub shorter : (p : Place) → next ≡ Some p → length (walk (length texts + length datas) ts ds (link_at ts ds p)) < length (walk (length texts + length datas) ts ds next)
+    shorter p e =
+        let a = next_ahead ts ds next w.rest p w.ahead e in
+        let long = ap (λ (l : List Place). length l) a.is in
+        let few = few_ahead in
+        let now = ap (λ (l : List Place). length l) (walk-is (length texts + length datas) ts ds next w.rest w.ahead few) in
+        let later = ap (λ (l : List Place). length l) (walk-is (length texts + length datas) ts ds (link_at ts ds p) a.tail a.goes_on (omega arith)) in
+        omega arith
+
+    -- the chain was walked to its end
+    ended : next ≡ None → (ps : List Place) → IsChain ts ds head ps → w.done ≡ ps
+    ended e ps c =
+        sym (append-nil w.done) ∙ ap (λ (l : List Place). w.done ++ l) (sym (none_ahead ts ds next w.rest w.ahead e)) ∙ chain-unique ts ds head (w.done ++ w.rest) ps w.visits c
+
+    pub ended_text : next ≡ None → (ps : List Place) → IsChain ts ds head ps → new_texts ≡ bound_where (λ i. is_on ps (InText i)) segment offset texts
+    ended_text e ps c = w.text ∙ ap (λ (l : List Place). bound_where (λ i. is_on l (InText i)) segment offset texts) (ended e ps c)
+
+    pub ended_data : next ≡ None → (ps : List Place) → IsChain ts ds head ps → new_datas ≡ bound_where (λ i. is_on ps (InData i)) segment offset datas
+    ended_data e ps c = w.data ∙ ap (λ (l : List Place). bound_where (λ i. is_on l (InData i)) segment offset datas) (ended e ps c)

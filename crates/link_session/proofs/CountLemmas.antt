@@ -1,0 +1,122 @@
+-- A chain has as many places as cells that wait for its external, and each name that is bound leaves so many fewer cells to bind.
+use Rattle.std.proofs.Common.{◌≡◌, ◌≢◌, ◌<◌, ◌+◌, ◌⊎◌, inl, inr, ℕ, zero, suc, Bool, true, false, cond, ◌||◌, List, [], ◌∷◌, map, length, Option, Some, None, is_some, nat_eq, refl, sym, ap, ◌∙◌, arith}
+use Rattle.std.specs.Prelude.{⊤, filter}
+use Rattle.std.specs.List.{AllByRecursion}
+use Rattle.std.proofs.lemmas.Bool.{cases_eq}
+use Rattle.aout_core.specs.declared.symbol.Segment.{Segment}
+use Rattle.aout_core.specs.declared.symbol.Segment.TheVariants as segments
+use Rattle.link_session.specs.declared.cell.Cell.{Cell}
+use Rattle.link_session.specs.declared.cell.Target.{Target}
+use Rattle.link_session.specs.declared.cell.Target.TheVariants as targets
+use Rattle.link_session.specs.declared.state.State.{State}
+use Rattle.link_session.specs.declared.state.State.TheVariants.{Defined, Wanted}
+use Rattle.link_session.specs.declared.mark.Place.{Place}
+use Rattle.link_session.specs.declared.mark.Place.TheVariants.{InText, InData}
+use Rattle.link_session.specs.Cells.{segment_target}
+use Rattle.link_session.specs.Additions.{Named, state_at, bound_by, binding_at, binding, bound_or}
+use Rattle.link_session.specs.Chains.{Link, is_on, same_place, AreApart, IsWithin, waits_at, Tells, Waits, bound_to}
+use Rattle.link_session.proofs.ChainLemmas.{own_number, other_number}
+use Rattle.link_session.specs.Settled.{settled_at}
+
+-- how many indices of cells pass the test
+abbrev pub count_where : (ℕ → Bool) → List Cell → ℕ
+count_where test [] = 0
+count_where test (c ∷ cs) = cond (test 0) 1 0 + count_where (λ i. test (suc i)) cs
+
+count_same : (f g : ℕ → Bool) → ((i : ℕ) → f i ≡ g i) → (cs : List Cell) → count_where f cs ≡ count_where g cs
+count_same f g h cs = λ i. count_where (λ n. h n i) cs
+
+count_one : (f g : ℕ → Bool) (i : ℕ) (cs : List Cell) → i < length cs → f i ≡ false → g i ≡ true → ((j : ℕ) → i ≢ j → f j ≡ g j) → count_where g cs ≡ 1 + count_where f cs
+count_one f g i [] lt off on others = absurd (omega arith)
+count_one f g zero (c ∷ cs) lt off on others =
+    let rest = count_same (λ n. f (suc n)) (λ n. g (suc n)) (λ n. others (suc n) (λ e. omega arith)) cs in rw (off, on) (omega arith)
+count_one f g (suc i) (c ∷ cs) lt off on others =
+    let rest = count_one (λ n. f (suc n)) (λ n. g (suc n)) i cs (omega arith) off on (λ j ne. others (suc j) (λ e. ne (omega arith))) in
+    let first = ap (λ (t : Bool). let n : ℕ = cond t 1 0 in n) (others 0 (λ e. omega arith)) in
+    omega arith
+
+count_none : (cs : List Cell) → count_where (λ i. false) cs ≡ 0
+count_none [] = refl
+count_none (c ∷ cs) = let rest = count_none cs in omega arith
+
+-- places apart and within the cells are so many
+pub places_counted : (ps : List Place) (texts datas : List Cell) → AreApart ps → AllByRecursion (IsWithin (length texts) (length datas)) ps →
+    length ps ≡ count_where (λ i. is_on ps (InText i)) texts + count_where (λ i. is_on ps (InData i)) datas
+places_counted [] texts datas a h = let t = count_none texts in let d = count_none datas in omega arith
+places_counted (InText i ∷ ps) texts datas a h =
+    let rest = places_counted ps texts datas a.1 h.1 in
+    let one = count_one (λ j. is_on ps (InText j)) (λ j. is_on (InText i ∷ ps) (InText j)) i texts h.0 a.0
+    (ap (λ (t : Bool). t || is_on ps (InText i)) (own_number i))
+    (λ j ne. ap (λ (t : Bool). t || is_on ps (InText j)) (sym (other_number j i (λ e. ne (sym e))))) in
+    omega arith
+places_counted (InData i ∷ ps) texts datas a h =
+    let rest = places_counted ps texts datas a.1 h.1 in
+    let one = count_one (λ j. is_on ps (InData j)) (λ j. is_on (InData i ∷ ps) (InData j)) i datas h.0 a.0
+    (ap (λ (t : Bool). t || is_on ps (InData i)) (own_number i))
+    (λ j ne. ap (λ (t : Bool). t || is_on ps (InData j)) (sym (other_number j i (λ e. ne (sym e))))) in
+    omega arith
+
+abbrev pub waiting_for : ℕ → List Cell → List Cell
+waiting_for k cs = filter (λ c. waits_at k c.target) cs
+
+waiting_counted : (test : ℕ → Bool) (k : ℕ) (cs : List Cell) → Tells test k cs → count_where test cs ≡ length (waiting_for k cs)
+waiting_counted test k [] h = refl
+waiting_counted test k (c ∷ cs) h =
+    let rest = waiting_counted (λ i. test (suc i)) k cs h.1 in ap (λ (t : Bool). cond t 1 0 + count_where (λ i. test (suc i)) cs) h.0 ∙ by_test (waits_at k c.target) rest
+  where
+    by_test : (t : Bool) → count_where (λ i. test (suc i)) cs ≡ length (waiting_for k cs) → cond t 1 0 + count_where (λ i. test (suc i)) cs ≡ length (cond t (c ∷ waiting_for k cs) (waiting_for k cs))
+    by_test true h = omega arith
+    by_test false h = omega arith
+
+-- a chain has as many places as cells that wait
+pub chain_counted : (ts ds : List Link) (head : Link) (texts datas : List Cell) (k : ℕ) → (w : Waits ts ds head texts datas k) → length w.places ≡ length (waiting_for k texts) + length (waiting_for k datas)
+chain_counted ts ds head texts datas k w =
+    omega (arith, places_counted w.places texts datas w.apart w.inside, waiting_counted (λ i. is_on w.places (InText i)) k texts w.text, waiting_counted (λ i. is_on w.places (InData i)) k datas w.data)
+
+-- the cells that are to be bound
+abbrev pub to_bind : Named → List Cell → List Cell
+to_bind es cs = filter (λ c. is_some (binding es c)) cs
+
+segment_stays : (es : Named) (segment : Segment) (c : Cell) → is_some (binding_at es (segment_target segment) c) ≡ false
+segment_stays es segments.Undefined c = refl
+segment_stays es segments.Absolute c = refl
+segment_stays es segments.TextSeg c = refl
+segment_stays es segments.DataSeg c = refl
+segment_stays es segments.BssSeg c = refl
+segment_stays es segments.Other c = refl
+
+pub waits_is : (k : ℕ) (t : Target) → waits_at k t ≡ true → t ≡ targets.External k
+waits_is k targets.Absolute e = absurd (cc)
+waits_is k targets.TextSeg e = absurd (cc)
+waits_is k targets.DataSeg e = absurd (cc)
+waits_is k targets.BssSeg e = absurd (cc)
+waits_is k (targets.External i) e = by_order (cases_eq i k)
+  where
+    by_order : (i ≡ k) ⊎ (i ≡ k → ⊥) → targets.External i ≡ targets.External k
+    by_order (inl same) = ap (λ (n : ℕ). targets.External n) same
+    by_order (inr other) = absurd (let bad = other_number i k other in cc)
+
+-- once the chain of a defined name is bound, so many fewer cells are to be bound
+pub fewer_to_bind : (es : Named) (k : ℕ) (segment : Segment) (offset : ℕ) → state_at es k ≡ Defined segment offset → (cs : List Cell) →
+    length (to_bind es cs) ≡ length (waiting_for k cs) + length (to_bind es (map (settled_at es k) cs))
+fewer_to_bind es k segment offset at [] = refl
+fewer_to_bind es k segment offset at (c ∷ cs) = by_test (waits_at k c.target) refl (fewer_to_bind es k segment offset at cs)
+  where
+    rest : List Cell
+    rest = map (settled_at es k) cs
+
+    by_test : (t : Bool) → waits_at k c.target ≡ t → length (to_bind es cs) ≡ length (waiting_for k cs) + length (to_bind es (map (settled_at es k) cs)) →
+        length (to_bind es (c ∷ cs)) ≡ length (cond t (c ∷ waiting_for k cs) (waiting_for k cs)) + length (to_bind es (cond t (bound_or (bound_by (state_at es k) c) c) c ∷ map (settled_at es k) cs))
+    by_test true e h =
+        let binds : is_some (binding es c) ≡ true = ap (λ (t : Target). is_some (binding_at es t c)) (waits_is k c.target e) ∙ ap (λ (s : State). is_some (bound_by s c)) at in
+        let bound : bound_or (bound_by (state_at es k) c) c ≡ bound_to segment offset c = ap (λ (s : State). bound_or (bound_by s c) c) at in
+        let stays : is_some (binding es (bound_to segment offset c)) ≡ false = segment_stays es segment (bound_to segment offset c) in
+        ap (λ (t : Bool). length (cond t (c ∷ to_bind es cs) (to_bind es cs))) binds
+        ∙ (let sum : suc (length (to_bind es cs)) ≡ suc (length (waiting_for k cs)) + length (to_bind es (map (settled_at es k) cs)) = omega arith in sum)
+        ∙ ap (λ (t : Bool). suc (length (waiting_for k cs)) + length (cond t (bound_to segment offset c ∷ to_bind es (map (settled_at es k) cs)) (to_bind es (map (settled_at es k) cs)))) (sym stays)
+        ∙ ap (λ (b : Cell). suc (length (waiting_for k cs)) + length (to_bind es (b ∷ map (settled_at es k) cs))) (sym bound)
+    by_test false e h = by_binding (is_some (binding es c))
+      where
+        by_binding : (t : Bool) → length (cond t (c ∷ to_bind es cs) (to_bind es cs)) ≡ length (waiting_for k cs) + length (cond t (c ∷ to_bind es (map (settled_at es k) cs)) (to_bind es (map (settled_at es k) cs)))
+        by_binding true = omega arith
+        by_binding false = h
