@@ -1,5 +1,5 @@
 -- The marks of a chain bring its cells back.
-use Rattle.std.proofs.Common.{◌≡◌, ◌≢◌, ◌<◌, ◌+◌, ◌⊎◌, inl, inr, ℕ, zero, suc, Bool, true, false, cond, ◌||◌, List, [], ◌∷◌, ◌++◌, map, length, Option, Some, None, nat_eq, slice_index_or, refl, sym, ap, ◌∙◌, subst, arith}
+use Rattle.std.proofs.Common.{◌≡◌, ◌<◌, ◌⊎◌, inl, inr, ℕ, zero, suc, Bool, true, false, cond, ◌||◌, List, [], ◌∷◌, ◌++◌, length, Option, Some, slice_index_or, refl, sym, ap, ◌∙◌, subst, arith}
 use Rattle.std.specs.Prelude.{slice_get}
 use Rattle.std.specs.List.{AllByRecursion}
 use Rattle.std.proofs.lemmas.Bool.{cases_eq}
@@ -11,9 +11,9 @@ use Rattle.link_session.specs.declared.mark.Place.{Place}
 use Rattle.link_session.specs.declared.mark.Place.TheVariants.{InText, InData}
 use Rattle.link_session.specs.Image.{Image}
 use Rattle.link_session.specs.Undo.{put_all_back, IsInside}
-use Rattle.link_session.specs.Chains.{Link, is_on, same_place, IsWithin, bound_to, bound_where, cell_at, nowhere, marks_of, heads_back}
+use Rattle.link_session.specs.Chains.{Link, is_on, IsWithin, bound_to, bound_where, nowhere, marks_of, heads_back}
 use Rattle.link_session.proofs.UndoLemmas.{put_back_all, put_back-old, AreOf, IsMarked, text_writes, data_writes}
-use Rattle.link_session.proofs.ChainLemmas.{own_number, other_number}
+use Rattle.link_session.proofs.ChainLemmas.{other_number}
 
 length-bound_where : (test : ℕ → Bool) (segment : Segment) (offset : ℕ) (cs : List Cell) → length (bound_where test segment offset cs) ≡ length cs
 length-bound_where test segment offset [] = refl

@@ -1,5 +1,5 @@
 -- All chains of an image: while a name is bound, while names are added, and while the cells of an object are put last.
-use Rattle.std.proofs.Common.{◌≡◌, ◌≢◌, ◌<◌, ◌≤◌, ◌+◌, ◌⊎◌, inl, inr, ℕ, zero, suc, Bool, true, false, cond, List, [], ◌∷◌, ◌++◌, map, length, Option, Some, None, nat_eq, slice_index_or, slice_set, refl, sym, ap, ◌∙◌, subst, arith, length-append, append_assoc, append-nil}
+use Rattle.std.proofs.Common.{◌≡◌, ◌≢◌, ◌<◌, ◌+◌, ◌⊎◌, inl, inr, ℕ, zero, suc, Bool, true, false, cond, List, [], ◌∷◌, ◌++◌, map, length, Some, None, nat_eq, slice_index_or, slice_set, refl, sym, ap, ◌∙◌, subst, arith, length-append, append_assoc, append-nil}
 use Rattle.std.specs.Prelude.{⊤}
 use Rattle.std.specs.List.{AllByRecursion}
 use Rattle.std.proofs.lemmas.Bool.{cases_eq}
@@ -8,13 +8,12 @@ use Rattle.aout_core.specs.declared.symbol.Segment.{Segment}
 use Rattle.link_session.specs.declared.cell.Cell.{Cell}
 use Rattle.link_session.specs.declared.cell.Target.{Target}
 use Rattle.link_session.specs.declared.cell.Target.TheVariants as targets
-use Rattle.link_session.specs.declared.state.State.{State}
 use Rattle.link_session.specs.declared.state.State.TheVariants.{Defined}
 use Rattle.link_session.specs.declared.mark.Place.{Place}
 use Rattle.link_session.specs.declared.mark.Place.TheVariants.{InText, InData}
 use Rattle.link_session.specs.Additions.{Named, state_at, bound_by, bound_or}
 use Rattle.link_session.specs.Chains.{Link, bound_if, waits_at, Waits, head_for, with_head, threaded, AreChained}
-use Rattle.link_session.proofs.ChainLemmas.{own_number, other_number}
+use Rattle.link_session.proofs.ChainLemmas.{own_number}
 use Rattle.link_session.specs.Settled.{settled_at}
 use Rattle.link_session.proofs.WaitLemmas.{cut_chain, other_chain}
 use Rattle.link_session.proofs.PushLemmas.{push_text, pass_text, push_data, pass_data}
@@ -95,7 +94,7 @@ head_elsewhere heads k link (targets.External i) e = by_order (cases_eq i k)
     by_order (inl same) = absurd (let yes : nat_eq i k ≡ true = rw same (own_number k) in cc)
     by_order (inr ne) = index_set_other heads i k link None ne
 
-length-with_head : (heads : List Link) (t : Target) (link : Link) → length (with_head t link heads) ≡ length heads
+pub length-with_head : (heads : List Link) (t : Target) (link : Link) → length (with_head t link heads) ≡ length heads
 length-with_head heads targets.Absolute link = refl
 length-with_head heads targets.TextSeg link = refl
 length-with_head heads targets.DataSeg link = refl

@@ -1,6 +1,6 @@
 -- A chain has as many places as cells that wait for its external, and each name that is bound leaves so many fewer cells to bind.
-use Rattle.std.proofs.Common.{◌≡◌, ◌≢◌, ◌<◌, ◌+◌, ◌⊎◌, inl, inr, ℕ, zero, suc, Bool, true, false, cond, ◌||◌, List, [], ◌∷◌, map, length, Option, Some, None, is_some, nat_eq, refl, sym, ap, ◌∙◌, arith}
-use Rattle.std.specs.Prelude.{⊤, filter}
+use Rattle.std.proofs.Common.{◌≡◌, ◌≢◌, ◌<◌, ◌+◌, ◌⊎◌, inl, inr, ℕ, zero, suc, Bool, true, false, cond, ◌||◌, List, [], ◌∷◌, map, length, is_some, refl, sym, ap, ◌∙◌, arith}
+use Rattle.std.specs.Prelude.{filter}
 use Rattle.std.specs.List.{AllByRecursion}
 use Rattle.std.proofs.lemmas.Bool.{cases_eq}
 use Rattle.aout_core.specs.declared.symbol.Segment.{Segment}
@@ -9,12 +9,12 @@ use Rattle.link_session.specs.declared.cell.Cell.{Cell}
 use Rattle.link_session.specs.declared.cell.Target.{Target}
 use Rattle.link_session.specs.declared.cell.Target.TheVariants as targets
 use Rattle.link_session.specs.declared.state.State.{State}
-use Rattle.link_session.specs.declared.state.State.TheVariants.{Defined, Wanted}
+use Rattle.link_session.specs.declared.state.State.TheVariants.{Defined}
 use Rattle.link_session.specs.declared.mark.Place.{Place}
 use Rattle.link_session.specs.declared.mark.Place.TheVariants.{InText, InData}
 use Rattle.link_session.specs.Cells.{segment_target}
 use Rattle.link_session.specs.Additions.{Named, state_at, bound_by, binding_at, binding, bound_or}
-use Rattle.link_session.specs.Chains.{Link, is_on, same_place, AreApart, IsWithin, waits_at, Tells, Waits, bound_to}
+use Rattle.link_session.specs.Chains.{Link, is_on, AreApart, IsWithin, waits_at, Tells, Waits, bound_to}
 use Rattle.link_session.proofs.ChainLemmas.{own_number, other_number}
 use Rattle.link_session.specs.Settled.{settled_at}
 

@@ -32,4 +32,7 @@ pub mod ThreadLemmas
 pub mod RestoreLemmas
 pub mod NamesLemmas
 pub mod CoverLemmas
+pub mod HeadLemmas
+pub mod HistoryLemmas
+pub mod WithdrawalLemmas
 pub mod LawLemmas

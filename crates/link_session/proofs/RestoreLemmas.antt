@@ -1,22 +1,18 @@
 -- The marks of one chain, and of several, bring cells and heads back.
-use Rattle.std.proofs.Common.{◌≡◌, ◌<◌, ℕ, zero, suc, Bool, true, false, ◌||◌, List, [], ◌∷◌, ◌++◌, map, length, Option, Some, None, nat_eq, slice_index_or, slice_set, refl, sym, ap, ◌∙◌, subst, arith, append_assoc}
-use Rattle.std.specs.Prelude.{slice_get}
+use Rattle.std.proofs.Common.{◌≡◌, ◌<◌, ℕ, zero, suc, Bool, true, false, ◌||◌, List, [], ◌∷◌, ◌++◌, map, length, None, slice_index_or, slice_set, refl, sym, ap, ◌∙◌, arith}
 use Rattle.std.specs.List.{AllByRecursion}
-use Rattle.std.proofs.lemmas.List.{length-map}
 use Rattle.aout_core.specs.declared.symbol.Segment.{Segment}
 use Rattle.link_session.specs.declared.cell.Cell.{Cell}
-use Rattle.link_session.specs.declared.cell.Target.{Target}
 use Rattle.link_session.specs.declared.cell.Target.TheVariants.{External}
 use Rattle.link_session.specs.declared.mark.Mark.{Mark}
 use Rattle.link_session.specs.declared.mark.Place.{Place}
 use Rattle.link_session.specs.declared.mark.Place.TheVariants.{InText, InData}
-use Rattle.link_session.specs.Image.{Image}
 use Rattle.link_session.specs.Undo.{put_all_back, IsInside}
-use Rattle.link_session.specs.Chains.{Link, IsChain, is_on, same_place, IsWithin, waits_at, Tells, Waits, bound_if, bound_where, cell_at, nowhere, marks_of, heads_back, AreChained}
-use Rattle.link_session.specs.Restores.{Restores, LeavesMarks}
+use Rattle.link_session.specs.Chains.{Link, is_on, same_place, IsWithin, Tells, bound_if, bound_where, cell_at, nowhere, marks_of, heads_back, AreChained}
+use Rattle.link_session.specs.Restores.{Restores}
 use Rattle.link_session.proofs.ListLemmas.{all_append}
 use Rattle.link_session.proofs.MarkLemmas.{put_all_back-append}
-use Rattle.link_session.proofs.WaitLemmas.{bound_on_chain, cut_chain, other_chain, heads_back-chain}
+use Rattle.link_session.proofs.WaitLemmas.{bound_on_chain, heads_back-chain}
 use Rattle.link_session.proofs.CountLemmas.{waits_is}
 use Rattle.link_session.proofs.ChainBackLemmas.{chain_back, chain_inside, heads_back-append}
 use Rattle.std.proofs.lemmas.Bool.Decides.{nat_tests}

@@ -16,3 +16,4 @@ pub mod Fields
 pub mod Chains
 pub mod Settled
 pub mod Restores
+pub mod Threads

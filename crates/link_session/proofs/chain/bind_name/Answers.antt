@@ -1,6 +1,6 @@
-use Rattle.std.proofs.Common.{◌≡◌, ◌++◌, map, None, slice_set, sym, ◌∙◌, subst, rules}
-use Rattle.link_session.specs.Chains.{IsChain, bound_if, AreChained, marks_of}
-use Rattle.link_session.specs.Restores.{LeavesMarks, Restores}
+use Rattle.std.proofs.Common.{sym, subst}
+use Rattle.link_session.specs.Chains.{IsChain, AreChained, marks_of}
+use Rattle.link_session.specs.Restores.{Restores}
 use Rattle.link_session.proofs.ChainedLemmas.{cut_one}
 use Rattle.link_session.proofs.RestoreLemmas.{bound_texts, bound_datas, restores_chain}
 use Rattle.link_session.proofs.chain.bind_name.Goals as goal

@@ -1,0 +1,99 @@
+-- The heads of chains while names are bound, while externals are added, and while they are cut to an earlier length.
+use Rattle.std.proofs.Common.{◌≡◌, ◌≤◌, ◌+◌, ◌-◌, ℕ, zero, suc, List, [], ◌∷◌, ◌++◌, map, take, length, replicate, Some, None, slice_set, refl, sym, ap, ◌∙◌, subst, arith, length-append, append-nil, append_assoc}
+use Rattle.std.proofs.lemmas.List.{length-replicate, take_at}
+use Rattle.link_session.specs.declared.cell.Cell.{Cell}
+use Rattle.link_session.specs.declared.cell.Target.{Target}
+use Rattle.link_session.specs.declared.cell.Target.TheVariants as targets
+use Rattle.link_session.specs.declared.state.State.{State}
+use Rattle.link_session.specs.declared.state.State.TheVariants.{Defined, Wanted}
+use Rattle.link_session.specs.declared.mark.Mark.{Mark}
+use Rattle.link_session.specs.declared.mark.Mark.TheVariants.{CellWas, StateWas}
+use Rattle.link_session.specs.declared.mark.Place.{Place}
+use Rattle.link_session.specs.Additions.{Named, state_at}
+use Rattle.link_session.specs.Chains.{Link, with_head, threaded, heads_back, AreChained}
+use Rattle.link_session.specs.Settled.{settled_at, settled_over}
+use Rattle.link_session.specs.Threads.{cut_by_state, cut_heads, grown_heads}
+use Rattle.link_session.proofs.ChainedLemmas.{cut_named, one_more_head, length-with_head}
+use Rattle.link_session.proofs.NamesLemmas.{unsettled, all_one, none_left}
+
+length-slice_set : {A : Type 0} (xs : List A) (k : ℕ) (x : A) → length (slice_set xs k x) ≡ length xs
+length-slice_set [] k x = refl
+length-slice_set (y ∷ ys) zero x = refl
+length-slice_set (y ∷ ys) (suc k) x = ap suc (length-slice_set ys k x)
+
+-- Names that are bound.
+
+length-cut_by_state : (s : State) (k : ℕ) (heads : List Link) → length (cut_by_state s k heads) ≡ length heads
+length-cut_by_state (Defined segment offset) k heads = length-slice_set heads k None
+length-cut_by_state (Wanted size) k heads = refl
+
+pub length-cut_heads : (es : Named) (ks : List ℕ) (heads : List Link) → length (cut_heads es ks heads) ≡ length heads
+length-cut_heads es [] heads = refl
+length-cut_heads es (k ∷ ks) heads = length-cut_heads es ks (cut_by_state (state_at es k) k heads) ∙ length-cut_by_state (state_at es k) k heads
+
+-- the chains of several names are bound, and cut
+pub cut_all : (es : Named) (ks : List ℕ) (texts datas : List Cell) (ts ds heads : List Link) → AreChained texts datas ts ds heads →
+    AreChained (map (settled_over es ks) texts) (map (settled_over es ks) datas) ts ds (cut_heads es ks heads)
+cut_all es [] texts datas ts ds heads a = subst (λ (P : Type 0). P) (λ i. AreChained (sym (none_left es texts) i) (sym (none_left es datas) i) ts ds heads) a
+cut_all es (k ∷ ks) texts datas ts ds heads a =
+    subst (λ (P : Type 0). P) (λ i. AreChained (sym (all_one es k ks texts) i) (sym (all_one es k ks datas) i) ts ds (cut_heads es ks (cut_by_state (state_at es k) k heads)))
+    (cut_all es ks (map (settled_at es k) texts) (map (settled_at es k) datas) ts ds (cut_by_state (state_at es k) k heads) (one (state_at es k) refl))
+  where
+    one : (s : State) → state_at es k ≡ s → AreChained (map (settled_at es k) texts) (map (settled_at es k) datas) ts ds (cut_by_state s k heads)
+    one (Defined segment offset) e = cut_named texts datas ts ds heads a es k segment offset e
+    one (Wanted size) e = subst (λ (P : Type 0). P) (λ i. AreChained (unsettled es k size e texts i) (unsettled es k size e datas i) ts ds heads) a
+
+-- Names that are added.
+
+pub more_heads : (n : ℕ) (texts datas : List Cell) (ts ds heads : List Link) → AreChained texts datas ts ds heads → AreChained texts datas ts ds (heads ++ replicate n None)
+more_heads zero texts datas ts ds heads a = subst (λ (hs : List Link). AreChained texts datas ts ds hs) (sym (append-nil heads)) a
+more_heads (suc n) texts datas ts ds heads a =
+    subst (λ (hs : List Link). AreChained texts datas ts ds hs) (append_assoc heads (None ∷ []) (replicate n None))
+    (more_heads n texts datas ts ds (heads ++ None ∷ []) (one_more_head texts datas ts ds heads a))
+
+pub grown_chained : (n : ℕ) (texts datas : List Cell) (ts ds heads : List Link) → AreChained texts datas ts ds heads → AreChained texts datas ts ds (grown_heads n heads)
+grown_chained n texts datas ts ds heads a = more_heads (n - length heads) texts datas ts ds heads a
+
+pub length-grown_heads : (n : ℕ) (heads : List Link) → length heads ≤ n → length (grown_heads n heads) ≡ n
+length-grown_heads n heads h =
+    let none : Link = None in omega (arith, length-append heads (replicate (n - length heads) none), length-replicate (n - length heads) none)
+
+-- heads cut to the length that they had
+pub cut_grown : (n k : ℕ) (heads : List Link) → length heads ≡ k → take k (grown_heads n heads) ≡ heads
+cut_grown n k heads e = take_at heads (replicate (n - length heads) None) k e
+
+-- Cells that are put in front.
+
+pub length-threaded_heads : (at : ℕ → Place) (n : ℕ) (cs : List Cell) (heads : List Link) → length (threaded at n cs heads).1 ≡ length heads
+length-threaded_heads at n [] heads = refl
+length-threaded_heads at n (c ∷ cs) heads = length-threaded_heads at (n + 1) cs (with_head c.target (Some (at n)) heads) ∙ length-with_head heads c.target (Some (at n))
+
+pub length-threaded_links : (at : ℕ → Place) (n : ℕ) (cs : List Cell) (heads : List Link) → length (threaded at n cs heads).0 ≡ length cs
+length-threaded_links at n [] heads = refl
+length-threaded_links at n (c ∷ cs) heads = ap suc (length-threaded_links at (n + 1) cs (with_head c.target (Some (at n)) heads))
+
+-- Heads that are put back.
+
+take_set : {A : Type 0} (n k : ℕ) (x : A) (xs : List A) → take n (slice_set xs k x) ≡ slice_set (take n xs) k x
+take_set zero k x xs = refl
+take_set (suc n) k x [] = refl
+take_set {A = A} (suc n) zero x (y ∷ ys) = refl
+take_set {A = A} (suc n) (suc k) x (y ∷ ys) = ap (λ (l : List A). y ∷ l) (take_set n k x ys)
+
+take_with_head : (n : ℕ) (t : Target) (link : Link) (heads : List Link) → take n (with_head t link heads) ≡ with_head t link (take n heads)
+take_with_head n targets.Absolute link heads = refl
+take_with_head n targets.TextSeg link heads = refl
+take_with_head n targets.DataSeg link heads = refl
+take_with_head n targets.BssSeg link heads = refl
+take_with_head n (targets.External k) link heads = take_set n k link heads
+
+-- it is one whether heads are cut before the marks are put back, or behind that
+pub take_heads_back : (n : ℕ) (ks : List Mark) (heads : List Link) → take n (heads_back ks heads) ≡ heads_back ks (take n heads)
+take_heads_back n [] heads = refl
+take_heads_back n (CellWas p c ∷ ks) heads = take_with_head n c.target (Some p) (heads_back ks heads) ∙ ap (with_head c.target (Some p)) (take_heads_back n ks heads)
+take_heads_back n (StateWas i s ∷ ks) heads = take_heads_back n ks heads
+
+pub length-heads_back : (ks : List Mark) (heads : List Link) → length (heads_back ks heads) ≡ length heads
+length-heads_back [] heads = refl
+length-heads_back (CellWas p c ∷ ks) heads = length-with_head (heads_back ks heads) c.target (Some p) ∙ length-heads_back ks heads
+length-heads_back (StateWas i s ∷ ks) heads = length-heads_back ks heads
