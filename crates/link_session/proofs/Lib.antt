@@ -35,4 +35,5 @@ pub mod CoverLemmas
 pub mod HeadLemmas
 pub mod HistoryLemmas
 pub mod WithdrawalLemmas
+pub mod KeptThreadLemmas
 pub mod LawLemmas

@@ -13,13 +13,13 @@ use Rattle.link_session.specs.Mentions.{Mention, forced_mention, mentions, exter
 use Rattle.link_session.specs.States.{multiple_names, differs, first_definition}
 use Rattle.link_session.specs.Image.{Image, image, named_states}
 use Rattle.link_session.specs.Edits.{limit_passed, refusal}
-use Rattle.link_session.specs.Undo.{put_all_back, undo, IsInside, IsJournal}
+use Rattle.link_session.specs.Undo.{put_all_back, undo, IsInside, UndoesImage, IsJournal}
 use Rattle.link_session.specs.Bounds.{most_marks}
 use Rattle.link_session.specs.Sessions.{newest, Adds, IsObject}
 use Rattle.link_session.specs.Fields.{sizes_of, cut_by, marks_in, sizes_in, sizes_before, IsSmall, IsSession}
 use Rattle.link_session.specs.Additions.{all_mentioned, next_limit, next_marks, joined_image}
 use Rattle.link_session.proofs.EarlierLemmas.{with_earlier-append}
-use Rattle.link_session.proofs.JournalLemmas.{UndoesLast, journal_push, journal_pop, journal_empty}
+use Rattle.link_session.proofs.JournalLemmas.{journal_push, journal_pop, journal_empty}
 use Rattle.link_session.proofs.MentionedLemmas.{keys-named_states, all_mentioned-named_states}
 use Rattle.link_session.proofs.LimitLemmas.{length-new_names}
 use Rattle.link_session.proofs.TotalLemmas.{refusal-next_limit, image_small, within_before, limit_within}
@@ -57,8 +57,8 @@ module _ (forced : List (List ℕ)) (es : List Labelled) (steps : List Step) (m 
   added_session n good fits marks sizes joined = record {
     image = joined ∙ ap (λ (x : Image). joined_image x e.object) s.image ∙ joined_image-is forced (objects es) e.object s.good ∙ ap (λ (xs : List Contents). image forced xs) (sym one_more);
     journal = (
-        let pushed = journal_push forced (objects es) e.object (map marks_in steps) step.marks.items s.journal
-        (subst (λ (ks : List Mark). UndoesLast forced (objects es) e.object ks) (sym marks) undoes_last) in
+        let pushed = journal_push (UndoesImage forced) (objects es) e.object (map marks_in steps) step.marks.items s.journal
+        (subst (λ (ks : List Mark). UndoesImage forced ks (objects es ++ e.object ∷ []) (objects es)) (sym marks) undoes_last) in
         subst (λ (P : Type 0). P) (λ i. IsJournal forced (sym one_more i) (sym (map-append marks_in steps (step ∷ [])) i)) pushed);
     sizes =
         map-append sizes_in steps (step ∷ [])
@@ -97,7 +97,7 @@ pub withdrawn_session : (forced : List (List ℕ)) (es : List Labelled) (steps :
     IsSession forced (es ++ e ∷ []) (steps ++ step ∷ []) m → IsSession forced es steps (put_all_back step.marks.items (cut_by step.sizes m))
 withdrawn_session forced es steps m e step s =
     let one_more : objects (es ++ e ∷ []) ≡ objects es ++ e.object ∷ [] = map-append (λ (x : Labelled). x.object) es (e ∷ []) in
-    let pop = journal_pop forced (objects es) e.object (map marks_in steps) step.marks.items
+    let pop = journal_pop (UndoesImage forced) (objects es) e.object (map marks_in steps) step.marks.items
     (subst (λ (P : Type 0). P) (λ i. IsJournal forced (one_more i) (map-append marks_in steps (step ∷ []) i)) s.journal) in
     let sizes = last_same (map sizes_in steps) (sizes_before forced (objects es)) step.sizes (sizes_of (image forced (objects es)))
     (sym (map-append sizes_in steps (step ∷ [])) ∙ s.sizes ∙ ap (λ (xs : List Contents). sizes_before forced xs) one_more ∙ sizes_push forced (objects es) e.object) in
@@ -124,7 +124,7 @@ forced_session forced few m text datas bss names multiples = record {
     externals = (names ∙ all_mentioned-named_states [] (map forced_mention forced) ∙ ap named_states (sym (append-nil (map forced_mention forced)))) i;
     multiples = (multiples ∙ sym (none_twice forced (map forced_mention forced)) ∙ ap multiple_names (sym (append-nil (map forced_mention forced)))) i;
   };
-  journal = journal_empty forced;
+  journal = journal_empty (UndoesImage forced);
   sizes = refl;
   good = tt;
   within = limit_within 0 0 0 (length (externals forced [])) (record {

@@ -9,6 +9,7 @@ use Rattle.link_session.specs.declared.mark.Place.TheVariants.{InText, InData}
 use Rattle.link_session.specs.Earlier.{with_earlier}
 use Rattle.link_session.specs.Mentions.{externals}
 use Rattle.link_session.specs.Image.{Image, image}
+use Rattle.link_session.specs.Undo.{IsJournalOf}
 use Rattle.link_session.specs.Additions.{Named, state_at, own_cells, next_shifts, next_named}
 use Rattle.link_session.specs.Chains.{Link, threaded, unthreaded, heads_back, AreChained}
 use Rattle.link_session.specs.Settled.{places_of}
@@ -88,8 +89,19 @@ cut_threads texts datas names m t = record {
   heads = take names (unthreaded (drop texts m.text_cells) (drop texts t.text_links) (unthreaded (drop datas m.data_cells) (drop datas t.data_links) t.heads));
 }
 
--- the threads of an image, once an addition to the old image is taken back
+-- the same, and the heads with what the marks bring back
+abbrev pub restored_threads : List Mark → ℕ → ℕ → ℕ → Image → Threads → Threads
+restored_threads marks texts datas names m t = record (cut_threads texts datas names m t) { heads = heads_back marks (cut_threads texts datas names m t).heads }
+
+-- the threads of the new image, once an addition to the old image is taken back
 abbrev pub undo_threads : List Mark → Image → Image → Threads → Threads
-undo_threads marks new old t = record (cut_threads (length old.text_cells) (length old.data_cells) (length old.externals) new t) {
-  heads = heads_back marks (cut_threads (length old.text_cells) (length old.data_cells) (length old.externals) new t).heads;
-}
+undo_threads marks new old t = restored_threads marks (length old.text_cells) (length old.data_cells) (length old.externals) new t
+
+-- the marks bring the threads of the objects before back
+abbrev pub UndoesThreads : List (List ℕ) → List Mark → List Contents → List Contents → Type 0
+UndoesThreads forced marks after before = undo_threads marks (image forced after) (image forced before) (threads_of forced after) ≡ threads_of forced before
+
+-- the threads are those of the objects, and each list of marks brings back those before its object
+pub record KeepsThreads (forced : List (List ℕ)) (os : List Contents) (journal : List (List Mark)) (t : Threads) : Type 0 where
+  pub threads : t ≡ threads_of forced os
+  pub undoes : IsJournalOf (UndoesThreads forced) os journal
