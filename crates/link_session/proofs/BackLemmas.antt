@@ -173,7 +173,7 @@ module _ (m : Image) (o : Contents) where
 
 -- Where the marks lie.
 
-states_inside : (m : Image) (es : Named) (ms : List Mention) → AllByRecursion (IsInside m) (state_marks (length m.externals) es ms)
+pub states_inside : (m : Image) (es : Named) (ms : List Mention) → AllByRecursion (IsInside m) (state_marks (length m.externals) es ms)
 states_inside m es [] = tt
 states_inside m es (k ∷ ms) =
     all_append (IsInside m) (state_mark (length m.externals) es k) (state_marks (length m.externals) (mentioned es k) ms) (by_place (nat_lt (place_in es k.name) (length m.externals)) refl (changes (state_for es k.name) k.says)) (states_inside m (mentioned es k) ms)
@@ -203,7 +203,7 @@ addition_inside m o =
 
 -- How many marks there are.
 
-states_few : (kept : ℕ) (es : Named) (ms : List Mention) → length (state_marks kept es ms) ≤ length ms
+pub states_few : (kept : ℕ) (es : Named) (ms : List Mention) → length (state_marks kept es ms) ≤ length ms
 states_few kept es [] = omega arith
 states_few kept es (k ∷ ms) =
     let rest = states_few kept (mentioned es k) ms in

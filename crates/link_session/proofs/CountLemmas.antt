@@ -1,6 +1,5 @@
 -- A chain has as many places as cells that wait for its external, and each name that is bound leaves so many fewer cells to bind.
 use Rattle.std.proofs.Common.{◌≡◌, ◌≢◌, ◌<◌, ◌+◌, ◌⊎◌, inl, inr, ℕ, zero, suc, Bool, true, false, cond, ◌||◌, List, [], ◌∷◌, map, length, is_some, refl, sym, ap, ◌∙◌, arith}
-use Rattle.std.specs.Prelude.{filter}
 use Rattle.std.specs.List.{AllByRecursion}
 use Rattle.std.proofs.lemmas.Bool.{cases_eq}
 use Rattle.aout_core.specs.declared.symbol.Segment.{Segment}
@@ -15,6 +14,7 @@ use Rattle.link_session.specs.declared.mark.Place.TheVariants.{InText, InData}
 use Rattle.link_session.specs.Cells.{segment_target}
 use Rattle.link_session.specs.Additions.{Named, state_at, bound_by, binding_at, binding, bound_or}
 use Rattle.link_session.specs.Chains.{Link, is_on, AreApart, IsWithin, waits_at, Tells, Waits, bound_to}
+use Rattle.link_session.specs.Counts.{waiting_for, to_bind}
 use Rattle.link_session.proofs.ChainLemmas.{own_number, other_number}
 use Rattle.link_session.specs.Settled.{settled_at}
 
@@ -56,9 +56,6 @@ places_counted (InData i ∷ ps) texts datas a h =
     (λ j ne. ap (λ (t : Bool). t || is_on ps (InData j)) (sym (other_number j i (λ e. ne (sym e))))) in
     omega arith
 
-abbrev pub waiting_for : ℕ → List Cell → List Cell
-waiting_for k cs = filter (λ c. waits_at k c.target) cs
-
 waiting_counted : (test : ℕ → Bool) (k : ℕ) (cs : List Cell) → Tells test k cs → count_where test cs ≡ length (waiting_for k cs)
 waiting_counted test k [] h = refl
 waiting_counted test k (c ∷ cs) h =
@@ -72,10 +69,6 @@ waiting_counted test k (c ∷ cs) h =
 pub chain_counted : (ts ds : List Link) (head : Link) (texts datas : List Cell) (k : ℕ) → (w : Waits ts ds head texts datas k) → length w.places ≡ length (waiting_for k texts) + length (waiting_for k datas)
 chain_counted ts ds head texts datas k w =
     omega (arith, places_counted w.places texts datas w.apart w.inside, waiting_counted (λ i. is_on w.places (InText i)) k texts w.text, waiting_counted (λ i. is_on w.places (InData i)) k datas w.data)
-
--- the cells that are to be bound
-abbrev pub to_bind : Named → List Cell → List Cell
-to_bind es cs = filter (λ c. is_some (binding es c)) cs
 
 segment_stays : (es : Named) (segment : Segment) (c : Cell) → is_some (binding_at es (segment_target segment) c) ≡ false
 segment_stays es segments.Undefined c = refl

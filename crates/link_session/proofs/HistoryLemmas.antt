@@ -19,7 +19,7 @@ use Rattle.link_session.specs.Image.{Image, named_states, image}
 use Rattle.link_session.specs.Sessions.{IsObject}
 use Rattle.link_session.specs.Additions.{Named, place_in, settled, external_names, next_mentions, next_named, joined_image}
 use Rattle.link_session.specs.Chains.{Link, threaded, AreChained}
-use Rattle.link_session.specs.Settled.{settled_over, places_of}
+use Rattle.link_session.specs.Settled.{settled_over, places_of, IsCovered}
 use Rattle.link_session.specs.Threads.{Threads, with_texts, with_datas, next_texts, next_datas, bound_heads, next_heads, next_threads, threads_from, forced_threads, threads_of, IsThreaded}
 use Rattle.link_session.proofs.EarlierLemmas.{with_earlier-append}
 use Rattle.link_session.proofs.MentionLemmas.{names_of-map}
@@ -167,3 +167,6 @@ threaded_of forced os good = from [] os (forced_threads forced) tt good (forced_
         subst (λ (xs : List Contents). IsThreaded (image forced xs) (threads_from forced (with_earlier (earlier ++ o ∷ []) rest) (next_threads (image forced earlier) o t))) (append_assoc earlier (o ∷ []) rest)
         (from (earlier ++ o ∷ []) rest (next_threads (image forced earlier) o t) (all_append IsObject earlier (o ∷ []) e (r.0, tt)) r.1
         (subst (λ (m : Image). IsThreaded m (next_threads (image forced earlier) o t)) (joined_image-is forced earlier o e) (threaded_next forced earlier o e r.0 t h)))
+
+pub image_covered : (forced : List (List ℕ)) (os : List Contents) (o : Contents) → AllByRecursion IsObject os → IsCovered (image forced os) o
+image_covered forced os o good = record { text = covered forced os o good segments.TextSeg; «data» = covered forced os o good segments.DataSeg }

@@ -36,4 +36,6 @@ pub mod HeadLemmas
 pub mod HistoryLemmas
 pub mod WithdrawalLemmas
 pub mod KeptThreadLemmas
+pub mod FewLemmas
+pub mod TakenBackLemmas
 pub mod LawLemmas

@@ -15,5 +15,6 @@ pub mod Sessions
 pub mod Fields
 pub mod Chains
 pub mod Settled
-pub mod Restores
+pub mod Counts
 pub mod Threads
+pub mod Restores
