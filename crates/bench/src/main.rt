@@ -8,7 +8,7 @@ mod input;
 use anyhow::{Result, anyhow};
 use command::time_command;
 use input::{Size, defining, referring};
-use link_session::Session;
+use link_session::{Mark, Session};
 use std::env;
 use std::time::Instant;
 
@@ -28,49 +28,70 @@ fn withdrawals(size: Size) -> u16 {
     size.objects / 2
 }
 
-fn add_all(rt: &HostRuntime, session: &mut Session, size: Size) -> Result<()> {
+/// How many earlier cells the last addition visited, and a withdrawal of its object would: those that it bound. Each left
+/// a mark.
+fn visited(session: &Session) -> usize {
+    let mut count: usize = 0;
+    for mark in session.last_marks() {
+        if let Mark::CellWas(_, _) = mark {
+            count = count.saturating_add(1);
+        }
+    }
+    count
+}
+
+/// Adds all objects, and answers how many earlier cells were visited.
+fn add_all(rt: &HostRuntime, session: &mut Session, size: Size) -> Result<usize> {
+    let mut cells: usize = 0;
     for number in 0..size.objects {
         let object = referring(rt.alloc(), size, number)?;
         let label = String::from_str(rt.alloc(), "referring.o")?;
         if let Err(refused) = session.add(label, object) {
             return Err(anyhow!("{}", refused.cause));
         }
+        cells = cells.saturating_add(visited(session));
     }
-    Ok(())
+    Ok(cells)
 }
 
-fn add_and_withdraw(rt: &HostRuntime, session: &mut Session, size: Size) -> Result<()> {
+/// Adds objects and withdraws each, and answers how many earlier cells were visited: bound, and put back.
+fn add_and_withdraw(rt: &HostRuntime, session: &mut Session, size: Size) -> Result<usize> {
+    let mut cells: usize = 0;
     for number in 0..withdrawals(size) {
         let object = defining(rt.alloc(), number)?;
         let label = String::from_str(rt.alloc(), "defining.o")?;
         if let Err(refused) = session.add(label, object) {
             return Err(anyhow!("{}", refused.cause));
         }
+        cells = cells.saturating_add(visited(session));
         if session.withdraw().is_none() {
             return Err(anyhow!("nothing to withdraw"));
         }
     }
-    Ok(())
+    Ok(cells)
 }
 
 /// Times the session, and prints what it holds and the times where the run is the full one.
 fn time_session(rt: &HostRuntime, size: Size, is_full: bool) -> Result<()> {
     let mut session = Session::new(rt.alloc());
     let start = Instant::now(rt)?;
-    add_all(rt, &mut session, size)?;
+    let bound = add_all(rt, &mut session, size)?;
     let added = start.elapsed(rt)?;
     let start = Instant::now(rt)?;
-    add_and_withdraw(rt, &mut session, size)?;
+    let put_back = add_and_withdraw(rt, &mut session, size)?;
     let withdrawn = start.elapsed(rt)?;
     if is_full {
         let objects = session.entries().len();
         let cells = session.text_cells().len();
         let names = session.external_count();
         println!(rt; "{objects} objects, {cells} words of text, {names} names")?;
-        println!(rt; "added in {} ms", added.as_millis())?;
+        println!(rt;
+            "added in {} ms, earlier cells visited: {bound}",
+            added.as_millis()
+        )?;
         let times = withdrawals(size);
         println!(rt;
-            "one more added and withdrawn {times} times in {} ms",
+            "one more added and withdrawn {times} times in {} ms, earlier cells bound and put back: {put_back}",
             withdrawn.as_millis()
         )?;
     }

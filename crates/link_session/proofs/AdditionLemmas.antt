@@ -15,7 +15,7 @@ use Rattle.link_session.specs.declared.cell.Cell.{Cell}
 use Rattle.link_session.specs.declared.cell.Target.{Target}
 use Rattle.link_session.specs.declared.cell.Target.TheVariants as targets
 use Rattle.link_session.specs.declared.state.State.{State}
-use Rattle.link_session.specs.declared.own.Shifts.{Shifts}
+use Rattle.link_session.specs.declared.relocate.Shifts.{Shifts}
 use Rattle.link_session.specs.Starts.{shift}
 use Rattle.link_session.specs.Mentions.{Mention, mention, statement, mentions, mentions_in, externals_in, names_of, names_by_first_mention, new_names, place_of}
 use Rattle.link_session.specs.States.{Definition, state, state_by, first_definition, wanted_size, multiple_names}

@@ -58,6 +58,10 @@ pub length-grown_heads : (n : ℕ) (heads : List Link) → length heads ≤ n �
 length-grown_heads n heads h =
     let none : Link = None in omega (arith, length-append heads (replicate (n - length heads) none), length-replicate (n - length heads) none)
 
+-- externals without heads before
+pub grown_none : (n : ℕ) → grown_heads n [] ≡ replicate n None
+grown_none n = ap (λ (k : ℕ). let hs : List Link = replicate k None in hs) (let e : n - 0 ≡ n = omega arith in e)
+
 -- heads cut to the length that they had
 pub cut_grown : (n k : ℕ) (heads : List Link) → length heads ≡ k → take k (grown_heads n heads) ≡ heads
 cut_grown n k heads e = take_at heads (replicate (n - length heads) None) k e
@@ -67,10 +71,6 @@ cut_grown n k heads e = take_at heads (replicate (n - length heads) None) k e
 pub length-threaded_heads : (at : ℕ → Place) (n : ℕ) (cs : List Cell) (heads : List Link) → length (threaded at n cs heads).1 ≡ length heads
 length-threaded_heads at n [] heads = refl
 length-threaded_heads at n (c ∷ cs) heads = length-threaded_heads at (n + 1) cs (with_head c.target (Some (at n)) heads) ∙ length-with_head heads c.target (Some (at n))
-
-pub length-threaded_links : (at : ℕ → Place) (n : ℕ) (cs : List Cell) (heads : List Link) → length (threaded at n cs heads).0 ≡ length cs
-length-threaded_links at n [] heads = refl
-length-threaded_links at n (c ∷ cs) heads = ap suc (length-threaded_links at (n + 1) cs (with_head c.target (Some (at n)) heads))
 
 -- Heads that are put back.
 
@@ -86,12 +86,6 @@ take_with_head n targets.TextSeg link heads = refl
 take_with_head n targets.DataSeg link heads = refl
 take_with_head n targets.BssSeg link heads = refl
 take_with_head n (targets.External k) link heads = take_set n k link heads
-
--- it is one whether heads are cut before the marks are put back, or behind that
-pub take_heads_back : (n : ℕ) (ks : List Mark) (heads : List Link) → take n (heads_back ks heads) ≡ heads_back ks (take n heads)
-take_heads_back n [] heads = refl
-take_heads_back n (CellWas p c ∷ ks) heads = take_with_head n c.target (Some p) (heads_back ks heads) ∙ ap (with_head c.target (Some p)) (take_heads_back n ks heads)
-take_heads_back n (StateWas i s ∷ ks) heads = take_heads_back n ks heads
 
 pub length-heads_back : (ks : List Mark) (heads : List Link) → length (heads_back ks heads) ≡ length heads
 length-heads_back [] heads = refl

@@ -18,10 +18,10 @@ use Rattle.link_session.specs.declared.cell.Target.TheVariants as targets
 use Rattle.link_session.specs.declared.state.State.{State}
 use Rattle.link_session.specs.declared.state.State.TheVariants.{Defined, Wanted}
 use Rattle.link_session.specs.declared.mark.Mark.{Mark}
-use Rattle.link_session.specs.declared.mark.Mark.TheVariants.{CellWas, StateWas}
+use Rattle.link_session.specs.declared.mark.Mark.TheVariants.{StateWas}
 use Rattle.link_session.specs.declared.mark.Place.{Place}
 use Rattle.link_session.specs.declared.mark.Place.TheVariants.{InText, InData}
-use Rattle.link_session.specs.declared.own.Shifts.{Shifts}
+use Rattle.link_session.specs.declared.relocate.Shifts.{Shifts}
 use Rattle.link_session.specs.declared.entry.AddFault.{AddFault}
 use Rattle.link_session.specs.declared.entry.AddFault.TheVariants.{TextFull, DataFull, BssFull, NamesFull}
 use Rattle.link_session.specs.Mentions.{Mention, place_of, new_names}
@@ -103,15 +103,6 @@ abbrev pub place_at : Segment → ℕ → Place
 place_at segments.DataSeg i = InData i
 place_at _ i = InText i
 
-abbrev pub mark_if : Option Cell → Mark → List Mark
-mark_if None k = []
-mark_if (Some b) k = k ∷ []
-
--- the marks for the cells of a segment that are bound, the first of these at index i
-abbrev pub cell_marks : Segment → Named → ℕ → List Cell → List Mark
-cell_marks segment es i [] = []
-cell_marks segment es i (c ∷ cs) = mark_if (binding es c) (CellWas (place_at segment i) c) ++ cell_marks segment es (i + 1) cs
-
 abbrev pub shift_by : Shifts → Segment → ℕ
 shift_by s segments.TextSeg = s.text
 shift_by s segments.DataSeg = s.data
@@ -176,13 +167,6 @@ joined_image m o = record {
   externals = next_named m o;
   multiples = m.multiples ++ all_clashes m.externals (next_mentions m o);
 }
-
--- the marks that the object leaves
-abbrev pub next_marks : Image → Contents → List Mark
-next_marks m o =
-    state_marks (length m.externals) m.externals (next_mentions m o)
-    ++ cell_marks segments.TextSeg (next_named m o) 0 m.text_cells
-    ++ cell_marks segments.DataSeg (next_named m o) 0 m.data_cells
 
 -- the names of the external entries
 abbrev pub external_names : List Symbol → List (List ℕ)

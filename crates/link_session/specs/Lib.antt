@@ -12,9 +12,9 @@ pub mod Bounds
 pub mod Updates
 pub mod Additions
 pub mod Sessions
-pub mod Fields
 pub mod Chains
 pub mod Settled
 pub mod Counts
 pub mod Threads
 pub mod Restores
+pub mod Fields

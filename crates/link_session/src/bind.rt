@@ -1,68 +1,246 @@
-//! The cells that wait for names, and are bound once the names are defined.
-ghost use Rattle.std.specs.Prelude.{◌≡◌, ◌+◌, ◌*◌, ◌≤◌, ◌++◌, length, map, take, vec_len, OnOk};
-ghost use Rattle.link_session.specs.Additions.{binding, cell_marks, place_at, settled};
+//! The cells that wait for names, bound once the names are defined.
+ghost use Rattle.std.specs.Prelude.{◌≡◌, ◌*◌, ◌≤◌, ◌++◌, length, slice_set, map, None, OnOk, OnErr, take};
+ghost use Rattle.link_session.specs.Chains.{bound_one, cell_at, EndsWithin, IsWithin, BindsText, BindsData, NotesChain, AreChained, bound_if};
+ghost use Rattle.link_session.specs.Restores.{LeavesMarks};
+ghost use Rattle.link_session.specs.Additions.{place_in, state_for};
+ghost use Rattle.link_session.specs.Settled.{settled_at, settled_over, places_of};
+ghost use Rattle.link_session.specs.Counts.{NotesWaiting, NotesBound};
+ghost use Rattle.link_session.specs.Threads.{cut_by_state, cut_heads};
 
-use crate::cell::{Cell, Target};
+use crate::cell::Cell;
+use crate::chain::{Link, Links, cut_chain, link_at, link_in};
 use crate::mark::{Mark, Place};
+use crate::mention::look_up;
 use crate::merged::Externals;
-use crate::own::segment_target;
+use crate::relocate::segment_target;
 use crate::state::State;
-use aout_core::Segment;
+use aout_core::{Name, Segment, Symbol};
 use std::alloc::AllocError;
 
-/// The cell bound, if it waits for a name that is now defined.
-fn binding(externals: &Externals, cell: &Cell) -> Option<Cell>
-    ensures { result ≡ binding externals.now.entries cell.now }
+/// What a name is defined as: an offset in a merged segment.
+#[derive(Clone, Copy, Debug)]
+pub(crate) struct Definition {
+    pub(crate) segment: Segment,
+    pub(crate) offset: u16,
+}
+
+/// Binds the cell with this index to a definition.
+fn bind_cell(cells: &mut [Cell], index: u16, segment: Segment, offset: u16)
+    ensures { cells.new ≡ bound_one segment offset index cells.old }
 {
-    let Target::External(place) = cell.target else {
-        return None;
-    };
-    match externals.get_index(place as usize) {
-        Some((_, State::Defined(segment, offset))) => Some(Cell {
-            value: cell.value.wrapping_add(*offset),
-            target: segment_target(*segment),
+    let index = index as usize;
+    if index < cells.len() {
+        let cell = cells[index];
+        cells[index] = Cell {
+            value: cell.value.wrapping_add(offset),
+            target: segment_target(segment),
             pc: cell.pc,
-        }),
-        _ => None,
+        };
     }
 }
 
-fn place_at(segment: Segment, index: u16) -> Place
-    ensures { result ≡ place_at segment index }
+/// Binds the cells of a chain to a definition, and no other. The links stay as they are.
+fn bind(
+    text_cells: &mut [Cell],
+    data_cells: &mut [Cell],
+    links: &Links<'_>,
+    head: Link,
+    definition: Definition,
+)
+    requires { EndsWithin links.now.text.now links.now.data.now head (length text_cells.old) (length data_cells.old) }
+    ensures texts { BindsText links.now.text.now links.now.data.now head definition.segment definition.offset text_cells.old text_cells.new }
+    ensures datas { BindsData links.now.text.now links.now.data.now head definition.segment definition.offset data_cells.old data_cells.new }
 {
-    match segment {
-        Segment::DataSeg => Place::InData(index),
-        _ => Place::InText(index),
+    let Definition { segment, offset } = definition;
+    let mut next = head;
+    while let Some(place) = next {
+        match place {
+            Place::InText(index) => bind_cell(text_cells, index, segment, offset),
+            Place::InData(index) => bind_cell(data_cells, index, segment, offset),
+        }
+        next = link_at(links, place);
     }
 }
 
-/// Marks the cells of a segment that are to be bound. An error leaves the marks that there were in front.
-pub(crate) fn note_bindings(
-    cells: &[Cell],
-    externals: &Externals,
-    segment: Segment,
+/// The cell at a place.
+fn cell_at(text_cells: &[Cell], data_cells: &[Cell], place: Place) -> Cell
+    requires { IsWithin (length text_cells.now) (length data_cells.now) place }
+    ensures { result ≡ cell_at text_cells.now data_cells.now place }
+{
+    match place {
+        Place::InText(index) => text_cells[index as usize],
+        Place::InData(index) => data_cells[index as usize],
+    }
+}
+
+/// Marks the cells of a chain, in its order. An error leaves the marks that there were in front.
+fn note_chain(
+    text_cells: &[Cell],
+    data_cells: &[Cell],
+    links: &Links<'_>,
+    head: Link,
     marks: &mut Vec<Mark>,
 ) -> Result<(), AllocError>
-    requires { length cells.now ≤ 65535 }
-    ensures ok { OnOk result (marks.new.items ≡ marks.old.items ++ cell_marks segment externals.now.entries 0 cells.now) }
+    requires { EndsWithin links.now.text.now links.now.data.now head (length text_cells.now) (length data_cells.now) }
+    ensures ok { OnOk result (NotesChain links.now.text.now links.now.data.now head text_cells.now data_cells.now marks.old.items marks.new.items) }
     ensures front { take (length marks.old.items) marks.new.items ≡ marks.old.items }
 {
-    for (i, cell) in cells.iter().enumerate() {
-        if binding(externals, cell).is_some() {
-            let place = place_at(segment, i as u16);
-            marks.push(Mark::CellWas(place, *cell))?;
+    let mut next = head;
+    while let Some(place) = next {
+        let cell = cell_at(text_cells, data_cells, place);
+        marks.push(Mark::CellWas(place, cell))?;
+        next = link_at(links, place);
+    }
+    Ok(())
+}
+
+/// Binds the cells that wait for the external with this index to its definition, marks them, and cuts its chain. An
+/// error changes nothing.
+fn bind_name(
+    text_cells: &mut [Cell],
+    data_cells: &mut [Cell],
+    links: &Links<'_>,
+    heads: &mut [Link],
+    index: u16,
+    definition: Definition,
+    marks: &mut Vec<Mark>,
+) -> Result<(), AllocError>
+    requires { AreChained text_cells.old data_cells.old links.now.text.now links.now.data.now heads.old }
+    ensures chained { AreChained text_cells.new data_cells.new links.now.text.now links.now.data.now heads.new }
+    ensures texts { OnOk result (text_cells.new ≡ map (bound_if index definition.segment definition.offset) text_cells.old) }
+    ensures datas { OnOk result (data_cells.new ≡ map (bound_if index definition.segment definition.offset) data_cells.old) }
+    ensures heads { OnOk result (heads.new ≡ slice_set heads.old index None) }
+    ensures back { OnOk result (LeavesMarks text_cells.old data_cells.old heads.old text_cells.new data_cells.new heads.new marks.old.items marks.new.items) }
+    ensures few { OnOk result (NotesWaiting index text_cells.old data_cells.old marks.old.items marks.new.items) }
+    ensures unchanged { OnErr result ((text_cells.new ≡ text_cells.old) × (data_cells.new ≡ data_cells.old) × (heads.new ≡ heads.old) × (marks.new.items ≡ marks.old.items)) }
+{
+    let head = link_in(heads, index);
+    let kept = marks.len();
+    if let Err(refused) = note_chain(text_cells, data_cells, links, head, marks) {
+        marks.truncate(kept);
+        return Err(refused);
+    }
+    bind(text_cells, data_cells, links, head, definition);
+    cut_chain(heads, index);
+    Ok(())
+}
+
+/// Binds the chain of a name, if it is defined. An error changes nothing.
+fn bind_defined(
+    text_cells: &mut [Cell],
+    data_cells: &mut [Cell],
+    links: &Links<'_>,
+    heads: &mut [Link],
+    externals: &Externals,
+    name: &Name,
+    marks: &mut Vec<Mark>,
+) -> Result<(), AllocError>
+    requires names { length externals.now.entries ≤ 65535 }
+    requires chained { AreChained text_cells.old data_cells.old links.now.text.now links.now.data.now heads.old }
+    ensures chained { AreChained text_cells.new data_cells.new links.now.text.now links.now.data.now heads.new }
+    ensures texts { OnOk result (text_cells.new ≡ map (settled_at externals.now.entries (place_in externals.now.entries name.now)) text_cells.old) }
+    ensures datas { OnOk result (data_cells.new ≡ map (settled_at externals.now.entries (place_in externals.now.entries name.now)) data_cells.old) }
+    ensures heads { OnOk result (heads.new ≡ cut_by_state (state_for externals.now.entries name.now) (place_in externals.now.entries name.now) heads.old) }
+    ensures back { LeavesMarks text_cells.old data_cells.old heads.old text_cells.new data_cells.new heads.new marks.old.items marks.new.items }
+    ensures few { OnOk result (NotesBound externals.now.entries text_cells.old data_cells.old text_cells.new data_cells.new marks.old.items marks.new.items) }
+    ensures unchanged { OnErr result ((text_cells.new ≡ text_cells.old) × (data_cells.new ≡ data_cells.old) × (heads.new ≡ heads.old) × (marks.new.items ≡ marks.old.items)) }
+{
+    match look_up(externals, name) {
+        (place, State::Defined(segment, offset)) => {
+            let definition = Definition { segment, offset };
+            bind_name(
+                text_cells,
+                data_cells,
+                links,
+                heads,
+                place as u16,
+                definition,
+                marks,
+            )
+        }
+        (_, State::Wanted(_)) => Ok(()),
+    }
+}
+
+/// Binds the chains of the names that these entries mention and that are defined: marks their cells, binds them, and
+/// cuts the chains. After an error the marks bring back what was bound.
+pub(crate) fn bind_names(
+    text_cells: &mut [Cell],
+    data_cells: &mut [Cell],
+    links: &Links<'_>,
+    heads: &mut [Link],
+    externals: &Externals,
+    symbols: &[Symbol],
+    marks: &mut Vec<Mark>,
+) -> Result<(), AllocError>
+    requires names { length externals.now.entries ≤ 65535 }
+    requires chained { AreChained text_cells.old data_cells.old links.now.text.now links.now.data.now heads.old }
+    ensures chained { AreChained text_cells.new data_cells.new links.now.text.now links.now.data.now heads.new }
+    ensures texts { OnOk result (text_cells.new ≡ map (settled_over externals.now.entries (places_of externals.now.entries symbols.now)) text_cells.old) }
+    ensures datas { OnOk result (data_cells.new ≡ map (settled_over externals.now.entries (places_of externals.now.entries symbols.now)) data_cells.old) }
+    ensures heads { OnOk result (heads.new ≡ cut_heads externals.now.entries (places_of externals.now.entries symbols.now) heads.old) }
+    ensures back { LeavesMarks text_cells.old data_cells.old heads.old text_cells.new data_cells.new heads.new marks.old.items marks.new.items }
+    ensures few { OnOk result (NotesBound externals.now.entries text_cells.old data_cells.old text_cells.new data_cells.new marks.old.items marks.new.items) }
+{
+    for symbol in symbols {
+        if symbol.is_external() {
+            bind_defined(
+                text_cells,
+                data_cells,
+                links,
+                heads,
+                externals,
+                &symbol.name,
+                marks,
+            )?;
         }
     }
     Ok(())
 }
 
-/// Binds the cells that wait for names which are now defined.
-pub(crate) fn bind(cells: &mut [Cell], externals: &Externals)
-    ensures { cells.new ≡ map (settled externals.now.entries) cells.old }
-{
-    for i in 0..cells.len() {
-        if let Some(bound) = binding(externals, &cells[i]) {
-            cells[i] = bound;
-        }
+#[cfg(test)]
+mod tests {
+    use super::{Definition, bind};
+    use crate::cell::{Cell, Target};
+    use crate::chain::{Link, Links};
+    use crate::mark::Place;
+    use aout_core::Segment;
+
+    #[test]
+    fn bind_only_the_chain(rt: HostRuntime) {
+        let waits = Cell {
+            value: 0,
+            target: Target::External(0),
+            pc: false,
+        };
+        let other = Cell {
+            value: 0,
+            target: Target::External(1),
+            pc: false,
+        };
+        let mut cells = [waits, other, waits, other];
+        let none: [Link; 4] = [None; 4];
+        let links = Links {
+            text: &none,
+            data: &[],
+        };
+        let definition = Definition {
+            segment: Segment::Absolute,
+            offset: 7,
+        };
+        bind(
+            &mut cells,
+            &mut [],
+            &links,
+            Some(Place::InText(2)),
+            definition,
+        );
+        let bound = Cell {
+            value: 7,
+            target: Target::Absolute,
+            pc: false,
+        };
+        assert!(rt; cells[2] == bound);
+        assert!(rt; cells[0] == waits);
     }
 }

@@ -1,26 +1,64 @@
 //! An object joined to the merged image.
-ghost use Rattle.std.specs.Prelude.{◌≡◌, ◌+◌, ◌*◌, ◌≤◌, ◌++◌, [], None, filter, length, map, take, vec_len, vec_capacity, OnOk, OnErr, IfOk};
+ghost use Rattle.std.specs.Prelude.{◌≡◌, ◌+◌, ◌*◌, ◌≤◌, ◌++◌, None, filter, length, map, vec_len, vec_capacity, OnOk, OnErr, IfOk};
 ghost use Rattle.indexmap.specs.IndexMap.{spare};
 ghost use Rattle.aout_core.specs.declared.symbol.Segment.TheVariants as segments;
 ghost use Rattle.aout_core.specs.Contents.{Fits};
 ghost use Rattle.aout_core.specs.WellFormed.{is_external, IsWellFormed};
-ghost use Rattle.link_session.specs.Fields.{image_in, IsSmall};
-ghost use Rattle.link_session.specs.Additions.{all_mentioned, all_clashes, cell_marks, joined_image, mentions_by, next_limit, next_marks, own_cells, settled, state_marks};
+ghost use Rattle.link_session.specs.Fields.{image_in, threads_in, with_cells, with_heads, with_own_cells, with_own_threads, KeepsRoom, IsSmall};
+ghost use Rattle.link_session.specs.Chains.{AreChained};
+ghost use Rattle.link_session.specs.Restores.{LeavesMarks, TakesBack};
+ghost use Rattle.link_session.specs.Settled.{settled_over, places_of, IsCovered};
+ghost use Rattle.link_session.specs.Threads.{cut_heads, next_threads, IsThreaded};
+ghost use Rattle.link_session.specs.Counts.{NotesBound};
+ghost use Rattle.link_session.specs.Additions.{joined_image, next_limit};
 
-use crate::bind::{bind, note_bindings};
+use crate::bind::bind_names;
+use crate::chain::{Links, grow_heads};
 use crate::mark::Mark;
 use crate::mention::{count_external, enter_all};
 use crate::merged::{Merged, undo};
-use crate::own::{Shifts, append_cells, next_shifts};
-use aout_core::{File, Object, Segment};
+use crate::relocate::{Scope, Shifts, Words, append_cells, next_shifts};
+use aout_core::{File, Object, Segment, Symbol};
 use std::alloc::{AllocError, Global};
+
+/// The words of an object's text.
+fn text_of(file: &File) -> Words<'_>
+    ensures segment { result.segment ≡ segments.TextSeg }
+    ensures words { result.words.now ≡ file.now.text_words }
+    ensures short { length result.words.now ≤ 32767 }
+    ensures relocs { result.relocs.now ≡ file.now.text_reloc }
+{
+    Words {
+        segment: Segment::TextSeg,
+        words: file.text_words(),
+        relocs: file.text_reloc(),
+    }
+}
+
+/// The words of an object's data.
+fn data_of(file: &File) -> Words<'_>
+    ensures segment { result.segment ≡ segments.DataSeg }
+    ensures words { result.words.now ≡ file.now.data_words }
+    ensures short { length result.words.now ≤ 32767 }
+    ensures relocs { result.relocs.now ≡ file.now.data_reloc }
+{
+    Words {
+        segment: Segment::DataSeg,
+        words: file.data_words(),
+        relocs: file.data_reloc(),
+    }
+}
 
 /// Makes room for an object. An error changes nothing but room.
 fn make_room(image: &mut Merged, marks: &mut Vec<Mark>, file: &File) -> Result<(), AllocError>
     ensures image { image_in image.new ≡ image_in image.old }
+    ensures threads { threads_in image.new ≡ threads_in image.old }
     ensures marks { marks.new.items ≡ marks.old.items }
     ensures text { OnOk result (vec_len image.new.text_cells + length file.now.text_words ≤ vec_capacity image.new.text_cells) }
     ensures datas { OnOk result (vec_len image.new.data_cells + length file.now.data_words ≤ vec_capacity image.new.data_cells) }
+    ensures text_links { OnOk result (vec_len image.new.text_links + length file.now.text_words ≤ vec_capacity image.new.text_links) }
+    ensures data_links { OnOk result (vec_len image.new.data_links + length file.now.data_words ≤ vec_capacity image.new.data_links) }
+    ensures heads { OnOk result (vec_len image.new.heads + length (filter is_external file.now.symbols) ≤ vec_capacity image.new.heads) }
     ensures names { OnOk result (length (filter is_external file.now.symbols) ≤ spare image.new.externals) }
     ensures multiples { OnOk result (vec_len image.new.multiples + length (filter is_external file.now.symbols) ≤ vec_capacity image.new.multiples) }
     ensures states { OnOk result (vec_len marks.new + length (filter is_external file.now.symbols) ≤ vec_capacity marks.new) }
@@ -28,58 +66,86 @@ fn make_room(image: &mut Merged, marks: &mut Vec<Mark>, file: &File) -> Result<(
     let entries = count_external(file.symbols());
     image.text_cells.reserve(file.text_words().len())?;
     image.data_cells.reserve(file.data_words().len())?;
+    image.text_links.reserve(file.text_words().len())?;
+    image.data_links.reserve(file.data_words().len())?;
+    image.heads.reserve(entries)?;
     image.externals.reserve(entries)?;
     image.multiples.reserve(entries)?;
     marks.reserve(entries)
 }
 
-/// Marks all cells that are to be bound. An error leaves the marks that there were in front.
-fn note_all(image: &Merged, marks: &mut Vec<Mark>) -> Result<(), AllocError>
-    requires { IsSmall (image_in image.now) }
-    ensures ok { OnOk result (marks.new.items ≡ marks.old.items ++ cell_marks segments.TextSeg image.now.externals.entries 0 image.now.text_cells.items ++ cell_marks segments.DataSeg image.now.externals.entries 0 image.now.data_cells.items) }
-    ensures front { take (length marks.old.items) marks.new.items ≡ marks.old.items }
-{
-    note_bindings(&image.text_cells, &image.externals, Segment::TextSeg, marks)?;
-    note_bindings(&image.data_cells, &image.externals, Segment::DataSeg, marks)
-}
-
-/// Binds the cells whose names are now defined, and puts the object's own cells and bss last. There is room for them.
+/// Puts the object's own cells and bss last, behind heads for its new names. There is room for them.
 fn settle(image: &mut Merged, file: &File, shifts: &Shifts)
     requires names { length image.old.externals.entries ≤ 65535 }
     requires bss { image.old.bss_total + file.now.header.bss_size ≤ 65534 }
     requires well { IsWellFormed file.now }
+    requires text_small { length image.old.text_links.items ≤ 32767 }
+    requires data_small { length image.old.data_links.items ≤ 32767 }
     requires text_room { vec_len image.old.text_cells + length file.now.text_words ≤ vec_capacity image.old.text_cells }
     requires data_room { vec_len image.old.data_cells + length file.now.data_words ≤ vec_capacity image.old.data_cells }
-    ensures text { image.new.text_cells.items ≡ map (settled image.old.externals.entries) image.old.text_cells.items ++ own_cells image.old.externals.entries file.now.symbols shifts.now shifts.now.text file.now.text_words file.now.text_reloc }
-    ensures datas { image.new.data_cells.items ≡ map (settled image.old.externals.entries) image.old.data_cells.items ++ own_cells image.old.externals.entries file.now.symbols shifts.now shifts.now.data file.now.data_words file.now.data_reloc }
-    ensures bss { image.new.bss_total ≡ image.old.bss_total + file.now.header.bss_size }
-    ensures names { image.new.externals.entries ≡ image.old.externals.entries }
-    ensures multiples { image.new.multiples.items ≡ image.old.multiples.items }
+    requires text_links_room { vec_len image.old.text_links + length file.now.text_words ≤ vec_capacity image.old.text_links }
+    requires data_links_room { vec_len image.old.data_links + length file.now.data_words ≤ vec_capacity image.old.data_links }
+    requires heads_room { length image.old.externals.entries ≤ vec_capacity image.old.heads }
+    ensures image { image_in image.new ≡ with_own_cells (image_in image.old) file.now shifts.now }
+    ensures threads { threads_in image.new ≡ with_own_threads (image_in image.old) file.now shifts.now (threads_in image.old) }
 {
-    let header = file.header();
-    let symbols = file.symbols();
-    let externals = &image.externals;
-    bind(&mut image.text_cells, externals);
-    bind(&mut image.data_cells, externals);
+    let bss_size = file.header().bss_size;
+    let names = image.externals.len();
+    grow_heads(&mut image.heads, names);
+    let scope = Scope {
+        externals: &image.externals,
+        symbols: file.symbols(),
+        shifts: *shifts,
+    };
     append_cells(
         &mut image.text_cells,
-        externals,
-        symbols,
-        shifts,
-        shifts.text,
-        file.text_words(),
-        file.text_reloc(),
+        &mut image.text_links,
+        &mut image.heads,
+        &scope,
+        &text_of(file),
     );
     append_cells(
         &mut image.data_cells,
-        externals,
-        symbols,
-        shifts,
-        shifts.data,
-        file.data_words(),
-        file.data_reloc(),
+        &mut image.data_links,
+        &mut image.heads,
+        &scope,
+        &data_of(file),
     );
-    image.bss_total += header.bss_size;
+    image.bss_total += bss_size;
+}
+
+/// Binds the cells that wait for names which the object defines, and marks them. After an error the marks bring back
+/// what was bound.
+fn bind_waiting(
+    image: &mut Merged,
+    symbols: &[Symbol],
+    marks: &mut Vec<Mark>,
+) -> Result<(), AllocError>
+    requires names { length image.old.externals.entries ≤ 65535 }
+    requires chained { AreChained image.old.text_cells.items image.old.data_cells.items image.old.text_links.items image.old.data_links.items image.old.heads.items }
+    ensures chained { AreChained image.new.text_cells.items image.new.data_cells.items image.new.text_links.items image.new.data_links.items image.new.heads.items }
+    ensures texts { OnOk result (image.new.text_cells.items ≡ map (settled_over image.old.externals.entries (places_of image.old.externals.entries symbols.now)) image.old.text_cells.items) }
+    ensures datas { OnOk result (image.new.data_cells.items ≡ map (settled_over image.old.externals.entries (places_of image.old.externals.entries symbols.now)) image.old.data_cells.items) }
+    ensures heads { OnOk result (image.new.heads.items ≡ cut_heads image.old.externals.entries (places_of image.old.externals.entries symbols.now) image.old.heads.items) }
+    ensures back { LeavesMarks image.old.text_cells.items image.old.data_cells.items image.old.heads.items image.new.text_cells.items image.new.data_cells.items image.new.heads.items marks.old.items marks.new.items }
+    ensures few { OnOk result (NotesBound image.old.externals.entries image.old.text_cells.items image.old.data_cells.items image.new.text_cells.items image.new.data_cells.items marks.old.items marks.new.items) }
+    ensures else_same { image_in image.new ≡ with_cells image.new.text_cells.items image.new.data_cells.items (image_in image.old) }
+    ensures links { threads_in image.new ≡ with_heads image.new.heads.items (threads_in image.old) }
+    ensures room { KeepsRoom image.old image.new }
+{
+    let links = Links {
+        text: &image.text_links,
+        data: &image.data_links,
+    };
+    bind_names(
+        &mut image.text_cells,
+        &mut image.data_cells,
+        &links,
+        &mut image.heads,
+        &image.externals,
+        symbols,
+        marks,
+    )
 }
 
 /// Joins an object to the image, and answers the marks of what it overwrote. An error leaves the image as it was.
@@ -89,10 +155,13 @@ pub(crate) fn join(
     alloc: Global,
 ) -> Result<Vec<Mark>, AllocError>
     requires small { IsSmall (image_in image.old) }
+    requires threaded { IsThreaded (image_in image.old) (threads_in image.old) }
+    requires covered { IsCovered (image_in image.old) object.now }
     requires fits { next_limit (image_in image.old) object.now ≡ None }
     ensures image { OnOk result (image_in image.new ≡ joined_image (image_in image.old) object.now) }
-    ensures marks { IfOk result (λ marks. marks.items ≡ next_marks (image_in image.old) object.now) }
-    ensures err { OnErr result (image_in image.new ≡ image_in image.old) }
+    ensures threads { OnOk result (threads_in image.new ≡ next_threads (image_in image.old) object.now (threads_in image.old)) }
+    ensures marks { IfOk result (λ marks. TakesBack (image_in image.old) object.now (threads_in image.old).heads marks.items) }
+    ensures err { OnErr result ((image_in image.new ≡ image_in image.old) × (threads_in image.new ≡ threads_in image.old)) }
 {
     let file = object.file();
     let sizes = image.sizes();
@@ -107,9 +176,7 @@ pub(crate) fn join(
         file.symbols(),
         &shifts,
     );
-    let states = marks.len();
-    if let Err(refused) = note_all(image, &mut marks) {
-        marks.truncate(states);
+    if let Err(refused) = bind_waiting(image, file.symbols(), &mut marks) {
         undo(image, &marks, &sizes);
         return Err(refused);
     }

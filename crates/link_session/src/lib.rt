@@ -15,7 +15,7 @@ mod limits;
 mod mark;
 mod mention;
 mod merged;
-mod own;
+mod relocate;
 mod session;
 mod state;
 

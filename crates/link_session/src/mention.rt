@@ -8,7 +8,7 @@ ghost use Rattle.link_session.specs.Additions.{definition_by_shift, mentioned, s
 
 use crate::mark::Mark;
 use crate::merged::Externals;
-use crate::own::Shifts;
+use crate::relocate::Shifts;
 use crate::state::State;
 use aout_core::{Name, Segment, Symbol};
 

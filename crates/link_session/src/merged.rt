@@ -1,9 +1,10 @@
 //! The merged image, and how an addition is taken back.
 ghost use Rattle.std.specs.Prelude.{◌≡◌, ◌*◌, ◌+◌, ◌-◌, ◌<◌, ◌≤◌, ◌∷◌, ◌++◌, [], length, take, slice_set};
-ghost use Rattle.link_session.specs.Fields.{image_in, sizes_of, cut_by};
+ghost use Rattle.link_session.specs.Fields.{image_in, threads_in, no_threads, sizes_of, cut_by, IsBehind, unthreaded_behind, threads_by, with_heads_back};
 ghost use Rattle.link_session.specs.Undo.{put_back, put_all_back, with_state};
 
 use crate::cell::Cell;
+use crate::chain::{Link, set_head, unthread};
 use crate::mark::{Mark, Place};
 use crate::state::State;
 use aout_core::Name;
@@ -21,6 +22,12 @@ pub(crate) struct Merged {
     pub(crate) bss_total: u16,
     pub(crate) externals: Externals,
     pub(crate) multiples: Vec<Name>,
+    /// For each cell of text, the place of the next cell that waits for the same name.
+    pub(crate) text_links: Vec<Link>,
+    /// The same for each cell of data.
+    pub(crate) data_links: Vec<Link>,
+    /// For each external, the place of the first cell that waits for it.
+    pub(crate) heads: Vec<Link>,
 }
 
 /// The sizes of an image: what is behind them was added later.
@@ -41,6 +48,7 @@ impl Merged {
         ensures bss { result.bss_total ≡ 0 }
         ensures names { (image_in result).externals ≡ [] }
         ensures multiples { (image_in result).multiples ≡ [] }
+        ensures threads { threads_in result ≡ no_threads }
     {
         Merged {
             text_cells: Vec::new(alloc),
@@ -48,6 +56,9 @@ impl Merged {
             bss_total: 0,
             externals: IndexMap::new(alloc),
             multiples: Vec::new(alloc),
+            text_links: Vec::new(alloc),
+            data_links: Vec::new(alloc),
+            heads: Vec::new(alloc),
         }
     }
 
@@ -64,24 +75,54 @@ impl Merged {
     }
 }
 
-/// Cuts the image to its earlier sizes.
-fn cut(image: &mut Merged, sizes: &Sizes)
-    ensures { image_in image.new ≡ cut_by sizes.now (image_in image.old) }
+/// Takes the cells behind these sizes out of their chains, the last first.
+fn unthread_behind(image: &mut Merged, sizes: &Sizes)
+    requires within { IsBehind sizes.now (image_in image.old) (threads_in image.old) }
+    ensures image { image_in image.new ≡ image_in image.old }
+    ensures threads { threads_in image.new ≡ unthreaded_behind sizes.now (image_in image.old) (threads_in image.old) }
 {
+    unthread(
+        &image.data_cells[sizes.data_cells..],
+        &image.data_links[sizes.data_cells..],
+        &mut image.heads,
+    );
+    unthread(
+        &image.text_cells[sizes.text_cells..],
+        &image.text_links[sizes.text_cells..],
+        &mut image.heads,
+    );
+}
+
+/// Cuts the image to its earlier sizes. What is cut leaves its chains.
+fn cut(image: &mut Merged, sizes: &Sizes)
+    requires within { IsBehind sizes.now (image_in image.old) (threads_in image.old) }
+    ensures image { image_in image.new ≡ cut_by sizes.now (image_in image.old) }
+    ensures threads { threads_in image.new ≡ threads_by sizes.now (image_in image.old) (threads_in image.old) }
+{
+    unthread_behind(image, sizes);
     image.text_cells.truncate(sizes.text_cells);
     image.data_cells.truncate(sizes.data_cells);
     image.bss_total = sizes.bss_total;
     image.externals.truncate(sizes.externals);
     image.multiples.truncate(sizes.multiples);
+    image.text_links.truncate(sizes.text_cells);
+    image.data_links.truncate(sizes.data_cells);
+    image.heads.truncate(sizes.externals);
 }
 
-/// Puts back what a mark remembers.
+/// Puts back what a mark remembers. A cell that waits again stands first on its chain.
 fn put_back(image: &mut Merged, mark: Mark)
-    ensures { image_in image.new ≡ put_back mark (image_in image.old) }
+    ensures image { image_in image.new ≡ put_back mark (image_in image.old) }
+    ensures threads { threads_in image.new ≡ with_heads_back (mark ∷ []) (threads_in image.old) }
 {
     match mark {
-        Mark::CellWas(Place::InText(index), cell) => put_cell(&mut image.text_cells, index, cell),
-        Mark::CellWas(Place::InData(index), cell) => put_cell(&mut image.data_cells, index, cell),
+        Mark::CellWas(place, cell) => {
+            match place {
+                Place::InText(index) => put_cell(&mut image.text_cells, index, cell),
+                Place::InData(index) => put_cell(&mut image.data_cells, index, cell),
+            }
+            set_head(&mut image.heads, cell.target, Some(place));
+        }
         Mark::StateWas(index, state) => put_state(&mut image.externals, index, state),
     }
 }
@@ -107,7 +148,9 @@ fn put_state(externals: &mut Externals, index: u16, state: State)
 /// Takes an addition back: the image is cut to its earlier sizes, and what the marks remember is put back, the last
 /// mark first. It is handed no object, and takes no memory.
 pub(crate) fn undo(image: &mut Merged, marks: &[Mark], sizes: &Sizes)
-    ensures { image_in image.new ≡ put_all_back marks.now (cut_by sizes.now (image_in image.old)) }
+    requires within { IsBehind sizes.now (image_in image.old) (threads_in image.old) }
+    ensures image { image_in image.new ≡ put_all_back marks.now (cut_by sizes.now (image_in image.old)) }
+    ensures threads { threads_in image.new ≡ with_heads_back marks.now (threads_by sizes.now (image_in image.old) (threads_in image.old)) }
 {
     cut(image, sizes);
     for i in 0..marks.len() {

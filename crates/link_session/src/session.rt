@@ -8,11 +8,15 @@ ghost use Rattle.link_session.specs.Labelled.{objects};
 ghost use Rattle.link_session.specs.Mentions.{externals, forced_mention};
 ghost use Rattle.link_session.specs.Edits.{limit_passed, refusal};
 ghost use Rattle.link_session.specs.Undo.{image_of, IsJournal};
-ghost use Rattle.link_session.specs.Fields.{image_in, IsSmall};
-ghost use Rattle.link_session.specs.Additions.{all_mentioned, joined_image, next_limit, next_marks};
+ghost use Rattle.link_session.specs.Fields.{image_in, threads_in, IsSmall};
+ghost use Rattle.link_session.specs.Threads.{next_threads, IsThreaded};
+ghost use Rattle.link_session.specs.Settled.{IsCovered};
+ghost use Rattle.link_session.specs.Restores.{TakesBack};
+ghost use Rattle.link_session.specs.Additions.{all_mentioned, joined_image, next_limit};
 ghost use Rattle.link_session.specs.Sessions.{nothing_kept, labelled, newest, Adds, Withdraws, IsCause, IsObject};
 
 use crate::cell::Cell;
+use crate::chain::grow_heads;
 use crate::entry::{AddFault, AddRefused, Entry};
 use crate::forced::Forced;
 use crate::join::join;
@@ -62,11 +66,11 @@ impl Model for Session {
     ghost Value = { Kept };
 
     ghost use Rattle.std.specs.Prelude.{map};
-    ghost use Rattle.link_session.specs.Fields.{image_in, marks_in, IsSession};
+    ghost use Rattle.link_session.specs.Fields.{image_in, marks_in, threads_in, IsSession};
 
     ghost view = { λ s. record { forced = s.forced; entries = s.entries.items; journal = map marks_in s.steps.items } };
 
-    ghost invariant = { λ s. IsSession s.forced s.entries.items s.steps.items (image_in s.image) };
+    ghost invariant = { λ s. IsSession s.forced s.entries.items s.steps.items (image_in s.image) (threads_in s.image) };
 }
 
 /// Mentions the forced names. There is room for them.
@@ -103,7 +107,10 @@ impl Session {
         let names = forced.names();
         let mut image = Merged::new(alloc);
         image.externals.reserve(names.len())?;
+        image.heads.reserve(names.len())?;
         force_names(&mut image.externals, names);
+        let count = image.externals.len();
+        grow_heads(&mut image.heads, count);
         Ok(Session {
             forced: *forced,
             entries: Vec::new(alloc),
@@ -268,14 +275,17 @@ fn take_in(
     alloc: Global,
 ) -> Result<Vec<Mark>, AllocError>
     requires small { IsSmall (image_in image.old) }
+    requires threaded { IsThreaded (image_in image.old) (threads_in image.old) }
+    requires covered { IsCovered (image_in image.old) object.now }
     requires fits { next_limit (image_in image.old) object.now ≡ None }
     ensures entries { entries.new.items ≡ entries.old.items }
     ensures steps { steps.new.items ≡ steps.old.items }
     ensures entries_room { OnOk result (vec_len entries.new < vec_capacity entries.new) }
     ensures steps_room { OnOk result (vec_len steps.new < vec_capacity steps.new) }
     ensures image { OnOk result (image_in image.new ≡ joined_image (image_in image.old) object.now) }
-    ensures marks { IfOk result (λ marks. marks.items ≡ next_marks (image_in image.old) object.now) }
-    ensures err { OnErr result (image_in image.new ≡ image_in image.old) }
+    ensures threads { OnOk result (threads_in image.new ≡ next_threads (image_in image.old) object.now (threads_in image.old)) }
+    ensures marks { IfOk result (λ marks. TakesBack (image_in image.old) object.now (threads_in image.old).heads marks.items) }
+    ensures err { OnErr result ((image_in image.new ≡ image_in image.old) × (threads_in image.new ≡ threads_in image.old)) }
 {
     entries.reserve(1)?;
     steps.reserve(1)?;

@@ -1,46 +1,154 @@
-use Rattle.std.proofs.Common.{◌≡◌, ◌≤◌, length, sym, ◌∙◌, subst, rules}
-use Rattle.link_session.specs.Image.{Image}
-use Rattle.link_session.specs.Fields.{image_in, IsSmall, cut_by, sizes_of}
-use Rattle.link_session.specs.Additions.{next_mentions, state_marks}
+use Rattle.std.proofs.Common.{◌≡◌, ◌≤◌, ◌+◌, List, length, sym, ◌∙◌, ap, subst, arith, rules}
+use Rattle.std.specs.Prelude.{filter, vec_len}
+use Rattle.aout_core.specs.declared.symbol.Symbol.{Symbol}
+use Rattle.aout_core.specs.Contents.{Contents}
+use Rattle.aout_core.specs.WellFormed.{is_external}
+use Rattle.link_session.specs.declared.merged.Sizes.{Sizes}
 use Rattle.link_session.specs.Undo.{put_all_back}
-use Rattle.link_session.proofs.BackLemmas.{mentions_alone}
-use Rattle.link_session.proofs.JoinLemmas.{entered-is, few_named, entered_small, joined-is}
+use Rattle.link_session.specs.Image.{Image}
+use Rattle.link_session.specs.Threads.{Threads}
+use Rattle.link_session.specs.Chains.{AreChained}
+use Rattle.link_session.specs.Fields.{image_in, threads_in, cut_by, sizes_of, threads_by, with_heads_back, IsBehind}
+use Rattle.link_session.specs.Additions.{next_mentions, state_marks}
+use Rattle.link_session.proofs.JoinLemmas.{entered-is, few_named, few_new, bound-is, heads-are, marks-are, undone, joined-is, joined_threads}
 use Rattle.link_session.proofs.join.join.Goals as goal
 
-pub note_all-requires : goal.note_all-requires
-note_all-requires c =
-    let m = image_in c.args.image.now in
-    let o = c.args.object.now in
-    let e = entered-is m (image_in c.make_room.new.image) o c.file-file.result.now c.next_shifts-shifts.result c.symbols.result.now c.enter_all.new.externals.entries c.enter_all.new.multiples.items
-    c.make_room.ensures.image c.file-file.ensures.value c.symbols.ensures.value c.next_shifts-shifts.ensures c.enter_all.ensures.names c.enter_all.ensures.multiples in
-    subst IsSmall (sym e) (entered_small m o c.requires.small c.requires.fits)
-
-pub returns-in-Err-clause-err : goal.returns-in-Err-clause-err
-returns-in-Err-clause-err c =
-    let m = image_in c.args.image.now in
-    let o = c.args.object.now in
-    let e = entered-is m (image_in c.make_room.new.image) o c.file-file.result.now c.next_shifts-shifts.result c.symbols.result.now c.enter_all.new.externals.entries c.enter_all.new.multiples.items
-    c.make_room.ensures.image c.file-file.ensures.value c.symbols.ensures.value c.next_shifts-shifts.ensures c.enter_all.ensures.names c.enter_all.ensures.multiples in
-    let states = state_marks (length m.externals) m.externals (next_mentions m o) in
-    let marked : c.enter_all.new.marks.items ≡ states = search rules in
-    let left : c.deref.result.now ≡ c.enter_all.new.marks.items = search rules in
-    let sizes : c.sizes-sizes.result ≡ sizes_of m = c.sizes-sizes.ensures in
-    c.undo.ensures ∙ (λ i. put_all_back ((left ∙ marked) i) (cut_by (sizes i) (e i))) ∙ mentions_alone m o
-
-pub settle-requires-clause-names : goal.settle-requires-clause-names
-settle-requires-clause-names c =
+pub bind_waiting-requires-clause-names : goal.bind_waiting-requires-clause-names
+bind_waiting-requires-clause-names c =
     let m = image_in c.args.image.now in
     let o = c.args.object.now in
     let e = entered-is m (image_in c.make_room.new.image) o c.file-file.result.now c.next_shifts-shifts.result c.symbols.result.now c.enter_all.new.externals.entries c.enter_all.new.multiples.items
     c.make_room.ensures.image c.file-file.ensures.value c.symbols.ensures.value c.next_shifts-shifts.ensures c.enter_all.ensures.names c.enter_all.ensures.multiples in
     subst (λ (n : Image). length n.externals ≤ 65535) (sym e) (few_named m o c.requires.fits)
 
+pub bind_waiting-requires-clause-chained : goal.bind_waiting-requires-clause-chained
+bind_waiting-requires-clause-chained c =
+    subst (λ (P : Type 0). P)
+    (λ i. let n : Image = sym c.make_room.ensures.image i in let t : Threads = sym c.make_room.ensures.threads i in AreChained n.text_cells n.data_cells t.text_links t.data_links t.heads)
+    c.requires.threaded.chained
+
+pub undo-requires : goal.undo-requires
+undo-requires c =
+    let b = image_in c.bind_waiting.new.image in
+    let v = threads_in c.bind_waiting.new.image in
+    let texts : length b.text_cells ≡ length (image_in c.args.image.now).text_cells = search rules in
+    let datas : length b.data_cells ≡ length (image_in c.args.image.now).data_cells = search rules in
+    let sizes : c.sizes-sizes.result ≡ sizes_of (image_in c.args.image.now) = c.sizes-sizes.ensures in
+    record {
+      within = subst (λ (s : Sizes). IsBehind s b v) (sym sizes) (record { text = omega (arith, texts); «data» = omega (arith, datas); text_links = c.bind_waiting.ensures.chained.text; data_links = c.bind_waiting.ensures.chained.data });
+    }
+
+pub returns-in-Err-clause-err : goal.returns-in-Err-clause-err
+returns-in-Err-clause-err c =
+    let m = image_in c.args.image.now in
+    let o = c.args.object.now in
+    let t = threads_in c.args.image.now in
+    let n : Image = record (image_in c.make_room.new.image) { externals = c.enter_all.new.externals.entries; multiples = c.enter_all.new.multiples.items } in
+    let u = threads_in c.make_room.new.image in
+    let b = image_in c.bind_waiting.new.image in
+    let v = threads_in c.bind_waiting.new.image in
+    let e = entered-is m (image_in c.make_room.new.image) o c.file-file.result.now c.next_shifts-shifts.result c.symbols.result.now c.enter_all.new.externals.entries c.enter_all.new.multiples.items
+    c.make_room.ensures.image c.file-file.ensures.value c.symbols.ensures.value c.next_shifts-shifts.ensures c.enter_all.ensures.names c.enter_all.ensures.multiples in
+    let table : c.symbols-2.result.now ≡ o.symbols = c.symbols-2.ensures.value ∙ ap (λ (f : Contents). f.symbols) c.file-file.ensures.value in
+    let states : c.enter_all.new.marks.items ≡ state_marks (length m.externals) m.externals (next_mentions m o) = search rules in
+    let texts : length b.text_cells ≡ length m.text_cells = search rules in
+    let datas : length b.data_cells ≡ length m.data_cells = search rules in
+    let left : c.deref.result.now ≡ c.bind_waiting.new.marks.items = c.deref.ensures.value in
+    let back = undone m n b o t u v c.requires.threaded c.enter_all.new.marks.items c.bind_waiting.new.marks.items e c.make_room.ensures.threads c.bind_waiting.ensures.else_same c.bind_waiting.ensures.links texts datas states c.bind_waiting.ensures.back in (
+      c.undo.ensures.image ∙ (λ i. put_all_back (left i) (cut_by (c.sizes-sizes.ensures i) b)) ∙ back.0,
+      c.undo.ensures.threads ∙ (λ i. with_heads_back (left i) (threads_by (c.sizes-sizes.ensures i) b v)) ∙ back.1,
+    )
+
+pub settle-requires-clause-names : goal.settle-requires-clause-names
+settle-requires-clause-names c =
+    let m = image_in c.args.image.now in
+    let o = c.args.object.now in
+    let t = threads_in c.args.image.now in
+    let n : Image = record (image_in c.make_room.new.image) { externals = c.enter_all.new.externals.entries; multiples = c.enter_all.new.multiples.items } in
+    let u = threads_in c.make_room.new.image in
+    let b = image_in c.bind_waiting.new.image in
+    let v = threads_in c.bind_waiting.new.image in
+    let e = entered-is m (image_in c.make_room.new.image) o c.file-file.result.now c.next_shifts-shifts.result c.symbols.result.now c.enter_all.new.externals.entries c.enter_all.new.multiples.items
+    c.make_room.ensures.image c.file-file.ensures.value c.symbols.ensures.value c.next_shifts-shifts.ensures c.enter_all.ensures.names c.enter_all.ensures.multiples in
+    let table : c.symbols-2.result.now ≡ o.symbols = c.symbols-2.ensures.value ∙ ap (λ (f : Contents). f.symbols) c.file-file.ensures.value in
+    let states : c.enter_all.new.marks.items ≡ state_marks (length m.externals) m.externals (next_mentions m o) = search rules in
+    subst (λ (x : Image). length x.externals ≤ 65535) (sym c.bind_waiting.ensures.else_same) (subst (λ (x : Image). length x.externals ≤ 65535) (sym e) (few_named m o c.requires.fits))
+
+pub settle-requires-clause-text_small : goal.settle-requires-clause-text_small
+settle-requires-clause-text_small c =
+    let same : length c.bind_waiting.new.image.text_links.items ≡ length c.args.image.now.text_links.items = search rules in
+    omega (arith, same, c.requires.threaded.chained.text, c.requires.small.text)
+
+pub settle-requires-clause-data_small : goal.settle-requires-clause-data_small
+settle-requires-clause-data_small c =
+    let same : length c.bind_waiting.new.image.data_links.items ≡ length c.args.image.now.data_links.items = search rules in
+    omega (arith, same, c.requires.threaded.chained.data, c.requires.small.data)
+
+pub settle-requires-clause-heads_room : goal.settle-requires-clause-heads_room
+settle-requires-clause-heads_room c =
+    let m = image_in c.args.image.now in
+    let o = c.args.object.now in
+    let t = threads_in c.args.image.now in
+    let n : Image = record (image_in c.make_room.new.image) { externals = c.enter_all.new.externals.entries; multiples = c.enter_all.new.multiples.items } in
+    let u = threads_in c.make_room.new.image in
+    let b = image_in c.bind_waiting.new.image in
+    let v = threads_in c.bind_waiting.new.image in
+    let e = entered-is m (image_in c.make_room.new.image) o c.file-file.result.now c.next_shifts-shifts.result c.symbols.result.now c.enter_all.new.externals.entries c.enter_all.new.multiples.items
+    c.make_room.ensures.image c.file-file.ensures.value c.symbols.ensures.value c.next_shifts-shifts.ensures c.enter_all.ensures.names c.enter_all.ensures.multiples in
+    let table : c.symbols-2.result.now ≡ o.symbols = c.symbols-2.ensures.value ∙ ap (λ (f : Contents). f.symbols) c.file-file.ensures.value in
+    let states : c.enter_all.new.marks.items ≡ state_marks (length m.externals) m.externals (next_mentions m o) = search rules in
+    let few : length c.bind_waiting.new.image.externals.entries ≤ length m.externals + length (filter is_external o.symbols) =
+    subst (λ (x : Image). length x.externals ≤ length m.externals + length (filter is_external o.symbols)) (sym c.bind_waiting.ensures.else_same)
+    (subst (λ (x : Image). length x.externals ≤ length m.externals + length (filter is_external o.symbols)) (sym e) (few_new m o)) in
+    let heads : vec_len c.make_room.new.image.heads ≡ length c.args.image.now.heads.items = search rules in
+    let entries : filter is_external c.file-file.result.now.symbols ≡ filter is_external o.symbols = ap (λ (f : Contents). filter is_external f.symbols) c.file-file.ensures.value in
+    omega (arith, few, heads, ap (λ (l : List Symbol). length l) entries, c.in_ok-make_room.ensures.heads, c.bind_waiting.ensures.room.heads, c.requires.threaded.heads)
+
 pub returns-clause-image : goal.returns-clause-image
 returns-clause-image c =
     let m = image_in c.args.image.now in
     let o = c.args.object.now in
+    let t = threads_in c.args.image.now in
     let n : Image = record (image_in c.make_room.new.image) { externals = c.enter_all.new.externals.entries; multiples = c.enter_all.new.multiples.items } in
+    let u = threads_in c.make_room.new.image in
+    let b = image_in c.bind_waiting.new.image in
+    let v = threads_in c.bind_waiting.new.image in
     let e = entered-is m (image_in c.make_room.new.image) o c.file-file.result.now c.next_shifts-shifts.result c.symbols.result.now c.enter_all.new.externals.entries c.enter_all.new.multiples.items
     c.make_room.ensures.image c.file-file.ensures.value c.symbols.ensures.value c.next_shifts-shifts.ensures c.enter_all.ensures.names c.enter_all.ensures.multiples in
-    joined-is m n (image_in c.settle.new.image) o c.file-file.result.now c.next_shifts-shifts.result e c.file-file.ensures.value c.next_shifts-shifts.ensures
-    c.settle.ensures.text c.settle.ensures.datas c.settle.ensures.bss c.settle.ensures.names c.settle.ensures.multiples
+    let table : c.symbols-2.result.now ≡ o.symbols = c.symbols-2.ensures.value ∙ ap (λ (f : Contents). f.symbols) c.file-file.ensures.value in
+    let states : c.enter_all.new.marks.items ≡ state_marks (length m.externals) m.externals (next_mentions m o) = search rules in
+    let bound = bound-is m n o c.symbols-2.result.now e table c.requires.covered b c.bind_waiting.ensures.else_same c.in_default.ensures.texts c.in_default.ensures.datas in
+    joined-is m b o c.file-file.result.now c.next_shifts-shifts.result bound c.file-file.ensures.value c.next_shifts-shifts.ensures (image_in c.settle.new.image) c.settle.ensures.image
+
+pub returns-clause-threads : goal.returns-clause-threads
+returns-clause-threads c =
+    let m = image_in c.args.image.now in
+    let o = c.args.object.now in
+    let t = threads_in c.args.image.now in
+    let n : Image = record (image_in c.make_room.new.image) { externals = c.enter_all.new.externals.entries; multiples = c.enter_all.new.multiples.items } in
+    let u = threads_in c.make_room.new.image in
+    let b = image_in c.bind_waiting.new.image in
+    let v = threads_in c.bind_waiting.new.image in
+    let e = entered-is m (image_in c.make_room.new.image) o c.file-file.result.now c.next_shifts-shifts.result c.symbols.result.now c.enter_all.new.externals.entries c.enter_all.new.multiples.items
+    c.make_room.ensures.image c.file-file.ensures.value c.symbols.ensures.value c.next_shifts-shifts.ensures c.enter_all.ensures.names c.enter_all.ensures.multiples in
+    let table : c.symbols-2.result.now ≡ o.symbols = c.symbols-2.ensures.value ∙ ap (λ (f : Contents). f.symbols) c.file-file.ensures.value in
+    let states : c.enter_all.new.marks.items ≡ state_marks (length m.externals) m.externals (next_mentions m o) = search rules in
+    let bound = bound-is m n o c.symbols-2.result.now e table c.requires.covered b c.bind_waiting.ensures.else_same c.in_default.ensures.texts c.in_default.ensures.datas in
+    let heads = heads-are m n o c.symbols-2.result.now e table t u v c.make_room.ensures.threads c.bind_waiting.ensures.links c.in_default.ensures.heads in
+    joined_threads m b o c.file-file.result.now c.next_shifts-shifts.result bound c.file-file.ensures.value c.next_shifts-shifts.ensures t v (threads_in c.settle.new.image) heads c.settle.ensures.threads
+
+pub returns-clause-marks : goal.returns-clause-marks
+returns-clause-marks c =
+    let m = image_in c.args.image.now in
+    let o = c.args.object.now in
+    let t = threads_in c.args.image.now in
+    let n : Image = record (image_in c.make_room.new.image) { externals = c.enter_all.new.externals.entries; multiples = c.enter_all.new.multiples.items } in
+    let u = threads_in c.make_room.new.image in
+    let b = image_in c.bind_waiting.new.image in
+    let v = threads_in c.bind_waiting.new.image in
+    let e = entered-is m (image_in c.make_room.new.image) o c.file-file.result.now c.next_shifts-shifts.result c.symbols.result.now c.enter_all.new.externals.entries c.enter_all.new.multiples.items
+    c.make_room.ensures.image c.file-file.ensures.value c.symbols.ensures.value c.next_shifts-shifts.ensures c.enter_all.ensures.names c.enter_all.ensures.multiples in
+    let table : c.symbols-2.result.now ≡ o.symbols = c.symbols-2.ensures.value ∙ ap (λ (f : Contents). f.symbols) c.file-file.ensures.value in
+    let states : c.enter_all.new.marks.items ≡ state_marks (length m.externals) m.externals (next_mentions m o) = search rules in
+    marks-are m n o c.symbols-2.result.now e table c.requires.covered t u c.make_room.ensures.threads b.text_cells b.data_cells v.heads c.enter_all.new.marks.items c.bind_waiting.new.marks.items states
+    c.in_default.ensures.texts c.in_default.ensures.datas c.in_default.ensures.heads c.bind_waiting.ensures.back c.in_default.ensures.few

@@ -1,8 +1,11 @@
 use Rattle.std.proofs.Common.{◌≡◌, ◌-◌, take, length}
 use Rattle.link_session.specs.Undo.{put_all_back}
-use Rattle.link_session.specs.Fields.{image_in}
+use Rattle.link_session.specs.Fields.{image_in, threads_in, with_heads_back}
 use Rattle.link_session.proofs.merged.undo.Given as goal
 
 -- the marks that are left
 abbrev pub invariant-loop-i : goal.invariant-loop-i
-invariant-loop-i l = put_all_back l.marks (image_in l.initial.image) ≡ put_all_back (take (length l.marks - l.i) l.marks) (image_in l.image)
+invariant-loop-i l = record {
+  image : put_all_back l.marks (image_in l.initial.image) ≡ put_all_back (take (length l.marks - l.i) l.marks) (image_in l.image);
+  threads : with_heads_back l.marks (threads_in l.initial.image) ≡ with_heads_back (take (length l.marks - l.i) l.marks) (threads_in l.image);
+}

@@ -1,16 +1,28 @@
 use Rattle.std.proofs.Common.{◌≡◌, ◌++◌, ◌∷◌, [], ◌∙◌, ap, sym, subst, rules}
-use Rattle.link_session.specs.Image.{Image}
 use Rattle.link_session.specs.Undo.{put_all_back}
-use Rattle.link_session.specs.Fields.{image_in, cut_by, IsSession}
-use Rattle.link_session.proofs.SessionLemmas.{withdrawn_session}
+use Rattle.link_session.specs.Fields.{image_in, threads_in, cut_by, threads_by, with_heads_back, IsSession}
+use Rattle.link_session.proofs.SessionLemmas.{behind, withdrawn_session}
 use Rattle.link_session.proofs.session.Session.withdraw.Goals as goal
+
+pub undo-requires : goal.undo-requires
+undo-requires c =
+    let entries : c.self.inside.entries.items ≡ c.pop.new.self.items ++ c.in_ok-entry.entry ∷ [] = search rules in
+    let steps : c.self.inside.steps.items ≡ c.pop-2.new.self.items ++ c.unwrap-step.result ∷ [] = search rules in
+    record {
+      within =
+          behind c.self.inside.forced c.pop.new.self.items c.pop-2.new.self.items (image_in c.self.inside.image) (threads_in c.self.inside.image) c.in_ok-entry.entry c.unwrap-step.result
+          (subst (λ (P : Type 0). P) (λ i. IsSession c.self.inside.forced (entries i) (steps i) (image_in c.self.inside.image) (threads_in c.self.inside.image)) c.self.invariant);
+    }
 
 pub invariant_of-self-2 : goal.invariant_of-self-2
 invariant_of-self-2 c =
+    let m = image_in c.self.inside.image in
+    let t = threads_in c.self.inside.image in
+    let step = c.unwrap-step.result in
     let entries : c.self.inside.entries.items ≡ c.pop.new.self.items ++ c.in_ok-entry.entry ∷ [] = search rules in
     let steps : c.self.inside.steps.items ≡ c.pop-2.new.self.items ++ c.unwrap-step.result ∷ [] = search rules in
-    let image : image_in c.undo.new.image ≡ put_all_back c.unwrap-step.result.marks.items (cut_by c.unwrap-step.result.sizes (image_in c.self.inside.image)) =
-    c.undo.ensures ∙ ap (λ ks. put_all_back ks (cut_by c.unwrap-step.result.sizes (image_in c.self.inside.image))) c.deref.ensures.value in
-    subst (λ (m : Image). IsSession c.self.inside.forced c.pop.new.self.items c.pop-2.new.self.items m) (sym image)
-    (withdrawn_session c.self.inside.forced c.pop.new.self.items c.pop-2.new.self.items (image_in c.self.inside.image) c.in_ok-entry.entry c.unwrap-step.result
-    (subst (λ (P : Type 0). P) (λ i. IsSession c.self.inside.forced (entries i) (steps i) (image_in c.self.inside.image)) c.self.invariant))
+    let image : image_in c.undo.new.image ≡ put_all_back step.marks.items (cut_by step.sizes m) = c.undo.ensures.image ∙ ap (λ ks. put_all_back ks (cut_by step.sizes m)) c.deref.ensures.value in
+    let threads : threads_in c.undo.new.image ≡ with_heads_back step.marks.items (threads_by step.sizes m t) = c.undo.ensures.threads ∙ ap (λ ks. with_heads_back ks (threads_by step.sizes m t)) c.deref.ensures.value in
+    subst (λ (P : Type 0). P) (λ i. IsSession c.self.inside.forced c.pop.new.self.items c.pop-2.new.self.items (sym image i) (sym threads i))
+    (withdrawn_session c.self.inside.forced c.pop.new.self.items c.pop-2.new.self.items m t c.in_ok-entry.entry step
+    (subst (λ (P : Type 0). P) (λ i. IsSession c.self.inside.forced (entries i) (steps i) m t) c.self.invariant))

@@ -1,11 +1,14 @@
-//! The cells of an object's own words.
+//! The cells of an object's own words, relocated.
 ghost use Rattle.std.specs.Prelude.{◌≡◌, ◌+◌, ◌≤◌, ◌++◌, ◌<◌, ◌*◌, length, slice_get, vec_len, vec_capacity};
 ghost use Rattle.aout_core.specs.WellFormed.{kind_of, symbol_number};
 ghost use Rattle.link_session.specs.Cells.{name_in, name_target, offset_in, segment_target};
 ghost use Rattle.link_session.specs.Fields.{image_in};
-ghost use Rattle.link_session.specs.Additions.{next_shifts, shift_by, referred, own_cell, own_cells, state_for, place_in};
+ghost use Rattle.link_session.specs.Additions.{next_shifts, shift_by, referred, own_cell, own_cells, place_at, state_for, place_in};
+ghost use Rattle.link_session.specs.Chains.{threaded};
 
 use crate::cell::{Cell, Target};
+use crate::chain::{Link, thread};
+use crate::mark::Place;
 use crate::mention::look_up;
 use crate::merged::{Externals, Merged};
 use crate::state::State;
@@ -17,6 +20,22 @@ pub(crate) struct Shifts {
     pub(crate) text: u16,
     pub(crate) data: u16,
     pub(crate) bss: u16,
+}
+
+/// What the words of an object refer to: the externals, and the object's own symbols and segments.
+#[derive(Clone, Copy)]
+pub(crate) struct Scope<'a> {
+    pub(crate) externals: &'a Externals,
+    pub(crate) symbols: &'a [Symbol],
+    pub(crate) shifts: Shifts,
+}
+
+/// The words of a segment of an object, each with its relocation word.
+#[derive(Clone, Copy)]
+pub(crate) struct Words<'a> {
+    pub(crate) segment: Segment,
+    pub(crate) words: &'a [u16],
+    pub(crate) relocs: &'a [Reloc],
 }
 
 impl Shifts {
@@ -85,37 +104,28 @@ fn name_reference(externals: &Externals, name: &Name) -> (u16, Target)
 }
 
 /// What a relocation word adds to its word, and the target.
-fn reference(
-    externals: &Externals,
-    symbols: &[Symbol],
-    shifts: &Shifts,
-    reloc: Reloc,
-) -> (u16, Target)
-    requires { length externals.now.entries ≤ 65535 }
-    ensures { result ≡ referred externals.now.entries symbols.now shifts.now (symbol_number reloc) (kind_of reloc) }
+fn reference(scope: &Scope<'_>, reloc: Reloc) -> (u16, Target)
+    requires { length scope.now.externals.now.entries ≤ 65535 }
+    ensures { result ≡ referred scope.now.externals.now.entries scope.now.symbols.now scope.now.shifts (symbol_number reloc) (kind_of reloc) }
 {
+    let shifts = scope.shifts;
     match reloc.kind() {
         Some(Kind::TextSeg) => (shifts.text, Target::TextSeg),
         Some(Kind::DataSeg) => (shifts.data, Target::DataSeg),
         Some(Kind::BssSeg) => (shifts.bss, Target::BssSeg),
-        Some(Kind::External) => name_reference(externals, &name_of(symbols, reloc.number())),
+        Some(Kind::External) => {
+            name_reference(scope.externals, &name_of(scope.symbols, reloc.number()))
+        }
         Some(Kind::Absolute) | None => (0, Target::Absolute),
     }
 }
 
 /// The cell of a word in a segment that moves by this shift.
-fn own_cell(
-    externals: &Externals,
-    symbols: &[Symbol],
-    shifts: &Shifts,
-    moved: u16,
-    word: u16,
-    reloc: Reloc,
-) -> Cell
-    requires { length externals.now.entries ≤ 65535 }
-    ensures { result ≡ own_cell externals.now.entries symbols.now shifts.now moved word reloc }
+fn own_cell(scope: &Scope<'_>, moved: u16, word: u16, reloc: Reloc) -> Cell
+    requires { length scope.now.externals.now.entries ≤ 65535 }
+    ensures { result ≡ own_cell scope.now.externals.now.entries scope.now.symbols.now scope.now.shifts moved word reloc }
 {
-    let (offset, target) = reference(externals, symbols, shifts, reloc);
+    let (offset, target) = reference(scope, reloc);
     let pc = reloc.is_pc();
     let start = if pc { moved } else { 0 };
     Cell {
@@ -125,23 +135,38 @@ fn own_cell(
     }
 }
 
-/// Puts the cells of an object's words last. There is room for them.
+fn place_at(segment: Segment, index: u16) -> Place
+    ensures { result ≡ place_at segment index }
+{
+    match segment {
+        Segment::DataSeg => Place::InData(index),
+        _ => Place::InText(index),
+    }
+}
+
+/// Puts the cells of an object's words last, each in front of the chain that it waits in. There is room for them and
+/// for their links.
 pub(crate) fn append_cells(
     cells: &mut Vec<Cell>,
-    externals: &Externals,
-    symbols: &[Symbol],
-    shifts: &Shifts,
-    moved: u16,
-    words: &[u16],
-    relocs: &[Reloc],
+    links: &mut Vec<Link>,
+    heads: &mut [Link],
+    scope: &Scope<'_>,
+    own: &Words<'_>,
 )
-    requires names { length externals.now.entries ≤ 65535 }
-    requires beside { length words.now ≡ length relocs.now }
-    requires room { vec_len cells.old + length words.now ≤ vec_capacity cells.old }
-    ensures { cells.new.items ≡ cells.old.items ++ own_cells externals.now.entries symbols.now shifts.now moved words.now relocs.now }
+    requires names { length scope.now.externals.now.entries ≤ 65535 }
+    requires beside { length own.now.words.now ≡ length own.now.relocs.now }
+    requires small { length links.old.items + length own.now.words.now ≤ 65535 }
+    requires room { vec_len cells.old + length own.now.words.now ≤ vec_capacity cells.old }
+    requires links_room { vec_len links.old + length own.now.words.now ≤ vec_capacity links.old }
+    ensures cells { cells.new.items ≡ cells.old.items ++ own_cells scope.now.externals.now.entries scope.now.symbols.now scope.now.shifts (shift_by scope.now.shifts own.now.segment) own.now.words.now own.now.relocs.now }
+    ensures links { links.new.items ≡ links.old.items ++ (threaded (place_at own.now.segment) (length links.old.items) (own_cells scope.now.externals.now.entries scope.now.symbols.now scope.now.shifts (shift_by scope.now.shifts own.now.segment) own.now.words.now own.now.relocs.now) heads.old).0 }
+    ensures heads { heads.new ≡ (threaded (place_at own.now.segment) (length links.old.items) (own_cells scope.now.externals.now.entries scope.now.symbols.now scope.now.shifts (shift_by scope.now.shifts own.now.segment) own.now.words.now own.now.relocs.now) heads.old).1 }
 {
-    for (i, word) in words.iter().enumerate() {
-        let cell = own_cell(externals, symbols, shifts, moved, *word, relocs[i]);
+    let moved = scope.shifts.of(own.segment);
+    for (i, word) in own.words.iter().enumerate() {
+        let cell = own_cell(scope, moved, *word, own.relocs[i]);
+        let place = place_at(own.segment, links.len() as u16);
+        thread(links, heads, cell.target, place);
         cells.push(cell).unwrap();
     }
 }
