@@ -12,7 +12,7 @@ use Rattle.link_session.specs.Edits.{Change, addition, withdrawal, refusal, last
 use Rattle.link_out.specs.declared.edit.Edit.{Edit}
 use Rattle.link_out.specs.declared.edit.Reply.{Reply}
 use Rattle.link_out.specs.declared.edit.Reply.TheVariants as replies
-use Rattle.link_out.specs.Runs.{change_of, answer_of, IsDone, AreDone}
+use Rattle.link_out.specs.Runs.{change_of, answer_of, IsDone, IsReplied, AreDone}
 
 -- an accepted addition
 pub added_done : (old new : Kept) (e : Labelled) → refusal old.forced (objects old.entries) e.object ≡ None → Adds old new e →
@@ -79,6 +79,9 @@ answers-one_more forced kept (d ∷ cs) c = ap (λ xs. answer_to forced kept d �
 pub none_done : (k : Kept) → AreDone k k [] []
 none_done k = record { forced = refl; kept = refl; answers = refl }
 
+pub replied : (old new : Kept) (change : Change) (before after : List Reply) (reply : Reply) → IsDone old new change reply → after ≡ before ++ reply ∷ [] → IsReplied old new change before after
+replied old new change before after reply done put = record { reply = reply; done = done; put = put }
+
 -- one more edit
 pub one_more_done : (old new last : Kept) (edits : List Edit) (edit : Edit) (told next : List Reply) (reply : Reply) →
     AreDone old new (map change_of edits) told → IsDone new last (change_of edit) reply → next ≡ told ++ reply ∷ [] →
@@ -102,4 +105,4 @@ one_more_done old new last edits edit told next reply h one push =
           ∙ ap (answers_from old.forced old.entries) (sym more);
     }
 
-pub ruleset by_edit = (added_done, refused_done, withdrew_done, nothing_done, none_done)
+pub ruleset by_edit = (added_done, refused_done, withdrew_done, nothing_done, none_done, replied)

@@ -3,7 +3,7 @@ ghost use Rattle.std.specs.Prelude.{◌≡◌, true, map, IfOk};
 ghost use Rattle.aout_core.specs.WellFormed.{IsWellFormed};
 ghost use Rattle.link_session.specs.Edits.{addition, withdrawal, answers};
 ghost use Rattle.link_session.specs.Sessions.{labelled};
-ghost use Rattle.link_out.specs.Runs.{change_of, link_after, IsDone, AreDone, IsRunOf};
+ghost use Rattle.link_out.specs.Runs.{change_of, link_after, IsDone, IsReplied, AreDone, IsRunOf};
 
 use crate::edit::{Edit, Reply, RunFault};
 use crate::linked::Linked;
@@ -48,6 +48,16 @@ fn reply_to(session: &mut Session, edit: Edit) -> Result<Reply, AllocError>
     }
 }
 
+/// Does one edit, and puts its reply last. An error: no room for it.
+#[tactic(auto, using(crate::proofs::RunLemmas::by_edit))]
+fn put_reply(session: &mut Session, edit: Edit, replies: &mut Vec<Reply>) -> Result<(), AllocError>
+    ensures { IfOk result (λ done. IsReplied session.old session.new (change_of edit) replies.old.items replies.new.items) }
+{
+    let reply = reply_to(session, edit)?;
+    replies.push(reply)?;
+    Ok(())
+}
+
 /// Does the edits in order, with a reply to each. An error: no room for them.
 #[tactic(auto, using(crate::proofs::RunLemmas::by_edit))]
 fn replies_to(
@@ -59,7 +69,7 @@ fn replies_to(
 {
     let mut replies = Vec::new(alloc);
     for edit in edits {
-        replies.push(reply_to(session, edit)?)?;
+        put_reply(session, edit, &mut replies)?;
     }
     Ok(replies)
 }

@@ -6,12 +6,12 @@ loop-edit-preserved c =
     one_more_done
     c.args.session.now
     c.loop-edit.session
-    c.reply_to.new.session
+    c.put_reply.new.session
     c.loop-edit.yielded
     c.in-Some.edit
     c.loop-edit.replies.items
-    c.push.new.self.items
-    c.in_ok-reply_to.field-0
+    c.put_reply.new.replies.items
+    c.in_ok-put_reply.ensures.reply
     c.loop-edit.invariant
-    c.in_ok-reply_to.ensures
-    c.in_ok-push.ensures.items
+    c.in_ok-put_reply.ensures.done
+    c.in_ok-put_reply.ensures.put
