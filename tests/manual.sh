@@ -1,10 +1,9 @@
 #!/bin/sh
 # Runs the examples of the manual pages, of README.md and of docs/, and compares what is shown with what comes. It runs
-# nothing but what stands there: in a page the displays, in a document the blocks that are indented by four blanks or more, and
-# of both those alone whose first line begins with "$ ". There a line behind "$ " is typed to the shell, a line behind
-# "> " to the program, and all others are what is shown, standard error too. Each file has a new copy of the folder
-# examples, and its commands run in one shell, so that each sees what those before it left. A file that `cat` shows and
-# that is not there is made of what is shown.
+# nothing but what stands there: in a page the displays, in a document the blocks that are indented by four blanks or
+# more, and of both those alone whose first line begins with "$ ". There a line behind "$ " is typed to the shell, a line
+# behind "> " to the program, and all others are what is shown, standard error too. Each file has a new copy of the
+# folder examples, and its commands run in one shell, so that each sees what those before it left.
 #
 # usage: tests/manual.sh [FILE...]       the program has to stand in build/v7
 set -u
@@ -64,7 +63,6 @@ run() {
         line=$(cat "$typed")
         case $line in
         "sh simulate.sh "*) command -v pdp11 >/dev/null || { echo "$1: not run, as pdp11 is missing: $line"; continue; } ;;
-        "cat "*) [ -e "${line#cat }" ] || cp "$part.shown" "${line#cat }" ;;
         esac
         (exit $status)
         eval "$line" <"$part.input" >"$part.came" 2>&1
