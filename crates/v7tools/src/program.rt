@@ -1,6 +1,7 @@
 //! The whole of a command, over any runtime.
 ghost use Rattle.std.specs.Prelude.{◌≡◌, ◌≤◌, IfOk};
 
+use crate::block_writer::BlockWriter;
 use crate::fault::CliFault;
 use crate::inputs::ld;
 use crate::loading::load;
@@ -48,7 +49,7 @@ fn link_files<H: Runtime + AllocGlobal>(
         return Err(CliFault::CannotCreate(out));
     };
     let mut program = Wire::new(file);
-    let mut report = Wire::new(io::writer(rt));
+    let mut report = Wire::new(BlockWriter::new(io::writer(rt)));
     let status = emit(&linked, &mut program, &mut report)?;
     program.flush()?;
     report.flush()?;
@@ -79,9 +80,10 @@ fn list_files<H: Runtime + AllocGlobal>(
     ensures { IfOk result (λ status. status ≡ 0) }
 {
     let loaded = load_all(rt, files)?;
-    let mut out = Wire::new(io::writer(rt));
-    nm(rt.alloc(), &loaded, options, &mut out)?;
+    let mut out = Wire::new(BlockWriter::new(io::writer(rt)));
+    let listed = nm(rt.alloc(), &loaded, options, &mut out);
     out.flush()?;
+    listed?;
     Ok(0)
 }
 
@@ -90,7 +92,7 @@ fn size_files<H: Runtime + AllocGlobal>(rt: &H, files: Vec<String>) -> Result<u8
     ensures { IfOk result (λ status. status ≡ 0) }
 {
     let loaded = load_all(rt, files)?;
-    let mut out = Wire::new(io::writer(rt));
+    let mut out = Wire::new(BlockWriter::new(io::writer(rt)));
     size(&loaded, &mut out)?;
     out.flush()?;
     Ok(0)

@@ -3,6 +3,7 @@ ghost use Rattle.std.specs.Prelude.{◌≤◌, IfOk};
 ghost use Rattle.v7tools.specs.ScriptAnswers.{IsCommandOf};
 
 use crate::answers::step;
+use crate::block_writer::BlockWriter;
 use crate::commands::{Command, Step};
 use crate::fault::CliFault;
 use crate::lines::Line;
@@ -98,7 +99,7 @@ pub(crate) fn answer_script<H: Runtime + AllocGlobal>(
 {
     let mut session = Session::with_forced(rt.alloc(), forced)?;
     let mut script = Script::new(rt.alloc(), Wire::new(rt.reader()))?;
-    let mut answers = Wire::new(io::writer(rt));
+    let mut answers = Wire::new(BlockWriter::new(io::writer(rt)));
     let mut status = 0;
     // a script ends at its limit of lines, long before this
     for _ in 0..u64::MAX {
