@@ -31,6 +31,8 @@ mod outputs;
 #[cfg(test)]
 mod partial_links;
 #[cfg(test)]
+mod pieces;
+#[cfg(test)]
 mod refused_memory;
 #[cfg(test)]
 mod runs;
