@@ -13,7 +13,7 @@ use Rattle.link_out.specs.Layouts.{data_base, magic_of}
 use Rattle.link_out.specs.Plans.{plan, commons_laid}
 use Rattle.link_out.specs.Words.{move}
 use Rattle.link_out.specs.Link.{linked_file}
-use Rattle.link_out.specs.Meaning.{data_begins, begins, carried}
+use Rattle.link_out.specs.Relocated.{data_begins, begins, carried}
 
 sum_moved : (b t n : ℕ) → plus b (minus t n) ≡ minus (b + t) n
 sum_moved b t n = omega arith

@@ -20,7 +20,9 @@ use Rattle.link_out.specs.Plans.{Plan, plan, commons_laid, common_offset, common
 use Rattle.link_out.specs.Finals.{Final, final, final_by, type_of, bound_at, waiting, undefined_name}
 use Rattle.link_out.specs.Tables.{external_row}
 use Rattle.link_out.specs.Link.{Outcome, linked_file, link}
-use Rattle.link_out.specs.Meaning.{data_begins, entry_of, IsCommon, HasRoom}
+use Rattle.link_out.specs.Meaning.{IsCommon, HasRoom}
+use Rattle.link_out.specs.Relocated.{data_begins, entry_of}
+use Rattle.link_out.proofs.HasStateLemmas.{state_is}
 use Rattle.link_out.proofs.OutcomeLemmas.{made_file, made_fits}
 use Rattle.link_out.proofs.ExternalLemmas.{entry_there}
 use Rattle.link_out.proofs.CarriedLemmas.{data_begun, rest_back}
@@ -103,19 +105,19 @@ module _ (forced : List (List ℕ)) (os : List Contents) (o : Choices) (others :
       by_test : (t : Bool) → is_among (names_of ms) name ≡ t → is_among (names_by_first_mention ms) name ≡ true
       by_test true h = is_among-externals ms name ∙ h
       by_test false h =
-          absurd (let same : Wanted size ≡ Wanted 0 = sym c.wanted ∙ unmentioned ms name h in
+          absurd (let same : Wanted size ≡ Wanted 0 = sym (state_is ms name (Wanted size) c.wanted) ∙ unmentioned ms name h in
           let zero : size ≡ 0 = cc in
           let bad : true ≡ false = sym (ap (λ (n : ℕ). eqb n 0) zero) ∙ c.sized in cc)
 
   common_final : (name : List ℕ) (size : ℕ) → IsCommon forced os name size → final p name ≡ bound_at BssSeg (plus p.at.data_end (common_offset ms name))
   common_final name size c =
-      ap (λ (s : State). final_by p name s) c.wanted
+      ap (λ (s : State). final_by p name s) (state_is ms name (Wanted size) c.wanted)
       ∙ (λ i. let f : Final = cond (c.sized i) (cond o.relocatable (waiting 0) (undefined_name p.at name)) (cond (lays i) (bound_at BssSeg (plus p.at.data_end (common_offset ms name))) (waiting size)) in f)
 
   common_fits : (name : List ℕ) (size : ℕ) → IsCommon forced os name size → common_offset ms name + size ≤ commons_laid o ms
   common_fits name size c =
       let inside = within ms (names_by_first_mention ms) name (common_known name size c) in
-      let own : common_size (state ms name) ≡ size + size % 2 = ap common_size c.wanted in
+      let own : common_size (state ms name) ≡ size + size % 2 = ap common_size (state_is ms name (Wanted size) c.wanted) in
       let laid : commons_laid o ms ≡ commons_total ms = ap (λ (t : Bool). cond t (commons_total ms) 0) lays in
       sums (common_offset ms name) (common_size (state ms name)) size (commons_total ms) (commons_laid o ms) inside own laid
     where
@@ -156,7 +158,7 @@ module _ (forced : List (List ℕ)) (os : List Contents) (o : Choices) (others :
       ((external_row p a).value + size ≤ (external_row p b).value) ⊎ ((external_row p b).value + more ≤ (external_row p a).value)
   rooms_apart fits a b size more c d different =
       lie (external_row p a).value (external_row p b).value p.at.data_end (common_offset ms a) (common_offset ms b) (common_size (state ms a)) (common_size (state ms b))
-      (common_row fits a size c) (common_row fits b more d) (ap common_size c.wanted) (ap common_size d.wanted)
+      (common_row fits a size c) (common_row fits b more d) (ap common_size (state_is ms a (Wanted size) c.wanted)) (ap common_size (state_is ms b (Wanted more) d.wanted))
       (apart ms (names_by_first_mention ms) a b (common_known a size c) (common_known b more d) different)
     where
       lie : (v w e x y s t : ℕ) → v ≡ e + x → w ≡ e + y → s ≡ size + size % 2 → t ≡ more + more % 2 → (x + s ≤ y) ⊎ (y + t ≤ x) → (v + size ≤ w) ⊎ (w + more ≤ v)

@@ -21,7 +21,8 @@ use Rattle.link_out.specs.Finals.{Final, final, final_by, type_of, bound_at}
 use Rattle.link_out.specs.Tables.{external_row}
 use Rattle.link_out.specs.Reports.{Findings}
 use Rattle.link_out.specs.Link.{Outcome, linked_file, link}
-use Rattle.link_out.specs.Meaning.{carried, external_type, IsDefined}
+use Rattle.link_out.specs.Meaning.{IsDefined}
+use Rattle.link_out.specs.Relocated.{carried, external_type}
 use Rattle.link_out.proofs.SaidLemmas.{of_entry}
 use Rattle.link_out.proofs.OutcomeLemmas.{made_file, made_report}
 use Rattle.link_out.proofs.CarriedLemmas.{move_carried}

@@ -16,7 +16,7 @@ use Rattle.link_out.specs.Finals.{final, final_by, type_of, bound_at, waiting, u
 use Rattle.link_out.specs.Tables.{external_row, table}
 use Rattle.link_out.specs.Reports.{entry_word, entry_found_bad}
 use Rattle.link_out.specs.Link.{Outcome, link}
-use Rattle.link_out.specs.Meaning.{entry_of, IsEntry}
+use Rattle.link_out.specs.Relocated.{entry_of, IsEntry}
 use Rattle.link_out.proofs.OutcomeLemmas.{made}
 use Rattle.link_out.proofs.ExternalLemmas.{entry_in_table}
 

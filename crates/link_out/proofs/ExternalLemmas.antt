@@ -18,7 +18,7 @@ use Rattle.link_out.specs.Plans.{Plan, plan, common_offset}
 use Rattle.link_out.specs.Finals.{Final, final, final_by, type_of, bound_at, waiting, undefined_name, etext, edata, end_name}
 use Rattle.link_out.specs.Tables.{local_rows, external_row, external_rows, table}
 use Rattle.link_out.specs.Link.{Outcome, link}
-use Rattle.link_out.specs.Meaning.{entry_of, address_in}
+use Rattle.link_out.specs.Relocated.{entry_of, address_in}
 use Rattle.link_out.proofs.RowLemmas.{rows_kept-others}
 use Rattle.link_out.proofs.PartialLemmas.{IsProper, state_is_proper, local_rows_inner, external_row_outer, externals_in_table}
 use Rattle.link_out.proofs.OutcomeLemmas.{made_file}

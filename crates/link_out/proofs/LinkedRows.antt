@@ -16,7 +16,7 @@ use Rattle.link_out.specs.Finals.{final, bound_at, waiting, undefined_name, etex
 use Rattle.link_out.specs.Tables.{external_row}
 use Rattle.link_out.specs.InOrder.{final_at, finals_from, room_in}
 use Rattle.link_out.specs.Rows as rows
-use Rattle.link_out.specs.Meaning.{data_begins}
+use Rattle.link_out.specs.Relocated.{data_begins}
 use Rattle.link_out.specs.LinkedFrom.{undefined_row, row_for, room_for, AreRows}
 use Rattle.link_out.proofs.PartialLemmas.{IsProper}
 use Rattle.link_out.proofs.InOrderLemmas.{named_by}

@@ -22,8 +22,9 @@ use Rattle.link_out.specs.Reports.{findings, reserved_names, undefined_names, en
 use Rattle.link_out.specs.InOrder.{finals_from, room_in}
 use Rattle.link_out.specs.Rows as rows
 use Rattle.link_out.specs.Link.{Outcome, linked_header, linked_file, link}
-use Rattle.link_out.specs.Meaning.{data_begins, begins, IsEntry}
-use Rattle.link_out.specs.LinkedFrom.{AreRows, carried_locals, AreRelocated, AreKept, ArePicked, IsWanted, IsReported, IsLinkedFrom}
+use Rattle.link_out.specs.Relocated.{data_begins, begins, IsEntry}
+use Rattle.link_out.specs.LinkedFrom.{AreRows, carried_locals, AreRelocated, AreKept, ArePicked, IsReported, IsLinkedFrom}
+use Rattle.link_out.specs.NameStates.{IsWanted}
 use Rattle.link_out.proofs.PartialLemmas.{IsProper, state_is_proper}
 use Rattle.link_out.proofs.OutcomeLemmas.{IsMade, made, is_made}
 use Rattle.link_out.proofs.CarriedLemmas.{data_begun, rest_back}

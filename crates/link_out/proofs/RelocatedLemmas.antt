@@ -25,7 +25,7 @@ use Rattle.link_out.specs.Finals.{final}
 use Rattle.link_out.specs.Words.{referent_move, final_word, final_words}
 use Rattle.link_out.specs.Tables.{external_row, table}
 use Rattle.link_out.specs.Link.{Outcome, linked_file, link, linked_header}
-use Rattle.link_out.specs.Meaning.{carried, IsAddressOf, IsAdded, segment_words, segment_relocs, IsRelocated, HoldsObjects, entry_of, address_in}
+use Rattle.link_out.specs.Relocated.{carried, IsAddressOf, IsAdded, segment_words, segment_relocs, IsRelocated, HoldsObjects, entry_of, address_in}
 use Rattle.link_out.proofs.OutcomeLemmas.{made_file}
 use Rattle.link_out.proofs.CarriedLemmas.{move_carried}
 use Rattle.link_out.proofs.ExternalLemmas.{entry_there, row_address}

@@ -19,7 +19,7 @@ use Rattle.link_out.specs.Finals.{Final, final, final_by, type_of, bound_at, wai
 use Rattle.link_out.specs.Tables.{external_row}
 use Rattle.link_out.specs.Reports.{Findings, is_undefined, undefined_names, reserved_names}
 use Rattle.link_out.specs.Link.{Outcome, link}
-use Rattle.link_out.specs.Meaning.{entry_of}
+use Rattle.link_out.specs.Relocated.{entry_of}
 use Rattle.link_out.proofs.PartialLemmas.{IsProper, state_is_proper}
 use Rattle.link_out.proofs.OutcomeLemmas.{made_file, made_report}
 use Rattle.link_out.proofs.ExternalLemmas.{entry_in_table, entry_there}

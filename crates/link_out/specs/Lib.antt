@@ -1,5 +1,10 @@
 -- The definitions that the contracts of this crate are written in.
 pub mod Choices
+pub mod ReservedNames
+pub mod KeptSymbols
+pub mod Results
+pub mod NameStates
+pub mod Relocated
 pub mod Layouts
 pub mod Plans
 pub mod Finals

@@ -19,34 +19,12 @@ use Rattle.link_session.specs.Sessions.{IsObject}
 use Rattle.link_session.specs.Mentions.{Mention, mentions, externals, is_among, place_of}
 use Rattle.link_out.specs.Choices.{Choices, lays_commons}
 use Rattle.link_out.specs.Layouts.{magic_of}
-use Rattle.link_out.specs.Finals.{etext, edata, end_name}
-use Rattle.link_out.specs.Tables.{is_kept_local, rows_kept}
-use Rattle.link_out.specs.Reports.{reserved_names}
-use Rattle.link_out.specs.Link.{Outcome, link}
-use Rattle.link_out.specs.Meaning.{data_begins, begins, carried, entry_of, external_type, segment_words, segment_relocs, IsRelocated, HoldsObjects, IsEntry}
-
--- a mention that does not define this name
-abbrev pub LeavesOpen : List ℕ → Mention → Type 0
-LeavesOpen name m = name ≡ m.name → (segment : Segment) (offset : ℕ) → m.says ≢ Defined segment offset
-
--- the first mention that defines it says so
-abbrev pub IsFirst : List Mention → List ℕ → Segment → ℕ → Type 0
-IsFirst [] name segment offset = ⊥
-IsFirst (m ∷ ms) name segment offset = ((name ≡ m.name) × (m.says ≡ Defined segment offset)) ⊎ (LeavesOpen name m × IsFirst ms name segment offset)
-
-abbrev pub WantsAtMost : List ℕ → ℕ → Mention → Type 0
-WantsAtMost name most m = name ≡ m.name → (size : ℕ) → m.says ≡ Wanted size → size ≤ most
-
--- no mention defines it, and this is the largest size that one wants, 0 without any
-pub record IsWanted (ms : List Mention) (name : List ℕ) (size : ℕ) : Type 0 where
-  pub undefined : AllByRecursion (LeavesOpen name) ms
-  pub most : AllByRecursion (WantsAtMost name size) ms
-  pub least : (n : ℕ) → AllByRecursion (WantsAtMost name n) ms → size ≤ n
-
--- what the mentions make of a name
-abbrev pub HasState : List Mention → List ℕ → State → Type 0
-HasState ms name (Defined segment offset) = IsFirst ms name segment offset
-HasState ms name (Wanted size) = IsWanted ms name size
+use Rattle.link_out.specs.NameStates.{HasState, IsFirst, IsWanted}
+use Rattle.link_out.specs.KeptSymbols.{is_kept_local, rows_kept}
+use Rattle.link_out.specs.ReservedNames.{etext, edata, end_name, reserved_names}
+use Rattle.link_out.specs.Results.{Outcome}
+use Rattle.link_out.specs.Link.{link}
+use Rattle.link_out.specs.Relocated.{data_begins, begins, carried, entry_of, external_type, segment_words, segment_relocs, IsRelocated, HoldsObjects, IsEntry}
 
 abbrev pub shown : List ℕ → ℕ → ℕ → Symbol
 shown name type_bits value = record { name = name; type_bits = type_bits; value = value }

@@ -1,0 +1,14 @@
+-- What a link gives: a file, and what is reported of it.
+use Rattle.std.specs.Prelude.{ℕ, List, Option}
+use Rattle.aout_core.specs.Contents.{Contents}
+
+-- names that are multiply defined, reserved names that are defined, an entry point that is not in text, undefined names
+pub record Findings : Type 0 where
+  pub multiples : List (List ℕ)
+  pub reserved : List (List ℕ)
+  pub entry_bad : Option (List ℕ)
+  pub undefined : List (List ℕ)
+
+pub record Outcome : Type 0 where
+  pub file : Contents
+  pub report : Findings
