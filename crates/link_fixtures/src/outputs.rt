@@ -1,0 +1,44 @@
+//! What a link writes.
+use aout_core::Wire;
+use aout_core::samples::TestWriter;
+use fixtures::written;
+use link_out::Linked;
+use std::alloc::{AllocError, Global};
+use std::test::Fail;
+
+/// What a link writes, and its status.
+#[derive(Debug, Drop, PartialEq)]
+pub struct Output {
+    pub file: Vec<u8>,
+    pub report: Vec<u8>,
+    pub status: u8,
+}
+
+/// A file with nothing to report.
+pub fn silent(alloc: Global, file: Vec<u8>) -> Output {
+    Output {
+        file,
+        report: Vec::new(alloc),
+        status: 0,
+    }
+}
+
+/// A file with this report.
+pub fn reported(alloc: Global, file: Vec<u8>, report: &str) -> Result<Output, AllocError> {
+    Ok(Output {
+        file,
+        report: Vec::from_slice(alloc, report.as_bytes())?,
+        status: 1,
+    })
+}
+
+/// What is written of a link.
+pub fn output_of(alloc: Global, linked: &Linked) -> Result<Output, Fail> {
+    let mut report = Wire::new(TestWriter::whole(Vec::new(alloc)));
+    linked.report.write(&mut report)?;
+    Ok(Output {
+        file: written(alloc, &linked.file)?,
+        report: report.into_inner().into_taken(),
+        status: linked.report.status(),
+    })
+}

@@ -1,0 +1,5 @@
+//! Tests of links and commands that are refused memory.
+#![tactic(auto)]
+
+#[cfg(test)]
+mod refused_memory;

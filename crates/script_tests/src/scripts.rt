@@ -1,0 +1,202 @@
+//! The lines of scripts.
+ghost use Rattle.std.specs.Prelude.{◌<◌};
+
+use aout_core::Wire;
+use aout_core::samples::TestReader;
+use fixtures::SCRIPT;
+use std::alloc::Global;
+use std::io::{ErrorKind, Read};
+use std::test::Fail;
+use v7tools::{CliFault, Line, Script};
+
+/// What the lines of the script ask for.
+const ASKED: [(&str, &str); 9] = [
+    ("add", "c.o"),
+    ("add", "d.o"),
+    ("externals", ""),
+    ("withdraw", ""),
+    ("undefined", ""),
+    ("link", "out"),
+    ("withdraw", ""),
+    ("withdraw", ""),
+    ("bad", ""),
+];
+
+/// What an answer says: the command and its path, the end, or the fault.
+fn told(answer: &Result<Option<Line>, CliFault>) -> (&str, &str) {
+    match answer {
+        Ok(Some(Line::Add(path))) => ("add", path.as_str()),
+        Ok(Some(Line::Withdraw)) => ("withdraw", ""),
+        Ok(Some(Line::Externals)) => ("externals", ""),
+        Ok(Some(Line::Undefined)) => ("undefined", ""),
+        Ok(Some(Line::Link(path))) => ("link", path.as_str()),
+        Ok(Some(Line::Bad)) => ("bad", ""),
+        Ok(None) => ("end", ""),
+        Err(CliFault::Memory) => ("no memory", ""),
+        Err(CliFault::LongLine) => ("line too long", ""),
+        Err(CliFault::ManyLines) => ("too many lines", ""),
+        Err(CliFault::ScriptFailed) => ("script read error", ""),
+        Err(_) => ("another fault", ""),
+    }
+}
+
+/// A script of these bytes, of which its reader gives at most `most` a call.
+fn script(alloc: Global, bytes: &[u8], most: usize) -> Result<Script<TestReader<'_>>, Fail>
+    requires { 0 < most }
+{
+    let reader = TestReader::new(bytes, most, usize::MAX, ErrorKind::Other);
+    match Script::new(alloc, Wire::new(reader)) {
+        Ok(script) => Ok(script),
+        Err(_) => Err(Fail::from("no room for a line")),
+    }
+}
+
+/// A line `add` with a path of so many bytes.
+fn long_line(alloc: Global, path_length: usize) -> Result<Vec<u8>, Fail> {
+    let mut line = b"add ".to_vec(alloc)?;
+    line.resize(path_length.saturating_add(4), b'x')?;
+    Ok(line)
+}
+
+#[test]
+fn session_bad_commands_as_lines(rt: HostRuntime) -> Result<(), Fail> {
+    let mut script = script(rt.alloc(), b"withdraw \nadd \nlink\n\nadd \xff\n", 512)?;
+    for _ in 0..5 {
+        assert_eq!(rt; told(&script.next_line()), ("bad", ""));
+    }
+    assert_eq!(rt; told(&script.next_line()), ("end", ""));
+    Ok(())
+}
+
+#[test]
+fn session_last_line_alone(rt: HostRuntime) -> Result<(), Fail> {
+    let mut script = script(rt.alloc(), b"add a.o", 512)?;
+    assert_eq!(rt; told(&script.next_line()), ("add", "a.o"));
+    assert_eq!(rt; told(&script.next_line()), ("end", ""));
+    assert_eq!(rt; told(&script.next_line()), ("end", ""));
+    Ok(())
+}
+
+/// How long the path is that a script of one line asks to add, in pieces of `most` bytes.
+fn added_length(alloc: Global, line: &[u8], most: usize) -> Result<usize, Fail>
+    requires { 0 < most }
+{
+    let mut script = script(alloc, line, most)?;
+    let Ok(Some(Line::Add(path))) = script.next_line() else {
+        return Err(Fail::from("no line to add"));
+    };
+    match script.next_line() {
+        Ok(None) => Ok(path.len()),
+        _ => Err(Fail::from("no end behind the line")),
+    }
+}
+
+#[test]
+fn session_longest_line(rt: HostRuntime) -> Result<(), Fail> {
+    let alloc = rt.alloc();
+    let mut line = long_line(alloc, 4092)?;
+    assert_eq!(rt; added_length(alloc, &line, 1)?, 4092);
+    assert_eq!(rt; added_length(alloc, &line, 512)?, 4092);
+    line.push(b'\n')?;
+    assert_eq!(rt; added_length(alloc, &line, 1)?, 4092);
+    assert_eq!(rt; added_length(alloc, &line, 5)?, 4092);
+    assert_eq!(rt; added_length(alloc, &line, 512)?, 4092);
+    Ok(())
+}
+
+#[test]
+fn script_with_a_longer_line(rt: HostRuntime) -> Result<(), Fail> {
+    let alloc = rt.alloc();
+    let mut line = long_line(alloc, 4093)?;
+    line.extend_from_slice(b"\nwithdraw\n")?;
+    let mut script = script(alloc, &line, 512)?;
+    assert_eq!(rt; told(&script.next_line()), ("line too long", ""));
+    assert_eq!(rt; told(&script.next_line()), ("line too long", ""));
+    Ok(())
+}
+
+/// Reads 1,000,000 lines that ask for nothing, and answers the script behind them.
+fn behind_most_lines(mut script: Script<TestReader<'_>>) -> Result<Script<TestReader<'_>>, Fail> {
+    for _ in 0..1_000_000 {
+        let Ok(Some(Line::Bad)) = script.next_line() else {
+            return Err(Fail::from("a line is not bad"));
+        };
+    }
+    Ok(script)
+}
+
+#[test]
+fn session_most_lines(rt: HostRuntime) -> Result<(), Fail> {
+    let lines = vec![in rt.alloc(); b'\n'; 1_000_000]?;
+    let mut script = behind_most_lines(script(rt.alloc(), &lines, 512)?)?;
+    assert_eq!(rt; told(&script.next_line()), ("end", ""));
+    assert_eq!(rt; told(&script.next_line()), ("end", ""));
+    Ok(())
+}
+
+#[test]
+fn script_with_one_line_more(rt: HostRuntime) -> Result<(), Fail> {
+    let mut lines = vec![in rt.alloc(); b'\n'; 1_000_000]?;
+    lines.push(b'x')?;
+    let mut script = behind_most_lines(script(rt.alloc(), &lines, 512)?)?;
+    assert_eq!(rt; told(&script.next_line()), ("too many lines", ""));
+    assert_eq!(rt; told(&script.next_line()), ("too many lines", ""));
+    Ok(())
+}
+
+/// Whether a script in pieces of `most` bytes gives its lines, and then its end.
+fn gives_its_lines(alloc: Global, most: usize) -> Result<bool, Fail>
+    requires { 0 < most }
+{
+    let mut script = script(alloc, SCRIPT.as_bytes(), most)?;
+    for asked in ASKED {
+        if told(&script.next_line()) != asked {
+            return Ok(false);
+        }
+    }
+    Ok(told(&script.next_line()) == ("end", ""))
+}
+
+#[test]
+fn script_pieces(rt: HostRuntime) -> Result<(), Fail> {
+    assert!(rt; gives_its_lines(rt.alloc(), 1)?);
+    assert!(rt; gives_its_lines(rt.alloc(), 5)?);
+    assert!(rt; gives_its_lines(rt.alloc(), 512)?);
+    Ok(())
+}
+
+#[test]
+fn script_device_fails(rt: HostRuntime) -> Result<(), Fail> {
+    let reader = TestReader::new(b"withdraw\nadd a.o\n", 512, 11, ErrorKind::Other);
+    let Ok(mut script) = Script::new(rt.alloc(), Wire::new(reader)) else {
+        return Err(Fail::from("no room for a line"));
+    };
+    assert_eq!(rt; told(&script.next_line()), ("withdraw", ""));
+    assert_eq!(rt; told(&script.next_line()), ("script read error", ""));
+    assert_eq!(rt; told(&script.next_line()), ("script read error", ""));
+    Ok(())
+}
+
+#[test]
+fn memory_refused_script(rt: HostRuntime) {
+    let reader = TestReader::whole(SCRIPT.as_bytes());
+    let mut script = match Script::new(rt.alloc(), Wire::new(reader)) {
+        Ok(script) => script,
+        Err(fault) => {
+            let _ = rt.eprint("refused\n");
+            assert_eq!(rt; told(&Err(fault)), ("no memory", ""));
+            return;
+        }
+    };
+    for asked in ASKED {
+        let answer = script.next_line();
+        if let Err(_) = &answer {
+            let _ = rt.eprint("refused\n");
+            assert_eq!(rt; told(&answer), ("no memory", ""));
+            assert_eq!(rt; told(&script.next_line()), ("no memory", ""));
+            return;
+        }
+        assert_eq!(rt; told(&answer), asked);
+    }
+    assert_eq!(rt; told(&script.next_line()), ("end", ""));
+}

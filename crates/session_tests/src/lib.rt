@@ -1,0 +1,7 @@
+//! Tests of sessions: objects added, refused and taken out again.
+#![tactic(auto)]
+
+#[cfg(test)]
+mod merged_image;
+#[cfg(test)]
+mod withdrawals;
