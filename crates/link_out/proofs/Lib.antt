@@ -30,6 +30,7 @@ pub mod LinkedRows
 pub mod LinkedRelocs
 pub mod LinkedReports
 pub mod LinkedTheorem
+pub mod RefusalLemmas
 pub mod EntryPointLemmas
 pub mod ReportLemmas
 pub mod InOrderLemmas

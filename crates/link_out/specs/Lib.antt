@@ -22,6 +22,7 @@ pub mod Laws
 pub mod Meaning
 pub mod Beyond
 pub mod LinkedFrom
+pub mod Refusals
 pub mod InOrder
 pub mod Entries
 pub mod Passes

@@ -2,6 +2,7 @@
 ghost use Rattle.link_out.specs.Laws.{StripLaw, StripsOnce, PartialIsObject, PartialStandsAlone, PartialStandsAmong};
 ghost use Rattle.link_out.specs.Meaning.{WordsAreRelocated, ObjectsFill, DefinitionsHold, MultiplesDiffer, NamesHaveAddresses, EntriesStandOnce, CommonsHaveRoom, CommonsLieApart, EntryIsFound, MissingHaveNoAddress, PartialMayBeAdded};
 ghost use Rattle.link_out.specs.LinkedFrom.{LinkedExactly, LinkedOnce};
+ghost use Rattle.link_out.specs.Refusals.{RefusedExactly};
 ghost use Rattle.link_out.specs.Beyond.{PartialStandsFor, PartialStandsAlways, PartialStandsAmongOthers, PartialAgain, GroupingChangesNothing, PartialIsAccepted};
 
 /// Stripping and linking go together: wherever a link without relocation gives a file, that file stripped is what the
@@ -74,7 +75,10 @@ pub fn beyond_law()
 ///
 /// - `exactly`: a link of objects is answered with a file and a report exactly where these are linked from them.
 /// - `once`: no two files or reports are linked from the same objects, forced names and options.
+/// - `refused`: a link of objects is refused exactly where its end, its entries or a word's number are too large, with
+///   the first of these, told by the objects, the forced names and the options alone.
 pub fn linking_law()
     ensures exactly { LinkedExactly }
     ensures once { LinkedOnce }
+    ensures refused { RefusedExactly }
 {}

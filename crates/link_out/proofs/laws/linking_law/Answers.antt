@@ -1,4 +1,5 @@
 use Rattle.link_out.proofs.LinkedTheorem.{linked_exactly, linked_once}
+use Rattle.link_out.proofs.RefusalLemmas.{refused_exactly}
 use Rattle.link_out.proofs.laws.linking_law.Goals as goal
 
 pub returns-clause-exactly : goal.returns-clause-exactly
@@ -6,3 +7,6 @@ returns-clause-exactly c = linked_exactly
 
 pub returns-clause-once : goal.returns-clause-once
 returns-clause-once c = linked_once
+
+pub returns-clause-refused : goal.returns-clause-refused
+returns-clause-refused c = refused_exactly
