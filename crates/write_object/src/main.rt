@@ -1,7 +1,11 @@
 //! Writes the object of examples/main.s to standard output, to show how an assembler makes one of its parts.
 #![tactic(auto)]
 
-use anyhow::{Result, anyhow};
+ghost use Rattle.std.specs.Prelude.{IfOk};
+ghost use Rattle.aout_core.specs.Contents.{Fits};
+ghost use Rattle.aout_core.specs.Parts.{contents_of};
+
+use anyhow::Result;
 use aout_core::{File, Header, Name, Parts, Reloc, Symbol, Wire, write_file};
 use std::alloc::{AllocError, Global};
 use std::io;
@@ -33,8 +37,10 @@ fn entry(name: &[u8], type_bits: u16, value: u16) -> Symbol {
     }
 }
 
-/// The parts of the file, in their order.
-fn parts(alloc: Global) -> Result<Parts, AllocError> {
+/// The parts of the file, in their order. That they fit the header is proved here, and `File::from_parts` asks for it.
+fn parts(alloc: Global) -> Result<Parts, AllocError>
+    ensures { IfOk result (λ parts. Fits (contents_of parts)) }
+{
     let symbols = [
         entry(b"_main", 0o42, 0),
         entry(b"_twice", 0o40, 0),
@@ -51,11 +57,8 @@ fn parts(alloc: Global) -> Result<Parts, AllocError> {
 }
 
 fn main(rt: HostRuntime) -> Result<()> {
-    let parts = parts(rt.alloc())?;
-    if !parts.fits() {
-        return Err(anyhow!("the parts do not make a file"));
-    }
+    let file = File::from_parts(parts(rt.alloc())?);
     let mut out = Wire::new(io::writer(&rt));
-    write_file(&File::from_parts(parts), &mut out)?;
+    write_file(&file, &mut out)?;
     Ok(out.flush()?)
 }
