@@ -59,6 +59,7 @@ check-examples: build/v7 build/lesson
 	cmp crates/write_object/stdout examples/main.o
 	cmp crates/lesson/data/k.o examples/k.o
 	cmp crates/lesson/data/l.o examples/l.o
+	sh tests/heads.sh
 	sh tests/manual.sh
 
 # the program, and its manual pages

@@ -2,6 +2,21 @@
 //! objects that a linker may take.
 //!
 //! Words have 16 bits and stand low byte first. The format is that of a.out(5); docs/FORMAT.md tells it whole.
+//!
+//! An example, which `library_uses` runs:
+//!
+//! ```
+//! /// Copies a file without its symbols and its relocation.
+//! fn strip_copy<R: Read, W: Write>(
+//!     alloc: Global,
+//!     from: &mut Wire<R>,
+//!     to: &mut Wire<W>,
+//! ) -> Result<()> {
+//!     let file = read_file(alloc, from)?;
+//!     write_file(&strip_file(file), to)?;
+//!     Ok(to.flush()?)
+//! }
+//! ```
 #![tactic(auto)]
 
 mod block;

@@ -1,5 +1,19 @@
 //! The link of a session's objects: layout, final words, symbols and report; and runs of edits that end with a link.
 //! docs/LINK.md tells the rules whole.
+//!
+//! An example, which `library_uses` runs:
+//!
+//! ```
+//! /// The program that the objects of a session make.
+//! fn program_of(alloc: Global, session: &Session) -> Result<File> {
+//!     let options = Options::new(Layout::Plain, false, Keep::All, None)?;
+//!     let linked = finish(alloc, session, &options)?;
+//!     match linked.report.status() {
+//!         0 => Ok(linked.file),
+//!         _ => Err(anyhow!("there is something to report")),
+//!     }
+//! }
+//! ```
 #![tactic(auto)]
 
 mod edit;

@@ -2,6 +2,21 @@
 //!
 //! The image is bound in place while objects are added, and the object added last can be taken out again: the image is
 //! then what it was before.
+//!
+//! An example, which `library_uses` runs:
+//!
+//! ```
+//! /// How many names an object would bring; the session is then as it was before.
+//! fn new_names(session: &mut Session, label: String, object: Object) -> Result<u16> {
+//!     let before = session.external_count();
+//!     if let Err(refused) = session.add(label, object) {
+//!         return Err(anyhow!("{}: {}", refused.label, refused.cause));
+//!     }
+//!     let behind = session.external_count();
+//!     session.withdraw();
+//!     Ok(behind.saturating_sub(before))
+//! }
+//! ```
 #![tactic(auto)]
 
 mod bind;

@@ -2,6 +2,26 @@
 //!
 //! Both work on files of all four magics, linked or not. Lines go out through a `Wire`; on a fault a front of them
 //! went out.
+//!
+//! An example, which `library_uses` runs:
+//!
+//! ```
+//! /// Writes the externals of a file, and its sizes.
+//! fn list<W: Write>(
+//!     alloc: Global,
+//!     path: String,
+//!     file: File,
+//!     out: &mut Wire<W>,
+//! ) -> Result<()> {
+//!     let options = NmOptions {
+//!         external: true,
+//!         ..NmOptions::default()
+//!     };
+//!     let files = vec![in alloc; (path, file)]?;
+//!     nm(alloc, &files, options, out)?;
+//!     Ok(size(&files, out)?)
+//! }
+//! ```
 #![tactic(auto)]
 
 mod buffer;

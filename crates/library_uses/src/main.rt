@@ -1,0 +1,60 @@
+//! Small uses of the libraries: the examples that stand at the heads of their crates, and a run of all of them.
+#![tactic(auto)]
+
+mod heads;
+
+use anyhow::{Result, anyhow};
+use aout_core::{Object, Wire, read_file};
+use heads::{list, new_names, program_of, strip_copy};
+use link_session::Session;
+use std::alloc::{AllocError, Global};
+use std::{env, fs, io};
+
+fn object_at(rt: &HostRuntime, path: &str) -> Result<Object> {
+    let file = read_file(rt.alloc(), &mut Wire::new(fs::open(rt, path)?))?;
+    Object::from_file(file).map_err(|(_, fault)| anyhow!("{path}: {fault}"))
+}
+
+fn paths(rt: &HostRuntime) -> Result<Vec<String>> {
+    let mut paths = Vec::new(rt.alloc());
+    for path in env::args(rt)?.skip(1) {
+        paths.push(path)?;
+    }
+    Ok(paths)
+}
+
+/// Adds the object at a path, and prints how many names it brings.
+fn add(rt: &HostRuntime, session: &mut Session, path: &str) -> Result<()> {
+    let label = String::from_str(rt.alloc(), path)?;
+    let count = new_names(session, label, object_at(rt, path)?)?;
+    println!(rt; "{path} brings {count} names")?;
+    let label = String::from_str(rt.alloc(), path)?;
+    session
+        .add(label, object_at(rt, path)?)
+        .map_err(|refused| anyhow!("{path}: {}", refused.cause))
+}
+
+/// Strips the file at a path in memory, and prints how long it then is.
+fn strip(rt: &HostRuntime, path: &str) -> Result<()> {
+    let mut copy = Wire::new(Vec::new(rt.alloc()));
+    strip_copy(rt.alloc(), &mut Wire::new(fs::open(rt, path)?), &mut copy)?;
+    let bytes = copy.into_inner();
+    println!(rt; "{path} stripped has {} bytes", bytes.len())?;
+    Ok(())
+}
+
+fn program_name(alloc: Global) -> Result<String, AllocError> {
+    String::from_str(alloc, "program")
+}
+
+fn main(rt: HostRuntime) -> Result<()> {
+    let mut session = Session::new(rt.alloc());
+    for path in paths(&rt)? {
+        add(&rt, &mut session, path.as_str())?;
+        strip(&rt, path.as_str())?;
+    }
+    let program = program_of(rt.alloc(), &session)?;
+    let mut out = Wire::new(io::writer(&rt));
+    list(rt.alloc(), program_name(rt.alloc())?, program, &mut out)?;
+    Ok(out.flush()?)
+}
