@@ -25,8 +25,7 @@ demo: build/v7
 test:
 	rt ci
 
-# the tests with memory_refused or no_memory_needed in their names, with the first, the second, .. request for memory
-# refused
+# the calls of crates/memory, with the first, the second, .. request for memory refused
 memory:
 	sh tests/memory.sh
 

@@ -75,17 +75,17 @@ fn examples_linked(rt: HostRuntime) -> Result<(), Fail> {
     let order = "000000 T _main\n000012 T _twice\n000016 D _count\n";
     assert_runs(&rt, "nm -p program", "", (0, order, ""))?;
     assert_runs(&rt, "ld -o whole main.o twice.o count.o", "", (0, "", ""))?;
-    assert_eq!(rt; fs::read(&rt, "program")?, fs::read(&rt, "whole")?);
+    assert!(rt; fs::read(&rt, "program")? == fs::read(&rt, "whole")?);
     assert_runs(&rt, "strip program", "", (0, "", ""))?;
     assert_runs(&rt, "size program", "", (0, "14+2+0 = 16b = 020b\n", ""))?;
-    assert_eq!(rt; fs::read(&rt, "program")?.as_slice(), STRIPPED.as_slice());
+    assert!(rt; fs::read(&rt, "program")?.as_slice() == STRIPPED.as_slice());
     assert_runs(
         &rt,
         "ld -s -o program main.o twice.o count.o",
         "",
         (0, "", ""),
     )?;
-    assert_eq!(rt; fs::read(&rt, "program")?.as_slice(), STRIPPED.as_slice());
+    assert!(rt; fs::read(&rt, "program")?.as_slice() == STRIPPED.as_slice());
     Ok(())
 }
 
@@ -94,6 +94,6 @@ fn examples_in_a_session(rt: HostRuntime) -> Result<(), Fail> {
     enter_examples(&rt, "examples_in_a_session")?;
     assert_runs(&rt, "session", SCRIPT, (1, ANSWERS, ""))?;
     assert_runs(&rt, "strip session", "", (0, "", ""))?;
-    assert_eq!(rt; fs::read(&rt, "session")?.as_slice(), STRIPPED.as_slice());
+    assert!(rt; fs::read(&rt, "session")?.as_slice() == STRIPPED.as_slice());
     Ok(())
 }

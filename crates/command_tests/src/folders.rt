@@ -55,16 +55,8 @@ pub fn assert_runs<R: Runtime + AllocGlobal + Abort>(
     fs::write(rt, "stderr", "")?;
     let console = Console::new(rt.clone()?, input.as_bytes());
     let status = command(&console, words_of(rt.alloc(), line)?);
-    assert_eq!(rt; status, want.0, "{line}");
-    assert_eq!(rt;
-        fs::read_to_string(rt, "stdout")?.as_str(),
-        want.1,
-        "{line}"
-    );
-    assert_eq!(rt;
-        fs::read_to_string(rt, "stderr")?.as_str(),
-        want.2,
-        "{line}"
-    );
+    let stdout = fs::read_to_string(rt, "stdout")?;
+    let stderr = fs::read_to_string(rt, "stderr")?;
+    assert_eq!(rt; (status, stdout.as_str(), stderr.as_str()), want, "{line}");
     Ok(())
 }

@@ -1,11 +1,11 @@
 //! Links of files, as commands and over memory, and what they write.
 use crate::folders::assert_runs;
-use fixtures::{wires, words_of};
+use fixtures::{Row, file_of, wires, words_of};
 use link_fixtures::{Output, output_of};
+use std::fs;
 use std::process::Abort;
 use std::rt::Runtime;
 use std::test::Fail;
-use std::{fs, str};
 use v7tools::{Call, ld, parse};
 
 /// The bytes of the files at these paths, each with its path.
@@ -43,15 +43,38 @@ fn linked_over_memory<R: Runtime + AllocGlobal>(rt: &R, line: &str) -> Result<Ou
     output_of(alloc, &linked)
 }
 
-/// The link of a line writes this to `out`, as a command and over memory.
+/// A file: its header, its words of text, data and relocation, and its symbol table.
+#[derive(Clone, Copy)]
+pub struct Spelt<'a> {
+    pub header: [u16; 8],
+    pub words: &'a [u16],
+    pub rows: &'a [Row<'a>],
+}
+
+/// The link of a line writes these bytes to `out`, and this report, as a command and over memory.
+pub fn assert_links_bytes<R: Runtime + AllocGlobal + Abort>(
+    rt: &R,
+    line: &str,
+    file: &[u8],
+    report: &str,
+) -> Result<(), Fail> {
+    let status = u8::from(!report.is_empty());
+    assert_runs(rt, line, "", (status, report, ""))?;
+    assert!(rt; fs::read(rt, "out")?.as_slice() == file, "{line}");
+    let output = linked_over_memory(rt, line)?;
+    assert!(rt; output.file.as_slice() == file, "{line}");
+    assert!(rt; output.report.as_slice() == report.as_bytes(), "{line}");
+    assert!(rt; output.status == status, "{line}");
+    Ok(())
+}
+
+/// The link of a line writes this file to `out`, and this report, as a command and over memory.
 pub fn assert_links<R: Runtime + AllocGlobal + Abort>(
     rt: &R,
     line: &str,
-    want: &Output,
+    file: Spelt<'_>,
+    report: &str,
 ) -> Result<(), Fail> {
-    let report = str::from_utf8(&want.report)?;
-    assert_runs(rt, line, "", (want.status, report, ""))?;
-    assert_eq!(rt; fs::read(rt, "out")?, want.file, "{line}");
-    assert_eq!(rt; &linked_over_memory(rt, line)?, want, "{line}");
-    Ok(())
+    let bytes = file_of(rt.alloc(), file.header, file.words, file.rows)?;
+    assert_links_bytes(rt, line, &bytes, report)
 }

@@ -1,6 +1,6 @@
 //! Files read, checked, stripped and written.
 use aout_core::samples::{A_O, B_O, C_O, D_O, G_O, I_O, S_O, TestReader};
-use aout_core::{Object, ObjectFault, ReadFault, Wire, read_file, strip_file, write_file};
+use aout_core::{Object, ObjectFault, ReadFault, Wire, read_file, strip_file};
 use fixtures::{TWO_OBJECTS, replaced, written};
 use std::alloc::Global;
 use std::io::ErrorKind;
@@ -25,7 +25,7 @@ fn object_fault(alloc: Global, bytes: &[u8]) -> Result<Option<ObjectFault>, Read
 /// The bytes of the file that these bytes spell, written again.
 fn rewritten(alloc: Global, bytes: &[u8]) -> Result<Vec<u8>, Fail> {
     let file = read_file(alloc, &mut Wire::new(TestReader::whole(bytes)))?;
-    written(alloc, &file)
+    Ok(written(alloc, &file)?)
 }
 
 #[test]
@@ -207,34 +207,4 @@ fn stripped_of_all_but_segments(rt: HostRuntime) -> Result<(), Fail> {
     assert!(rt; stripped.symbols().is_empty() && stripped.text_reloc().is_empty());
     assert!(rt; stripped.into_parts().fits());
     Ok(())
-}
-
-#[test]
-fn memory_refused_reading(rt: HostRuntime) {
-    let mut wire = Wire::new(TestReader::whole(&C_O));
-    match read_file(rt.alloc(), &mut wire) {
-        Ok(_) => assert_eq!(rt; wire.into_inner().left().len(), 0),
-        Err(fault) => {
-            let _ = rt.eprint("refused\n");
-            assert_eq!(rt; fault, ReadFault::Memory);
-            assert_eq!(rt; wire.into_inner().left().len(), 32);
-        }
-    }
-}
-
-#[test]
-fn no_memory_needed_by_files(rt: HostRuntime) {
-    let Ok(file) = read_file(rt.alloc(), &mut Wire::new(TestReader::whole(&C_O))) else {
-        let _ = rt.eprint("no fixture\n");
-        return;
-    };
-    let Ok(object) = Object::from_file(file) else {
-        assert!(rt; false, "no object");
-        return;
-    };
-    let mut device = [0u8; 64];
-    let mut out = Wire::new(device.as_mut_slice());
-    assert!(rt; write_file(object.file(), &mut out).is_ok());
-    let parts = strip_file(object.into_file()).into_parts();
-    assert!(rt; parts.fits());
 }

@@ -1,4 +1,7 @@
 //! What a link writes.
+ghost use Rattle.std.specs.Prelude.{◌≡◌, [], IfOk};
+ghost use Rattle.aout_core.specs.Spelling.{spelling};
+
 use aout_core::Wire;
 use aout_core::samples::TestWriter;
 use fixtures::written;
@@ -15,7 +18,11 @@ pub struct Output {
 }
 
 /// A file with nothing to report.
-pub fn silent(alloc: Global, file: Vec<u8>) -> Output {
+pub fn silent(alloc: Global, file: Vec<u8>) -> Output
+    ensures file { result.file ≡ file }
+    ensures report { result.report.items ≡ [] }
+    ensures status { result.status ≡ 0 }
+{
     Output {
         file,
         report: Vec::new(alloc),
@@ -24,7 +31,11 @@ pub fn silent(alloc: Global, file: Vec<u8>) -> Output {
 }
 
 /// A file with this report.
-pub fn reported(alloc: Global, file: Vec<u8>, report: &str) -> Result<Output, AllocError> {
+pub fn reported(alloc: Global, file: Vec<u8>, report: &str) -> Result<Output, AllocError>
+    ensures file { IfOk result (λ o. o.file ≡ file) }
+    ensures report { IfOk result (λ o. o.report.items ≡ report.now) }
+    ensures status { IfOk result (λ o. o.status ≡ 1) }
+{
     Ok(Output {
         file,
         report: Vec::from_slice(alloc, report.as_bytes())?,
@@ -33,7 +44,9 @@ pub fn reported(alloc: Global, file: Vec<u8>, report: &str) -> Result<Output, Al
 }
 
 /// What is written of a link.
-pub fn output_of(alloc: Global, linked: &Linked) -> Result<Output, Fail> {
+pub fn output_of(alloc: Global, linked: &Linked) -> Result<Output, Fail>
+    ensures file { IfOk result (λ o. o.file.items ≡ spelling linked.now.file) }
+{
     let mut report = Wire::new(TestWriter::whole(Vec::new(alloc)));
     linked.report.write(&mut report)?;
     Ok(Output {

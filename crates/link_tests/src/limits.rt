@@ -1,5 +1,5 @@
 //! Links at the limits of addresses, names and symbols.
-use crate::outputs::{link, refusal, session_of};
+use crate::outputs::{link, link_behind, refusal, session_of};
 use aout_core::Reloc;
 use fixtures::{add, file_of, forced, names_of, sized};
 use link_fixtures::{laid_out, output_of, plain, relocatable, silent};
@@ -12,24 +12,25 @@ use std::test::Fail;
 fn limits_of_a_session_linked(rt: HostRuntime) -> Result<(), Fail> {
     let alloc = rt.alloc();
     let text = sized(alloc, 65_534, 0, 0, &[])?;
-    let data = sized(alloc, 0, 2, 0, &[])?;
     let words = vec![in alloc; 0; 32_767]?;
-    let file = file_of(
-        alloc,
-        [0o407, 65_534, 0, 0, 12, 0, 0, 1],
-        &words,
-        &[("_end", 0o44, 65_534)],
-    )?;
-    let options = plain(Keep::All);
-    let mut session = Session::with_forced(alloc, &forced("_end"))?;
-    add(&mut session, alloc, "x.o", &text)?;
-    let linked = finish(alloc, &session, &options)?;
-    assert_eq!(rt; output_of(alloc, &linked)?, silent(alloc, file));
+    let header = [0o407, 65_534, 0, 0, 12, 0, 0, 1];
+    let file = file_of(alloc, header, &words, &[("_end", 0o44, 65_534)])?;
+    let output = link_behind(alloc, &forced("_end"), &[&text], &plain(Keep::All))?;
+    assert!(rt; output == silent(alloc, file));
+    Ok(())
+}
+
+#[test]
+fn limits_of_a_session_unlinked(rt: HostRuntime) -> Result<(), Fail> {
+    let alloc = rt.alloc();
+    let text = sized(alloc, 65_534, 0, 0, &[])?;
+    let data = sized(alloc, 0, 2, 0, &[])?;
     let unlinked = refusal(alloc, &[&text], &laid_out(Layout::Pure))?;
-    assert_eq!(rt; unlinked, Some(LinkFault::DoesNotFit));
-    let unlinked = refusal(alloc, &[&text, &data], &options)?;
-    assert_eq!(rt; unlinked, Some(LinkFault::DoesNotFit));
-    assert!(rt; refusal(alloc, &[&text, &data], &laid_out(Layout::Split))?.is_none());
+    assert!(rt; unlinked == Some(LinkFault::DoesNotFit));
+    let unlinked = refusal(alloc, &[&text, &data], &plain(Keep::All))?;
+    assert!(rt; unlinked == Some(LinkFault::DoesNotFit));
+    let unlinked = refusal(alloc, &[&text, &data], &laid_out(Layout::Split))?;
+    assert!(rt; unlinked.is_none());
     Ok(())
 }
 
@@ -37,25 +38,23 @@ fn limits_of_a_session_linked(rt: HostRuntime) -> Result<(), Fail> {
 fn limits_of_a_session_with_commons(rt: HostRuntime) -> Result<(), Fail> {
     let alloc = rt.alloc();
     let longest = sized(alloc, 0, 0, 0, &[("_c", 0o40, 65_534)])?;
-    let file = file_of(
-        alloc,
-        [0o407, 0, 0, 65_534, 12, 0, 0, 1],
-        &[],
-        &[("_c", 0o44, 0)],
-    )?;
+    let header = [0o407, 0, 0, 65_534, 12, 0, 0, 1];
+    let file = file_of(alloc, header, &[], &[("_c", 0o44, 0)])?;
     let output = link(alloc, &[&longest], &plain(Keep::All))?;
-    assert_eq!(rt; output, silent(alloc, file));
+    assert!(rt; output == silent(alloc, file));
+    Ok(())
+}
+
+#[test]
+fn limits_of_a_session_with_longer_commons(rt: HostRuntime) -> Result<(), Fail> {
+    let alloc = rt.alloc();
     let longer = sized(alloc, 0, 0, 0, &[("_c", 0o40, 65_535)])?;
     let unlinked = refusal(alloc, &[&longer], &plain(Keep::All))?;
-    assert_eq!(rt; unlinked, Some(LinkFault::DoesNotFit));
-    let file = file_of(
-        alloc,
-        [0o407, 0, 0, 0, 12, 0, 0, 0],
-        &[],
-        &[("_c", 0o40, 0o177777)],
-    )?;
+    assert!(rt; unlinked == Some(LinkFault::DoesNotFit));
+    let header = [0o407, 0, 0, 0, 12, 0, 0, 0];
+    let file = file_of(alloc, header, &[], &[("_c", 0o40, 0o177777)])?;
     let output = link(alloc, &[&longer], &relocatable(Keep::All)?)?;
-    assert_eq!(rt; output, silent(alloc, file));
+    assert!(rt; output == silent(alloc, file));
     Ok(())
 }
 
@@ -74,7 +73,7 @@ fn many_names_linked(rt: HostRuntime) -> Result<(), Fail> {
     let alloc = rt.alloc();
     let session = of_most_names(alloc)?;
     let unlinked = finish(alloc, &session, &plain(Keep::Externals)).err();
-    assert_eq!(rt; unlinked, Some(LinkFault::TooManySymbols));
+    assert!(rt; unlinked == Some(LinkFault::TooManySymbols));
     Ok(())
 }
 
@@ -99,7 +98,7 @@ fn most_symbols(rt: HostRuntime) -> Result<(), Fail> {
     let linked = finish(alloc, &session_of(alloc, &[&most])?, &all)?;
     assert_eq!(rt; linked.file.header().symbol_size, 65_532);
     let unlinked = refusal(alloc, &[&most, &one], &all)?;
-    assert_eq!(rt; unlinked, Some(LinkFault::TooManySymbols));
+    assert!(rt; unlinked == Some(LinkFault::TooManySymbols));
     assert!(rt; refusal(alloc, &[&most, &one], &plain(Keep::Nothing))?.is_none());
     Ok(())
 }
@@ -126,7 +125,7 @@ fn symbol_number_too_large(rt: HostRuntime) -> Result<(), Fail> {
     let object = v_o(alloc)?;
     assert_eq!(rt; object.len(), 49_184);
     let unlinked = refusal(alloc, &[&object], &relocatable(Keep::All)?)?;
-    assert_eq!(rt; unlinked, Some(LinkFault::SymbolNumber));
+    assert!(rt; unlinked == Some(LinkFault::SymbolNumber));
     let session = session_of(alloc, &[&object])?;
     for keep in [Keep::Externals, Keep::NotL] {
         let linked = finish(alloc, &session, &relocatable(keep)?)?;

@@ -1,7 +1,7 @@
 //! Links of sessions: what is written of them, and of those that are left by a withdrawal.
-use crate::outputs::link;
+use crate::outputs::{link, link_and_withdraw};
 use aout_core::samples::{C_O, D_O, D2_O, G_O, K_O, L_O};
-use fixtures::{UNDEFINED, add, file_of, sized};
+use fixtures::{UNDEFINED, file_of, sized};
 use link_fixtures::{laid_out, output_of, plain, reported, silent};
 use link_out::{Keep, Layout, finish};
 use link_session::Session;
@@ -12,43 +12,29 @@ fn nothing_added_but_linked(rt: HostRuntime) -> Result<(), Fail> {
     let alloc = rt.alloc();
     let linked = finish(alloc, &Session::new(alloc), &plain(Keep::All))?;
     let empty = [7, 1, 0, 0, 0, 0, 0, 0, 0, 0, 0, 0, 0, 0, 1, 0].to_vec(alloc)?;
-    assert_eq!(rt; output_of(alloc, &linked)?, silent(alloc, empty));
+    assert!(rt; output_of(alloc, &linked)? == silent(alloc, empty));
     Ok(())
 }
 
 #[test]
 fn undefined_report_linked(rt: HostRuntime) -> Result<(), Fail> {
     let alloc = rt.alloc();
-    let options = plain(Keep::All);
     let want = reported(alloc, UNDEFINED.to_vec(alloc)?, "Undefined:\n_f\n_g\n")?;
-    let mut session = Session::new(alloc);
-    add(&mut session, alloc, "c.o", &C_O)?;
-    add(&mut session, alloc, "g.o", &G_O)?;
-    let linked = finish(alloc, &session, &options)?;
-    assert_eq!(rt; output_of(alloc, &linked)?, want);
-    assert!(rt; session.withdraw().is_some());
-    assert_eq!(rt; session.external_count(), 1);
-    let output = output_of(alloc, &finish(alloc, &session, &options)?)?;
-    assert_eq!(rt; output.report.as_slice(), b"Undefined:\n_f\n".as_slice());
-    assert_eq!(rt; output.status, 1);
+    let (whole, rest) = link_and_withdraw(alloc, &[&C_O, &G_O], &plain(Keep::All))?;
+    assert!(rt; whole == want);
+    assert!(rt; rest.report.as_slice() == b"Undefined:\n_f\n".as_slice() && rest.status == 1);
     Ok(())
 }
 
 #[test]
 fn multiply_defined_linked(rt: HostRuntime) -> Result<(), Fail> {
     let alloc = rt.alloc();
-    let options = plain(Keep::All);
     let header = [0o407, 6, 0, 0, 12, 0, 0, 1];
     let file = file_of(alloc, header, &[0o240, 0o207, 0o207], &[("_f", 0o42, 2)])?;
     let want = reported(alloc, file, "_f: Multiply defined\n")?;
-    let mut session = Session::new(alloc);
-    add(&mut session, alloc, "d.o", &D_O)?;
-    add(&mut session, alloc, "d2.o", &D2_O)?;
-    let linked = finish(alloc, &session, &options)?;
-    assert_eq!(rt; output_of(alloc, &linked)?, want);
-    assert!(rt; session.withdraw().is_some());
-    let output = output_of(alloc, &finish(alloc, &session, &options)?)?;
-    assert_eq!(rt; (output.report.len(), output.status), (0, 0));
+    let (whole, rest) = link_and_withdraw(alloc, &[&D_O, &D2_O], &plain(Keep::All))?;
+    assert!(rt; whole == want);
+    assert!(rt; rest.report.is_empty() && rest.status == 0);
     Ok(())
 }
 
@@ -65,9 +51,9 @@ fn multiply_defined_absolute(rt: HostRuntime) -> Result<(), Fail> {
         &[("_a", 0o41, 7)],
     )?;
     let output = link(alloc, &[&seven, &seven], &options)?;
-    assert_eq!(rt; output, silent(alloc, file.clone()?));
+    assert!(rt; output == silent(alloc, file.clone()?));
     let output = link(alloc, &[&seven, &seven, &eight], &options)?;
-    assert_eq!(rt; output, reported(alloc, file, "_a: Multiply defined\n")?);
+    assert!(rt; output == reported(alloc, file, "_a: Multiply defined\n")?);
     Ok(())
 }
 
@@ -83,7 +69,7 @@ fn reserved_defined(rt: HostRuntime) -> Result<(), Fail> {
     )?;
     let report = "_etext: Multiply defined\n_end: Multiply defined\n";
     let output = link(alloc, &[&object], &plain(Keep::All))?;
-    assert_eq!(rt; output, reported(alloc, file, report)?);
+    assert!(rt; output == reported(alloc, file, report)?);
     Ok(())
 }
 
@@ -97,23 +83,19 @@ fn pure_boundary(rt: HostRuntime) -> Result<(), Fail> {
         let header = [0o410, text, 2, 0, 12, 0, 0, 1];
         let file = file_of(alloc, header, &words, &[("_edata", 0o43, data_end)])?;
         let output = link(alloc, &[&object], &options)?;
-        assert_eq!(rt; output, silent(alloc, file), "{text}");
+        assert!(rt; output == silent(alloc, file), "{text}");
     }
     Ok(())
 }
 
 #[test]
 fn bind_and_unbind_linked(rt: HostRuntime) -> Result<(), Fail> {
-    let alloc = rt.alloc();
-    let options = plain(Keep::All);
-    let mut session = Session::new(alloc);
-    add(&mut session, alloc, "k.o", &K_O)?;
-    add(&mut session, alloc, "l.o", &L_O)?;
-    let linked = finish(alloc, &session, &options)?;
-    assert_eq!(rt; linked.file.text_words(), [0o10, 0o177776].as_slice());
-    assert!(rt; session.withdraw().is_some());
-    let linked = finish(alloc, &session, &options)?;
-    assert_eq!(rt; linked.file.text_words(), [0o6, 0o177774].as_slice());
-    assert_eq!(rt; linked.file.header().bss_size, 4);
+    let (whole, rest) = link_and_withdraw(rt.alloc(), &[&K_O, &L_O], &plain(Keep::All))?;
+    let text = [0x08, 0x00, 0xfe, 0xff];
+    assert!(rt; whole.file.get(16..20) == Some(text.as_slice()));
+    let text = [0x06, 0x00, 0xfc, 0xff];
+    assert!(rt; rest.file.get(16..20) == Some(text.as_slice()));
+    let bss = [0x04, 0x00];
+    assert!(rt; rest.file.get(6..8) == Some(bss.as_slice()));
     Ok(())
 }

@@ -89,19 +89,3 @@ fn run_always_memory(rt: HostRuntime) -> Result<(), Fail> {
     assert_eq!(rt; linked.file.header().flag, 1);
     Ok(())
 }
-
-#[test]
-fn memory_refused_running(rt: HostRuntime) {
-    let alloc = rt.alloc();
-    let Some(edits) = there_and_back(alloc) else {
-        let _ = rt.eprint("no fixture\n");
-        return;
-    };
-    match run(alloc, &Forced::none(), edits, &laid_out(Layout::Plain)) {
-        Ok((replies, _)) => assert_eq!(rt; replies.len(), 4),
-        Err(fault) => {
-            let _ = rt.eprint("refused\n");
-            assert_eq!(rt; fault, RunFault::Memory);
-        }
-    }
-}

@@ -58,25 +58,6 @@ fn long_line(alloc: Global, path_length: usize) -> Result<Vec<u8>, Fail> {
     Ok(line)
 }
 
-#[test]
-fn session_bad_commands_as_lines(rt: HostRuntime) -> Result<(), Fail> {
-    let mut script = script(rt.alloc(), b"withdraw \nadd \nlink\n\nadd \xff\n", 512)?;
-    for _ in 0..5 {
-        assert_eq!(rt; told(&script.next_line()), ("bad", ""));
-    }
-    assert_eq!(rt; told(&script.next_line()), ("end", ""));
-    Ok(())
-}
-
-#[test]
-fn session_last_line_alone(rt: HostRuntime) -> Result<(), Fail> {
-    let mut script = script(rt.alloc(), b"add a.o", 512)?;
-    assert_eq!(rt; told(&script.next_line()), ("add", "a.o"));
-    assert_eq!(rt; told(&script.next_line()), ("end", ""));
-    assert_eq!(rt; told(&script.next_line()), ("end", ""));
-    Ok(())
-}
-
 /// How long the path is that a script of one line asks to add, in pieces of `most` bytes.
 fn added_length(alloc: Global, line: &[u8], most: usize) -> Result<usize, Fail>
     requires { 0 < most }
@@ -175,28 +156,4 @@ fn script_device_fails(rt: HostRuntime) -> Result<(), Fail> {
     assert_eq!(rt; told(&script.next_line()), ("script read error", ""));
     assert_eq!(rt; told(&script.next_line()), ("script read error", ""));
     Ok(())
-}
-
-#[test]
-fn memory_refused_script(rt: HostRuntime) {
-    let reader = TestReader::whole(SCRIPT.as_bytes());
-    let mut script = match Script::new(rt.alloc(), Wire::new(reader)) {
-        Ok(script) => script,
-        Err(fault) => {
-            let _ = rt.eprint("refused\n");
-            assert_eq!(rt; told(&Err(fault)), ("no memory", ""));
-            return;
-        }
-    };
-    for asked in ASKED {
-        let answer = script.next_line();
-        if let Err(_) = &answer {
-            let _ = rt.eprint("refused\n");
-            assert_eq!(rt; told(&answer), ("no memory", ""));
-            assert_eq!(rt; told(&script.next_line()), ("no memory", ""));
-            return;
-        }
-        assert_eq!(rt; told(&answer), asked);
-    }
-    assert_eq!(rt; told(&script.next_line()), ("end", ""));
 }

@@ -1,13 +1,10 @@
 //! Whole sessions: the words, the script, its steps and their answers together, over memory.
-ghost use Rattle.std.specs.Prelude.{◌<◌};
-
 use aout_core::Wire;
 use aout_core::samples::{A_O, C_O, D_O, TestReader, TestWriter};
 use fixtures::{ANSWERS, ONE_OBJECT, SCRIPT, words, written};
 use link_out::Options;
 use link_session::{Forced, Session};
 use std::alloc::Global;
-use std::io::ErrorKind;
 use std::test::Fail;
 use v7tools::{Call, Command, Line, Script, Step, Stored, link_answer, parse, step};
 
@@ -76,14 +73,11 @@ fn answer(
     }
 }
 
-/// Plays a script that is read in pieces of at most `most` bytes. Its links are all to `out`.
-fn play(alloc: Global, all: &[&str], script: &[u8], most: usize) -> Result<Played, Fail>
-    requires { 0 < most }
-{
+/// Plays a script. Its links are all to `out`.
+fn play(alloc: Global, all: &[&str], script: &[u8]) -> Result<Played, Fail> {
     let (options, forced) = settings(alloc, all)?;
     let mut session = Session::with_forced(alloc, &forced)?;
-    let reader = TestReader::new(script, most, usize::MAX, ErrorKind::Other);
-    let mut script = Script::new(alloc, Wire::new(reader))?;
+    let mut script = Script::new(alloc, Wire::new(TestReader::whole(script)))?;
     let mut answers = Wire::new(TestWriter::whole(Vec::new(alloc)));
     let mut stored = None;
     let mut status = 0;
@@ -107,83 +101,55 @@ fn play(alloc: Global, all: &[&str], script: &[u8], most: usize) -> Result<Playe
     })
 }
 
-/// Whether the session that is read in pieces of this size answers as it should.
-fn is_played(alloc: Global, most: usize) -> Result<bool, Fail>
-    requires { 0 < most }
-{
-    let Played {
-        answers,
-        stored,
-        status,
-    } = play(alloc, &["session"], SCRIPT.as_bytes(), most)?;
-    let Some(file) = stored else {
-        return Ok(false);
-    };
-    Ok(
-        answers.as_slice() == ANSWERS.as_bytes()
-            && status == 1
-            && file.get(16..20) == Some([0xf7, 0x09, 0xfc, 0xff].as_slice()),
-    )
-}
-
 #[test]
 fn session_script(rt: HostRuntime) -> Result<(), Fail> {
-    let alloc = rt.alloc();
-    assert!(rt; is_played(alloc, usize::MAX)?);
-    let played = play(alloc, &["session"], b"", 1)?;
-    assert_eq!(rt; played.answers.len(), 0);
-    assert_eq!(rt; played.status, 0);
+    let played = play(rt.alloc(), &["session"], SCRIPT.as_bytes())?;
+    assert!(rt; played.answers.as_slice() == ANSWERS.as_bytes() && played.status == 1);
+    let file = played.stored.ok_or("no file")?;
+    assert!(rt; file.get(16..20) == Some([0xf7, 0x09, 0xfc, 0xff].as_slice()));
     Ok(())
 }
 
 #[test]
-fn script_pieces_of_a_session(rt: HostRuntime) -> Result<(), Fail> {
-    let alloc = rt.alloc();
-    assert!(rt; is_played(alloc, 1)?);
-    assert!(rt; is_played(alloc, 5)?);
-    assert!(rt; is_played(alloc, 512)?);
+fn session_script_of_no_lines(rt: HostRuntime) -> Result<(), Fail> {
+    let played = play(rt.alloc(), &["session"], b"")?;
+    assert!(rt; played.answers.is_empty() && played.status == 0);
     Ok(())
 }
 
 #[test]
 fn session_missing_file(rt: HostRuntime) -> Result<(), Fail> {
     let script = b"add nofile\nadd a.o\nlink out\n";
-    let played = play(rt.alloc(), &["session"], script, usize::MAX)?;
-    assert_eq!(rt;
-        played.answers.as_slice(),
-        b"nofile: cannot open\nadded a.o\nlinked out 0\n".as_slice()
-    );
-    assert_eq!(rt; played.status, 1);
+    let played = play(rt.alloc(), &["session"], script)?;
+    let answers = b"nofile: cannot open\nadded a.o\nlinked out 0\n";
+    assert!(rt; played.answers.as_slice() == answers.as_slice() && played.status == 1);
     let file = played.stored.ok_or("no file")?;
-    assert_eq!(rt; file.as_slice(), ONE_OBJECT.as_slice());
+    assert!(rt; file.as_slice() == ONE_OBJECT.as_slice());
     Ok(())
 }
 
 #[test]
 fn session_bad_commands(rt: HostRuntime) -> Result<(), Fail> {
     let script = b"withdraw \nadd \nlink\n\n\xff\n";
-    let played = play(rt.alloc(), &["session"], script, usize::MAX)?;
-    assert_eq!(rt;
-        played.answers.as_slice(),
-        b"bad command\nbad command\nbad command\nbad command\nbad command\n".as_slice()
-    );
-    assert_eq!(rt; played.status, 1);
+    let played = play(rt.alloc(), &["session"], script)?;
+    let answers = b"bad command\nbad command\nbad command\nbad command\nbad command\n";
+    assert!(rt; played.answers.as_slice() == answers.as_slice() && played.status == 1);
     Ok(())
 }
 
 #[test]
 fn session_last_line(rt: HostRuntime) -> Result<(), Fail> {
-    let played = play(rt.alloc(), &["session"], b"add a.o", usize::MAX)?;
-    assert_eq!(rt; played.answers.as_slice(), b"added a.o\n".as_slice());
-    assert_eq!(rt; played.status, 0);
+    let played = play(rt.alloc(), &["session"], b"add a.o")?;
+    let answers = b"added a.o\n";
+    assert!(rt; played.answers.as_slice() == answers.as_slice() && played.status == 0);
     Ok(())
 }
 
 #[test]
 fn session_forced(rt: HostRuntime) -> Result<(), Fail> {
     let all = ["session", "-u", "_z"];
-    let played = play(rt.alloc(), &all, b"externals\nundefined\n", usize::MAX)?;
-    assert_eq!(rt; played.answers.as_slice(), b"       U _z\n_z\n".as_slice());
-    assert_eq!(rt; played.status, 0);
+    let played = play(rt.alloc(), &all, b"externals\nundefined\n")?;
+    let answers = b"       U _z\n_z\n";
+    assert!(rt; played.answers.as_slice() == answers.as_slice() && played.status == 0);
     Ok(())
 }

@@ -3,7 +3,7 @@ use aout_core::Wire;
 use aout_core::samples::{A_O, C_O, D_O, Failing, G_O, TestReader, TestWriter};
 use fixtures::{ANSWERS, sized, written};
 use link_fixtures::plain;
-use link_out::{Keep, Linked, finish};
+use link_out::Keep;
 use link_session::Session;
 use std::alloc::{AllocError, Global};
 use std::io::ErrorKind;
@@ -57,29 +57,6 @@ fn take_step(
             Ok(("to store", Some((file, status))))
         }
     }
-}
-
-#[test]
-fn session_script_steps(rt: HostRuntime) -> Result<(), Fail> {
-    let alloc = rt.alloc();
-    let mut session = Session::new(alloc);
-    let mut out = answers(alloc);
-    let wanted = [
-        "done", "done", "done", "done", "done", "to store", "done", "refused", "refused",
-    ];
-    for (command, want) in session_script(alloc)?.into_iter().zip(wanted) {
-        let (verdict, stored) = take_step(alloc, &mut session, command, &mut out)?;
-        assert_eq!(rt; verdict, want);
-        if let Some((bytes, status)) = stored {
-            assert_eq!(rt;
-                bytes.get(16..20),
-                Some([0xf7, 0x09, 0xfc, 0xff].as_slice())
-            );
-            assert_eq!(rt; status, 1);
-        }
-    }
-    assert_eq!(rt; out.into_inner().taken(), ANSWERS.as_bytes());
-    Ok(())
 }
 
 #[test]
@@ -208,103 +185,5 @@ fn answers_fail_everywhere(rt: HostRuntime) -> Result<(), Fail> {
         fails_behind(&rt, n, Failing::Fails(ErrorKind::Interrupted))?;
         fails_behind(&rt, n, Failing::TakesNothing)?;
     }
-    Ok(())
-}
-
-/// A writer with room for the answers of a few steps.
-fn answers_with_room(alloc: Global) -> Option<Wire<TestWriter>> {
-    let taken = Vec::with_capacity(alloc, 256).ok()?;
-    Some(Wire::new(TestWriter::whole(taken)))
-}
-
-/// Takes a step that may find no memory: it is done, or the session is as it was and the answer says so.
-fn done_or_refused(
-    rt: &(impl Abort + Eprint + AllocGlobal),
-    session: &mut Session,
-    command: Command<TestReader<'_>>,
-    line: &str,
-) -> Result<(), Fail> {
-    let alloc = rt.alloc();
-    let (Some(mut out), Ok(cells)) = (
-        answers_with_room(alloc),
-        Vec::from_slice(alloc, session.text_cells()),
-    ) else {
-        let _ = rt.eprint("no fixture\n");
-        return Ok(());
-    };
-    let count = session.entries().len();
-    let names = session.external_count();
-    let marks = session.last_marks().len();
-    let answer = step(alloc, session, &plain(Keep::All), command, &mut out);
-    let text = out.into_inner().into_taken();
-    if matches!(answer, Ok(Step::Refused)) {
-        let _ = rt.eprint("refused\n");
-        assert_eq!(rt; text.as_slice(), b"no memory\n".as_slice());
-        assert_eq!(rt; session.entries().len(), count);
-        assert_eq!(rt; session.text_cells(), cells.as_slice());
-        assert_eq!(rt; session.external_count(), names);
-        assert_eq!(rt; session.last_marks().len(), marks);
-    } else {
-        assert!(rt; matches!(answer, Ok(Step::Done | Step::ToStore(_))));
-        assert_eq!(rt; text.as_slice(), line.as_bytes());
-    }
-    Ok(())
-}
-
-#[test]
-fn memory_refused_steps(rt: HostRuntime) -> Result<(), Fail> {
-    let alloc = rt.alloc();
-    let mut session = Session::new(alloc);
-    for (path, bytes, line) in [
-        ("c.o", C_O.as_slice(), "added c.o\n"),
-        ("d.o", D_O.as_slice(), "added d.o\n"),
-    ] {
-        let Ok(command) = add(alloc, path, bytes) else {
-            let _ = rt.eprint("no fixture\n");
-            return Ok(());
-        };
-        done_or_refused(&rt, &mut session, command, line)?;
-    }
-    done_or_refused(&rt, &mut session, Command::Link, "")
-}
-
-/// A session of `c.o`, and its link, where there is memory for them.
-fn linked_c_o(alloc: Global) -> Option<(Session, Linked)> {
-    let mut session = Session::new(alloc);
-    let mut out = answers_with_room(alloc)?;
-    let options = plain(Keep::All);
-    let command = add(alloc, "c.o", &C_O).ok()?;
-    let Ok(Step::Done) = step(alloc, &mut session, &options, command, &mut out) else {
-        return None;
-    };
-    let linked = finish(alloc, &session, &options).ok()?;
-    Some((session, linked))
-}
-
-#[test]
-fn no_memory_needed_by_steps(rt: HostRuntime) -> Result<(), Fail> {
-    let alloc = rt.alloc();
-    let (Some((mut session, linked)), Some(mut out)) = (linked_c_o(alloc), answers_with_room(alloc))
-    else {
-        let _ = rt.eprint("no fixture\n");
-        return Ok(());
-    };
-    for (command, want) in [
-        (Command::Externals, "done"),
-        (Command::Undefined, "done"),
-        (Command::Withdraw, "done"),
-        (Command::Withdraw, "refused"),
-        (Command::Bad, "refused"),
-    ] {
-        let (verdict, _) = take_step(alloc, &mut session, command, &mut out)?;
-        assert_eq!(rt; verdict, want);
-    }
-    for stored in [Stored::Kept, Stored::NotCreated, Stored::Failed] {
-        assert_eq!(rt; link_answer(&linked, "out", stored, &mut out)?, 1);
-    }
-    let lines =
-        b"       U _f\n_f\nwithdrew c.o\nnothing to withdraw\nbad command\nUndefined:\n_f\nlinked out 1\n\
-out: cannot create\nout: write error\n";
-    assert_eq!(rt; out.into_inner().taken(), lines.as_slice());
     Ok(())
 }

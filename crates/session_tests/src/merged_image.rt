@@ -1,9 +1,11 @@
 //! The merged image while objects are added and taken out.
+use crate::checks::{
+    Word, add, assert_external, assert_outcome, assert_text, session_of, withdraw,
+};
 use aout_core::samples::{C_O, D_O, D2_O, G_O, K_O, L_O, X4_O, X10_O};
-use aout_core::{Name, Segment, Wire, write_file};
-use fixtures::{add, forced, object, sized, written};
-use link_session::{AddFault, Cell, Forced, Mark, Session, State, Target};
-use std::process::Abort;
+use aout_core::{Name, Segment};
+use fixtures::{forced, sized};
+use link_session::{Forced, Mark, Session, State, Target};
 use std::test::Fail;
 
 /// Symbols `_y` 041 5.
@@ -20,139 +22,85 @@ const H_O: [u8; 56] = [
     0x00, 0x00, 0x00, 0x00, 0x20, 0x00, 0x00, 0x00,
 ];
 
-fn cell(value: u16, target: Target, pc: bool) -> Cell {
-    Cell { value, target, pc }
-}
-
-/// Why the object that the bytes spell is refused, if it is; it comes back with its label.
-pub fn outcome(
-    rt: &(impl Abort + AllocGlobal),
-    session: &mut Session,
-    bytes: &[u8],
-) -> Result<Option<AddFault>, Fail> {
-    let alloc = rt.alloc();
-    let object = object(alloc, bytes).ok_or("no object")?;
-    match session.add(String::from_str(alloc, "more.o")?, object) {
-        Ok(()) => Ok(None),
-        Err(refused) => {
-            assert_eq!(rt; refused.label.as_str(), "more.o");
-            assert_eq!(rt; written(alloc, refused.object.file())?.as_slice(), bytes);
-            Ok(Some(refused.cause))
-        }
-    }
-}
-
-/// Takes the last object out, which has this label and at most 84 bytes, these. It asks for no memory.
-pub fn withdraw(
-    rt: &impl Abort,
-    session: &mut Session,
-    label: &str,
-    bytes: &[u8],
-) -> Result<(), Fail> {
-    let (back, object) = session.withdraw().ok_or("nothing was there")?;
-    assert_eq!(rt; back.as_str(), label);
-    let mut room = [0; 84];
-    let mut out = Wire::new(room.as_mut_slice());
-    write_file(object.file(), &mut out)?;
-    assert_eq!(rt; room.get(..bytes.len()), Some(bytes));
-    Ok(())
+#[test]
+fn add_always_memory(rt: HostRuntime) {
+    let session = session_of(&rt, &[("x4.o", &X4_O)]);
+    assert!(rt; session.external_count() == 1);
 }
 
 #[test]
-fn add_always_memory(rt: HostRuntime) -> Result<(), Fail> {
-    let mut session = Session::new(rt.alloc());
-    assert_eq!(rt; outcome(&rt, &mut session, &X4_O)?, None);
-    assert_eq!(rt; session.external_count(), 1);
-    Ok(())
+fn common_grows_and_shrinks(rt: HostRuntime) {
+    let mut session = session_of(&rt, &[("x4.o", &X4_O)]);
+    assert_external(&rt, &session, 1, 0, ("_x", State::Wanted(4)));
+    add(&rt, &mut session, "x10.o", &X10_O);
+    assert_external(&rt, &session, 1, 0, ("_x", State::Wanted(10)));
+    let mark = Mark::StateWas(0, State::Wanted(4));
+    assert!(rt; session.last_marks() == [mark].as_slice());
+    withdraw(&rt, &mut session, "x10.o", &X10_O);
+    assert_external(&rt, &session, 1, 0, ("_x", State::Wanted(4)));
 }
 
-#[test]
-fn common_grows_and_shrinks(rt: HostRuntime) -> Result<(), Fail> {
-    let alloc = rt.alloc();
-    let x = Name::from_bytes(b"_x");
-    let mut session = Session::new(alloc);
-    add(&mut session, alloc, "x4.o", &X4_O)?;
-    assert_eq!(rt; session.find(&x), Some(0));
-    assert_eq!(rt; session.external(0), Some((x, State::Wanted(4))));
-    add(&mut session, alloc, "x10.o", &X10_O)?;
-    assert_eq!(rt; session.external(0), Some((x, State::Wanted(10))));
-    assert_eq!(rt;
-        session.last_marks(),
-        [Mark::StateWas(0, State::Wanted(4))].as_slice()
-    );
-    withdraw(&rt, &mut session, "x10.o", &X10_O)?;
-    assert_eq!(rt; session.external(0), Some((x, State::Wanted(4))));
-    Ok(())
-}
+/// The text of k.o while `_x` is not defined.
+const WAITING: [Word; 2] = [
+    (0o2, Target::External(0), false),
+    (0o177770, Target::External(0), true),
+];
+
+/// The text of k.o in front of l.o.
+const BOUND: [Word; 2] = [
+    (0o4, Target::DataSeg, false),
+    (0o177772, Target::DataSeg, true),
+];
 
 #[test]
-fn bind_and_unbind(rt: HostRuntime) -> Result<(), Fail> {
-    let alloc = rt.alloc();
-    let x = Name::from_bytes(b"_x");
-    let waiting = [
-        cell(0o2, Target::External(0), false),
-        cell(0o177770, Target::External(0), true),
-    ];
-    let bound = [
-        cell(0o4, Target::DataSeg, false),
-        cell(0o177772, Target::DataSeg, true),
-    ];
-    let mut session = Session::new(alloc);
-    add(&mut session, alloc, "k.o", &K_O)?;
-    assert_eq!(rt; session.text_cells(), waiting.as_slice());
-    add(&mut session, alloc, "l.o", &L_O)?;
-    assert_eq!(rt;
-        session.external(0),
-        Some((x, State::Defined(Segment::DataSeg, 2)))
-    );
-    assert_eq!(rt; session.text_cells(), bound.as_slice());
-    assert_eq!(rt; session.data_cells().len(), 2);
-    withdraw(&rt, &mut session, "l.o", &L_O)?;
-    assert_eq!(rt; session.external(0), Some((x, State::Wanted(4))));
-    assert_eq!(rt; session.text_cells(), waiting.as_slice());
-    assert_eq!(rt; session.data_cells().len(), 0);
-    Ok(())
+fn bind_and_unbind(rt: HostRuntime) {
+    let mut session = session_of(&rt, &[("k.o", &K_O)]);
+    assert_text(&rt, &session, &WAITING);
+    add(&rt, &mut session, "l.o", &L_O);
+    let defined = State::Defined(Segment::DataSeg, 2);
+    assert_external(&rt, &session, 1, 0, ("_x", defined));
+    assert_text(&rt, &session, &BOUND);
+    assert!(rt; session.data_cells().len() == 2);
+    withdraw(&rt, &mut session, "l.o", &L_O);
+    assert_external(&rt, &session, 1, 0, ("_x", State::Wanted(4)));
+    assert_text(&rt, &session, &WAITING);
+    assert!(rt; session.data_cells().is_empty());
 }
 
+/// The text of c.o and d.o.
+const CALL: [Word; 4] = [
+    (0o4767, Target::Absolute, false),
+    (0o2, Target::TextSeg, true),
+    (0o240, Target::Absolute, false),
+    (0o207, Target::Absolute, false),
+];
+
 #[test]
-fn call_forward(rt: HostRuntime) -> Result<(), Fail> {
-    let alloc = rt.alloc();
-    let mut session = Session::new(alloc);
-    add(&mut session, alloc, "c.o", &C_O)?;
-    add(&mut session, alloc, "d.o", &D_O)?;
-    let first = [
-        cell(0o4767, Target::Absolute, false),
-        cell(0o2, Target::TextSeg, true),
-    ];
-    assert_eq!(rt; session.text_cells().get(..2), Some(first.as_slice()));
-    assert_eq!(rt; session.text_cells().len(), 4);
-    assert_eq!(rt;
-        session.external(0),
-        Some((Name::from_bytes(b"_f"), State::Defined(Segment::TextSeg, 6)))
-    );
-    Ok(())
+fn call_forward(rt: HostRuntime) {
+    let session = session_of(&rt, &[("c.o", &C_O), ("d.o", &D_O)]);
+    assert_text(&rt, &session, &CALL);
+    let defined = State::Defined(Segment::TextSeg, 6);
+    assert_external(&rt, &session, 1, 0, ("_f", defined));
 }
+
+/// The text of c.o behind a forced name.
+const BEHIND_FORCED: [Word; 2] = [
+    (0o4767, Target::Absolute, false),
+    (0o177774, Target::External(1), true),
+];
 
 #[test]
 fn forced_in_session(rt: HostRuntime) -> Result<(), Fail> {
-    let alloc = rt.alloc();
-    let z = Name::from_bytes(b"_z");
-    let mut session = Session::with_forced(alloc, &forced("_z"))?;
-    assert_eq!(rt; session.forced_count(), 1);
-    add(&mut session, alloc, "c.o", &C_O)?;
-    assert_eq!(rt; session.find(&z), Some(0));
-    assert_eq!(rt; session.find(&Name::from_bytes(b"_f")), Some(1));
-    assert_eq!(rt; session.external_count(), 2);
-    let cells = [
-        cell(0o4767, Target::Absolute, false),
-        cell(0o177774, Target::External(1), true),
-    ];
-    assert_eq!(rt; session.text_cells(), cells.as_slice());
-    withdraw(&rt, &mut session, "c.o", &C_O)?;
-    assert_eq!(rt; session.external_count(), 1);
-    assert_eq!(rt; session.external(0), Some((z, State::Wanted(0))));
+    let mut session = Session::with_forced(rt.alloc(), &forced("_z"))?;
+    assert!(rt; session.forced_count() == 1);
+    add(&rt, &mut session, "c.o", &C_O);
+    assert_external(&rt, &session, 2, 0, ("_z", State::Wanted(0)));
+    assert_external(&rt, &session, 2, 1, ("_f", State::Wanted(0)));
+    assert_text(&rt, &session, &BEHIND_FORCED);
+    withdraw(&rt, &mut session, "c.o", &C_O);
+    assert_external(&rt, &session, 1, 0, ("_z", State::Wanted(0)));
     assert!(rt; session.withdraw().is_none());
-    assert_eq!(rt; session.forced_count(), 1);
+    assert!(rt; session.forced_count() == 1);
     Ok(())
 }
 
@@ -169,104 +117,87 @@ fn forced_repeated(rt: HostRuntime) {
 }
 
 #[test]
-fn undefined_report(rt: HostRuntime) -> Result<(), Fail> {
-    let alloc = rt.alloc();
-    let mut session = Session::new(alloc);
-    add(&mut session, alloc, "c.o", &C_O)?;
-    add(&mut session, alloc, "g.o", &G_O)?;
-    assert_eq!(rt;
-        session.external(0),
-        Some((Name::from_bytes(b"_f"), State::Wanted(0)))
-    );
-    assert_eq!(rt;
-        session.external(1),
-        Some((Name::from_bytes(b"_g"), State::Wanted(0)))
-    );
-    withdraw(&rt, &mut session, "g.o", &G_O)?;
-    assert_eq!(rt; session.external_count(), 1);
-    assert_eq!(rt; session.find(&Name::from_bytes(b"_g")), None);
-    Ok(())
+fn undefined_report(rt: HostRuntime) {
+    let mut session = session_of(&rt, &[("c.o", &C_O), ("g.o", &G_O)]);
+    assert_external(&rt, &session, 2, 0, ("_f", State::Wanted(0)));
+    assert_external(&rt, &session, 2, 1, ("_g", State::Wanted(0)));
+    withdraw(&rt, &mut session, "g.o", &G_O);
+    assert_external(&rt, &session, 1, 0, ("_f", State::Wanted(0)));
+    assert!(rt; session.find(&Name::from_bytes(b"_g")).is_none());
 }
 
 #[test]
-fn multiply_defined(rt: HostRuntime) -> Result<(), Fail> {
-    let alloc = rt.alloc();
+fn multiply_defined(rt: HostRuntime) {
     let f = Name::from_bytes(b"_f");
-    let mut session = Session::new(alloc);
-    add(&mut session, alloc, "d.o", &D_O)?;
-    add(&mut session, alloc, "d2.o", &D2_O)?;
-    assert_eq!(rt; session.multiples(), [f].as_slice());
-    assert_eq!(rt;
-        session.external(0),
-        Some((f, State::Defined(Segment::TextSeg, 2)))
-    );
-    withdraw(&rt, &mut session, "d2.o", &D2_O)?;
-    assert_eq!(rt; session.multiples().len(), 0);
-
-    let mut session = Session::new(alloc);
-    for (value, count) in [(7, 0), (7, 0), (8, 1)] {
-        let object = sized(alloc, 0, 0, 0, &[("_a", 0o41, value)])?;
-        assert_eq!(rt; outcome(&rt, &mut session, &object)?, None);
-        assert_eq!(rt; session.multiples().len(), count);
-    }
-    assert_eq!(rt; session.multiples().first(), Some(&Name::from_bytes(b"_a")));
-    Ok(())
-}
-
-/// The cells of h.o once `_y` alone is defined, as 5.
-fn assert_one_bound(rt: &impl Abort, session: &Session) {
-    let waiting = cell(0, Target::External(0), false);
-    let bound = cell(5, Target::Absolute, false);
-    assert_eq!(rt;
-        session.text_cells(),
-        [waiting, bound, waiting, bound].as_slice()
-    );
+    let mut session = session_of(&rt, &[("d.o", &D_O), ("d2.o", &D2_O)]);
+    assert!(rt; session.multiples() == [f].as_slice());
+    let defined = State::Defined(Segment::TextSeg, 2);
+    assert_external(&rt, &session, 1, 0, ("_f", defined));
+    withdraw(&rt, &mut session, "d2.o", &D2_O);
+    assert!(rt; session.multiples().is_empty());
 }
 
 #[test]
-fn chain_binds_one_name(rt: HostRuntime) -> Result<(), Fail> {
-    let alloc = rt.alloc();
-    let mut session = Session::new(alloc);
-    add(&mut session, alloc, "h.o", &H_O)?;
-    add(&mut session, alloc, "j.o", &J_O)?;
-    assert_one_bound(&rt, &session);
-    assert!(rt; session.last_marks().len() <= 3);
-    withdraw(&rt, &mut session, "j.o", &J_O)?;
-    let first = cell(0, Target::External(0), false);
-    let second = cell(0, Target::External(1), false);
-    assert_eq!(rt;
-        session.text_cells(),
-        [first, second, first, second].as_slice()
-    );
+fn multiply_defined_absolute_names(rt: HostRuntime) -> Result<(), Fail> {
+    let seven = sized(rt.alloc(), 0, 0, 0, &[("_a", 0o41, 7)])?;
+    let eight = sized(rt.alloc(), 0, 0, 0, &[("_a", 0o41, 8)])?;
+    let mut session = session_of(&rt, &[("7.o", &seven), ("again.o", &seven)]);
+    assert!(rt; session.multiples().is_empty());
+    assert_outcome(&rt, &mut session, &eight, None);
+    assert!(rt; session.multiples() == [Name::from_bytes(b"_a")].as_slice());
     Ok(())
+}
+
+/// The text of h.o once `_y` alone is defined, as 5.
+const ONE_BOUND: [Word; 4] = [
+    (0, Target::External(0), false),
+    (5, Target::Absolute, false),
+    (0, Target::External(0), false),
+    (5, Target::Absolute, false),
+];
+
+/// The text of h.o while nothing is defined.
+const NONE_BOUND: [Word; 4] = [
+    (0, Target::External(0), false),
+    (0, Target::External(1), false),
+    (0, Target::External(0), false),
+    (0, Target::External(1), false),
+];
+
+/// The text of h.o once `_x` is defined as 7, and `_y` as 5.
+const BOTH_BOUND: [Word; 4] = [
+    (7, Target::Absolute, false),
+    (5, Target::Absolute, false),
+    (7, Target::Absolute, false),
+    (5, Target::Absolute, false),
+];
+
+#[test]
+fn chain_binds_one_name(rt: HostRuntime) {
+    let mut session = session_of(&rt, &[("h.o", &H_O), ("j.o", &J_O)]);
+    assert_text(&rt, &session, &ONE_BOUND);
+    assert!(rt; session.last_marks().len() <= 3);
+    withdraw(&rt, &mut session, "j.o", &J_O);
+    assert_text(&rt, &session, &NONE_BOUND);
 }
 
 #[test]
 fn chain_after_withdrawal(rt: HostRuntime) -> Result<(), Fail> {
-    let alloc = rt.alloc();
-    let mut session = Session::new(alloc);
-    add(&mut session, alloc, "h.o", &H_O)?;
-    add(&mut session, alloc, "j.o", &J_O)?;
-    withdraw(&rt, &mut session, "j.o", &J_O)?;
-    let both = sized(alloc, 0, 0, 0, &[("_x", 0o41, 7), ("_y", 0o41, 5)])?;
-    assert_eq!(rt; outcome(&rt, &mut session, &both)?, None);
-    let seven = cell(7, Target::Absolute, false);
-    let five = cell(5, Target::Absolute, false);
-    assert_eq!(rt; session.text_cells(), [seven, five, seven, five].as_slice());
-    withdraw(&rt, &mut session, "more.o", &both)?;
-    add(&mut session, alloc, "j.o", &J_O)?;
-    assert_one_bound(&rt, &session);
+    let both = sized(rt.alloc(), 0, 0, 0, &[("_x", 0o41, 7), ("_y", 0o41, 5)])?;
+    let mut session = session_of(&rt, &[("h.o", &H_O), ("j.o", &J_O)]);
+    withdraw(&rt, &mut session, "j.o", &J_O);
+    add(&rt, &mut session, "both.o", &both);
+    assert_text(&rt, &session, &BOTH_BOUND);
+    withdraw(&rt, &mut session, "both.o", &both);
+    add(&rt, &mut session, "j.o", &J_O);
+    assert_text(&rt, &session, &ONE_BOUND);
     Ok(())
 }
 
 #[test]
-fn chain_of_two_objects(rt: HostRuntime) -> Result<(), Fail> {
-    let alloc = rt.alloc();
-    let mut session = Session::new(alloc);
-    add(&mut session, alloc, "h.o", &H_O)?;
-    add(&mut session, alloc, "again.o", &H_O)?;
-    withdraw(&rt, &mut session, "again.o", &H_O)?;
-    add(&mut session, alloc, "j.o", &J_O)?;
-    assert_one_bound(&rt, &session);
-    Ok(())
+fn chain_of_two_objects(rt: HostRuntime) {
+    let mut session = session_of(&rt, &[("h.o", &H_O), ("again.o", &H_O)]);
+    withdraw(&rt, &mut session, "again.o", &H_O);
+    add(&rt, &mut session, "j.o", &J_O);
+    assert_text(&rt, &session, &ONE_BOUND);
 }

@@ -1,0 +1,124 @@
+//! Commands: their words, links over memory, whole runs on files, and lists.
+use crate::outcome::Outcome;
+use aout_core::samples::{A_O, B_O, S_O, TestReader, TestWriter};
+use aout_core::{File, Wire, read_file};
+use fixtures::{TWO_OBJECTS, wires, words};
+use link_fixtures::plain;
+use link_out::{Keep, Linked, Options};
+use link_session::Forced;
+use std::alloc::Global;
+use std::fs;
+use symtools::{NmOptions, ToolFault, nm, size};
+use v7tools::{Call, CliFault, command, ld, parse};
+
+/// Whether this is a link of one file into `out` with these options.
+fn is_link(call: Call, wanted: Options) -> bool {
+    match call {
+        Call::Ld {
+            options,
+            forced,
+            out,
+            files,
+        } => {
+            options == wanted
+                && forced.names().is_empty()
+                && out.as_str() == "out"
+                && files.len() == 1
+        }
+        _ => false,
+    }
+}
+
+/// The words of a link are read.
+pub fn parsing(alloc: Global) -> Outcome {
+    let Ok(all) = words(alloc, &["ld", "-sx", "-o", "out", "a.o"]) else {
+        return Outcome::Unready;
+    };
+    match parse(alloc, all) {
+        Ok(call) => Outcome::done(is_link(call, plain(Keep::Nothing))),
+        Err(CliFault::Memory) => Outcome::Refused,
+        Err(_) => Outcome::Wrong,
+    }
+}
+
+/// Whether this is the link of a.o and b.o.
+fn is_two_objects(linked: &Linked) -> bool {
+    linked.file.text_words() == [0o12700, 6, 0o207].as_slice()
+        && linked.file.data_words() == [0o42].as_slice()
+}
+
+/// Two objects in memory are linked.
+pub fn linking_inputs(alloc: Global) -> Outcome {
+    let Ok(inputs) = wires(alloc, &[("a.o", &A_O), ("b.o", &B_O)]) else {
+        return Outcome::Unready;
+    };
+    match ld(alloc, inputs, &Forced::none(), &plain(Keep::Nothing)) {
+        Ok(linked) => Outcome::done(is_two_objects(&linked)),
+        Err(CliFault::Memory) => Outcome::Refused,
+        Err(_) => Outcome::Wrong,
+    }
+}
+
+/// A link of two files is run as a command.
+pub fn commanding(rt: &HostRuntime) -> Outcome {
+    let _ = fs::remove_file(rt, "out");
+    let are_written = fs::write(rt, "a.o", A_O.as_slice()).is_ok()
+        && fs::write(rt, "b.o", B_O.as_slice()).is_ok();
+    let (true, Ok(all)) = (
+        are_written,
+        words(rt.alloc(), &["ld", "-s", "-o", "out", "a.o", "b.o"]),
+    ) else {
+        return Outcome::Unready;
+    };
+    let status = command(rt, all);
+    match fs::read(rt, "out") {
+        Ok(bytes) => Outcome::done(status == 0 && bytes.as_slice() == TWO_OBJECTS.as_slice()),
+        Err(_) if status == 0 => Outcome::Unready,
+        Err(_) => Outcome::refused(status == 2),
+    }
+}
+
+/// The file `s.o` with its path, where there is memory for it.
+fn s_o(alloc: Global) -> Option<Vec<(String, File)>> {
+    let file = read_file(alloc, &mut Wire::new(TestReader::whole(&S_O))).ok()?;
+    let path = String::from_str(alloc, "s.o").ok()?;
+    Vec::from_array(alloc, [(path, file)]).ok()
+}
+
+/// nm's list of `s.o`, by value.
+const LIST: &[u8] = b"       U _f\n000000 T _m\n000002 t L1\n000004 C _x\n";
+
+/// A file is listed by value; refused memory, a front of the list was written.
+pub fn listing(alloc: Global) -> Outcome {
+    let (Some(files), Ok(taken)) = (s_o(alloc), Vec::with_capacity(alloc, 64)) else {
+        return Outcome::Unready;
+    };
+    let options = NmOptions {
+        external: false,
+        undefined: false,
+        by_value: true,
+        table_order: false,
+        reverse: false,
+        each_line: false,
+    };
+    let mut out = Wire::new(TestWriter::whole(taken));
+    let answer = nm(alloc, &files, options, &mut out);
+    let is_failed = out.failed();
+    let taken = out.into_inner().into_taken();
+    match answer {
+        Ok(()) => Outcome::done(taken.as_slice() == LIST),
+        Err(ToolFault::Memory) => Outcome::refused(!is_failed && LIST.starts_with(&taken)),
+        Err(_) => Outcome::Wrong,
+    }
+}
+
+/// Sizes are written, which takes no memory.
+pub fn sizing(alloc: Global) -> Outcome {
+    let (Some(files), Ok(taken)) = (s_o(alloc), Vec::with_capacity(alloc, 64)) else {
+        return Outcome::Unready;
+    };
+    let mut out = Wire::new(TestWriter::whole(taken));
+    let is_sized = size(&files, &mut out).is_ok();
+    let taken = out.into_inner().into_taken();
+    Outcome::done(is_sized && taken.as_slice() == b"4+0+0 = 4b = 04b\n".as_slice())
+}

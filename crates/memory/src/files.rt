@@ -1,0 +1,47 @@
+//! Files read, checked, stripped and written.
+use crate::outcome::Outcome;
+use aout_core::samples::{C_O, TestReader};
+use aout_core::{Object, ReadFault, Wire, read_file, strip_file, write_file};
+use std::alloc::Global;
+use v7tools::{CliFault, load};
+
+/// A file is read; refused memory, its reader is left behind the header or further.
+pub fn reading(alloc: Global) -> Outcome {
+    let mut wire = Wire::new(TestReader::whole(&C_O));
+    let answer = read_file(alloc, &mut wire);
+    let left = wire.into_inner().left().len();
+    match answer {
+        Ok(_) => Outcome::done(left == 0),
+        Err(fault) => Outcome::refused(fault == ReadFault::Memory && left == 32),
+    }
+}
+
+/// A file is read at a path.
+pub fn loading(alloc: Global) -> Outcome {
+    let Ok(path) = String::from_str(alloc, "c.o") else {
+        return Outcome::Unready;
+    };
+    let mut wire = Wire::new(TestReader::whole(&C_O));
+    let answer = load(alloc, path, &mut wire);
+    let left = wire.into_inner().left().len();
+    match answer {
+        Ok((path, _)) => Outcome::done(path.as_str() == "c.o" && left == 0),
+        Err(CliFault::Memory) => Outcome::refused(left <= 32),
+        Err(_) => Outcome::Wrong,
+    }
+}
+
+/// A file is checked, written, stripped and taken apart, which takes no memory.
+pub fn handling(alloc: Global) -> Outcome {
+    let Ok(file) = read_file(alloc, &mut Wire::new(TestReader::whole(&C_O))) else {
+        return Outcome::Unready;
+    };
+    let Ok(object) = Object::from_file(file) else {
+        return Outcome::Wrong;
+    };
+    let mut device = [0u8; 64];
+    let mut out = Wire::new(device.as_mut_slice());
+    let is_written = write_file(object.file(), &mut out).is_ok();
+    let parts = strip_file(object.into_file()).into_parts();
+    Outcome::done(is_written && parts.fits() && parts.symbols.is_empty())
+}

@@ -1,0 +1,126 @@
+//! Sessions made, added to and withdrawn from.
+use crate::outcome::Outcome;
+use aout_core::Name;
+use aout_core::samples::{C_O, G_O, K_O, L_O};
+use fixtures::{forced, object, try_add};
+use link_session::{AddFault, Cell, Forced, Session, State};
+use std::alloc::Global;
+
+/// A session with a forced name is made.
+pub fn forcing(alloc: Global) -> Outcome {
+    match Session::with_forced(alloc, &forced("_z")) {
+        Ok(session) => Outcome::done(session.external_count() == 1),
+        Err(_) => Outcome::refused(true),
+    }
+}
+
+/// A session of one object, where there is memory for it.
+fn one_added(alloc: Global, forced: &Forced, bytes: &[u8]) -> Option<Session> {
+    let mut session = Session::with_forced(alloc, forced).ok()?;
+    try_add(&mut session, alloc, "first.o", bytes)?;
+    Some(session)
+}
+
+/// What a session of one object shows.
+#[derive(Drop)]
+struct Shown {
+    cells: Vec<Cell>,
+    external_count: u16,
+    last: Option<(Name, State)>,
+}
+
+impl Shown {
+    fn of(alloc: Global, session: &Session) -> Option<Shown> {
+        let external_count = session.external_count();
+        Some(Shown {
+            cells: Vec::from_slice(alloc, session.text_cells()).ok()?,
+            external_count,
+            last: session.external(external_count.saturating_sub(1)),
+        })
+    }
+
+    /// Whether the session still shows this, of one object.
+    fn is_kept(&self, session: &Session) -> bool {
+        session.entries().len() == 1
+            && session.text_cells() == self.cells.as_slice()
+            && session.data_cells().is_empty()
+            && session.external_count() == self.external_count
+            && session.external(self.external_count.saturating_sub(1)) == self.last
+            && session.last_marks().is_empty()
+    }
+}
+
+/// Whether the last object of a session is taken out under this label.
+fn is_withdrawn(session: &mut Session, label: &str) -> bool {
+    match session.withdraw() {
+        Some((back, _)) => back.as_str() == label,
+        None => false,
+    }
+}
+
+/// An object is added behind another; refused memory, it comes back and the session is as it was.
+fn add_behind(alloc: Global, forced: &Forced, first: &[u8], second: &[u8]) -> Outcome {
+    let (Some(mut session), Some(second), Ok(label)) = (
+        one_added(alloc, forced, first),
+        object(alloc, second),
+        String::from_str(alloc, "second.o"),
+    ) else {
+        return Outcome::Unready;
+    };
+    let Some(shown) = Shown::of(alloc, &session) else {
+        return Outcome::Unready;
+    };
+    match session.add(label, second) {
+        Ok(()) => Outcome::done(session.entries().len() == 2),
+        Err(refused) => Outcome::refused(
+            refused.cause == AddFault::Memory
+                && refused.label.as_str() == "second.o"
+                && shown.is_kept(&session)
+                && is_withdrawn(&mut session, "first.o"),
+        ),
+    }
+}
+
+/// An object is added that defines what another waits for.
+pub fn adding(alloc: Global) -> Outcome {
+    add_behind(alloc, &Forced::none(), &K_O, &L_O)
+}
+
+/// An object is added that wants another name.
+pub fn adding_a_name(alloc: Global) -> Outcome {
+    add_behind(alloc, &Forced::none(), &C_O, &G_O)
+}
+
+/// An object is added behind a forced name.
+pub fn adding_behind_forced(alloc: Global) -> Outcome {
+    add_behind(alloc, &forced("_z"), &K_O, &L_O)
+}
+
+/// An object is added that wants another name, behind a forced one.
+pub fn adding_a_name_behind_forced(alloc: Global) -> Outcome {
+    add_behind(alloc, &forced("_z"), &C_O, &G_O)
+}
+
+/// Objects are taken out of a session and it is looked at, which takes no memory.
+pub fn withdrawing(alloc: Global) -> Outcome {
+    let Some(mut session) = one_added(alloc, &forced("_z"), &K_O) else {
+        return Outcome::Unready;
+    };
+    if try_add(&mut session, alloc, "l.o", &L_O).is_none() {
+        return Outcome::Unready;
+    }
+    let are_marks = session.last_marks().len() == 3;
+    let is_first = is_withdrawn(&mut session, "l.o");
+    let is_found = session.find(&Name::from_bytes(b"_x")) == Some(1);
+    let is_second = is_withdrawn(&mut session, "first.o");
+    let wanted = Some((Name::from_bytes(b"_z"), State::Wanted(0)));
+    Outcome::done(
+        are_marks
+            && is_first
+            && is_found
+            && is_second
+            && session.withdraw().is_none()
+            && session.external(0) == wanted
+            && session.forced_count() == 1,
+    )
+}

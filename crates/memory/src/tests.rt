@@ -1,0 +1,61 @@
+//! The calls while none is refused memory.
+use crate::outcome::Outcome;
+use crate::{commands, files, links, scripts, sessions};
+
+#[test]
+fn memory_refused_reading(rt: HostRuntime) {
+    assert!(rt; files::reading(rt.alloc()) == Outcome::Done);
+    assert!(rt; files::loading(rt.alloc()) == Outcome::Done);
+}
+
+#[test]
+fn memory_refused_adding(rt: HostRuntime) {
+    assert!(rt; sessions::adding(rt.alloc()) == Outcome::Done);
+    assert!(rt; sessions::adding_a_name(rt.alloc()) == Outcome::Done);
+    assert!(rt; sessions::adding_behind_forced(rt.alloc()) == Outcome::Done);
+    assert!(rt; sessions::adding_a_name_behind_forced(rt.alloc()) == Outcome::Done);
+}
+
+#[test]
+fn memory_refused_forcing(rt: HostRuntime) {
+    assert!(rt; sessions::forcing(rt.alloc()) == Outcome::Done);
+}
+
+#[test]
+fn memory_refused_linking(rt: HostRuntime) {
+    assert!(rt; links::linking(rt.alloc()) == Outcome::Done);
+}
+
+#[test]
+fn memory_refused_running(rt: HostRuntime) {
+    assert!(rt; links::running(rt.alloc()) == Outcome::Done);
+}
+
+#[test]
+fn memory_refused_commands(rt: HostRuntime) {
+    assert!(rt; commands::parsing(rt.alloc()) == Outcome::Done);
+    assert!(rt; commands::linking_inputs(rt.alloc()) == Outcome::Done);
+    assert!(rt; commands::listing(rt.alloc()) == Outcome::Done);
+}
+
+#[test]
+fn memory_refused_script(rt: HostRuntime) {
+    assert!(rt; scripts::reading_lines(rt.alloc()) == Outcome::Done);
+}
+
+#[test]
+fn memory_refused_steps(rt: HostRuntime) {
+    assert!(rt; scripts::adding_by_a_step(rt.alloc()) == Outcome::Done);
+    assert!(rt; scripts::adding_behind_by_a_step(rt.alloc()) == Outcome::Done);
+    assert!(rt; scripts::linking_by_a_step(rt.alloc()) == Outcome::Done);
+}
+
+#[test]
+fn no_memory_needed(rt: HostRuntime) {
+    assert!(rt; files::handling(rt.alloc()) == Outcome::Done);
+    assert!(rt; sessions::withdrawing(rt.alloc()) == Outcome::Done);
+    assert!(rt; links::reporting(rt.alloc()) == Outcome::Done);
+    assert!(rt; links::emitting(rt.alloc()) == Outcome::Done);
+    assert!(rt; commands::sizing(rt.alloc()) == Outcome::Done);
+    assert!(rt; scripts::other_steps(rt.alloc()) == Outcome::Done);
+}
