@@ -31,6 +31,7 @@ pub mod LinkedRelocs
 pub mod LinkedReports
 pub mod LinkedTheorem
 pub mod RefusalLemmas
+pub mod LayoutLemmas
 pub mod EntryPointLemmas
 pub mod ReportLemmas
 pub mod InOrderLemmas

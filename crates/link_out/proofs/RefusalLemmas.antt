@@ -144,7 +144,7 @@ module _ (forced : List (List ℕ)) (os : List Contents) (o : Choices) where
 
   -- the entries
 
-  locals_long : (earlier rest : List Contents) → length (flat_map (λ q. map (moved_local p.at q.0 q.1) (filter (is_kept_local o.keep) q.1.symbols)) (with_earlier earlier rest)) ≡ length (kept_locals o rest)
+  pub locals_long : (earlier rest : List Contents) → length (flat_map (λ q. map (moved_local p.at q.0 q.1) (filter (is_kept_local o.keep) q.1.symbols)) (with_earlier earlier rest)) ≡ length (kept_locals o rest)
   locals_long earlier [] = refl
   locals_long earlier (k ∷ ks) =
       length-append (map (moved_local p.at earlier k) (filter (is_kept_local o.keep) k.symbols)) (flat_map (λ q. map (moved_local p.at q.0 q.1) (filter (is_kept_local o.keep) q.1.symbols)) (with_earlier (earlier ++ k ∷ []) ks))
@@ -157,7 +157,7 @@ module _ (forced : List (List ℕ)) (os : List Contents) (o : Choices) where
   kept_long NotL rows = refl
   kept_long Externals rows = refl
 
-  table_long : length (table p os) ≡ entry_count forced os o
+  pub table_long : length (table p os) ≡ entry_count forced os o
   table_long =
       kept_long o.keep (local_rows p os ++ external_rows p)
       ∙ ap (λ (n : ℕ). entries o.keep n) (length-append (local_rows p os) (external_rows p) ∙ (λ i. locals_long [] os i + length-map names (external_row p) i))

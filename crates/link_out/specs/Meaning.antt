@@ -6,7 +6,7 @@ use Rattle.aout_core.specs.declared.symbol.Segment.{Segment}
 use Rattle.aout_core.specs.declared.symbol.Segment.TheVariants.{BssSeg}
 use Rattle.aout_core.specs.declared.reloc.Reloc.{Reloc}
 use Rattle.aout_core.specs.Contents.{Contents}
-use Rattle.aout_core.specs.Words.{plus}
+use Rattle.aout_core.specs.Words.{plus, minus}
 use Rattle.aout_core.specs.WellFormed.{is_external, masked_type, segment_of}
 use Rattle.link_session.specs.Starts.{total}
 use Rattle.link_session.specs.declared.state.State.{State}
@@ -14,10 +14,12 @@ use Rattle.link_session.specs.Sessions.{IsObject}
 use Rattle.link_session.specs.Mentions.{mentions, externals, is_among, statement}
 use Rattle.link_session.specs.declared.state.State.TheVariants.{Defined}
 use Rattle.link_out.specs.declared.options.Keep.TheVariants.{Nothing}
+use Rattle.link_out.specs.declared.options.Layout.{Layout}
 use Rattle.link_out.specs.Choices.{Choices, lays_commons, option_fault}
 use Rattle.link_out.specs.Link.{Outcome, link}
 use Rattle.link_out.specs.NameStates.{IsWanted}
 use Rattle.link_out.specs.Relocated.{data_begins, begins, carried, entry_of, external_type, segment_words, segment_relocs, IsRelocated, HoldsObjects, IsEntry}
+use Rattle.aout_core.specs.declared.header.Header.{Header}
 
 -- each word of each object is found in the linked file, relocated by what that file's own symbol table says
 abbrev pub WordsAreRelocated : Type 0
@@ -120,3 +122,28 @@ MissingHaveNoAddress = (forced : List (List ℕ)) (os : List Contents) (o : Choi
 abbrev pub PartialMayBeAdded : Type 0
 PartialMayBeAdded = (forced : List (List ℕ)) (os : List Contents) (o : Choices) (x : Outcome) → AllByRecursion IsObject os →
     option_fault o.layout o.relocatable o.keep ≡ None → o.relocatable ≡ true → link forced os o ≡ Ok x → IsObject x.file
+
+-- two entries that differ at most by where the segment that they name begins
+pub record IsShifted (g h : Header) (bss : ℕ) (s t : Symbol) : Type 0 where
+  pub name : s.name ≡ t.name
+  pub type_bits : s.type_bits ≡ t.type_bits
+  pub value : minus s.value (begins g bss (segment_of s)) ≡ minus t.value (begins h bss (segment_of t))
+
+abbrev pub AreShifted : Header → Header → ℕ → List Symbol → List Symbol → Type 0
+AreShifted g h bss [] [] = Unit {0}
+AreShifted g h bss [] (t ∷ ts) = ⊥
+AreShifted g h bss (s ∷ ss) [] = ⊥
+AreShifted g h bss (s ∷ ss) (t ∷ ts) = IsShifted g h bss s t × AreShifted g h bss ss ts
+
+-- two links differ by where data and bss begin, alone
+pub record DifferInPlace (os : List Contents) (x y : Outcome) : Type 0 where
+  pub header : record x.file.header { magic = y.file.header.magic } ≡ y.file.header
+  pub text_reloc : x.file.text_reloc ≡ y.file.text_reloc
+  pub data_reloc : x.file.data_reloc ≡ y.file.data_reloc
+  pub symbols : AreShifted x.file.header y.file.header (total BssSeg os) x.file.symbols y.file.symbols
+  pub report : x.report ≡ y.report
+
+-- a layout changes the magic, and where data and bss begin, and nothing else; the words follow these
+abbrev pub LayoutsDiffer : Type 0
+LayoutsDiffer = (forced : List (List ℕ)) (os : List Contents) (o : Choices) (layout : Layout) (x y : Outcome) →
+    link forced os o ≡ Ok x → link forced os (record o { layout = layout }) ≡ Ok y → DifferInPlace os x y

@@ -1,6 +1,6 @@
 //! Laws of linking, over its definitions alone: each is the contract of a function with an empty body.
 ghost use Rattle.link_out.specs.Laws.{StripLaw, StripsOnce, PartialIsObject, PartialStandsAlone, PartialStandsAmong};
-ghost use Rattle.link_out.specs.Meaning.{WordsAreRelocated, ObjectsFill, DefinitionsHold, MultiplesDiffer, NamesHaveAddresses, EntriesStandOnce, CommonsHaveRoom, CommonsLieApart, EntryIsFound, MissingHaveNoAddress, PartialMayBeAdded};
+ghost use Rattle.link_out.specs.Meaning.{WordsAreRelocated, ObjectsFill, DefinitionsHold, MultiplesDiffer, NamesHaveAddresses, EntriesStandOnce, CommonsHaveRoom, CommonsLieApart, EntryIsFound, MissingHaveNoAddress, PartialMayBeAdded, LayoutsDiffer};
 ghost use Rattle.link_out.specs.LinkedFrom.{LinkedExactly, LinkedOnce};
 ghost use Rattle.link_out.specs.Refusals.{RefusedExactly};
 ghost use Rattle.link_out.specs.Beyond.{PartialStandsFor, PartialStandsAlways, PartialStandsAmongOthers, PartialAgain, GroupingChangesNothing, PartialIsAccepted};
@@ -37,6 +37,7 @@ pub fn partial_law()
 /// - `entry`: the entry word is the address of its name where that is an external in text; else it is 0, and reported.
 /// - `missing`: a name that is reported undefined has an entry without an address.
 /// - `added`: the file of a link with relocation is an object, so that a session takes it.
+/// - `layouts`: the links of two layouts differ by their magic, and by where data and bss begin, alone.
 pub fn meaning_law()
     ensures words { WordsAreRelocated }
     ensures fill { ObjectsFill }
@@ -49,6 +50,7 @@ pub fn meaning_law()
     ensures entry { EntryIsFound }
     ensures missing { MissingHaveNoAddress }
     ensures added { PartialMayBeAdded }
+    ensures layouts { LayoutsDiffer }
 {}
 
 /// Partial links under weaker premises than those of `partial_law`, again and again, and grouped in any way. The

@@ -6,6 +6,7 @@ use Rattle.link_out.proofs.ExternalLemmas.{entries_stand_once}
 use Rattle.link_out.proofs.CommonLemmas.{commons_have_room, commons_lie_apart}
 use Rattle.link_out.proofs.EntryPointLemmas.{entry_is_found}
 use Rattle.link_out.proofs.PartialTheorem.{may_be_added}
+use Rattle.link_out.proofs.LayoutLemmas.{layouts_differ}
 use Rattle.link_out.proofs.laws.meaning_law.Goals as goal
 
 pub returns-clause-words : goal.returns-clause-words
@@ -40,3 +41,6 @@ returns-clause-missing c = missing_have_no_address
 
 pub returns-clause-added : goal.returns-clause-added
 returns-clause-added c = may_be_added
+
+pub returns-clause-layouts : goal.returns-clause-layouts
+returns-clause-layouts c = layouts_differ
