@@ -24,6 +24,33 @@ pub(crate) struct Definition {
     pub(crate) offset: u16,
 }
 
+/// The chain of the external with this index, and what its cells are bound to.
+#[derive(Clone, Copy)]
+struct Chain<'a> {
+    text_links: &'a [Link],
+    data_links: &'a [Link],
+    index: u16,
+    definition: Definition,
+}
+
+/// A name that cells may wait for.
+#[derive(Clone, Copy)]
+struct Awaited<'a> {
+    text_links: &'a [Link],
+    data_links: &'a [Link],
+    externals: &'a Externals,
+    name: Name,
+}
+
+/// The entries whose names cells may wait for.
+#[derive(Clone, Copy)]
+pub(crate) struct Mentioned<'a> {
+    pub(crate) text_links: &'a [Link],
+    pub(crate) data_links: &'a [Link],
+    pub(crate) externals: &'a Externals,
+    pub(crate) symbols: &'a [Symbol],
+}
+
 /// Binds the cell with this index to a definition.
 fn bind_cell(cells: &mut [Cell], index: u16, segment: Segment, offset: u16)
     ensures { cells.new ≡ bound_one segment offset index cells.old }
@@ -94,33 +121,35 @@ fn note_chain(
     Ok(())
 }
 
-/// Binds the cells that wait for the external with this index to its definition, marks them, and cuts its chain. An
-/// error changes nothing.
+/// Binds the cells of a chain to its definition, marks them, and cuts the chain. An error changes nothing.
 fn bind_name(
     text_cells: &mut [Cell],
     data_cells: &mut [Cell],
-    links: &Links<'_>,
     heads: &mut [Link],
-    index: u16,
-    definition: Definition,
     marks: &mut Vec<Mark>,
+    chain: &Chain<'_>,
 ) -> Result<(), AllocError>
-    requires { AreChained text_cells.old data_cells.old links.now.text.now links.now.data.now heads.old }
-    ensures chained { AreChained text_cells.new data_cells.new links.now.text.now links.now.data.now heads.new }
-    ensures texts { OnOk result (text_cells.new ≡ map (bound_if index definition.segment definition.offset) text_cells.old) }
-    ensures datas { OnOk result (data_cells.new ≡ map (bound_if index definition.segment definition.offset) data_cells.old) }
-    ensures heads { OnOk result (heads.new ≡ slice_set heads.old index None) }
+    requires { AreChained text_cells.old data_cells.old chain.now.text_links.now chain.now.data_links.now heads.old }
+    ensures chained { AreChained text_cells.new data_cells.new chain.now.text_links.now chain.now.data_links.now heads.new }
+    ensures texts { OnOk result (text_cells.new ≡ map (bound_if chain.now.index chain.now.definition.segment chain.now.definition.offset) text_cells.old) }
+    ensures datas { OnOk result (data_cells.new ≡ map (bound_if chain.now.index chain.now.definition.segment chain.now.definition.offset) data_cells.old) }
+    ensures heads { OnOk result (heads.new ≡ slice_set heads.old chain.now.index None) }
     ensures back { OnOk result (LeavesMarks text_cells.old data_cells.old heads.old text_cells.new data_cells.new heads.new marks.old.items marks.new.items) }
-    ensures few { OnOk result (NotesWaiting index text_cells.old data_cells.old marks.old.items marks.new.items) }
+    ensures few { OnOk result (NotesWaiting chain.now.index text_cells.old data_cells.old marks.old.items marks.new.items) }
     ensures unchanged { OnErr result ((text_cells.new ≡ text_cells.old) × (data_cells.new ≡ data_cells.old) × (heads.new ≡ heads.old) × (marks.new.items ≡ marks.old.items)) }
 {
+    let index = chain.index;
+    let links = Links {
+        text: chain.text_links,
+        data: chain.data_links,
+    };
     let head = link_in(heads, index);
     let kept = marks.len();
-    if let Err(refused) = note_chain(text_cells, data_cells, links, head, marks) {
+    if let Err(refused) = note_chain(text_cells, data_cells, &links, head, marks) {
         marks.truncate(kept);
         return Err(refused);
     }
-    bind(text_cells, data_cells, links, head, definition);
+    bind(text_cells, data_cells, &links, head, chain.definition);
     cut_chain(heads, index);
     Ok(())
 }
@@ -129,34 +158,29 @@ fn bind_name(
 fn bind_defined(
     text_cells: &mut [Cell],
     data_cells: &mut [Cell],
-    links: &Links<'_>,
     heads: &mut [Link],
-    externals: &Externals,
-    name: &Name,
     marks: &mut Vec<Mark>,
+    awaited: &Awaited<'_>,
 ) -> Result<(), AllocError>
-    requires names { length externals.now.entries ≤ 65535 }
-    requires chained { AreChained text_cells.old data_cells.old links.now.text.now links.now.data.now heads.old }
-    ensures chained { AreChained text_cells.new data_cells.new links.now.text.now links.now.data.now heads.new }
-    ensures texts { OnOk result (text_cells.new ≡ map (settled_at externals.now.entries (place_in externals.now.entries name.now)) text_cells.old) }
-    ensures datas { OnOk result (data_cells.new ≡ map (settled_at externals.now.entries (place_in externals.now.entries name.now)) data_cells.old) }
-    ensures heads { OnOk result (heads.new ≡ cut_by_state (state_for externals.now.entries name.now) (place_in externals.now.entries name.now) heads.old) }
+    requires names { length awaited.now.externals.now.entries ≤ 65535 }
+    requires chained { AreChained text_cells.old data_cells.old awaited.now.text_links.now awaited.now.data_links.now heads.old }
+    ensures chained { AreChained text_cells.new data_cells.new awaited.now.text_links.now awaited.now.data_links.now heads.new }
+    ensures texts { OnOk result (text_cells.new ≡ map (settled_at awaited.now.externals.now.entries (place_in awaited.now.externals.now.entries awaited.now.name)) text_cells.old) }
+    ensures datas { OnOk result (data_cells.new ≡ map (settled_at awaited.now.externals.now.entries (place_in awaited.now.externals.now.entries awaited.now.name)) data_cells.old) }
+    ensures heads { OnOk result (heads.new ≡ cut_by_state (state_for awaited.now.externals.now.entries awaited.now.name) (place_in awaited.now.externals.now.entries awaited.now.name) heads.old) }
     ensures back { LeavesMarks text_cells.old data_cells.old heads.old text_cells.new data_cells.new heads.new marks.old.items marks.new.items }
-    ensures few { OnOk result (NotesBound externals.now.entries text_cells.old data_cells.old text_cells.new data_cells.new marks.old.items marks.new.items) }
+    ensures few { OnOk result (NotesBound awaited.now.externals.now.entries text_cells.old data_cells.old text_cells.new data_cells.new marks.old.items marks.new.items) }
     ensures unchanged { OnErr result ((text_cells.new ≡ text_cells.old) × (data_cells.new ≡ data_cells.old) × (heads.new ≡ heads.old) × (marks.new.items ≡ marks.old.items)) }
 {
-    match look_up(externals, name) {
+    match look_up(awaited.externals, &awaited.name) {
         (place, State::Defined(segment, offset)) => {
-            let definition = Definition { segment, offset };
-            bind_name(
-                text_cells,
-                data_cells,
-                links,
-                heads,
-                place as u16,
-                definition,
-                marks,
-            )
+            let chain = Chain {
+                text_links: awaited.text_links,
+                data_links: awaited.data_links,
+                index: place as u16,
+                definition: Definition { segment, offset },
+            };
+            bind_name(text_cells, data_cells, heads, marks, &chain)
         }
         (_, State::Wanted(_)) => Ok(()),
     }
@@ -167,32 +191,28 @@ fn bind_defined(
 pub(crate) fn bind_names(
     text_cells: &mut [Cell],
     data_cells: &mut [Cell],
-    links: &Links<'_>,
     heads: &mut [Link],
-    externals: &Externals,
-    symbols: &[Symbol],
     marks: &mut Vec<Mark>,
+    mentioned: &Mentioned<'_>,
 ) -> Result<(), AllocError>
-    requires names { length externals.now.entries ≤ 65535 }
-    requires chained { AreChained text_cells.old data_cells.old links.now.text.now links.now.data.now heads.old }
-    ensures chained { AreChained text_cells.new data_cells.new links.now.text.now links.now.data.now heads.new }
-    ensures texts { OnOk result (text_cells.new ≡ map (settled_over externals.now.entries (places_of externals.now.entries symbols.now)) text_cells.old) }
-    ensures datas { OnOk result (data_cells.new ≡ map (settled_over externals.now.entries (places_of externals.now.entries symbols.now)) data_cells.old) }
-    ensures heads { OnOk result (heads.new ≡ cut_heads externals.now.entries (places_of externals.now.entries symbols.now) heads.old) }
+    requires names { length mentioned.now.externals.now.entries ≤ 65535 }
+    requires chained { AreChained text_cells.old data_cells.old mentioned.now.text_links.now mentioned.now.data_links.now heads.old }
+    ensures chained { AreChained text_cells.new data_cells.new mentioned.now.text_links.now mentioned.now.data_links.now heads.new }
+    ensures texts { OnOk result (text_cells.new ≡ map (settled_over mentioned.now.externals.now.entries (places_of mentioned.now.externals.now.entries mentioned.now.symbols.now)) text_cells.old) }
+    ensures datas { OnOk result (data_cells.new ≡ map (settled_over mentioned.now.externals.now.entries (places_of mentioned.now.externals.now.entries mentioned.now.symbols.now)) data_cells.old) }
+    ensures heads { OnOk result (heads.new ≡ cut_heads mentioned.now.externals.now.entries (places_of mentioned.now.externals.now.entries mentioned.now.symbols.now) heads.old) }
     ensures back { LeavesMarks text_cells.old data_cells.old heads.old text_cells.new data_cells.new heads.new marks.old.items marks.new.items }
-    ensures few { OnOk result (NotesBound externals.now.entries text_cells.old data_cells.old text_cells.new data_cells.new marks.old.items marks.new.items) }
+    ensures few { OnOk result (NotesBound mentioned.now.externals.now.entries text_cells.old data_cells.old text_cells.new data_cells.new marks.old.items marks.new.items) }
 {
-    for symbol in symbols {
+    for symbol in mentioned.symbols {
         if symbol.is_external() {
-            bind_defined(
-                text_cells,
-                data_cells,
-                links,
-                heads,
-                externals,
-                &symbol.name,
-                marks,
-            )?;
+            let awaited = Awaited {
+                text_links: mentioned.text_links,
+                data_links: mentioned.data_links,
+                externals: mentioned.externals,
+                name: symbol.name,
+            };
+            bind_defined(text_cells, data_cells, heads, marks, &awaited)?;
         }
     }
     Ok(())

@@ -12,10 +12,10 @@ ghost use Rattle.link_session.specs.Threads.{cut_heads, next_threads, IsThreaded
 ghost use Rattle.link_session.specs.Counts.{NotesBound};
 ghost use Rattle.link_session.specs.Additions.{joined_image, next_limit};
 
-use crate::bind::bind_names;
-use crate::chain::{Links, grow_heads};
+use crate::bind::{Mentioned, bind_names};
+use crate::chain::grow_heads;
 use crate::mark::Mark;
-use crate::mention::{count_external, enter_all};
+use crate::mention::{Table, count_external, enter_all};
 use crate::merged::{Merged, undo};
 use crate::relocate::{Scope, Shifts, Words, append_cells, next_shifts};
 use aout_core::{File, Object, Segment, Symbol};
@@ -133,18 +133,18 @@ fn bind_waiting(
     ensures links { threads_in image.new ≡ with_heads image.new.heads.items (threads_in image.old) }
     ensures room { KeepsRoom image.old image.new }
 {
-    let links = Links {
-        text: &image.text_links,
-        data: &image.data_links,
+    let mentioned = Mentioned {
+        text_links: &image.text_links,
+        data_links: &image.data_links,
+        externals: &image.externals,
+        symbols,
     };
     bind_names(
         &mut image.text_cells,
         &mut image.data_cells,
-        &links,
         &mut image.heads,
-        &image.externals,
-        symbols,
         marks,
+        &mentioned,
     )
 }
 
@@ -168,15 +168,18 @@ pub(crate) fn join(
     let shifts = next_shifts(image, object);
     let mut marks = Vec::new(alloc);
     make_room(image, &mut marks, file)?;
+    let table = Table {
+        symbols: file.symbols(),
+        shifts,
+    };
     enter_all(
         &mut image.externals,
         &mut image.multiples,
         &mut marks,
         sizes.externals,
-        file.symbols(),
-        &shifts,
+        &table,
     );
-    if let Err(refused) = bind_waiting(image, file.symbols(), &mut marks) {
+    if let Err(refused) = bind_waiting(image, table.symbols, &mut marks) {
         undo(image, &marks, &sizes);
         return Err(refused);
     }

@@ -31,6 +31,20 @@ pub(crate) fn look_up(externals: &Externals, name: &Name) -> (usize, State)
     }
 }
 
+/// A name, and what an entry says of it.
+#[derive(Clone, Copy, Debug)]
+struct Claim {
+    name: Name,
+    says: State,
+}
+
+/// The entries of an object's symbol table, and what is added to their addresses.
+#[derive(Clone, Copy)]
+pub(crate) struct Table<'a> {
+    pub(crate) symbols: &'a [Symbol],
+    pub(crate) shifts: Shifts,
+}
+
 /// What an entry says of its name.
 fn statement(symbol: &Symbol, shifts: &Shifts) -> State
     ensures { result ≡ statement_by shifts.now (segment_of symbol.now) symbol.now.value }
@@ -123,22 +137,22 @@ fn enter(
     multiples: &mut Vec<Name>,
     marks: &mut Vec<Mark>,
     kept: usize,
-    name: Name,
-    says: State,
+    claim: Claim,
 )
     requires small { kept ≤ 65535 }
     requires names_room { 0 < spare externals.old }
     requires multiples_room { vec_len multiples.old < vec_capacity multiples.old }
     requires marks_room { vec_len marks.old < vec_capacity marks.old }
-    ensures names { externals.new.entries ≡ mentioned externals.old.entries (said name says) }
-    ensures multiples { multiples.new.items ≡ multiples.old.items ++ clash externals.old.entries (said name says) }
-    ensures marks { marks.new.items ≡ marks.old.items ++ state_mark kept externals.old.entries (said name says) }
+    ensures names { externals.new.entries ≡ mentioned externals.old.entries (said claim.name claim.says) }
+    ensures multiples { multiples.new.items ≡ multiples.old.items ++ clash externals.old.entries (said claim.name claim.says) }
+    ensures marks { marks.new.items ≡ marks.old.items ++ state_mark kept externals.old.entries (said claim.name claim.says) }
     ensures names_left { spare externals.old ≤ spare externals.new + 1 }
     ensures multiples_len { vec_len multiples.new ≤ vec_len multiples.old + 1 }
     ensures multiples_capacity { vec_capacity multiples.old ≤ vec_capacity multiples.new }
     ensures marks_len { vec_len marks.new ≤ vec_len marks.old + 1 }
     ensures marks_capacity { vec_capacity marks.old ≤ vec_capacity marks.new }
 {
+    let Claim { name, says } = claim;
     let (place, was) = look_up(externals, &name);
     note_state(marks, kept, place, was, says);
     note_clash(multiples, name, was, says);
@@ -165,27 +179,23 @@ pub(crate) fn enter_all(
     multiples: &mut Vec<Name>,
     marks: &mut Vec<Mark>,
     kept: usize,
-    symbols: &[Symbol],
-    shifts: &Shifts,
+    table: &Table<'_>,
 )
     requires small { kept ≤ 65535 }
-    requires names_room { length (filter is_external symbols.now) ≤ spare externals.old }
-    requires multiples_room { vec_len multiples.old + length (filter is_external symbols.now) ≤ vec_capacity multiples.old }
-    requires marks_room { vec_len marks.old + length (filter is_external symbols.now) ≤ vec_capacity marks.old }
-    ensures names { externals.new.entries ≡ all_mentioned externals.old.entries (mentions_by shifts.now symbols.now) }
-    ensures multiples { multiples.new.items ≡ multiples.old.items ++ all_clashes externals.old.entries (mentions_by shifts.now symbols.now) }
-    ensures marks { marks.new.items ≡ marks.old.items ++ state_marks kept externals.old.entries (mentions_by shifts.now symbols.now) }
+    requires names_room { length (filter is_external table.now.symbols.now) ≤ spare externals.old }
+    requires multiples_room { vec_len multiples.old + length (filter is_external table.now.symbols.now) ≤ vec_capacity multiples.old }
+    requires marks_room { vec_len marks.old + length (filter is_external table.now.symbols.now) ≤ vec_capacity marks.old }
+    ensures names { externals.new.entries ≡ all_mentioned externals.old.entries (mentions_by table.now.shifts table.now.symbols.now) }
+    ensures multiples { multiples.new.items ≡ multiples.old.items ++ all_clashes externals.old.entries (mentions_by table.now.shifts table.now.symbols.now) }
+    ensures marks { marks.new.items ≡ marks.old.items ++ state_marks kept externals.old.entries (mentions_by table.now.shifts table.now.symbols.now) }
 {
-    for symbol in symbols {
+    for symbol in table.symbols {
         if symbol.is_external() {
-            enter(
-                externals,
-                multiples,
-                marks,
-                kept,
-                symbol.name,
-                statement(symbol, shifts),
-            );
+            let claim = Claim {
+                name: symbol.name,
+                says: statement(symbol, &table.shifts),
+            };
+            enter(externals, multiples, marks, kept, claim);
         }
     }
 }

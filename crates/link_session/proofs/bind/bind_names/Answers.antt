@@ -16,12 +16,12 @@ use Rattle.link_session.proofs.bind.bind_names.Goals as goal
 
 pub loop-symbol-preserved : goal.loop-symbol-preserved
 loop-symbol-preserved c =
-    let es = c.args.externals.now.entries in
+    let es = c.args.mentioned.now.externals.now.entries in
     let s = c.symbol-item.result in
-    let now = drop c.loop-symbol.symbol-index c.args.symbols.now in
-    let next = drop (c.loop-symbol.symbol-index + 1) c.args.symbols.now in
+    let now = drop c.loop-symbol.symbol-index c.args.mentioned.now.symbols.now in
+    let next = drop (c.loop-symbol.symbol-index + 1) c.args.mentioned.now.symbols.now in
     let split : now ≡ s ∷ next =
-    drop_more c.args.symbols.now c.loop-symbol.symbol-index s c.loop-symbol-test.true ∙ ap (λ (x : Symbol). x ∷ next) (sym c.symbol-item.is) in
+    drop_more c.args.mentioned.now.symbols.now c.loop-symbol.symbol-index s c.loop-symbol-test.true ∙ ap (λ (x : Symbol). x ∷ next) (sym c.symbol-item.is) in
     let left : List Cell → List Cell = λ cs. map (settled_over es (places_of es next)) cs in
     let inv = c.loop-symbol.invariant in
     elim c.if-is_external.branch [
@@ -30,8 +30,8 @@ loop-symbol-preserved c =
           let texts : c.if-is_external.text_cells ≡ map (settled_at es (place_in es s.name)) c.loop-symbol.text_cells = search rules in
           let datas : c.if-is_external.data_cells ≡ map (settled_at es (place_in es s.name)) c.loop-symbol.data_cells = search rules in
           let heads : c.if-is_external.heads ≡ cut_by_state (state_for es s.name) (place_in es s.name) c.loop-symbol.heads = search rules in
-          let chained : AreChained c.if-is_external.text_cells c.if-is_external.data_cells c.args.links.now.text.now c.args.links.now.data.now c.if-is_external.heads =
-          subst (λ (P : Type 0). P) (λ i. AreChained (sym w.text_cells-is i) (sym w.data_cells-is i) c.args.links.now.text.now c.args.links.now.data.now (sym w.heads-is i)) w.bind_defined.ensures.chained in
+          let chained : AreChained c.if-is_external.text_cells c.if-is_external.data_cells c.args.mentioned.now.text_links.now c.args.mentioned.now.data_links.now c.if-is_external.heads =
+          subst (λ (P : Type 0). P) (λ i. AreChained (sym w.text_cells-is i) (sym w.data_cells-is i) c.args.mentioned.now.text_links.now c.args.mentioned.now.data_links.now (sym w.heads-is i)) w.bind_defined.ensures.chained in
           let fewer : NotesBound es c.loop-symbol.text_cells c.loop-symbol.data_cells c.if-is_external.text_cells c.if-is_external.data_cells c.loop-symbol.marks.items c.if-is_external.marks.items = search rules in
           let more : LeavesMarks c.loop-symbol.text_cells c.loop-symbol.data_cells c.loop-symbol.heads c.if-is_external.text_cells c.if-is_external.data_cells c.if-is_external.heads c.loop-symbol.marks.items c.if-is_external.marks.items =
           subst (λ (P : Type 0). P) (λ i. LeavesMarks c.loop-symbol.text_cells c.loop-symbol.data_cells c.loop-symbol.heads (sym w.text_cells-is i) (sym w.data_cells-is i) (sym w.heads-is i) c.loop-symbol.marks.items (sym w.marks-is i).items) w.bind_defined.ensures.back in
@@ -47,7 +47,7 @@ loop-symbol-preserved c =
       | else-is_external w ↦ (
           let local : is_external s ≡ false = search rules in
           record {
-            chained = subst (λ (P : Type 0). P) (λ i. AreChained (sym w.text_cells-is i) (sym w.data_cells-is i) c.args.links.now.text.now c.args.links.now.data.now (sym w.heads-is i)) inv.chained;
+            chained = subst (λ (P : Type 0). P) (λ i. AreChained (sym w.text_cells-is i) (sym w.data_cells-is i) c.args.mentioned.now.text_links.now c.args.mentioned.now.data_links.now (sym w.heads-is i)) inv.chained;
             texts = inv.texts ∙ next_local es now next s split local c.loop-symbol.text_cells ∙ ap left (sym w.text_cells-is);
             datas = inv.datas ∙ next_local es now next s split local c.loop-symbol.data_cells ∙ ap left (sym w.data_cells-is);
             heads = inv.heads ∙ ap (λ (l : List ℕ). cut_heads es l c.loop-symbol.heads) (places_pass es now next s split local) ∙ ap (cut_heads es (places_of es next)) (sym w.heads-is);
@@ -58,18 +58,18 @@ loop-symbol-preserved c =
 
 pub returns-clause-texts : goal.returns-clause-texts
 returns-clause-texts c =
-    let es = c.args.externals.now.entries in
-    let over : drop c.loop-symbol.symbol-index c.args.symbols.now ≡ [] = drop_all c.loop-symbol.symbol-index c.args.symbols.now (omega (arith, c.loop-symbol-test.false)) in
+    let es = c.args.mentioned.now.externals.now.entries in
+    let over : drop c.loop-symbol.symbol-index c.args.mentioned.now.symbols.now ≡ [] = drop_all c.loop-symbol.symbol-index c.args.mentioned.now.symbols.now (omega (arith, c.loop-symbol-test.false)) in
     sym (c.loop-symbol.invariant.texts ∙ ap (λ (l : List Symbol). map (settled_over es (places_of es l)) c.loop-symbol.text_cells) over ∙ none_left es c.loop-symbol.text_cells)
 
 pub returns-clause-datas : goal.returns-clause-datas
 returns-clause-datas c =
-    let es = c.args.externals.now.entries in
-    let over : drop c.loop-symbol.symbol-index c.args.symbols.now ≡ [] = drop_all c.loop-symbol.symbol-index c.args.symbols.now (omega (arith, c.loop-symbol-test.false)) in
+    let es = c.args.mentioned.now.externals.now.entries in
+    let over : drop c.loop-symbol.symbol-index c.args.mentioned.now.symbols.now ≡ [] = drop_all c.loop-symbol.symbol-index c.args.mentioned.now.symbols.now (omega (arith, c.loop-symbol-test.false)) in
     sym (c.loop-symbol.invariant.datas ∙ ap (λ (l : List Symbol). map (settled_over es (places_of es l)) c.loop-symbol.data_cells) over ∙ none_left es c.loop-symbol.data_cells)
 
 pub returns-clause-heads : goal.returns-clause-heads
 returns-clause-heads c =
-    let es = c.args.externals.now.entries in
-    let over : drop c.loop-symbol.symbol-index c.args.symbols.now ≡ [] = drop_all c.loop-symbol.symbol-index c.args.symbols.now (omega (arith, c.loop-symbol-test.false)) in
+    let es = c.args.mentioned.now.externals.now.entries in
+    let over : drop c.loop-symbol.symbol-index c.args.mentioned.now.symbols.now ≡ [] = drop_all c.loop-symbol.symbol-index c.args.mentioned.now.symbols.now (omega (arith, c.loop-symbol-test.false)) in
     sym (c.loop-symbol.invariant.heads ∙ ap (λ (l : List Symbol). cut_heads es (places_of es l) c.loop-symbol.heads) over)

@@ -49,7 +49,7 @@ returns-in-Err-clause-err c =
     let v = threads_in c.bind_waiting.new.image in
     let e = entered-is m (image_in c.make_room.new.image) o c.file-file.result.now c.next_shifts-shifts.result c.symbols.result.now c.enter_all.new.externals.entries c.enter_all.new.multiples.items
     c.make_room.ensures.image c.file-file.ensures.value c.symbols.ensures.value c.next_shifts-shifts.ensures c.enter_all.ensures.names c.enter_all.ensures.multiples in
-    let table : c.symbols-2.result.now ≡ o.symbols = c.symbols-2.ensures.value ∙ ap (λ (f : Contents). f.symbols) c.file-file.ensures.value in
+    let table : c.symbols.result.now ≡ o.symbols = c.symbols.ensures.value ∙ ap (λ (f : Contents). f.symbols) c.file-file.ensures.value in
     let states : c.enter_all.new.marks.items ≡ state_marks (length m.externals) m.externals (next_mentions m o) = search rules in
     let texts : length b.text_cells ≡ length m.text_cells = search rules in
     let datas : length b.data_cells ≡ length m.data_cells = search rules in
@@ -70,7 +70,7 @@ settle-requires-clause-names c =
     let v = threads_in c.bind_waiting.new.image in
     let e = entered-is m (image_in c.make_room.new.image) o c.file-file.result.now c.next_shifts-shifts.result c.symbols.result.now c.enter_all.new.externals.entries c.enter_all.new.multiples.items
     c.make_room.ensures.image c.file-file.ensures.value c.symbols.ensures.value c.next_shifts-shifts.ensures c.enter_all.ensures.names c.enter_all.ensures.multiples in
-    let table : c.symbols-2.result.now ≡ o.symbols = c.symbols-2.ensures.value ∙ ap (λ (f : Contents). f.symbols) c.file-file.ensures.value in
+    let table : c.symbols.result.now ≡ o.symbols = c.symbols.ensures.value ∙ ap (λ (f : Contents). f.symbols) c.file-file.ensures.value in
     let states : c.enter_all.new.marks.items ≡ state_marks (length m.externals) m.externals (next_mentions m o) = search rules in
     subst (λ (x : Image). length x.externals ≤ 65535) (sym c.bind_waiting.ensures.else_same) (subst (λ (x : Image). length x.externals ≤ 65535) (sym e) (few_named m o c.requires.fits))
 
@@ -95,7 +95,7 @@ settle-requires-clause-heads_room c =
     let v = threads_in c.bind_waiting.new.image in
     let e = entered-is m (image_in c.make_room.new.image) o c.file-file.result.now c.next_shifts-shifts.result c.symbols.result.now c.enter_all.new.externals.entries c.enter_all.new.multiples.items
     c.make_room.ensures.image c.file-file.ensures.value c.symbols.ensures.value c.next_shifts-shifts.ensures c.enter_all.ensures.names c.enter_all.ensures.multiples in
-    let table : c.symbols-2.result.now ≡ o.symbols = c.symbols-2.ensures.value ∙ ap (λ (f : Contents). f.symbols) c.file-file.ensures.value in
+    let table : c.symbols.result.now ≡ o.symbols = c.symbols.ensures.value ∙ ap (λ (f : Contents). f.symbols) c.file-file.ensures.value in
     let states : c.enter_all.new.marks.items ≡ state_marks (length m.externals) m.externals (next_mentions m o) = search rules in
     let few : length c.bind_waiting.new.image.externals.entries ≤ length m.externals + length (filter is_external o.symbols) =
     subst (λ (x : Image). length x.externals ≤ length m.externals + length (filter is_external o.symbols)) (sym c.bind_waiting.ensures.else_same)
@@ -115,9 +115,9 @@ returns-clause-image c =
     let v = threads_in c.bind_waiting.new.image in
     let e = entered-is m (image_in c.make_room.new.image) o c.file-file.result.now c.next_shifts-shifts.result c.symbols.result.now c.enter_all.new.externals.entries c.enter_all.new.multiples.items
     c.make_room.ensures.image c.file-file.ensures.value c.symbols.ensures.value c.next_shifts-shifts.ensures c.enter_all.ensures.names c.enter_all.ensures.multiples in
-    let table : c.symbols-2.result.now ≡ o.symbols = c.symbols-2.ensures.value ∙ ap (λ (f : Contents). f.symbols) c.file-file.ensures.value in
+    let table : c.symbols.result.now ≡ o.symbols = c.symbols.ensures.value ∙ ap (λ (f : Contents). f.symbols) c.file-file.ensures.value in
     let states : c.enter_all.new.marks.items ≡ state_marks (length m.externals) m.externals (next_mentions m o) = search rules in
-    let bound = bound-is m n o c.symbols-2.result.now e table c.requires.covered b c.bind_waiting.ensures.else_same c.in_default.ensures.texts c.in_default.ensures.datas in
+    let bound = bound-is m n o c.symbols.result.now e table c.requires.covered b c.bind_waiting.ensures.else_same c.in_default.ensures.texts c.in_default.ensures.datas in
     joined-is m b o c.file-file.result.now c.next_shifts-shifts.result bound c.file-file.ensures.value c.next_shifts-shifts.ensures (image_in c.settle.new.image) c.settle.ensures.image
 
 pub returns-clause-threads : goal.returns-clause-threads
@@ -131,10 +131,10 @@ returns-clause-threads c =
     let v = threads_in c.bind_waiting.new.image in
     let e = entered-is m (image_in c.make_room.new.image) o c.file-file.result.now c.next_shifts-shifts.result c.symbols.result.now c.enter_all.new.externals.entries c.enter_all.new.multiples.items
     c.make_room.ensures.image c.file-file.ensures.value c.symbols.ensures.value c.next_shifts-shifts.ensures c.enter_all.ensures.names c.enter_all.ensures.multiples in
-    let table : c.symbols-2.result.now ≡ o.symbols = c.symbols-2.ensures.value ∙ ap (λ (f : Contents). f.symbols) c.file-file.ensures.value in
+    let table : c.symbols.result.now ≡ o.symbols = c.symbols.ensures.value ∙ ap (λ (f : Contents). f.symbols) c.file-file.ensures.value in
     let states : c.enter_all.new.marks.items ≡ state_marks (length m.externals) m.externals (next_mentions m o) = search rules in
-    let bound = bound-is m n o c.symbols-2.result.now e table c.requires.covered b c.bind_waiting.ensures.else_same c.in_default.ensures.texts c.in_default.ensures.datas in
-    let heads = heads-are m n o c.symbols-2.result.now e table t u v c.make_room.ensures.threads c.bind_waiting.ensures.links c.in_default.ensures.heads in
+    let bound = bound-is m n o c.symbols.result.now e table c.requires.covered b c.bind_waiting.ensures.else_same c.in_default.ensures.texts c.in_default.ensures.datas in
+    let heads = heads-are m n o c.symbols.result.now e table t u v c.make_room.ensures.threads c.bind_waiting.ensures.links c.in_default.ensures.heads in
     joined_threads m b o c.file-file.result.now c.next_shifts-shifts.result bound c.file-file.ensures.value c.next_shifts-shifts.ensures t v (threads_in c.settle.new.image) heads c.settle.ensures.threads
 
 pub returns-clause-marks : goal.returns-clause-marks
@@ -148,7 +148,7 @@ returns-clause-marks c =
     let v = threads_in c.bind_waiting.new.image in
     let e = entered-is m (image_in c.make_room.new.image) o c.file-file.result.now c.next_shifts-shifts.result c.symbols.result.now c.enter_all.new.externals.entries c.enter_all.new.multiples.items
     c.make_room.ensures.image c.file-file.ensures.value c.symbols.ensures.value c.next_shifts-shifts.ensures c.enter_all.ensures.names c.enter_all.ensures.multiples in
-    let table : c.symbols-2.result.now ≡ o.symbols = c.symbols-2.ensures.value ∙ ap (λ (f : Contents). f.symbols) c.file-file.ensures.value in
+    let table : c.symbols.result.now ≡ o.symbols = c.symbols.ensures.value ∙ ap (λ (f : Contents). f.symbols) c.file-file.ensures.value in
     let states : c.enter_all.new.marks.items ≡ state_marks (length m.externals) m.externals (next_mentions m o) = search rules in
-    marks-are m n o c.symbols-2.result.now e table c.requires.covered t u c.make_room.ensures.threads b.text_cells b.data_cells v.heads c.enter_all.new.marks.items c.bind_waiting.new.marks.items states
+    marks-are m n o c.symbols.result.now e table c.requires.covered t u c.make_room.ensures.threads b.text_cells b.data_cells v.heads c.enter_all.new.marks.items c.bind_waiting.new.marks.items states
     c.in_default.ensures.texts c.in_default.ensures.datas c.in_default.ensures.heads c.bind_waiting.ensures.back c.in_default.ensures.few

@@ -8,12 +8,12 @@ use Rattle.link_session.proofs.mention.enter_all.Given as goal
 -- what is entered so far, with what is left, makes the whole; there is room for what is left
 abbrev pub invariant-loop-symbol : goal.invariant-loop-symbol
 invariant-loop-symbol l = record {
-  names : all_mentioned l.initial.externals.entries (mentions_by l.shifts l.symbols) ≡ all_mentioned l.externals.entries (mentions_by l.shifts (drop l.symbol-index l.symbols));
-  multiples : l.initial.multiples.items ++ all_clashes l.initial.externals.entries (mentions_by l.shifts l.symbols)
-      ≡ l.multiples.items ++ all_clashes l.externals.entries (mentions_by l.shifts (drop l.symbol-index l.symbols));
-  marks : l.initial.marks.items ++ state_marks l.kept l.initial.externals.entries (mentions_by l.shifts l.symbols)
-      ≡ l.marks.items ++ state_marks l.kept l.externals.entries (mentions_by l.shifts (drop l.symbol-index l.symbols));
-  names_room : length (filter is_external (drop l.symbol-index l.symbols)) ≤ spare l.externals;
-  multiples_room : vec_len l.multiples + length (filter is_external (drop l.symbol-index l.symbols)) ≤ vec_capacity l.multiples;
-  marks_room : vec_len l.marks + length (filter is_external (drop l.symbol-index l.symbols)) ≤ vec_capacity l.marks;
+  names : all_mentioned l.initial.externals.entries (mentions_by l.table.shifts l.table.symbols.now) ≡ all_mentioned l.externals.entries (mentions_by l.table.shifts (drop l.symbol-index l.table.symbols.now));
+  multiples : l.initial.multiples.items ++ all_clashes l.initial.externals.entries (mentions_by l.table.shifts l.table.symbols.now)
+      ≡ l.multiples.items ++ all_clashes l.externals.entries (mentions_by l.table.shifts (drop l.symbol-index l.table.symbols.now));
+  marks : l.initial.marks.items ++ state_marks l.kept l.initial.externals.entries (mentions_by l.table.shifts l.table.symbols.now)
+      ≡ l.marks.items ++ state_marks l.kept l.externals.entries (mentions_by l.table.shifts (drop l.symbol-index l.table.symbols.now));
+  names_room : length (filter is_external (drop l.symbol-index l.table.symbols.now)) ≤ spare l.externals;
+  multiples_room : vec_len l.multiples + length (filter is_external (drop l.symbol-index l.table.symbols.now)) ≤ vec_capacity l.multiples;
+  marks_room : vec_len l.marks + length (filter is_external (drop l.symbol-index l.table.symbols.now)) ≤ vec_capacity l.marks;
 }
