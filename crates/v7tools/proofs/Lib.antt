@@ -1,3 +1,6 @@
+pub mod DeedLemmas
+pub mod LinkRunLemmas
+pub mod FileRunLemmas
 pub mod AnswerLemmas
 pub mod CommandLemmas
 pub mod ScriptLemmas

@@ -9,3 +9,6 @@ pub mod ScriptAnswers
 pub mod Answers
 pub mod Steps
 pub mod Blocks
+pub mod Deeds
+pub mod LinkRuns
+pub mod FileRuns

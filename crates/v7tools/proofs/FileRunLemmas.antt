@@ -1,0 +1,110 @@
+-- Files that are read and stored one after another, and lists of them, from their parts.
+use Rattle.std.specs.declared.alloc.Global.{Global}
+use Rattle.std.proofs.Common.{◌≡◌, ◌≢◌, ℕ, List, [], ◌∷◌, ◌++◌, map, Option, Some, None, Result, Ok, Err, refl, sym, ap, ◌∙◌, subst, inl, inr}
+use Rattle.std.proofs.lemmas.List.{append-nil}
+use Rattle.std.specs.Prelude.{String, string_bytes, IfSome}
+use Rattle.aout_core.specs.declared.file.ReadFault.TheVariants as reads
+use Rattle.aout_core.specs.Contents.{Contents}
+use Rattle.aout_core.specs.Front.{front}
+use Rattle.aout_core.specs.Reading.{HasHeader, IsReadOf, LeavesAfter}
+use Rattle.aout_core.specs.Strip.{stripped}
+use Rattle.v7tools.specs.Deeds.{Deed, History, Extends, Opened, opened, opens, stored}
+use Rattle.v7tools.specs.FileRuns.{AreRead, IsKept, IsLoadAt, IsStripping, Loaded, Reads, ReadsNotAll, strips}
+use Rattle.v7tools.specs.Loads.{read_of, IsAtPath}
+use Rattle.v7tools.specs.declared.fault.CliFault.{CliFault}
+use Rattle.v7tools.specs.declared.fault.CliFault.TheVariants as faults
+use Rattle.v7tools.specs.declared.link_answers.Stored.{Stored}
+use Rattle.v7tools.specs.declared.link_answers.Stored.TheVariants.{Kept, NotCreated, Failed}
+use Rattle.v7tools.proofs.DeedLemmas.{asked_behind, map-append, nothing_asked, one_more}
+
+-- what a reader answered of known bytes
+abbrev Told : Option (List ℕ) → Option (List ℕ) → Result Loaded CliFault → Type 0
+Told known left r = IfSome known (λ bytes. IsReadOf (read_of r) bytes × LeavesAfter (read_of r) bytes left)
+
+told_alone : (P Q : List ℕ → Type 0) (known : Option (List ℕ)) → IfSome known (λ bytes. P bytes × Q bytes) → IfSome known P
+told_alone P Q None h = tt
+told_alone P Q (Some bytes) h = h.0
+
+-- the file that was opened at a path was read, or why it was not
+pub loaded_at : (old new : History) (path : String Global) (known left : Option (List ℕ)) (r : Result Loaded CliFault) → Extends old new (opened (string_bytes path) (Some known) ∷ []) → IsAtPath path r → Told known left r → IsLoadAt old new path r
+loaded_at old new path known left (Ok l) asked at h = (at, (known, asked, told_alone _ _ known h))
+loaded_at old new path known left (Err (faults.BadFile p fault)) asked at h = (at.0, at.1, (known, asked, told_alone _ _ known h))
+loaded_at old new path known left (Err faults.Memory) asked at h = (known, asked, told_alone _ _ known h)
+loaded_at old new path known left (Err faults.Usage) asked at h = absurd at
+loaded_at old new path known left (Err (faults.CannotOpen p)) asked at h = absurd at
+loaded_at old new path known left (Err (faults.BadObject p fault)) asked at h = absurd at
+loaded_at old new path known left (Err (faults.NotAdded p fault)) asked at h = absurd at
+loaded_at old new path known left (Err (faults.NotLinked fault)) asked at h = absurd at
+loaded_at old new path known left (Err (faults.CannotCreate p)) asked at h = absurd at
+loaded_at old new path known left (Err faults.WriteFailed) asked at h = absurd at
+loaded_at old new path known left (Err faults.LongLine) asked at h = absurd at
+loaded_at old new path known left (Err faults.ManyLines) asked at h = absurd at
+loaded_at old new path known left (Err faults.ScriptFailed) asked at h = absurd at
+
+read_behind : (found : List Opened) (loaded : List Loaded) (known : Option (List ℕ)) (l : Loaded) → AreRead found loaded → IfSome known (λ bytes. front bytes ≡ Ok l.1) → AreRead (found ++ (string_bytes l.0, known) ∷ []) (loaded ++ l ∷ [])
+read_behind [] [] known l h k = ((refl, k), tt)
+read_behind [] (m ∷ ms) known l h k = absurd h
+read_behind (f ∷ fs) [] known l h k = absurd h
+read_behind (f ∷ fs) (m ∷ ms) known l h k = (h.0, read_behind fs ms known l h.1 k)
+
+-- nothing is read yet
+pub reads_none : (a : History) → Reads a a []
+reads_none a = record { found = []; read = tt; asked = nothing_asked a }
+
+-- one more file is read
+pub reads_more : (a b c : History) (loaded : List Loaded) (path : String Global) (l : Loaded) → Reads a b loaded → IsLoadAt b c path (Ok l) → Reads a c (loaded ++ l ∷ [])
+reads_more a b c loaded path l h k = record {
+  found = h.found ++ (string_bytes l.0, k.1.0) ∷ [];
+  read = read_behind h.found loaded k.1.0 l h.read k.1.2;
+  asked = subst (Extends a c) (sym (map-append _ h.found _)) (asked_behind a b c _ _ h.asked (subst (λ (p : String Global). Extends b c (opened (string_bytes p) (Some k.1.0) ∷ [])) (sym k.0) k.1.1));
+}
+
+-- the paths of what was read and those that are left
+pub paths_more : (files left later : List (String Global)) (loaded : List Loaded) (path : String Global) (l : Loaded) → files ≡ map (λ f. f.0) loaded ++ left → left ≡ path ∷ later → l.0 ≡ path → files ≡ map (λ f. f.0) (loaded ++ l ∷ []) ++ later
+paths_more files left later loaded path l h e same =
+    subst (λ (xs : List (String Global)). files ≡ xs ++ later) (sym (map-append (λ (f : Loaded). f.0) loaded (l ∷ [])))
+    (one_more files (map (λ f. f.0) loaded) left later l.0 h (e ∙ ap (λ (p : String Global). p ∷ later) (sym same)))
+
+-- one is not read
+pub stops_reading : (a b c : History) (files left later : List (String Global)) (loaded : List Loaded) (path : String Global) (fault : CliFault) → Reads a b loaded → files ≡ map (λ f. f.0) loaded ++ left → left ≡ path ∷ later →
+    IsLoadAt b c path (Err fault) → ReadsNotAll a c files fault
+stops_reading a b c files left later loaded path fault h order e k = inr (record {
+  loaded = loaded;
+  path = path;
+  rest = later;
+  order = order ∙ ap (λ (l : List (String Global)). map (λ f. f.0) loaded ++ l) e;
+  between = b;
+  before = h;
+  last = k;
+})
+
+-- none is left
+pub all_read : (files left : List (String Global)) (loaded : List Loaded) → files ≡ map (λ f. f.0) loaded ++ left → left ≡ [] → files ≡ map (λ f. f.0) loaded
+all_read files left loaded h e = h ∙ ap (λ (l : List (String Global)). map (λ f. f.0) loaded ++ l) e ∙ append-nil _
+
+-- ---- strip
+
+abbrev pub strips_all : List Loaded → List Deed
+strips_all loaded = map (λ l. strips l Kept) loaded
+
+-- one more file is stored
+pub strips_more : (a b c : History) (done : List Loaded) (l : Loaded) (what : Stored) → Extends a b (strips_all done) → Extends b c (strips l what ∷ []) → IsKept l.0 what (Ok tt) → Extends a c (strips_all (done ++ l ∷ []))
+strips_more a b c done l Kept h k is = subst (Extends a c) (sym (map-append _ done (l ∷ []))) (asked_behind a b c _ _ h k)
+strips_more a b c done l NotCreated h k is = absurd (cc)
+strips_more a b c done l Failed h k is = absurd (cc)
+
+-- one is not stored
+pub stops_storing : (a b c : History) (loaded done left later : List Loaded) (l : Loaded) (what : Stored) (fault : CliFault) → loaded ≡ done ++ left → left ≡ l ∷ later → Extends a b (strips_all done) → Extends b c (strips l what ∷ []) →
+    IsKept l.0 what (Err fault) → IsStripping a c loaded (Err fault)
+stops_storing a b c loaded done left later l what fault order e h k is = record {
+  front = done;
+  last = l;
+  rest = later;
+  what = what;
+  order = order ∙ ap (λ (xs : List Loaded). done ++ xs) e;
+  asked = asked_behind a b c _ _ h k;
+  fails = is;
+}
+
+pub strip_at : (b c : History) (at : List ℕ) (file : Contents) (l : Loaded) (what : Stored) → Extends b c (stored at file what ∷ []) → at ≡ string_bytes l.0 → file ≡ stripped l.1 → Extends b c (strips l what ∷ [])
+strip_at b c at file l what h p f = rw (sym p, sym f) h

@@ -1,0 +1,69 @@
+-- A link over an office, from its parts.
+use Rattle.std.specs.declared.alloc.Global.{Global}
+use Rattle.std.proofs.Common.{◌≡◌, ℕ, List, [], ◌∷◌, ◌++◌, map, Option, Some, None, Result, Ok, Err, refl, sym, ap, ◌∙◌, subst, inl, inr}
+use Rattle.std.specs.Prelude.{String, string_bytes, IfSome}
+use Rattle.std.specs.List.{AllByRecursion}
+use Rattle.aout_core.specs.Wires.{Latched}
+use Rattle.link_out.specs.declared.linked.Linked.{Linked}
+use Rattle.link_out.specs.Choices.{Choices}
+use Rattle.link_out.specs.Outcomes.{findings_of}
+use Rattle.v7tools.specs.Deeds.{Deed, History, Extends, Opened, opened, opens, paths_of, stored}
+use Rattle.v7tools.specs.LinkAnswers.{and_told, IsLinkOf, IsPossible, IsWorking, said_by, told}
+use Rattle.v7tools.specs.LinkRuns.{sources, all_told, IsOpening, OpensAll, IsLinkOfFiles, IsLinkRun, Refuses, ReportsIf}
+use Rattle.v7tools.specs.declared.fault.CliFault.{CliFault}
+use Rattle.v7tools.specs.declared.fault.CliFault.TheVariants as faults
+use Rattle.v7tools.specs.declared.link_answers.Stored.{Stored}
+use Rattle.v7tools.proofs.DeedLemmas.{asked_behind, paths_opened}
+
+module _ {R : Type 0} (remaining : R → Option (List ℕ)) where
+  told_sources : (inputs : List (String Global × Latched R)) → told remaining inputs ≡ all_told (sources remaining inputs)
+  told_sources [] = refl
+  told_sources (i ∷ is) = ap (and_told (string_bytes i.0) (remaining i.1.device)) (told_sources is)
+
+  -- the link of the inputs is that of the files that were opened
+  pub link_of_files : (forced : List (List ℕ)) (o : Choices) (files : List (String Global)) (inputs : List (String Global × Latched R)) (answer : Result Linked CliFault) → files ≡ map (λ i. i.0) inputs →
+      IfSome (told remaining inputs) (λ bytes. IsLinkOf forced o bytes answer) → IsLinkOfFiles forced o (map string_bytes files) (sources remaining inputs) answer
+  link_of_files forced o files inputs answer order h = record {
+    all = sym (ap (map string_bytes) order ∙ paths_opened remaining inputs);
+    link = subst (λ (known : Option (List (List ℕ × List ℕ))). IfSome known (λ bytes. IsLinkOf forced o bytes answer)) (told_sources inputs) h;
+  }
+
+  module _ {W : Type 0} (contents : W → Option (List ℕ)) (forced : List (List ℕ)) (o : Choices) (out : String Global) (files : List (String Global)) (old : History) (result : Result ℕ CliFault) (before after : Latched W) where
+    pub not_opened : (new : History) (fault : CliFault) → IsOpening remaining old new files (Err fault) → result ≡ Err fault → after ≡ before →
+        IsLinkRun contents forced o out (map string_bytes files) old new result before after
+    not_opened new (faults.CannotOpen path) h is same = inr (inl (record { path = path; stops = h; refuses = record { refusal = is; silent = same } }))
+    not_opened new faults.Memory h is same = inl (h, record { refusal = is; silent = same })
+    not_opened new faults.Usage h is same = absurd h
+    not_opened new (faults.BadFile path fault) h is same = absurd h
+    not_opened new (faults.BadObject path fault) h is same = absurd h
+    not_opened new (faults.NotAdded path fault) h is same = absurd h
+    not_opened new (faults.NotLinked fault) h is same = absurd h
+    not_opened new (faults.CannotCreate path) h is same = absurd h
+    not_opened new faults.WriteFailed h is same = absurd h
+    not_opened new faults.LongLine h is same = absurd h
+    not_opened new faults.ManyLines h is same = absurd h
+    not_opened new faults.ScriptFailed h is same = absurd h
+
+    pub no_link : (new : History) (inputs : List (String Global × Latched R)) (fault : CliFault) → OpensAll remaining old new files inputs →
+        IfSome (told remaining inputs) (λ bytes. IsLinkOf forced o bytes (Err fault)) → IsPossible (said_by fault) → result ≡ Err fault → after ≡ before →
+        IsLinkRun contents forced o out (map string_bytes files) old new result before after
+    no_link new inputs fault h link possible is same = inr (inr (inl (record {
+      fault = fault;
+      possible = possible;
+      found = sources remaining inputs;
+      answer = link_of_files forced o files inputs (Err fault) h.1 link;
+      asked = h.0;
+      refuses = record { refusal = is; silent = same };
+    })))
+
+    pub stores_link : (mid new : History) (inputs : List (String Global × Latched R)) (made : Linked) (what : Stored) → OpensAll remaining old mid files inputs →
+        IfSome (told remaining inputs) (λ bytes. IsLinkOf forced o bytes (Ok made)) → Extends mid new (stored (string_bytes out) made.file what ∷ []) → ReportsIf contents what out (findings_of made.report) result before after →
+        IsLinkRun contents forced o out (map string_bytes files) old new result before after
+    stores_link mid new inputs made what h link asked reports = inr (inr (inr (record {
+      made = made;
+      what = what;
+      found = sources remaining inputs;
+      answer = link_of_files forced o files inputs (Ok made) h.1 link;
+      asked = asked_behind old mid new _ _ h.0 asked;
+      reports = reports;
+    })))

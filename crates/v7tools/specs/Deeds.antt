@@ -1,0 +1,30 @@
+-- What a command asked of the world, in order, and what it was answered.
+use Rattle.std.specs.Prelude.{◌≡◌, ℕ, List, [], ◌∷◌, ◌++◌, map, Option, Some, None, ⊤}
+use Rattle.aout_core.specs.Contents.{Contents}
+use Rattle.v7tools.specs.declared.link_answers.Stored.{Stored}
+
+-- a file was opened, or could not be, and its bytes are told where they are known; or a file was to be stored
+pub data Deed : Type 0 where
+  opened : List ℕ → Option (Option (List ℕ)) → Deed
+  stored : List ℕ → Contents → Stored → Deed
+
+-- all deeds so far, where they are known
+abbrev pub History : Type 0
+History = Option (List Deed)
+
+-- known deeds grow by these
+abbrev pub Extends : History → History → List Deed → Type 0
+Extends None new more = ⊤
+Extends (Some xs) None more = ⊥
+Extends (Some xs) (Some ys) more = ys ≡ xs ++ more
+
+-- a path, and the bytes of the file that was opened there, where they are known
+abbrev pub Opened : Type 0
+Opened = List ℕ × Option (List ℕ)
+
+-- the files were opened
+abbrev pub opens : List Opened → List Deed
+opens found = map (λ f. opened f.0 (Some f.1)) found
+
+abbrev pub paths_of : List Opened → List (List ℕ)
+paths_of found = map (λ f. f.0) found

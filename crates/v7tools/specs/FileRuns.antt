@@ -1,0 +1,116 @@
+-- What nm, size and strip do: what they open and read, what they write, and their status.
+use Rattle.std.specs.declared.alloc.Global.{Global}
+use Rattle.std.specs.Prelude.{◌≡◌, ◌≢◌, ◌↔◌, ◌⊎◌, ℕ, List, [], ◌∷◌, ◌++◌, map, Option, Some, None, Result, Ok, Err, IfErr, IfOk, IfSome, IsErr, IsTrue, String, string_bytes, Vec}
+use Rattle.aout_core.specs.declared.file.ReadFault.TheVariants as reads
+use Rattle.aout_core.specs.Contents.{Contents}
+use Rattle.aout_core.specs.Front.{front}
+use Rattle.aout_core.specs.Reading.{HasHeader, IsReadOf}
+use Rattle.aout_core.specs.Strip.{stripped}
+use Rattle.aout_core.specs.Wires.{Latched, Puts}
+use Rattle.symtools.specs.Files.{by_bytes}
+use Rattle.v7tools.specs.Deeds.{Deed, History, Extends, Opened, opened, opens, stored}
+use Rattle.v7tools.specs.LinkRuns.{Refuses}
+use Rattle.v7tools.specs.declared.fault.CliFault.{CliFault}
+use Rattle.v7tools.specs.declared.fault.CliFault.TheVariants as faults
+use Rattle.v7tools.specs.declared.link_answers.Stored.{Stored}
+use Rattle.v7tools.specs.declared.link_answers.Stored.TheVariants.{Kept, NotCreated, Failed}
+
+-- a path with what was read there
+abbrev pub Loaded : Type 0
+Loaded = String Global × Contents
+
+-- the file at a path was opened, and its bytes are known or not; this is said of them
+abbrev pub OpensOn : History → History → String Global → (List ℕ → Type 0) → Type 0
+OpensOn old new path holds = (known : Option (List ℕ)) × Extends old new (opened (string_bytes path) (Some known) ∷ []) × IfSome known holds
+
+-- the file at a path was opened and read, or why it was not
+abbrev pub IsLoadAt : History → History → String Global → Result Loaded CliFault → Type 0
+IsLoadAt old new path (Ok loaded) = (loaded.0 ≡ path) × OpensOn old new path (λ bytes. front bytes ≡ Ok loaded.1)
+IsLoadAt old new path (Err (faults.CannotOpen at)) = (at ≡ path) × Extends old new (opened (string_bytes path) None ∷ [])
+IsLoadAt old new path (Err (faults.BadFile at fault)) = (at ≡ path) × (fault ≢ reads.Memory) × OpensOn old new path (IsReadOf (Err fault))
+IsLoadAt old new path (Err faults.Memory) = OpensOn old new path HasHeader
+IsLoadAt old new path (Err _) = ⊥
+
+-- each of the files that were opened is what was read
+abbrev pub AreRead : List Opened → List Loaded → Type 0
+AreRead [] [] = Unit {0}
+AreRead (f ∷ fs) (l ∷ ls) = ((f.0 ≡ string_bytes l.0) × IfSome f.1 (λ bytes. front bytes ≡ Ok l.1)) × AreRead fs ls
+AreRead _ _ = ⊥
+
+-- some files were opened and read in order, each before the next one was opened
+pub record Reads (old new : History) (loaded : List Loaded) : Type 0 where
+  pub found : List Opened
+  pub read : AreRead found loaded
+  pub asked : Extends old new (opens found)
+
+-- the files before one were opened and read, and that one was not
+pub record ReadsUpTo (old new : History) (files : List (String Global)) (fault : CliFault) : Type 0 where
+  pub loaded : List Loaded
+  pub path : String Global
+  pub rest : List (String Global)
+  pub order : files ≡ map (λ l. l.0) loaded ++ path ∷ rest
+  pub between : History
+  pub before : Reads old between loaded
+  pub last : IsLoadAt between new path (Err fault)
+
+-- all files were opened and read
+abbrev pub ReadsAll : History → History → List (String Global) → List Loaded → Type 0
+ReadsAll old new files loaded = (files ≡ map (λ l. l.0) loaded) × Reads old new loaded
+
+-- only those up to one that was not read; or memory was wanted before
+abbrev pub ReadsNotAll : History → History → List (String Global) → CliFault → Type 0
+ReadsNotAll old new files fault = ((fault ≡ faults.Memory) × Extends old new []) ⊎ ReadsUpTo old new files fault
+
+abbrev pub IsLoading : History → History → List (String Global) → Result (Vec Loaded Global) CliFault → Type 0
+IsLoading old new files (Ok loaded) = ReadsAll old new files loaded.items
+IsLoading old new files (Err fault) = ReadsNotAll old new files fault
+
+abbrev pub OnlyWriteFailed : CliFault → Type 0
+OnlyWriteFailed fault = fault ≡ faults.WriteFailed
+
+abbrev pub OrMemory : CliFault → Type 0
+OrMemory fault = (fault ≡ faults.WriteFailed) ⊎ (fault ≡ faults.Memory)
+
+-- the text went out, or on a fault a front of it
+pub record Lists {W : Type 0} (contents : W → Option (List ℕ)) (may_be : CliFault → Type 0) (text : List ℕ) (result : Result ℕ CliFault) (before after : Latched W) : Type 0 where
+  pub status : IfOk result (λ status. status ≡ 0)
+  pub other : IfErr result may_be
+  pub failed : (result ≡ Err faults.WriteFailed) ↔ IsTrue after.has_failed
+  pub bytes : Puts result (contents before.device) (contents after.device) text
+
+-- nothing is written before all files are read
+abbrev pub IsListRun : {W : Type 0} → (W → Option (List ℕ)) → (CliFault → Type 0) → (List (List ℕ × Contents) → List ℕ) → List (String Global) → History → History → Result ℕ CliFault → Latched W → Latched W → Type 0
+IsListRun contents may_be text files old new result before after =
+    ((fault : CliFault) × ReadsNotAll old new files fault × Refuses fault result before after)
+    ⊎ ((loaded : List Loaded) × ReadsAll old new files loaded × Lists contents may_be (text (by_bytes loaded)) result before after)
+
+-- a file is stored, or the fault says why it is not
+abbrev pub IsKept : String Global → Stored → Result (Unit {0}) CliFault → Type 0
+IsKept path Kept result = result ≡ Ok tt
+IsKept path NotCreated result = result ≡ Err (faults.CannotCreate path)
+IsKept path Failed result = result ≡ Err faults.WriteFailed
+
+-- a file is to be stored stripped at its own path
+abbrev pub strips : Loaded → Stored → Deed
+strips l what = stored (string_bytes l.0) (stripped l.1) what
+
+-- the files before one are stored, and that one is not
+pub record StripsUpTo (old new : History) (loaded : List Loaded) (fault : CliFault) : Type 0 where
+  pub front : List Loaded
+  pub last : Loaded
+  pub rest : List Loaded
+  pub what : Stored
+  pub order : loaded ≡ front ++ last ∷ rest
+  pub asked : Extends old new (map (λ l. strips l Kept) front ++ strips last what ∷ [])
+  pub fails : IsKept last.0 what (Err fault)
+
+-- each file is stored stripped at its own path, in order, up to the first that can't be
+abbrev pub IsStripping : History → History → List Loaded → Result ℕ CliFault → Type 0
+IsStripping old new loaded (Ok status) = (status ≡ 0) × Extends old new (map (λ l. strips l Kept) loaded)
+IsStripping old new loaded (Err fault) = StripsUpTo old new loaded fault
+
+-- nothing is stored before all files are read
+abbrev pub IsStripRun : History → History → List (String Global) → Result ℕ CliFault → Type 0
+IsStripRun old new files result =
+    ((fault : CliFault) × ReadsNotAll old new files fault × (result ≡ Err fault))
+    ⊎ ((loaded : List Loaded) × (between : History) × ReadsAll old between files loaded × IsStripping between new loaded result)

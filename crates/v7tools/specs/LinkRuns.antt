@@ -1,0 +1,97 @@
+-- What a command that links does: what it opens, what it stores, what it reports, and its status.
+use Rattle.std.specs.declared.alloc.Global.{Global}
+use Rattle.std.specs.Prelude.{◌≡◌, ◌↔◌, ◌⊎◌, ℕ, List, [], ◌∷◌, ◌++◌, map, Option, Some, None, Result, Ok, Err, IfErr, IfOk, IfSome, IsErr, IsTrue, String, string_bytes, Vec}
+use Rattle.std.specs.List.{AllByRecursion}
+use Rattle.aout_core.specs.Wires.{Latched, Puts}
+use Rattle.link_out.specs.declared.linked.Linked.{Linked}
+use Rattle.link_out.specs.Choices.{Choices}
+use Rattle.link_out.specs.Outcomes.{findings_of}
+use Rattle.link_out.specs.Reports.{Findings, report_text, status_of}
+use Rattle.v7tools.specs.Deeds.{History, Extends, Opened, opened, opens, paths_of, stored}
+use Rattle.v7tools.specs.LinkAnswers.{and_told, IsLinkOf, IsPossible, IsWorking, said_by}
+use Rattle.v7tools.specs.declared.fault.CliFault.{CliFault}
+use Rattle.v7tools.specs.declared.fault.CliFault.TheVariants as faults
+use Rattle.v7tools.specs.declared.link_answers.Stored.{Stored}
+use Rattle.v7tools.specs.declared.link_answers.Stored.TheVariants.{Kept, NotCreated, Failed}
+
+-- the inputs, with what is known of their bytes
+abbrev pub sources : {R : Type 0} → (R → Option (List ℕ)) → List (String Global × Latched R) → List Opened
+sources remaining inputs = map (λ i. (string_bytes i.0, remaining i.1.device)) inputs
+
+-- the files were opened one after another up to the one at this path, which can't be
+pub record StopsAt (old new : History) (files : List (List ℕ)) (path : List ℕ) : Type 0 where
+  pub found : List Opened
+  pub rest : List (List ℕ)
+  pub order : files ≡ paths_of found ++ path ∷ rest
+  pub asked : Extends old new (opens found ++ opened path None ∷ [])
+
+-- all files were opened in order, and none of their wires has failed
+abbrev pub OpensAll : {R : Type 0} → (R → Option (List ℕ)) → History → History → List (String Global) → List (String Global × Latched R) → Type 0
+OpensAll remaining old new files inputs = Extends old new (opens (sources remaining inputs)) × (files ≡ map (λ i. i.0) inputs) × AllByRecursion IsWorking inputs
+
+-- all files were opened, or those up to the first that can't be; memory is wanted only before
+abbrev pub IsOpening : {R : Type 0} → (R → Option (List ℕ)) → History → History → List (String Global) → Result (Vec (String Global × Latched R) Global) CliFault → Type 0
+IsOpening remaining old new files (Ok inputs) = OpensAll remaining old new files inputs.items
+IsOpening remaining old new files (Err (faults.CannotOpen path)) = StopsAt old new (map string_bytes files) (string_bytes path)
+IsOpening remaining old new files (Err faults.Memory) = Extends old new []
+IsOpening remaining old new files (Err _) = ⊥
+
+-- the paths with their bytes, where all are known
+abbrev pub all_told : List Opened → Option (List (List ℕ × List ℕ))
+all_told [] = Some []
+all_told (f ∷ fs) = and_told f.0 f.1 (all_told fs)
+
+-- the files that were opened are all, and this is the link of their bytes, or why there is none
+pub record IsLinkOfFiles (forced : List (List ℕ)) (o : Choices) (files : List (List ℕ)) (found : List Opened) (answer : Result Linked CliFault) : Type 0 where
+  pub all : paths_of found ≡ files
+  pub link : IfSome (all_told found) (λ inputs. IsLinkOf forced o inputs answer)
+
+-- the report went out, or on a fault a front of it
+pub record Reports {W : Type 0} (contents : W → Option (List ℕ)) (f : Findings) (result : Result ℕ CliFault) (before after : Latched W) : Type 0 where
+  pub status : IfOk result (λ status. status ≡ status_of f)
+  pub write_failed : IfErr result (λ fault. fault ≡ faults.WriteFailed)
+  pub fault : IsErr result ↔ IsTrue after.has_failed
+  pub bytes : Puts result (contents before.device) (contents after.device) (report_text f)
+
+-- the report goes out only where the file is stored
+abbrev pub ReportsIf : {W : Type 0} → (W → Option (List ℕ)) → Stored → String Global → Findings → Result ℕ CliFault → Latched W → Latched W → Type 0
+ReportsIf contents Kept out f result before after = Reports contents f result before after
+ReportsIf contents NotCreated out f result before after = (result ≡ Err (faults.CannotCreate out)) × (after ≡ before)
+ReportsIf contents Failed out f result before after = (result ≡ Err faults.WriteFailed) × (after ≡ before)
+
+-- nothing goes out
+pub record Refuses {W : Type 0} (fault : CliFault) (result : Result ℕ CliFault) (before after : Latched W) : Type 0 where
+  pub refusal : result ≡ Err fault
+  pub silent : after ≡ before
+
+-- a file can't be opened
+pub record CannotOpenOne {W : Type 0} (files : List (List ℕ)) (old new : History) (result : Result ℕ CliFault) (before after : Latched W) : Type 0 where
+  pub path : String Global
+  pub stops : StopsAt old new files (string_bytes path)
+  pub refuses : Refuses (faults.CannotOpen path) result before after
+
+-- there is no link: nothing is stored
+pub record MakesNoLink {W : Type 0} (forced : List (List ℕ)) (o : Choices) (files : List (List ℕ)) (old new : History) (result : Result ℕ CliFault) (before after : Latched W) : Type 0 where
+  pub fault : CliFault
+  pub possible : IsPossible (said_by fault)
+  pub found : List Opened
+  pub answer : IsLinkOfFiles forced o files found (Err fault)
+  pub asked : Extends old new (opens found)
+  pub refuses : Refuses fault result before after
+
+-- there is a link: its file is to be stored behind all that was opened, and then it is reported
+pub record StoresLink {W : Type 0} (contents : W → Option (List ℕ)) (forced : List (List ℕ)) (o : Choices) (out : String Global) (files : List (List ℕ)) (old new : History) (result : Result ℕ CliFault) (before after : Latched W) : Type 0 where
+  pub made : Linked
+  pub what : Stored
+  pub found : List Opened
+  pub answer : IsLinkOfFiles forced o files found (Ok made)
+  pub asked : Extends old new (opens found ++ stored (string_bytes out) made.file what ∷ [])
+  pub reports : ReportsIf contents what out (findings_of made.report) result before after
+
+-- want of memory before anything was opened, a file that can't be opened, no link, or a link
+abbrev pub IsLinkRun : {W : Type 0} → (W → Option (List ℕ)) → List (List ℕ) → Choices → String Global → List (List ℕ) → History → History → Result ℕ CliFault → Latched W → Latched W → Type 0
+IsLinkRun contents forced o out files old new result before after =
+    (Extends old new [] × Refuses faults.Memory result before after)
+    ⊎ (CannotOpenOne files old new result before after
+    ⊎ (MakesNoLink forced o files old new result before after
+    ⊎ StoresLink contents forced o out files old new result before after))

@@ -1,0 +1,78 @@
+//! The command ld, over any office.
+ghost use Rattle.std.specs.Prelude.{◌≤◌, map, string_bytes, IfOk};
+ghost use Rattle.link_out.specs.Outcomes.{findings_of};
+ghost use Rattle.v7tools.specs.LinkRuns.{IsLinkRun, IsOpening, Reports, ReportsIf};
+
+use crate::fault::CliFault;
+use crate::inputs::ld;
+use crate::link_answers::Stored;
+use crate::office::Office;
+use aout_core::Wire;
+use link_out::{Linked, Options, Report};
+use link_session::Forced;
+use std::alloc::Global;
+use std::io::Write;
+
+/// Opens the files in order, all before any is read.
+fn open_all<O: Office>(
+    alloc: Global,
+    office: &mut O,
+    files: Vec<String>,
+) -> Result<Vec<(String, Wire<O::Source>)>, CliFault>
+    ensures { IsOpening O.Source.remaining (O.history office.old) (O.history office.new) files.items result }
+{
+    let mut inputs = Vec::with_capacity(alloc, files.len())?;
+    for path in files {
+        let Some(source) = office.open(path.as_str()) else {
+            return Err(CliFault::CannotOpen(path));
+        };
+        inputs.push((path, Wire::new(source))).unwrap();
+    }
+    Ok(inputs)
+}
+
+/// Writes a report to its end, and answers its status.
+fn put_report<W: Write>(report: &Report, output: &mut Wire<W>) -> Result<u8, CliFault>
+    ensures small { IfOk result (λ status. status ≤ 1) }
+    ensures run { Reports W.contents (findings_of report.now) result output.old output.new }
+{
+    report.write(output)?;
+    output.flush()?;
+    Ok(report.status())
+}
+
+/// Reports a link, once it is known what became of its file.
+fn report_stored<W: Write>(
+    report: &Report,
+    out: String,
+    stored: Stored,
+    output: &mut Wire<W>,
+) -> Result<u8, CliFault>
+    ensures small { IfOk result (λ status. status ≤ 1) }
+    ensures run { ReportsIf W.contents stored out (findings_of report.now) result output.old output.new }
+{
+    match stored {
+        Stored::Kept => put_report(report, output),
+        Stored::NotCreated => Err(CliFault::CannotCreate(out)),
+        Stored::Failed => Err(CliFault::WriteFailed),
+    }
+}
+
+/// Links the files into the output, and reports it.
+pub(crate) fn link_files<O: Office, W: Write>(
+    alloc: Global,
+    office: &mut O,
+    options: &Options,
+    forced: &Forced,
+    out: String,
+    files: Vec<String>,
+    output: &mut Wire<W>,
+) -> Result<u8, CliFault>
+    ensures small { IfOk result (λ status. status ≤ 1) }
+    ensures run { IsLinkRun W.contents forced.now options.now out (map string_bytes files.items) (O.history office.old) (O.history office.new) result output.old output.new }
+{
+    let inputs = open_all(alloc, office, files)?;
+    let linked = ld(alloc, inputs, forced, options)?;
+    let stored = office.store(out.as_str(), &linked.file);
+    report_stored(&linked.report, out, stored, output)
+}

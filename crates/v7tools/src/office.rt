@@ -1,0 +1,24 @@
+//! What a command asks of the world.
+ghost use Rattle.std.specs.Prelude.{[], ◌∷◌, List, None, Option};
+ghost use Rattle.std.specs.Option.{option_map};
+ghost use Rattle.v7tools.specs.Deeds.{Deed, Extends, opened, stored};
+
+use crate::link_answers::Stored;
+use aout_core::File;
+use std::io::Read;
+
+/// The files of a command, by their paths. (own choice)
+pub trait Office {
+    /// A file that is open.
+    type Source: Read + Drop;
+
+    ghost history: { Self → Option (List Deed) } = { λ _. None };
+
+    /// Opens the file at a path; `None` where there is none, or it may not be read.
+    fn open(&mut self, path: &str) -> Option<Self::Source>
+        ensures { Extends (history self.old) (history self.new) (opened path.now (option_map Self.Source.remaining result) ∷ []) };
+
+    /// Makes a file at a path, or empties the one that is there, and writes it; answers what became of it.
+    fn store(&mut self, path: &str, file: &File) -> Stored
+        ensures { Extends (history self.old) (history self.new) (stored path.now file.now result ∷ []) };
+}
