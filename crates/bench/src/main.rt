@@ -1,11 +1,14 @@
-//! Times the session and the linker on a large input. Without words it does a small run of the session and prints nothing;
-//! with the word `full` it does the full run and the command, and prints times and sizes.
+//! Times the session and the linker on a large input, and counts the calls of their devices. Without words it does a small
+//! run of the session and prints the calls of a small link, the same each time; with the word `full` it does the full run
+//! and the command, and prints times, sizes and calls.
 #![tactic(auto)]
 
+mod calls;
 mod command;
 mod input;
 
 use anyhow::{Result, anyhow};
+use calls::print_calls;
 use command::time_command;
 use input::{Size, defining, referring};
 use link_session::{Mark, Session};
@@ -101,8 +104,10 @@ fn time_session(rt: &HostRuntime, size: Size, is_full: bool) -> Result<()> {
 fn main(rt: HostRuntime) -> Result<()> {
     if env::args(&rt)?.count() > 1 {
         time_session(&rt, FULL, true)?;
+        print_calls(&rt, FULL)?;
         time_command(&rt, FULL)
     } else {
-        time_session(&rt, SMALL, false)
+        time_session(&rt, SMALL, false)?;
+        print_calls(&rt, SMALL)
     }
 }
