@@ -4,7 +4,6 @@ use Rattle.std.specs.Prelude.{filter, cond, nat_lt, slice_get, Option, Some, IsN
 use Rattle.std.specs.List.{flat_map}
 use Rattle.std.specs.Map.{keys_of}
 use Rattle.std.proofs.lemmas.List.{length-map}
-use Rattle.std.proofs.lemmas.List.Sums.{sum_by-append}
 use Rattle.aout_core.specs.declared.symbol.Symbol.{Symbol}
 use Rattle.aout_core.specs.declared.symbol.Segment.{Segment}
 use Rattle.aout_core.specs.declared.symbol.Segment.TheVariants as segments
@@ -14,18 +13,19 @@ use Rattle.aout_core.specs.WellFormed.{segment_of}
 use Rattle.link_session.specs.declared.state.State.{State}
 use Rattle.link_session.specs.Earlier.{with_earlier}
 use Rattle.link_session.specs.Labelled.{Labelled, objects}
-use Rattle.link_session.specs.Starts.{total, size_of}
+use Rattle.link_session.specs.declared.relocate.Starts.{Starts}
+use Rattle.link_session.specs.Starts.{total, no_starts, starts_behind, next_starts, shifts_at}
 use Rattle.link_session.specs.Mentions.{names_by_first_mention}
 use Rattle.link_out.specs.declared.options.Keep.{Keep}
 use Rattle.link_out.specs.declared.options.Keep.TheVariants as keeps
-use Rattle.link_out.specs.declared.table.Starts.{Starts}
 use Rattle.link_out.specs.declared.table.Moves.{Moves}
 use Rattle.link_out.specs.Layouts.{Bases}
 use Rattle.link_out.specs.Finals.{Final, final}
 use Rattle.link_out.specs.FromCells.{finals}
 use Rattle.link_out.specs.Plans.{Plan}
 use Rattle.link_out.specs.Tables.{is_kept_local, moved_value, moved_local, local_rows, external_row, external_rows, rows_kept, table}
-use Rattle.link_out.specs.Rows.{starts_behind, next_starts, moves_at, value_moved, symbol_moved, rows_in, no_starts, rows_from, kept_count, row_for, rows_for}
+use Rattle.link_out.specs.Rows.{moves_by, value_moved, symbol_moved, rows_in, rows_from, kept_count, row_for, rows_for}
+use Rattle.link_session.proofs.StartLemmas.{next_starts-behind}
 use Rattle.link_out.proofs.InOrderLemmas.{drop_next}
 
 -- a start modulo 65,536 moves as the start does
@@ -34,10 +34,10 @@ moved_from v b t own = omega arith
 
 module _ (b : Bases) (earlier : List Contents) (o : Contents) where
   abbrev moves : Moves
-  moves = moves_at b (starts_behind earlier) o.header
+  moves = moves_by b (shifts_at (starts_behind earlier) o.header)
 
   value_moved-local : (segment : Segment) (v : ℕ) → value_moved moves segment v ≡ moved_value b earlier o segment v
-  value_moved-local segments.TextSeg v = omega arith
+  value_moved-local segments.TextSeg v = moved_from v 0 (total segments.TextSeg earlier) 0
   value_moved-local segments.DataSeg v = moved_from v b.data_start (total segments.DataSeg earlier) o.header.text_size
   value_moved-local segments.BssSeg v = moved_from v b.bss_start (total segments.BssSeg earlier) (plus o.header.text_size o.header.data_size)
   value_moved-local segments.Undefined v = refl
@@ -47,16 +47,6 @@ module _ (b : Bases) (earlier : List Contents) (o : Contents) where
   symbols_moved : (symbols : List Symbol) → map (symbol_moved moves) symbols ≡ map (moved_local b earlier o) symbols
   symbols_moved [] = refl
   symbols_moved (s ∷ ss) = λ i. record s { value = value_moved-local (segment_of s) s.value i } ∷ symbols_moved ss i
-
-next_total : (segment : Segment) (earlier : List Contents) (o : Contents) → plus (total segment earlier % 65536) (size_of segment o) ≡ total segment (earlier ++ o ∷ []) % 65536
-next_total segment earlier o = omega (arith, sum_by-append (size_of segment) earlier (o ∷ []))
-
-next_starts-behind : (earlier : List Contents) (o : Contents) → next_starts (starts_behind earlier) o.header ≡ starts_behind (earlier ++ o ∷ [])
-next_starts-behind earlier o = λ i. record {
-  text = next_total segments.TextSeg earlier o i;
-  «data» = next_total segments.DataSeg earlier o i;
-  bss = next_total segments.BssSeg earlier o i;
-}
 
 -- the kept locals, object by object
 rows_from-local_rows : (p : Plan) (os : List Contents) → rows_from p.at p.choices.keep no_starts os ≡ local_rows p os
@@ -72,7 +62,7 @@ rows_from-local_rows p os = from [] os
 length-rows_from : (b : Bases) (keep : Keep) (s : Starts) (os : List Contents) → length (rows_from b keep s os) ≡ kept_count keep os
 length-rows_from b keep s [] = refl
 length-rows_from b keep s (o ∷ os) =
-    let m = moves_at b s o.header in
+    let m = moves_by b (shifts_at s o.header) in
     omega (arith, length-append (rows_in keep m o.symbols) (rows_from b keep (next_starts s o.header) os), length-map (filter (is_kept_local keep) o.symbols) (symbol_moved m), length-rows_from b keep (next_starts s o.header) os)
 
 length-local_rows : (p : Plan) (os : List Contents) → length (local_rows p os) ≡ kept_count p.choices.keep os

@@ -1,36 +1,27 @@
 -- The rows of the symbol table as they follow from the objects' sizes and the final names in order.
-use Rattle.std.specs.Prelude.{ℕ, ◌%◌, ◌+◌, List, [], ◌∷◌, ◌++◌, map, filter, length}
-use Rattle.aout_core.specs.declared.header.Header.{Header}
+use Rattle.std.specs.Prelude.{ℕ, ◌+◌, List, [], ◌∷◌, ◌++◌, map, filter, length}
 use Rattle.aout_core.specs.declared.symbol.Symbol.{Symbol}
 use Rattle.aout_core.specs.declared.symbol.Segment.{Segment}
 use Rattle.aout_core.specs.declared.symbol.Segment.TheVariants.{TextSeg, DataSeg, BssSeg}
 use Rattle.aout_core.specs.Contents.{Contents}
-use Rattle.aout_core.specs.Words.{plus, minus}
+use Rattle.aout_core.specs.Words.{plus}
 use Rattle.aout_core.specs.WellFormed.{segment_of}
-use Rattle.link_session.specs.Starts.{total}
+use Rattle.link_session.specs.declared.relocate.Starts.{Starts}
+use Rattle.link_session.specs.declared.relocate.Shifts.{Shifts}
+use Rattle.link_session.specs.Starts.{next_starts, shifts_at}
+use Rattle.link_session.specs.Additions.{shift_by}
 use Rattle.link_out.specs.declared.options.Keep.{Keep}
-use Rattle.link_out.specs.declared.table.Starts.{Starts}
 use Rattle.link_out.specs.declared.table.Moves.{Moves}
 use Rattle.link_out.specs.Layouts.{Bases, base}
 use Rattle.link_out.specs.Finals.{Final, type_of}
 use Rattle.link_out.specs.Tables.{is_kept_local}
 
--- where the segments of an object behind these start, modulo 65,536
-abbrev pub starts_behind : List Contents → Starts
-starts_behind earlier = record { text = total TextSeg earlier % 65536; «data» = total DataSeg earlier % 65536; bss = total BssSeg earlier % 65536 }
-
-abbrev pub no_starts : Starts
-no_starts = record { text = 0; «data» = 0; bss = 0 }
-
-abbrev pub next_starts : Starts → Header → Starts
-next_starts s h = record { text = plus s.text h.text_size; «data» = plus s.data h.data_size; bss = plus s.bss h.bss_size }
-
 -- how far the segments of an object move
-abbrev pub moves_at : Bases → Starts → Header → Moves
-moves_at b s h = record {
-  text = plus (base b TextSeg) s.text;
-  «data» = plus (base b DataSeg) (minus s.data h.text_size);
-  bss = plus (base b BssSeg) (minus s.bss (plus h.text_size h.data_size));
+abbrev pub moves_by : Bases → Shifts → Moves
+moves_by b s = record {
+  text = plus (base b TextSeg) (shift_by s TextSeg);
+  «data» = plus (base b DataSeg) (shift_by s DataSeg);
+  bss = plus (base b BssSeg) (shift_by s BssSeg);
 }
 
 abbrev pub value_moved : Moves → Segment → ℕ → ℕ
@@ -49,7 +40,7 @@ rows_in keep m symbols = map (symbol_moved m) (filter (is_kept_local keep) symbo
 -- the kept locals of objects that start here
 abbrev pub rows_from : Bases → Keep → Starts → List Contents → List Symbol
 rows_from b keep s [] = []
-rows_from b keep s (o ∷ os) = rows_in keep (moves_at b s o.header) o.symbols ++ rows_from b keep (next_starts s o.header) os
+rows_from b keep s (o ∷ os) = rows_in keep (moves_by b (shifts_at s o.header)) o.symbols ++ rows_from b keep (next_starts s o.header) os
 
 -- how many locals are kept
 abbrev pub count_in : Keep → List Symbol → ℕ

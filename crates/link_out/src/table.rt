@@ -8,26 +8,18 @@ ghost use Rattle.link_out.specs.Finals.{type_of};
 ghost use Rattle.link_out.specs.FromCells as from_cells;
 ghost use Rattle.link_out.specs.Plans.{Plan};
 ghost use Rattle.link_out.specs.Tables.{begins_with_l, keeps, is_kept_local, local_rows, table};
-ghost use Rattle.link_out.specs.Rows.{next_starts, moves_at, value_moved, symbol_moved, rows_in, count_in, kept_count, row_for, rows_for};
+ghost use Rattle.link_out.specs.Rows.{moves_by, value_moved, symbol_moved, rows_in, count_in, kept_count, row_for, rows_for};
 
 use crate::finals::Final;
 use crate::layout::Bases;
 use crate::options::Keep;
 use crate::words::base_word;
-use aout_core::{Header, Name, Segment, Symbol};
-use link_session::{Entry, Session};
+use aout_core::{Name, Segment, Symbol};
+use link_session::{Entry, Session, Shifts, Starts};
 use std::alloc::{AllocError, Global};
 
 /// The most entries of a table: one more, of 12 bytes each, would not fit the size in the header.
 const MOST_ROWS: usize = 5461;
-
-/// Where the segments of an object start in the merged segments, modulo 65,536.
-#[derive(Clone, Copy, Debug)]
-pub(crate) struct Starts {
-    text: u16,
-    data: u16,
-    bss: u16,
-}
 
 /// How far the segments of an object move, modulo 65,536.
 #[derive(Clone, Copy, Debug)]
@@ -37,34 +29,18 @@ pub(crate) struct Moves {
     bss: u16,
 }
 
-impl Starts {
-    /// Where those of the object behind one with this header start.
-    fn behind(&self, header: &Header) -> Starts
-        ensures { result ≡ next_starts self.now header.now }
-    {
-        Starts {
-            text: self.text.wrapping_add(header.text_size),
-            data: self.data.wrapping_add(header.data_size),
-            bss: self.bss.wrapping_add(header.bss_size),
-        }
-    }
-
-    /// How far an object with this header moves that starts here.
-    fn moves(&self, bases: &Bases, header: &Header) -> Moves
-        ensures { result ≡ moves_at bases.now self.now header.now }
-    {
-        let own_bss = header.text_size.wrapping_add(header.data_size);
-        Moves {
-            text: base_word(bases, Segment::TextSeg).wrapping_add(self.text),
-            data: base_word(bases, Segment::DataSeg).wrapping_add(
-                self.data.wrapping_sub(header.text_size),
-            ),
-            bss: base_word(bases, Segment::BssSeg).wrapping_add(self.bss.wrapping_sub(own_bss)),
-        }
-    }
-}
-
 impl Moves {
+    /// How far the segments of an object with these shifts move.
+    fn by(bases: &Bases, shifts: &Shifts) -> Moves
+        ensures { result ≡ moves_by bases.now shifts.now }
+    {
+        Moves {
+            text: base_word(bases, Segment::TextSeg).wrapping_add(shifts.of(Segment::TextSeg)),
+            data: base_word(bases, Segment::DataSeg).wrapping_add(shifts.of(Segment::DataSeg)),
+            bss: base_word(bases, Segment::BssSeg).wrapping_add(shifts.of(Segment::BssSeg)),
+        }
+    }
+
     /// The value of a local of this segment.
     fn value(&self, segment: Segment, value: u16) -> u16
         ensures { result ≡ value_moved self.now segment value }
@@ -185,14 +161,10 @@ fn kept_locals(
     ensures { (p : Plan) → p.choices.keep ≡ keep → p.at ≡ bases.now → IfOk result (λ rows. rows.items ≡ local_rows p (objects entries.now)) }
 {
     let mut rows = Vec::new(alloc);
-    let mut starts = Starts {
-        text: 0,
-        data: 0,
-        bss: 0,
-    };
+    let mut starts = Starts::first();
     for entry in entries {
         let file = entry.object().file();
-        let moves = starts.moves(bases, file.header());
+        let moves = Moves::by(bases, &starts.shifts(file.header()));
         put_locals_of(&mut rows, keep, &moves, file.symbols())?;
         starts = starts.behind(file.header());
     }

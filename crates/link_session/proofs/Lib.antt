@@ -2,6 +2,7 @@ pub mod ListLemmas
 pub mod WordLemmas
 pub mod EarlierLemmas
 pub mod MentionLemmas
+pub mod StartLemmas
 pub mod StateLemmas
 pub mod CellLemmas
 pub mod WellFormedLemmas

@@ -39,5 +39,6 @@ pub use entry::{AddFault, AddRefused, Entry};
 pub use forced::Forced;
 pub use laws::add_and_withdraw;
 pub use mark::{Mark, Place};
+pub use relocate::{Shifts, Starts};
 pub use session::{Memory, Session};
 pub use state::State;

@@ -1,6 +1,7 @@
 //! The cells of an object's own words, relocated.
 ghost use Rattle.std.specs.Prelude.{◌≡◌, ◌+◌, ◌≤◌, ◌++◌, ◌<◌, ◌*◌, length, slice_get, vec_len, vec_capacity};
 ghost use Rattle.aout_core.specs.WellFormed.{kind_of, symbol_number};
+ghost use Rattle.link_session.specs.Starts.{no_starts, next_starts, shifts_at};
 ghost use Rattle.link_session.specs.Cells.{name_in, name_target, offset_in, segment_target};
 ghost use Rattle.link_session.specs.Fields.{image_in};
 ghost use Rattle.link_session.specs.Additions.{next_shifts, shift_by, referred, own_cell, own_cells, place_at, state_for, place_in};
@@ -14,12 +15,20 @@ use crate::merged::{Externals, Merged};
 use crate::state::State;
 use aout_core::{Header, Kind, Name, Object, Reloc, Segment, Symbol};
 
-/// What is added to an object's own addresses to make them offsets in the merged segments.
+/// What is added to an object's own addresses to make them offsets in the merged segments, modulo 65,536. (own choice)
 #[derive(Clone, Copy, Debug)]
-pub(crate) struct Shifts {
-    pub(crate) text: u16,
-    pub(crate) data: u16,
-    pub(crate) bss: u16,
+pub struct Shifts {
+    text: u16,
+    data: u16,
+    bss: u16,
+}
+
+/// Where the segments of an object start in the merged segments, in bytes, modulo 65,536. (own choice)
+#[derive(Clone, Copy, Debug)]
+pub struct Starts {
+    text: u16,
+    data: u16,
+    bss: u16,
 }
 
 /// What the words of an object refer to: the externals, and the object's own symbols and segments.
@@ -39,7 +48,8 @@ pub(crate) struct Words<'a> {
 }
 
 impl Shifts {
-    pub(crate) fn of(&self, segment: Segment) -> u16
+    /// What is added to an address in this segment; 0 to an absolute one.
+    pub fn of(&self, segment: Segment) -> u16
         ensures { result ≡ shift_by self.now segment }
     {
         match segment {
@@ -51,21 +61,54 @@ impl Shifts {
     }
 }
 
+impl Starts {
+    /// Those of the first object.
+    pub fn first() -> Starts
+        ensures { result ≡ no_starts }
+    {
+        Starts {
+            text: 0,
+            data: 0,
+            bss: 0,
+        }
+    }
+
+    /// Those of the object behind one with this header that starts here.
+    pub fn behind(&self, header: &Header) -> Starts
+        ensures { result ≡ next_starts self.now header.now }
+    {
+        Starts {
+            text: self.text.wrapping_add(header.text_size),
+            data: self.data.wrapping_add(header.data_size),
+            bss: self.bss.wrapping_add(header.bss_size),
+        }
+    }
+
+    /// The shifts of an object with this header that starts here.
+    pub fn shifts(&self, header: &Header) -> Shifts
+        ensures { result ≡ shifts_at self.now header.now }
+    {
+        let own_bss = header.text_size.wrapping_add(header.data_size);
+        Shifts {
+            text: self.text,
+            data: self.data.wrapping_sub(header.text_size),
+            bss: self.bss.wrapping_sub(own_bss),
+        }
+    }
+}
+
 /// The shifts of an object that comes next: its segments are put behind those of the image.
 pub(crate) fn next_shifts(image: &Merged, object: &Object) -> Shifts
     requires text { 2 * length image.now.text_cells.items ≤ 65534 }
     requires datas { 2 * length image.now.data_cells.items ≤ 65534 }
     ensures { result ≡ next_shifts (image_in image.now) object.now }
 {
-    let header = object.file().header();
-    let own_bss = header.text_size.wrapping_add(header.data_size);
-    let text_start = (2 * image.text_cells.len()) as u16;
-    let data_start = (2 * image.data_cells.len()) as u16;
-    Shifts {
-        text: text_start,
-        data: data_start.wrapping_sub(header.text_size),
-        bss: image.bss_total.wrapping_sub(own_bss),
-    }
+    let starts = Starts {
+        text: (2 * image.text_cells.len()) as u16,
+        data: (2 * image.data_cells.len()) as u16,
+        bss: image.bss_total,
+    };
+    starts.shifts(object.file().header())
 }
 
 /// The target of a word that refers to a place in the segment.
