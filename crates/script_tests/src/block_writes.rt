@@ -1,0 +1,70 @@
+//! How often a writer in blocks calls its device, and what a device that fails has taken.
+
+use aout_core::samples::{Failing, TestWriter};
+use aout_core::{DeviceFault, Wire};
+use std::alloc::Global;
+use std::io::ErrorKind;
+use std::test::Fail;
+use v7tools::BlockWriter;
+
+/// A text of so many bytes, no two of which beside each other are the same.
+fn text(alloc: Global, length: usize) -> Result<Vec<u8>, Fail> {
+    let mut bytes = Vec::with_capacity(alloc, length)?;
+    for i in 0..length {
+        bytes.push((i % 251) as u8)?;
+    }
+    Ok(bytes)
+}
+
+/// Writes a text in lines of ten bytes through blocks, and flushes them.
+fn put_lines(bytes: &[u8], device: &mut TestWriter) -> Result<(), DeviceFault> {
+    let mut out = Wire::new(BlockWriter::new(device));
+    for line in bytes.chunks(10) {
+        out.put(line)?;
+    }
+    out.flush()
+}
+
+/// How often a device is written to that takes all that it is given, for a text of so many bytes.
+fn calls(alloc: Global, length: usize) -> Result<u32, Fail> {
+    let bytes = text(alloc, length)?;
+    let mut device = TestWriter::whole(Vec::new(alloc));
+    put_lines(&bytes, &mut device)?;
+    if device.taken() != bytes.as_slice() || device.flushes() != 1 {
+        return Err(Fail::from("another text, or not flushed once"));
+    }
+    Ok(device.calls())
+}
+
+#[test]
+fn lines_go_out_in_blocks(rt: HostRuntime) -> Result<(), Fail> {
+    let alloc = rt.alloc();
+    assert_eq!(rt; calls(alloc, 0)?, 0);
+    assert_eq!(rt; calls(alloc, 10)?, 1);
+    assert_eq!(rt; calls(alloc, 512)?, 1);
+    assert_eq!(rt; calls(alloc, 513)?, 2);
+    assert_eq!(rt; calls(alloc, 2_000)?, 4);
+    Ok(())
+}
+
+#[test]
+fn blocks_taken_in_pieces(rt: HostRuntime) -> Result<(), Fail> {
+    let bytes = text(rt.alloc(), 2_000)?;
+    let fails = Failing::Fails(ErrorKind::Other);
+    let mut device = TestWriter::new(Vec::new(rt.alloc()), 7, usize::MAX, fails);
+    assert_eq!(rt; put_lines(&bytes, &mut device), Ok(()));
+    assert_eq!(rt; device.taken(), bytes.as_slice());
+    Ok(())
+}
+
+#[test]
+fn blocks_to_a_device_that_fails(rt: HostRuntime) -> Result<(), Fail> {
+    let bytes = text(rt.alloc(), 2_000)?;
+    for failure in [Failing::Fails(ErrorKind::Other), Failing::TakesNothing] {
+        let mut device = TestWriter::new(Vec::new(rt.alloc()), usize::MAX, 600, failure);
+        assert_eq!(rt; put_lines(&bytes, &mut device), Err(DeviceFault));
+        assert_eq!(rt; Some(device.taken()), bytes.get(..600));
+        assert_eq!(rt; device.calls(), 3);
+    }
+    Ok(())
+}
