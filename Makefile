@@ -1,17 +1,21 @@
 # v7: see README.md. The command `rt` of the Rattle kit has to be on the PATH.
 PREFIX ?= /usr/local
 
-.PHONY: all demo test memory bench simulate lesson check-manual check-examples install clean
+.PHONY: all demo test memory bench simulate lesson check-manual check-examples check-streams install clean
 
 all: build/v7
 
 SOURCES := crates.txt $(shell find crates -name out -prune -o -type f -print)
 
-# `rt run` proves the program, builds it and runs it once: on one small object, into nothing
-build/v7: $(SOURCES)
-	cd crates/v7 && rt run -- ld -s -o /dev/null $(CURDIR)/examples/a.o
+build/v7: crates/v7/out/v7
 	mkdir -p build
 	cp crates/v7/out/v7 build/v7
+
+# `rt run` proves the program, builds it and runs it once: on one small object, into nothing. The gate leaves a proved
+# program too, at the same place
+crates/v7/out/v7: $(SOURCES)
+	cd crates/v7 && rt run -- ld -s -o /dev/null $(CURDIR)/examples/a.o
+	touch crates/v7/out/v7
 
 # runs a session and compares its answers, links two small objects and compares the program, and shows its 24 bytes
 demo: build/v7
@@ -53,6 +57,10 @@ build/lesson: crates.txt $(shell find crates/aout_core crates/link_session crate
 # the manual pages: mandoc finds nothing to say of them, and their examples, and those of the documents, come out as shown
 check-manual: check-examples
 	cd man && mandoc -T lint *.1 *.5
+
+# the program with standard streams closed
+check-streams: build/v7
+	sh tests/streams.sh
 
 check-examples: build/v7 build/lesson
 	cmp crates/write_object/stdout examples/main.o

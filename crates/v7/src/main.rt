@@ -1,9 +1,25 @@
 //! The object tools of PDP-11 Unix, by their first word.
 #![tactic(auto)]
 
+use std::fs::File;
+use std::os::fd::AsRawFd;
 use std::process::ExitCode;
-use std::{env, io};
+use std::{env, fs, io};
 use v7tools::command;
+
+/// Opens a folder at each descriptor below 3 that is closed, since a file that a command opens would else take the place
+/// of a standard stream. A folder is neither read nor written: what goes there is a read or a write error. (own choice)
+fn hold_streams(rt: &HostRuntime) -> io::Result<Vec<File>> {
+    let mut held = Vec::new(rt.alloc());
+    for _ in 0..3 {
+        let folder = fs::open(rt, "/")?;
+        if folder.as_raw_fd() > 2 {
+            break;
+        }
+        held.push(folder)?;
+    }
+    Ok(held)
+}
 
 /// The words after the program's name.
 fn words(rt: &HostRuntime) -> io::Result<Vec<String>> {
@@ -14,14 +30,21 @@ fn words(rt: &HostRuntime) -> io::Result<Vec<String>> {
     Ok(words)
 }
 
+/// The status of the command. The streams are held until it has ended.
+fn run(rt: &HostRuntime) -> io::Result<u8> {
+    let _held = hold_streams(rt)?;
+    Ok(command(rt, words(rt)?))
+}
+
 /// Words that are not text are no words that any tool knows.
 fn main(rt: HostRuntime) -> ExitCode {
-    match words(&rt) {
-        Ok(words) => ExitCode::from(command(&rt, words)),
+    match run(&rt) {
+        Ok(status) => ExitCode::from(status),
         Err(error) => {
             let line = match error.kind() {
                 io::ErrorKind::OutOfMemory => "v7: no memory\n",
-                _ => "v7: usage\n",
+                io::ErrorKind::InvalidData => "v7: usage\n",
+                _ => "v7: /: cannot open\n",
             };
             let _ = rt.eprint(line);
             ExitCode::from(2)

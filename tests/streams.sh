@@ -1,0 +1,79 @@
+#!/bin/sh
+# Runs the program with standard streams closed, and compares its files, faults and statuses: what goes to a closed stream
+# is a write error, what is read from one is a read error, and no file that a command opens takes the place of one.
+#
+# usage: tests/streams.sh       the program has to stand in build/v7
+set -u
+cd "$(dirname "$0")/.."
+v7=$PWD/build/v7
+[ -x "$v7" ] || { echo "build/v7 is missing: make builds it"; exit 2; }
+room=$(mktemp -d)
+trap 'rm -rf "$room"' EXIT
+cp examples/*.o "$room"
+cd "$room" || exit 2
+failed=0
+
+# the run just before ended with this status, and this is what the file `fault` holds
+expect() {
+    [ "$status" -eq "$2" ] && [ "$(cat fault)" = "$3" ] && return
+    echo "$1: status $status and '$(cat fault)', not $2 and '$3'"
+    failed=1
+}
+
+# two files are the same
+same() {
+    cmp "$1" "$2" || failed=1
+}
+
+# what the program writes with its streams open
+"$v7" ld -o reported main.o count.o >report 2>fault; status=$?
+expect 'ld with a report' 1 ''
+"$v7" ld -o whole main.o twice.o count.o >report 2>fault; status=$?
+expect 'ld without one' 0 ''
+cp whole stripped
+"$v7" strip stripped 2>fault; status=$?
+expect 'strip' 0 ''
+
+# standard output closed
+"$v7" ld -o out main.o count.o >&- 2>fault; status=$?
+expect 'ld with a report, output closed' 2 'v7: write error'
+same out reported
+"$v7" ld -o out main.o twice.o count.o >&- 2>fault; status=$?
+expect 'ld without one, output closed' 0 ''
+same out whole
+"$v7" strip out >&- 2>fault; status=$?
+expect 'strip, output closed' 0 ''
+same out stripped
+for tool in nm size; do
+    "$v7" $tool main.o >&- 2>fault; status=$?
+    expect "$tool, output closed" 2 'v7: write error'
+done
+rm out
+printf 'add main.o\nlink out\n' | "$v7" session >&- 2>fault; status=$?
+expect 'session, output closed' 2 'v7: write error'
+[ ! -e out ] || { echo 'session, output closed: it went on'; failed=1; }
+
+# standard input closed
+"$v7" session <&- >answers 2>fault; status=$?
+expect 'session, input closed' 2 'v7: script read error'
+same answers /dev/null
+"$v7" ld -o out main.o count.o <&- >answers 2>fault; status=$?
+expect 'ld, input closed' 1 ''
+same out reported
+printf 'Undefined:\n_twice\n' | cmp - answers || failed=1
+
+# standard error closed, and all three
+: >fault
+"$v7" ld -o out main.o count.o >answers 2>&-; status=$?
+expect 'ld, error closed' 1 ''
+same out reported
+"$v7" strip out none.o >answers 2>&-; status=$?
+expect 'strip, error closed' 2 ''
+same out reported
+"$v7" ld -o out main.o twice.o count.o <&- >&- 2>&-; status=$?
+expect 'ld, all closed' 0 ''
+same out whole
+"$v7" ld -o out main.o count.o <&- >&- 2>&-; status=$?
+expect 'ld with a report, all closed' 2 ''
+same out reported
+exit $failed
