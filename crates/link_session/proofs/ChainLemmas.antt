@@ -24,11 +24,6 @@ bound_one-behind segment offset i [] h = refl
 bound_one-behind segment offset zero (c ∷ cs) h = absurd (omega arith)
 bound_one-behind segment offset (suc i) (c ∷ cs) h = ap (λ (l : List Cell). c ∷ l) (bound_one-behind segment offset i cs (omega arith))
 
-pub length-bound_one : (segment : Segment) (offset i : ℕ) (cs : List Cell) → length (bound_one segment offset i cs) ≡ length cs
-length-bound_one segment offset i [] = refl
-length-bound_one segment offset zero (c ∷ cs) = refl
-length-bound_one segment offset (suc i) (c ∷ cs) = ap suc (length-bound_one segment offset i cs)
-
 -- one more cell is bound
 pub bound_where-one : (segment : Segment) (offset : ℕ) (f g : ℕ → Bool) (i : ℕ) → f i ≡ false → g i ≡ true → ((j : ℕ) → i ≢ j → f j ≡ g j) → (cs : List Cell) →
     bound_one segment offset i (bound_where f segment offset cs) ≡ bound_where g segment offset cs

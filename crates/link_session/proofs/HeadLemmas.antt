@@ -2,8 +2,6 @@
 use Rattle.std.proofs.Common.{◌≡◌, ◌≤◌, ◌+◌, ◌-◌, ℕ, zero, suc, List, [], ◌∷◌, ◌++◌, map, take, length, replicate, Some, None, slice_set, refl, sym, ap, ◌∙◌, subst, arith, length-append, append-nil, append_assoc}
 use Rattle.std.proofs.lemmas.List.{length-replicate, take_at}
 use Rattle.link_session.specs.declared.cell.Cell.{Cell}
-use Rattle.link_session.specs.declared.cell.Target.{Target}
-use Rattle.link_session.specs.declared.cell.Target.TheVariants as targets
 use Rattle.link_session.specs.declared.state.State.{State}
 use Rattle.link_session.specs.declared.state.State.TheVariants.{Defined, Wanted}
 use Rattle.link_session.specs.declared.mark.Mark.{Mark}
@@ -73,19 +71,6 @@ length-threaded_heads at n [] heads = refl
 length-threaded_heads at n (c ∷ cs) heads = length-threaded_heads at (n + 1) cs (with_head c.target (Some (at n)) heads) ∙ length-with_head heads c.target (Some (at n))
 
 -- Heads that are put back.
-
-take_set : {A : Type 0} (n k : ℕ) (x : A) (xs : List A) → take n (slice_set xs k x) ≡ slice_set (take n xs) k x
-take_set zero k x xs = refl
-take_set (suc n) k x [] = refl
-take_set {A = A} (suc n) zero x (y ∷ ys) = refl
-take_set {A = A} (suc n) (suc k) x (y ∷ ys) = ap (λ (l : List A). y ∷ l) (take_set n k x ys)
-
-take_with_head : (n : ℕ) (t : Target) (link : Link) (heads : List Link) → take n (with_head t link heads) ≡ with_head t link (take n heads)
-take_with_head n targets.Absolute link heads = refl
-take_with_head n targets.TextSeg link heads = refl
-take_with_head n targets.DataSeg link heads = refl
-take_with_head n targets.BssSeg link heads = refl
-take_with_head n (targets.External k) link heads = take_set n k link heads
 
 pub length-heads_back : (ks : List Mark) (heads : List Link) → length (heads_back ks heads) ≡ length heads
 length-heads_back [] heads = refl

@@ -39,4 +39,3 @@ pub mod WithdrawalLemmas
 pub mod KeptThreadLemmas
 pub mod FewLemmas
 pub mod TakenBackLemmas
-pub mod LawLemmas

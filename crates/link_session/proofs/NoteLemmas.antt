@@ -1,7 +1,7 @@
 -- A chain that is marked, place by place.
-use Rattle.std.proofs.Common.{◌≡◌, ◌<◌, ◌+◌, ◌≤◌, List, [], ◌∷◌, ◌++◌, take, length, Some, None, refl, sym, ap, ◌∙◌, subst, arith, append_assoc, append-nil, length-append}
+use Rattle.std.proofs.Common.{◌≡◌, ◌<◌, ◌+◌, ◌≤◌, List, [], ◌∷◌, ◌++◌, length, Some, None, sym, ap, ◌∙◌, subst, arith, append_assoc, append-nil, length-append}
 use Rattle.std.specs.List.{AllByRecursion}
-use Rattle.std.proofs.lemmas.List.{map-append, take_at}
+use Rattle.std.proofs.lemmas.List.{map-append}
 use Rattle.link_session.specs.declared.cell.Cell.{Cell}
 use Rattle.link_session.specs.declared.mark.Mark.{Mark}
 use Rattle.link_session.specs.declared.mark.Mark.TheVariants.{CellWas}
@@ -64,6 +64,3 @@ module _ (ts ds : List Link) (head next : Link) (texts datas : List Cell) (old n
     noted_all e ps c =
         w.marks ∙ ap (λ (l : List Place). old ++ marks_of texts datas l)
         (sym (append-nil w.done) ∙ ap (λ (l : List Place). w.done ++ l) (sym (none_ahead ts ds next w.rest w.ahead e)) ∙ chain-unique ts ds head (w.done ++ w.rest) ps w.visits c)
-
-    pub front_kept : take (length old) new ≡ old
-    front_kept = ap (λ (ks : List Mark). take (length old) ks) w.marks ∙ take_at old (marks_of texts datas w.done) (length old) refl

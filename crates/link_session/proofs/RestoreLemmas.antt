@@ -61,10 +61,7 @@ module _ (ts ds : List Link) (texts datas : List Cell) (heads : List Link) (a : 
     inside = λ m mt md. chain_inside texts datas segment offset (a.each k).places (a.each k).inside m mt md;
   }
 
--- no marks, and marks behind marks
-pub restores_none : (texts datas : List Cell) (heads : List Link) → Restores texts datas heads texts datas heads []
-restores_none texts datas heads = record { cells = λ m mt md. (λ i. record m { text_cells = mt i; data_cells = md i }); heads_are = refl; inside = λ m mt md. tt }
-
+-- marks behind marks
 pub restores_then : (texts datas mid_texts mid_datas new_texts new_datas : List Cell) (heads mid_heads new_heads : List Link) (ks ls : List Mark) → length mid_texts ≡ length texts → length mid_datas ≡ length datas →
     Restores texts datas heads mid_texts mid_datas mid_heads ks → Restores mid_texts mid_datas mid_heads new_texts new_datas new_heads ls → Restores texts datas heads new_texts new_datas new_heads (ks ++ ls)
 restores_then texts datas mid_texts mid_datas new_texts new_datas heads mid_heads new_heads ks ls lt ld r s = record {
