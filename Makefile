@@ -1,7 +1,7 @@
 # v7: see README.md. The command `rt` of the Rattle kit has to be on the PATH.
 PREFIX ?= /usr/local
 
-.PHONY: all demo test memory bench simulate lesson check-manual check-examples check-streams install clean
+.PHONY: all demo test memory bench instructions simulate lesson check-manual check-examples check-streams install clean
 
 all: build/v7
 
@@ -36,6 +36,11 @@ memory:
 # times of the session and of ld on a large input
 bench:
 	cd crates/bench && rt run -- full
+
+# instructions of adding an object and withdrawing it, on an empty session and on a full one; needs valgrind
+instructions:
+	cd crates/bench && rt run -- referring 0 1
+	sh tests/instructions.sh crates/bench/out/bench
 
 # links a program of five files, runs it on SIMH's PDP-11, and compares what it prints
 simulate: build/v7

@@ -1,17 +1,20 @@
 //! Times the session and the linker on a large input, and counts the calls of their devices. Without words it does a small
 //! run of the session and prints the calls of a small link, the same each time; with the word `full` it does the full run
-//! and the command, and prints times, sizes and calls.
+//! and the command, and prints times, sizes and calls. With the words `referring` or `defining`, a number of objects and a
+//! number of times it adds those objects, and then adds and withdraws one more, that many times, and prints nothing.
 #![tactic(auto)]
 
 mod calls;
 mod command;
 mod input;
+mod repeat;
 
 use anyhow::{Result, anyhow};
 use calls::print_calls;
 use command::time_command;
 use input::{Size, defining, referring};
 use link_session::{Mark, Session};
+use repeat::repeat;
 use std::env;
 use std::time::Instant;
 
@@ -101,8 +104,23 @@ fn time_session(rt: &HostRuntime, size: Size, is_full: bool) -> Result<()> {
     Ok(())
 }
 
+/// The words after the program's name.
+fn words(rt: &HostRuntime) -> Result<Vec<String>> {
+    let mut words = Vec::new(rt.alloc());
+    for word in env::args(rt)?.skip(1) {
+        words.push(word)?;
+    }
+    Ok(words)
+}
+
 fn main(rt: HostRuntime) -> Result<()> {
-    if env::args(&rt)?.count() > 1 {
+    let words = words(&rt)?;
+    if words.len() >= 3 {
+        let objects = words[1].as_str().parse::<u16>()?;
+        let size = Size { objects, ..FULL };
+        let times = words[2].as_str().parse::<u32>()?;
+        repeat(&rt, size, words[0].as_str(), times)
+    } else if words.len() > 0 {
         time_session(&rt, FULL, true)?;
         print_calls(&rt, FULL)?;
         time_command(&rt, FULL)

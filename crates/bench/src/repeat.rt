@@ -1,0 +1,43 @@
+//! One object added and withdrawn again and again. It binds nothing, and no object of the session knows its names. From the
+//! instructions of two runs with the same session follow those of one addition with its withdrawal.
+use crate::add_all;
+use crate::input::{Size, defining, referring};
+use anyhow::{Result, anyhow};
+use aout_core::Object;
+use link_session::{Session, add_and_withdraw};
+
+/// The object: one that refers to names, or one that defines a name.
+fn repeated(rt: &HostRuntime, size: Size, kind: &str) -> Result<Object> {
+    match kind {
+        "referring" => referring(rt.alloc(), size, 200),
+        "defining" => defining(rt.alloc(), 180),
+        _ => Err(anyhow!("neither referring nor defining")),
+    }
+}
+
+/// Adds the object and withdraws it, this many times.
+fn add_and_withdraw_often(
+    session: &mut Session,
+    label: String,
+    object: Object,
+    times: u32,
+) -> Result<()> {
+    let mut kept = (label, object);
+    for _ in 0..times {
+        let (label, object) = kept;
+        kept = match add_and_withdraw(session, label, object) {
+            Ok(back) => back,
+            Err(refused) => return Err(anyhow!("{}", refused.cause)),
+        };
+    }
+    Ok(())
+}
+
+/// Adds all objects, and then adds and withdraws one more, this many times.
+pub fn repeat(rt: &HostRuntime, size: Size, kind: &str, times: u32) -> Result<()> {
+    let mut session = Session::new(rt.alloc());
+    add_all(rt, &mut session, size)?;
+    let object = repeated(rt, size, kind)?;
+    let label = String::from_str(rt.alloc(), "repeated.o")?;
+    add_and_withdraw_often(&mut session, label, object, times)
+}
