@@ -1,62 +1,84 @@
 //! The steps of a session over memory, and their answers.
 use aout_core::Wire;
 use aout_core::samples::{A_O, C_O, D_O, Failing, G_O, TestReader, TestWriter};
-use fixtures::{ANSWERS, sized, written};
+use fixtures::{ANSWERS, sized};
 use link_fixtures::plain;
-use link_out::Keep;
+use link_out::{Keep, Linked};
 use link_session::Session;
 use std::alloc::{AllocError, Global};
 use std::io::ErrorKind;
-use std::process::Abort;
 use std::test::Fail;
 use v7tools::{CliFault, Command, Step, Stored, link_answer, step};
 
-/// The addition of these bytes at a path.
+/// The addition of what a reader gives, at a path.
 fn add<'a>(
     alloc: Global,
     path: &str,
-    bytes: &'a [u8],
+    reader: TestReader<'a>,
 ) -> Result<Command<TestReader<'a>>, AllocError> {
-    let wire = Wire::new(TestReader::whole(bytes));
-    Ok(Command::Add(String::from_str(alloc, path)?, Some(wire)))
+    Ok(Command::Add(String::from_str(alloc, path)?, Some(Wire::new(reader))))
 }
 
-/// What each line of `session_script` asks for.
-fn session_script(alloc: Global) -> Result<Vec<Command<TestReader<'static>>>, Fail> {
-    let mut commands = Vec::new(alloc);
-    commands.push(add(alloc, "c.o", &C_O)?)?;
-    commands.push(add(alloc, "d.o", &D_O)?)?;
-    commands.push(Command::Externals)?;
-    commands.push(Command::Withdraw)?;
-    commands.push(Command::Undefined)?;
-    commands.push(Command::Link)?;
-    commands.push(Command::Withdraw)?;
-    commands.push(Command::Withdraw)?;
-    commands.push(Command::Bad)?;
-    Ok(commands)
+/// What the line of this number of `session_script` asks for.
+fn scripted(alloc: Global, line: u8) -> Result<Command<TestReader<'static>>, AllocError> {
+    match line {
+        0 => add(alloc, "c.o", TestReader::whole(&C_O)),
+        1 => add(alloc, "d.o", TestReader::whole(&D_O)),
+        2 => Ok(Command::Externals),
+        4 => Ok(Command::Undefined),
+        5 => Ok(Command::Link),
+        3 | 6 | 7 => Ok(Command::Withdraw),
+        _ => Ok(Command::Bad),
+    }
 }
 
-/// A writer over memory.
-fn answers(alloc: Global) -> Wire<TestWriter> {
-    Wire::new(TestWriter::whole(Vec::new(alloc)))
+/// A session, and its answers.
+#[derive(Drop)]
+struct Asked {
+    session: Session,
+    answers: Wire<TestWriter>,
 }
 
-/// Takes a step, and stores the file of a link at `out`: the bytes of that file and the status, if there is one.
-fn take_step(
-    alloc: Global,
-    session: &mut Session,
-    command: Command<TestReader<'_>>,
-    answers: &mut Wire<TestWriter>,
-) -> Result<(&'static str, Option<(Vec<u8>, u8)>), Fail> {
-    match step(alloc, session, &plain(Keep::All), command, answers)? {
-        Step::Done => Ok(("done", None)),
-        Step::Refused => Ok(("refused", None)),
-        Step::ToStore(linked) => {
-            let file = written(alloc, &linked.file)?;
-            let status = link_answer(&linked, "out", Stored::Kept, answers)?;
-            Ok(("to store", Some((file, status))))
+impl Asked {
+    /// A session without objects.
+    fn new(alloc: Global, answers: TestWriter) -> Asked {
+        Asked {
+            session: Session::new(alloc),
+            answers: Wire::new(answers),
         }
     }
+
+    /// Takes a step, and answers a link as if its file were stored: whether the step was refused.
+    fn take(&mut self, alloc: Global, command: Command<TestReader<'_>>) -> Result<bool, CliFault> {
+        let options = plain(Keep::All);
+        let answers = &mut self.answers;
+        match step(alloc, &mut self.session, &options, command, answers)? {
+            Step::Done => Ok(false),
+            Step::Refused => Ok(true),
+            Step::ToStore(linked) => {
+                link_answer(&linked, "out", Stored::Kept, answers)?;
+                Ok(false)
+            }
+        }
+    }
+
+    /// Whether a step is taken, and is refused.
+    fn refuses(&mut self, alloc: Global, command: Command<TestReader<'_>>) -> bool {
+        self.take(alloc, command).ok() == Some(true)
+    }
+
+    /// Whether these bytes are added at a path.
+    fn adds(&mut self, alloc: Global, path: &str, bytes: &[u8]) -> bool {
+        match add(alloc, path, TestReader::whole(bytes)) {
+            Ok(command) => self.take(alloc, command).ok() == Some(false),
+            Err(_) => false,
+        }
+    }
+}
+
+/// A session that answers into memory.
+fn in_memory(alloc: Global) -> Asked {
+    Asked::new(alloc, TestWriter::whole(Vec::new(alloc)))
 }
 
 #[test]
@@ -64,19 +86,24 @@ fn session_link_refused(rt: HostRuntime) -> Result<(), Fail> {
     let alloc = rt.alloc();
     let text = sized(alloc, 65_534, 0, 0, &[])?;
     let data = sized(alloc, 0, 2, 0, &[])?;
-    let mut session = Session::new(alloc);
-    let mut out = answers(alloc);
-    take_step(alloc, &mut session, add(alloc, "t.o", &text)?, &mut out)?;
-    take_step(alloc, &mut session, add(alloc, "d.o", &data)?, &mut out)?;
-    let (verdict, stored) = take_step(alloc, &mut session, Command::Link, &mut out)?;
-    assert_eq!(rt; verdict, "refused");
-    assert!(rt; stored.is_none());
-    assert_eq!(rt; session.entries().len(), 2);
-    assert_eq!(rt;
-        out.into_inner().taken(),
-        b"added t.o\nadded d.o\ndoes not fit\n".as_slice()
-    );
+    let mut asked = in_memory(alloc);
+    assert!(rt; asked.adds(alloc, "t.o", &text) && asked.adds(alloc, "d.o", &data));
+    assert!(rt; asked.refuses(alloc, Command::Link) && asked.session.entries().len() == 2);
+    let answers = b"added t.o\nadded d.o\ndoes not fit\n";
+    assert!(rt; asked.answers.into_inner().taken() == answers.as_slice());
     Ok(())
+}
+
+/// Whether a session of `a.o` refuses to add what a reader gives, and with these answers.
+fn refuses_to_add(alloc: Global, reader: TestReader<'_>, answers: &str) -> bool {
+    let mut asked = in_memory(alloc);
+    let Ok(command) = add(alloc, "x.o", reader) else {
+        return false;
+    };
+    asked.adds(alloc, "a.o", &A_O)
+        && asked.refuses(alloc, command)
+        && asked.session.entries().len() == 1
+        && asked.answers.into_inner().taken() == answers.as_bytes()
 }
 
 #[test]
@@ -85,56 +112,56 @@ fn refused_additions(rt: HostRuntime) -> Result<(), Fail> {
     let text = sized(alloc, 65_534, 0, 0, &[])?;
     let mut bad_kind = A_O;
     bad_kind[24] = 0o12;
-    let cases: [(&[u8], &str); 3] = [
-        (&A_O[..17], "x.o: truncated\n"),
-        (&bad_kind, "x.o: bad relocation at word 1\n"),
-        (&text, "x.o: text full\n"),
-    ];
-    let mut session = Session::new(alloc);
-    take_step(
-        alloc,
-        &mut session,
-        add(alloc, "a.o", &A_O)?,
-        &mut answers(alloc),
-    )?;
-    for (bytes, line) in cases {
-        let mut out = answers(alloc);
-        let (verdict, _) = take_step(alloc, &mut session, add(alloc, "x.o", bytes)?, &mut out)?;
-        assert_eq!(rt; verdict, "refused");
-        assert_eq!(rt; session.entries().len(), 1);
-        assert_eq!(rt; out.into_inner().taken(), line.as_bytes());
+    for (bytes, answers) in [
+        (&A_O[..17], "added a.o\nx.o: truncated\n"),
+        (&bad_kind, "added a.o\nx.o: bad relocation at word 1\n"),
+        (&text, "added a.o\nx.o: text full\n"),
+    ] {
+        assert!(rt; refuses_to_add(alloc, TestReader::whole(bytes), answers));
     }
     let failing = TestReader::new(&C_O, usize::MAX, 20, ErrorKind::Interrupted);
-    let command = Command::Add(String::from_str(alloc, "x.o")?, Some(Wire::new(failing)));
-    let mut out = answers(alloc);
-    let (verdict, _) = take_step(alloc, &mut session, command, &mut out)?;
-    assert_eq!(rt; verdict, "refused");
-    assert_eq!(rt; out.into_inner().taken(), b"x.o: read error\n".as_slice());
+    assert!(rt; refuses_to_add(alloc, failing, "added a.o\nx.o: read error\n"));
     Ok(())
+}
+
+/// The link of `c.o` and `g.o` that a step makes.
+fn two_linked(alloc: Global) -> Option<Linked> {
+    let mut asked = in_memory(alloc);
+    if !asked.adds(alloc, "c.o", &C_O) || !asked.adds(alloc, "g.o", &G_O) {
+        return None;
+    }
+    let Asked {
+        mut session,
+        mut answers,
+    } = asked;
+    let command: Command<TestReader<'static>> = Command::Link;
+    match step(
+        alloc,
+        &mut session,
+        &plain(Keep::All),
+        command,
+        &mut answers,
+    ) {
+        Ok(Step::ToStore(linked)) => Some(linked),
+        _ => None,
+    }
+}
+
+/// Whether a link is answered by these lines, with status 1.
+fn is_answered(alloc: Global, linked: &Linked, stored: Stored, lines: &str) -> bool {
+    let mut answers = Wire::new(TestWriter::whole(Vec::new(alloc)));
+    let status = link_answer(linked, "out", stored, &mut answers);
+    status.ok() == Some(1) && answers.into_inner().taken() == lines.as_bytes()
 }
 
 #[test]
 fn link_answers(rt: HostRuntime) -> Result<(), Fail> {
     let alloc = rt.alloc();
-    let mut session = Session::new(alloc);
-    let mut out = answers(alloc);
-    take_step(alloc, &mut session, add(alloc, "c.o", &C_O)?, &mut out)?;
-    take_step(alloc, &mut session, add(alloc, "g.o", &G_O)?, &mut out)?;
-    let command: Command<TestReader<'static>> = Command::Link;
-    let Step::ToStore(linked) = step(alloc, &mut session, &plain(Keep::All), command, &mut out)?
-    else {
-        return Err(Fail::from("no link"));
-    };
-    for (stored, lines, want) in [
-        (Stored::Kept, "Undefined:\n_f\n_g\nlinked out 1\n", 1),
-        (Stored::NotCreated, "out: cannot create\n", 1),
-        (Stored::Failed, "out: write error\n", 1),
-    ] {
-        let mut answer = answers(alloc);
-        let status = link_answer(&linked, "out", stored, &mut answer)?;
-        assert_eq!(rt; status, want);
-        assert_eq!(rt; answer.into_inner().taken(), lines.as_bytes());
-    }
+    let linked = two_linked(alloc).ok_or("no link")?;
+    let lines = "Undefined:\n_f\n_g\nlinked out 1\n";
+    assert!(rt; is_answered(alloc, &linked, Stored::Kept, lines));
+    assert!(rt; is_answered(alloc, &linked, Stored::NotCreated, "out: cannot create\n"));
+    assert!(rt; is_answered(alloc, &linked, Stored::Failed, "out: write error\n"));
     Ok(())
 }
 
@@ -153,37 +180,45 @@ fn is_same(one: &Session, other: &Session) -> bool {
     same
 }
 
-/// Takes the steps of `session_script` with answers that fail behind `n` bytes, beside a session whose answers do not.
-fn fails_behind(rt: &(impl Abort + AllocGlobal), n: usize, failing: Failing) -> Result<(), Fail> {
-    let alloc = rt.alloc();
-    let mut session = Session::new(alloc);
-    let mut beside = Session::new(alloc);
-    let mut whole = answers(alloc);
-    let mut out = Wire::new(TestWriter::new(Vec::new(alloc), usize::MAX, n, failing));
-    let commands = session_script(alloc)?
-        .into_iter()
-        .zip(session_script(alloc)?);
-    for (command, again) in commands {
-        take_step(alloc, &mut beside, again, &mut whole)?;
-        let answer = match step(alloc, &mut session, &plain(Keep::All), command, &mut out) {
-            Ok(Step::ToStore(linked)) => link_answer(&linked, "out", Stored::Kept, &mut out).err(),
-            Ok(_) => None,
-            Err(fault) => Some(fault),
-        };
-        assert!(rt; matches!(answer, None | Some(CliFault::WriteFailed)));
-        assert_eq!(rt; answer.is_some(), out.failed());
-        assert!(rt; is_same(&session, &beside));
+/// Whether a step is told as failed exactly where its answers fail.
+fn is_told(alloc: Global, asked: &mut Asked, command: Command<TestReader<'_>>) -> bool {
+    match asked.take(alloc, command) {
+        Ok(_) => !asked.answers.failed(),
+        Err(fault) => matches!(fault, CliFault::WriteFailed) && asked.answers.failed(),
     }
-    assert!(rt; out.failed());
-    assert_eq!(rt; Some(out.into_inner().taken()), ANSWERS.as_bytes().get(..n));
-    Ok(())
+}
+
+/// Takes a step of `session_script` with answers that may fail, beside a session whose answers do not: whether it is told
+/// as it should be, and the sessions are then the same.
+fn is_alike(alloc: Global, line: u8, failing: &mut Asked, beside: &mut Asked) -> bool {
+    let (Ok(command), Ok(again)) = (scripted(alloc, line), scripted(alloc, line)) else {
+        return false;
+    };
+    is_told(alloc, failing, command)
+        && beside.take(alloc, again).is_ok()
+        && is_same(&failing.session, &beside.session)
+}
+
+/// Whether the steps of `session_script` do what they should with answers that fail behind `n` bytes.
+fn fails_behind(alloc: Global, n: usize, failing: Failing) -> bool {
+    let answers = TestWriter::new(Vec::new(alloc), usize::MAX, n, failing);
+    let mut short = Asked::new(alloc, answers);
+    let mut beside = in_memory(alloc);
+    let mut alike = true;
+    for line in 0..9 {
+        alike = alike && is_alike(alloc, line, &mut short, &mut beside);
+    }
+    alike
+        && short.answers.failed()
+        && Some(short.answers.into_inner().taken()) == ANSWERS.as_bytes().get(..n)
 }
 
 #[test]
 fn answers_fail_everywhere(rt: HostRuntime) -> Result<(), Fail> {
+    let alloc = rt.alloc();
     for n in 0..ANSWERS.len() {
-        fails_behind(&rt, n, Failing::Fails(ErrorKind::Interrupted))?;
-        fails_behind(&rt, n, Failing::TakesNothing)?;
+        assert!(rt; fails_behind(alloc, n, Failing::Fails(ErrorKind::Interrupted)));
+        assert!(rt; fails_behind(alloc, n, Failing::TakesNothing));
     }
     Ok(())
 }
