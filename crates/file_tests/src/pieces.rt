@@ -1,23 +1,10 @@
 //! Devices that give and take the bytes of a file in pieces, and how often they are called.
 use aout_core::samples::{A_O, Failing, TestReader, TestWriter};
 use aout_core::{DeviceFault, File, Wire, read_file, write_file};
-use fixtures::{file_of, written};
+use fixtures::{v_o, written};
 use std::alloc::Global;
 use std::io::ErrorKind;
 use std::test::Fail;
-
-/// `v.o`: text 0 (relocation 177770); symbols `n0000` to `n4095` 040 0, and then `L1` 02 0.
-fn v_o(alloc: Global) -> Result<Vec<u8>, Fail> {
-    let header = [0o407, 2, 0, 0, 49_164, 0, 0, 0];
-    let mut bytes = file_of(alloc, header, &[0, 0o177770], &[])?;
-    for number in 0..4096u16 {
-        let name = format!(in alloc; "n{number:04}")?;
-        bytes.extend_from_slice(name.as_bytes())?;
-        bytes.extend_from_slice(&[0, 0, 0, 0o40, 0, 0, 0])?;
-    }
-    bytes.extend_from_slice(b"L1\0\0\0\0\0\0\x02\0\0\0")?;
-    Ok(bytes)
-}
 
 #[test]
 fn pieces_in(rt: HostRuntime) -> Result<(), Fail> {

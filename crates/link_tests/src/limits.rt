@@ -1,11 +1,11 @@
 //! Links at the limits of addresses, names and symbols.
 use crate::outputs::{link, link_behind, refusal, session_of};
 use aout_core::Reloc;
-use fixtures::{add, file_of, forced, names_of, sized};
+use fixtures::{add, file_of, forced, names_of, sized, v_o};
 use link_fixtures::{laid_out, output_of, plain, relocatable, silent};
 use link_out::{Keep, Layout, LinkFault, finish};
 use link_session::Session;
-use std::alloc::{AllocError, Global};
+use std::alloc::Global;
 use std::test::Fail;
 
 #[test]
@@ -101,22 +101,6 @@ fn most_symbols(rt: HostRuntime) -> Result<(), Fail> {
     assert!(rt; unlinked == Some(LinkFault::TooManySymbols));
     assert!(rt; refusal(alloc, &[&most, &one], &plain(Keep::Nothing))?.is_none());
     Ok(())
-}
-
-/// Text 0 (relocation 177770); symbols `n0000` to `n4095` 040 0, and then `L1` 02 0.
-fn v_o(alloc: Global) -> Result<Vec<u8>, AllocError> {
-    let header = [0o407, 2, 0, 0, 49_164, 0, 0, 0];
-    let mut bytes = file_of(alloc, header, &[0, 0o177770], &[])?;
-    for number in 0..4096u16 {
-        let thousands = b'0' + (number / 1000) as u8;
-        let hundreds = b'0' + (number / 100 % 10) as u8;
-        let tens = b'0' + (number / 10 % 10) as u8;
-        let ones = b'0' + (number % 10) as u8;
-        bytes.extend_from_slice(&[b'n', thousands, hundreds, tens, ones, 0, 0, 0])?;
-        bytes.extend_from_slice(&[0o40, 0, 0, 0])?;
-    }
-    bytes.extend_from_slice(b"L1\0\0\0\0\0\0\x02\0\0\0")?;
-    Ok(bytes)
 }
 
 #[test]
