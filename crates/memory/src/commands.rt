@@ -1,14 +1,14 @@
 //! Commands: their words, links over memory, whole runs on files, and lists.
 use crate::outcome::Outcome;
 use aout_core::samples::{A_O, B_O, S_O, TestReader, TestWriter};
-use aout_core::{File, Wire, read_file};
+use aout_core::{File, Name, Symbol, Wire, read_file};
 use fixtures::{TWO_OBJECTS, wires, words};
 use link_fixtures::plain;
 use link_out::{Keep, Linked, Options};
 use link_session::Forced;
 use std::alloc::Global;
 use std::fs;
-use symtools::{NmOptions, ToolFault, nm, size};
+use symtools::{NmOptions, ToolFault, line, nm, size};
 use v7tools::{Call, CliFault, command, ld, parse};
 
 /// Whether this is a link of one file into `out` with these options.
@@ -85,18 +85,21 @@ fn s_o(alloc: Global) -> Option<Vec<(String, File)>> {
     Vec::from_array(alloc, [(path, file)]).ok()
 }
 
-/// nm's list of `s.o`, by value.
-const LIST: &[u8] = b"       U _f\n000000 T _m\n000002 t L1\n000004 C _x\n";
+/// nm's list of `s.o`, by name.
+const BY_NAME: &[u8] = b"000002 t L1\n       U _f\n000000 T _m\n000004 C _x\n";
 
-/// A file is listed by value; refused memory, a front of the list was written.
-pub fn listing(alloc: Global) -> Outcome {
+/// nm's list of `s.o`, by value.
+const BY_VALUE: &[u8] = b"       U _f\n000000 T _m\n000002 t L1\n000004 C _x\n";
+
+/// A file is listed; refused memory, a front of the list was written.
+fn list(alloc: Global, by_value: bool, lines: &[u8]) -> Outcome {
     let (Some(files), Ok(taken)) = (s_o(alloc), Vec::with_capacity(alloc, 64)) else {
         return Outcome::Unready;
     };
     let options = NmOptions {
         external: false,
         undefined: false,
-        by_value: true,
+        by_value,
         table_order: false,
         reverse: false,
         each_line: false,
@@ -106,10 +109,20 @@ pub fn listing(alloc: Global) -> Outcome {
     let is_failed = out.failed();
     let taken = out.into_inner().into_taken();
     match answer {
-        Ok(()) => Outcome::done(taken.as_slice() == LIST),
-        Err(ToolFault::Memory) => Outcome::refused(!is_failed && LIST.starts_with(&taken)),
+        Ok(()) => Outcome::done(taken.as_slice() == lines),
+        Err(ToolFault::Memory) => Outcome::refused(!is_failed && lines.starts_with(&taken)),
         Err(_) => Outcome::Wrong,
     }
+}
+
+/// A file is listed by name.
+pub fn listing(alloc: Global) -> Outcome {
+    list(alloc, false, BY_NAME)
+}
+
+/// A file is listed by value.
+pub fn listing_by_value(alloc: Global) -> Outcome {
+    list(alloc, true, BY_VALUE)
 }
 
 /// Sizes are written, which takes no memory.
@@ -121,4 +134,20 @@ pub fn sizing(alloc: Global) -> Outcome {
     let is_sized = size(&files, &mut out).is_ok();
     let taken = out.into_inner().into_taken();
     Outcome::done(is_sized && taken.as_slice() == b"4+0+0 = 4b = 04b\n".as_slice())
+}
+
+/// The line of a symbol is written, which takes no memory.
+pub fn showing(alloc: Global) -> Outcome {
+    let Ok(taken) = Vec::with_capacity(alloc, 16) else {
+        return Outcome::Unready;
+    };
+    let symbol = Symbol {
+        name: Name::from_bytes(b"_m"),
+        type_bits: 0o42,
+        value: 0,
+    };
+    let mut out = Wire::new(TestWriter::whole(taken));
+    let is_shown = line(&symbol, &mut out).is_ok();
+    let taken = out.into_inner().into_taken();
+    Outcome::done(is_shown && taken.as_slice() == b"000000 T _m\n".as_slice())
 }

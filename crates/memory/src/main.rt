@@ -54,7 +54,9 @@ fn call_commands(rt: &HostRuntime) -> io::Result<()> {
     report(rt, "parse", commands::parsing(alloc))?;
     report(rt, "ld", commands::linking_inputs(alloc))?;
     report(rt, "nm", commands::listing(alloc))?;
-    report(rt, "size", commands::sizing(alloc))
+    report(rt, "nm, by value", commands::listing_by_value(alloc))?;
+    report(rt, "size", commands::sizing(alloc))?;
+    report(rt, "line", commands::showing(alloc))
 }
 
 fn call_scripts(rt: &HostRuntime) -> io::Result<()> {

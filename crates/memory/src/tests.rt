@@ -35,7 +35,12 @@ fn memory_refused_running(rt: HostRuntime) {
 fn memory_refused_commands(rt: HostRuntime) {
     assert!(rt; commands::parsing(rt.alloc()) == Outcome::Done);
     assert!(rt; commands::linking_inputs(rt.alloc()) == Outcome::Done);
+}
+
+#[test]
+fn memory_refused_listing(rt: HostRuntime) {
     assert!(rt; commands::listing(rt.alloc()) == Outcome::Done);
+    assert!(rt; commands::listing_by_value(rt.alloc()) == Outcome::Done);
 }
 
 #[test]
@@ -57,5 +62,6 @@ fn no_memory_needed(rt: HostRuntime) {
     assert!(rt; links::reporting(rt.alloc()) == Outcome::Done);
     assert!(rt; links::emitting(rt.alloc()) == Outcome::Done);
     assert!(rt; commands::sizing(rt.alloc()) == Outcome::Done);
+    assert!(rt; commands::showing(rt.alloc()) == Outcome::Done);
     assert!(rt; scripts::other_steps(rt.alloc()) == Outcome::Done);
 }
