@@ -71,6 +71,7 @@ check-examples: build/v7 build/lesson
 	cmp crates/write_object/stdout examples/main.o
 	cmp crates/lesson/data/k.o examples/k.o
 	cmp crates/lesson/data/l.o examples/l.o
+	for o in main twice count; do cmp crates/transcript/data/$$o.o examples/$$o.o || exit 1; done
 	sh tests/heads.sh
 	sh tests/manual.sh
 

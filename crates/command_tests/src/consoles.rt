@@ -1,5 +1,6 @@
-//! A runtime for commands whose standard input is bytes in memory, and whose outputs are kept in the files `stdout` and
-//! `stderr`.
+//! A runtime for commands: standard input is bytes in memory, the outputs are kept in the files `stdout` and `stderr`, and
+//! what a command asks for is listed in the file `asked`.
+use crate::devices::{Device, ask};
 use std::alloc::Allocator;
 use std::env::FillError;
 use std::fmt::Display;
@@ -9,30 +10,32 @@ use std::io::{BufRead, Lines, Write};
 use std::rt::{Clock, Env, Files, Runtime};
 use std::time::Duration;
 
-/// All but the three standard streams is passed on.
+/// Each request is listed, and the one whose line is `refused` fails. All but the standard streams is passed on.
 #[derive(Clone, Drop)]
 pub struct Console<'a, R> {
     rt: R,
     input: &'a [u8],
+    refused: &'a str,
 }
 
 impl<'a, R> Console<'a, R> {
-    pub fn new(rt: R, input: &'a [u8]) -> Console<'a, R> {
-        Console { rt, input }
+    pub fn new(rt: R, input: &'a [u8], refused: &'a str) -> Console<'a, R> {
+        Console { rt, input, refused }
     }
 }
 
-impl<R: Files> Console<'_, R> {
-    /// Writes bytes behind those of a file.
-    fn keep(&self, path: &str, bytes: &[u8]) -> io::Result<()> {
+impl<R: Files + AllocGlobal> Console<'_, R> {
+    /// Writes bytes behind those of the file of a standard stream.
+    fn keep(&self, stream: &str, bytes: &[u8]) -> io::Result<()> {
+        ask(&self.rt, self.refused, "write", stream)?;
         let mut options = OpenOptions::new();
         options.append(true);
-        let mut file = options.open(&self.rt, path)?;
+        let mut file = options.open(&self.rt, stream)?;
         file.write_all(bytes)
     }
 }
 
-impl<R: Runtime> Runtime for Console<'_, R> {}
+impl<R: Runtime + AllocGlobal> Runtime for Console<'_, R> {}
 
 impl<R: Alloc> Alloc for Console<'_, R> {
     type A = R::A;
@@ -42,7 +45,7 @@ impl<R: Alloc> Alloc for Console<'_, R> {
     }
 }
 
-impl<R: Files + Alloc> Print for Console<'_, R> {
+impl<R: Files + AllocGlobal> Print for Console<'_, R> {
     fn print<D: Display + Drop>(&self, value: D) -> io::Result<()> {
         let text = format!(in self.rt.alloc(); "{value}")?;
         self.keep("stdout", text.as_bytes())
@@ -58,7 +61,7 @@ impl<R: Files + Alloc> Print for Console<'_, R> {
     }
 }
 
-impl<R: Files + Alloc> Eprint for Console<'_, R> {
+impl<R: Files + AllocGlobal> Eprint for Console<'_, R> {
     fn eprint<D: Display + Drop>(&self, value: D) -> io::Result<()> {
         let text = format!(in self.rt.alloc(); "{value}")?;
         self.keep("stderr", text.as_bytes())
@@ -111,13 +114,16 @@ impl<R: Clock> Clock for Console<'_, R> {
     }
 }
 
-impl<R: Files> Files for Console<'_, R> {
-    type File = R::File;
+impl<'a, R: Runtime + AllocGlobal> Files for Console<'a, R> {
+    type File = Device<'a, R, R::File>;
 
     type Dir = R::Dir;
 
-    fn open_file(&self, how: &OpenOptions, path: &str) -> io::Result<R::File> {
-        self.rt.open_file(how, path)
+    fn open_file(&self, how: &OpenOptions, path: &str) -> io::Result<Device<'a, R, R::File>> {
+        let word = if how.asks_write() { "create" } else { "open" };
+        ask(&self.rt, self.refused, word, path)?;
+        let file = self.rt.open_file(how, path)?;
+        Device::new(self.rt.clone()?, self.refused, path, file)
     }
 
     fn open_dir(&self, path: &str) -> io::Result<R::Dir> {

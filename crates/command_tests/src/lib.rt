@@ -4,6 +4,8 @@
 #[cfg(test)]
 mod consoles;
 #[cfg(test)]
+mod devices;
+#[cfg(test)]
 mod examples;
 #[cfg(test)]
 mod folders;
@@ -17,6 +19,8 @@ mod outputs;
 mod partial_links;
 #[cfg(test)]
 mod refusals;
+#[cfg(test)]
+mod requests;
 #[cfg(test)]
 mod sessions;
 #[cfg(test)]

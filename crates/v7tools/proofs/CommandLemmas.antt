@@ -1,11 +1,16 @@
 -- What a line of a script asks for.
-use Rattle.std.proofs.Common.{◌≡◌, ◌≢◌, ◌==◌, ◌+◌, ℕ, Bool, true, false, not, if◌then◌else◌, List, ◌++◌, length, take, drop, refl, sym, ap, ◌∙◌, arith, take-append-drop, take_at, length-append}
-use Rattle.std.specs.Prelude.{bytes_eq, codes, nat_lt}
+use Rattle.std.proofs.Common.{Result, Ok, Err, ◌≡◌, ◌≢◌, ◌==◌, ◌+◌, ℕ, Bool, true, false, not, if◌then◌else◌, List, ◌++◌, length, take, drop, refl, sym, ap, ◌∙◌, arith, take-append-drop, take_at, length-append}
+use Rattle.std.specs.Prelude.{IfErr, bytes_eq, codes, nat_lt}
 use Rattle.std.specs.Str.{IsUtf8, is_utf8}
 use Rattle.std.proofs.lemmas.Bool.{eqb-false, lt-ltb, and_from, and_left, false_from_ne_true}
 use Rattle.std.proofs.lemmas.Slice.Eq.{bytes_eq-Decides}
 use Rattle.std.proofs.lemmas.Str.{IsUtf8-from_is_utf8, is_utf8-from_IsUtf8}
 use Rattle.v7tools.specs.Scripts.{Asked, to_add, to_withdraw, for_externals, for_undefined, to_link, for_nothing, has_path, asked}
+
+-- this is so, whatever the error is
+pub where_err : {A E : Type 0} (r : Result A E) (P : Type 0) → P → IfErr r (λ _. P)
+where_err (Ok x) P p = tt
+where_err (Err e) P p = p
 
 -- the word does not stand at the front
 pub path_without_word : (word line : List ℕ) → ((rest : List ℕ) → line ≢ word ++ rest) → has_path word line ≡ false

@@ -7,7 +7,7 @@ use Rattle.v7tools.specs.declared.fault.CliFault.TheVariants as faults
 use Rattle.v7tools.specs.declared.lines.Line.{Line}
 use Rattle.v7tools.specs.declared.script.Stop.TheVariants as stops
 use Rattle.v7tools.specs.Scripts.{asked, lines_in, on_first, long_line, many_lines, and_given, ends_with_fault, given_behind}
-use Rattle.v7tools.specs.ScriptAnswers.{Answer, asked_by, HasLine, HasNone, behind_line, IfTold, IsStopOf, IsTakenOf, IsNextOf}
+use Rattle.v7tools.specs.ScriptAnswers.{Answer, asked_by, HasLine, HasNone, NamesPath, behind_line, IfTold, IsStopOf, IsTakenOf, IsNextOf}
 
 pub has_none_push : (line : List ℕ) (b : ℕ) → HasNone line → b ≢ 10 → HasNone (line ++ b ∷ [])
 has_none_push [] b h n = (n, tt)
@@ -133,8 +133,8 @@ line_answered n settled line is_last it bytes left same last h =
     ((h.0.0, h.0.1 ∙ ap (λ a. and_given a (given_behind (n + 1) (lines_in left))) (sym same)), (λ some. h.1.0 (last.0 some), λ none. last.1 (h.1.1 none)))
 
 -- no memory for the line that was taken
-pub lost_told : (n : ℕ) (old new : Option (List ℕ)) (settled : Option Answer) (answer : Answer) (line : List ℕ) (is_last : Bool) → answer ≡ Err faults.Memory →
+pub lost_told : (n : ℕ) (old new : Option (List ℕ)) (settled : Option Answer) (answer : Answer) (line : List ℕ) (is_last : Bool) → answer ≡ Err faults.Memory → NamesPath (asked line) →
     IfTold old new (λ bytes left. IsTakenOf n bytes left line (Ok is_last)) → IfTold old new (λ bytes left. IsNextOf n bytes left settled answer)
-lost_told n old new settled answer line is_last is =
+lost_told n old new settled answer line is_last is named =
     told_map old new (λ bytes left. IsTakenOf n bytes left line (Ok is_last)) (λ bytes left. IsNextOf n bytes left settled answer)
-    (λ bytes left h. subst (IsNextOf n bytes left settled) (sym is) (asked line, h.0))
+    (λ bytes left h. subst (IsNextOf n bytes left settled) (sym is) (asked line, named, h.0))

@@ -25,8 +25,9 @@ use Rattle.v7tools.specs.declared.commands.Step.{Step}
 use Rattle.v7tools.specs.declared.commands.Step.TheVariants.{Refused}
 use Rattle.v7tools.specs.Inputs.{Cause, cannot_open, bad_file, bad_object, not_added, object_in, kept_with}
 use Rattle.v7tools.specs.FaultTexts.{cause_text, cli_text, fault_at, fault_of_link}
-use Rattle.v7tools.specs.Answers.{done, refused, Stepped, add_step, input_from, failing, withdraw_step, link_step}
-use Rattle.v7tools.specs.Steps.{IsRefusal, IsAccepted, IsAddition, IsAddOn, IsAddBy, IsLinkBy, label_of, verdict_of}
+use Rattle.v7tools.specs.Answers.{done, refused, Stepped, add_step, withdraw_step, link_step}
+use Rattle.v7tools.specs.LinkAnswers.{IsDeviceFault}
+use Rattle.v7tools.specs.Steps.{IsRefusal, IsAccepted, IsAddition, IsAddOn, IsAddBy, IsAddOver, IsAddWorking, IsLinkBy, label_of, verdict_of}
 
 -- ---- the last object
 
@@ -50,24 +51,20 @@ withdrawn_none old none = ap (λ (es : List Labelled). withdraw_step old.entries
 abbrev pub failed_with : CliFault → Result (Unit {0}) CliFault
 failed_with fault = Err fault
 
--- a step on what was found, where it is what the bytes spell
-on_bytes : (known : Option (List ℕ)) (forced : List (List ℕ)) (kept : List Labelled) (path : List ℕ) (found : Result Contents Cause) (r : Result (List Labelled) Cause) → IfSome known (λ bytes. found ≡ object_in (front bytes)) →
-    kept_with forced kept path found ≡ r → IsAddOn known forced kept path (add_step kept path r)
-on_bytes None forced kept path found r h e = (found, ap (add_step kept path) (sym e))
-on_bytes (Some bytes) forced kept path found r h e = ap (add_step kept path) (sym e ∙ ap (kept_with forced kept path) h)
-
-on_failure : (forced : List (List ℕ)) (kept : List Labelled) (path : List ℕ) (found : Result Contents Cause) (r : Result (List Labelled) Cause) → found ≡ Err (bad_file reads.Device) →
-    kept_with forced kept path found ≡ r → add_step kept path r ≡ add_step kept path (input_from forced kept path failing)
-on_failure forced kept path found r h e = ap (add_step kept path) (sym e ∙ ap (kept_with forced kept path) h)
+-- a step on what was found, where it is what the bytes spell and no device failed
+on_bytes : (known : Option (List ℕ)) (forced : List (List ℕ)) (kept : List Labelled) (path : List ℕ) (found : Result Contents Cause) (r : Result (List Labelled) Cause) → (found ≡ Err (bad_file reads.Device) → ⊥) →
+    IfSome known (λ bytes. found ≡ object_in (front bytes)) → kept_with forced kept path found ≡ r → IsAddWorking known forced kept path (add_step kept path r)
+on_bytes None forced kept path found r sound h e = (found, sound, ap (add_step kept path) (sym e))
+on_bytes (Some bytes) forced kept path found r sound h e = ap (add_step kept path) (sym e ∙ ap (kept_with forced kept path) h)
 
 -- an object is added
-pub added_by : {R : Type 0} (remaining : R → Option (List ℕ)) (wire : Latched R) (old new : Kept) (path : List ℕ) (o : Contents) → wire.has_failed ≡ false → IsAccepted (remaining wire.device) old new path o →
-    IsAddBy remaining wire old.forced old.entries path (add_step old.entries path (Ok new.entries))
-added_by remaining wire old new path o working h = by_found h.is_found
+pub added_by : {R : Type 0} (remaining : R → Option (List ℕ)) (from to : Latched R) (old new : Kept) (path : List ℕ) (o : Contents) → from.has_failed ≡ false → to.has_failed ≡ false →
+    IsAccepted (remaining from.device) old new path o → IsAddOver remaining from to old.forced old.entries path (add_step old.entries path (Ok new.entries))
+added_by remaining from to old new path o before after h = by_found h.is_found
   where
-    by_found : (Ok o ≡ Err (bad_file reads.Device)) ⊎ IfSome (remaining wire.device) (λ bytes. Ok o ≡ object_in (front bytes)) → IsAddBy remaining wire old.forced old.entries path (add_step old.entries path (Ok new.entries))
+    by_found : (Ok o ≡ Err (bad_file reads.Device)) ⊎ IfSome (remaining from.device) (λ bytes. Ok o ≡ object_in (front bytes)) → IsAddOver remaining from to old.forced old.entries path (add_step old.entries path (Ok new.entries))
     by_found (inl e) = absurd (cc)
-    by_found (inr e) = inr (working, inr (on_bytes (remaining wire.device) old.forced old.entries path (Ok o) (Ok new.entries) e h.accepts))
+    by_found (inr e) = inr (after, before, inr (on_bytes (remaining from.device) old.forced old.entries path (Ok o) (Ok new.entries) (λ e. absurd (cc)) e h.accepts))
 
 -- the step that a fault refuses
 abbrev pub refused_as : List Labelled → List ℕ → Stepped
@@ -80,38 +77,58 @@ text_of_cause path (bad_file fault) = refl
 text_of_cause path (bad_object fault) = refl
 text_of_cause path (not_added fault) = refl
 
-refused_by : {R : Type 0} (remaining : R → Option (List ℕ)) (wire : Latched R) (old : Kept) (path : String Global) (fault : CliFault) →
-    (IsTrue wire.has_failed → failed_with fault ≡ failed_with (faults.BadFile path reads.Device)) → IsRefusal (remaining wire.device) old path fault →
-    IsAddBy remaining wire old.forced old.entries (string_bytes path) (refused_as old.entries (cli_text fault))
-refused_by {R} remaining wire old path fault failed h = by_latch wire.has_failed refl failed h.is_found
-  where
-    says : refused_as old.entries (cli_text fault) ≡ add_step old.entries (string_bytes path) (Err h.cause)
-    says = ap (refused_as old.entries) (ap cli_text h.names ∙ text_of_cause path h.cause)
+-- a file is not added: the fault is that of a device exactly where the wire has failed
+module _ {R : Type 0} (remaining : R → Option (List ℕ)) (from to : Latched R) (old : Kept) (path : String Global) (fault : CliFault)
+    (latched : IsTrue from.has_failed → to ≡ from) (device : (failed_with fault ≡ failed_with (faults.BadFile path reads.Device)) ↔ IsTrue to.has_failed) where
+  abbrev IsRefused : Type 0
+  IsRefused = IsAddOver remaining from to old.forced old.entries (string_bytes path) (refused_as old.entries (cli_text fault))
 
-    by_latch : (t : Bool) → wire.has_failed ≡ t → (IsTrue t → failed_with fault ≡ failed_with (faults.BadFile path reads.Device)) →
-        (h.found ≡ Err (bad_file reads.Device)) ⊎ IfSome (remaining wire.device) (λ bytes. h.found ≡ object_in (front bytes)) →
-        IsAddBy remaining wire old.forced old.entries (string_bytes path) (refused_as old.entries (cli_text fault))
-    by_latch true latch failed found = let is : fault ≡ faults.BadFile path reads.Device = (let e = failed refl in cc) in inl (ap (λ (f : CliFault). refused_as old.entries (cli_text f)) is)
-    by_latch false latch failed (inl e) = inl (says ∙ on_failure old.forced old.entries (string_bytes path) h.found (Err h.cause) e h.refuses)
-    by_latch false latch failed (inr e) =
-        inr (
-          latch,
-          inr (subst (IsAddOn (remaining wire.device) old.forced old.entries (string_bytes path)) (sym says)
-              (on_bytes (remaining wire.device) old.forced old.entries (string_bytes path) h.found (Err h.cause) e h.refuses)),
-        )
+  worked : to.has_failed ≡ false → from.has_failed ≡ false
+  worked after = false_from_ne_true from.has_failed (λ failed. let same : to.has_failed ≡ from.has_failed = ap (λ (w : Latched R). w.has_failed) (latched failed) in absurd (cc))
 
-memory_by : {R : Type 0} (remaining : R → Option (List ℕ)) (wire : Latched R) (old : Kept) (path : String Global) (fault : CliFault) →
-    (IsTrue wire.has_failed → failed_with fault ≡ failed_with (faults.BadFile path reads.Device)) → fault ≡ faults.Memory → IfSome (remaining wire.device) HasHeader →
-    IsAddBy remaining wire old.forced old.entries (string_bytes path) (refused_as old.entries (cli_text fault))
-memory_by remaining wire old path fault failed is header =
-    inr (false_from_ne_true wire.has_failed (λ t. let e = failed t in absurd (cc)), inl (ap (λ (f : CliFault). refused_as old.entries (cli_text f)) is, header))
+  -- what was found is no failure
+  sound : (h : IsRefusal (remaining from.device) old path fault) → to.has_failed ≡ false → h.found ≡ Err (bad_file reads.Device) → ⊥
+  sound h after e =
+      let is : bad_file reads.Device ≡ h.cause = (let r = ap (kept_with old.forced old.entries (string_bytes path)) (sym e) ∙ h.refuses in cc) in
+      let failed : to.has_failed ≡ true = device.0 (ap failed_with (h.names ∙ ap (fault_at path) (sym is))) in
+      absurd (cc)
 
--- a file is not added
-pub not_added_by : {R : Type 0} (remaining : R → Option (List ℕ)) (wire : Latched R) (old new : Kept) (path : String Global) (fault : CliFault) →
-    (IsTrue wire.has_failed → failed_with fault ≡ failed_with (faults.BadFile path reads.Device)) → IsAddition (remaining wire.device) old new path (Err fault) →
-    (new ≡ old) × IsAddBy remaining wire old.forced old.entries (string_bytes path) (refused_as old.entries (cli_text fault))
-not_added_by remaining wire old new path fault failed (same, inl (is, header)) = (same, memory_by remaining wire old path fault failed is header)
-not_added_by remaining wire old new path fault failed (same, inr h) = (same, refused_by remaining wire old path fault failed h)
+  by_refusal : IsRefusal (remaining from.device) old path fault → IsRefused
+  by_refusal h = by_latch to.has_failed refl h.is_found
+    where
+      says : refused_as old.entries (cli_text fault) ≡ add_step old.entries (string_bytes path) (Err h.cause)
+      says = ap (refused_as old.entries) (ap cli_text h.names ∙ text_of_cause path h.cause)
+
+      by_latch : (t : Bool) → to.has_failed ≡ t → (h.found ≡ Err (bad_file reads.Device)) ⊎ IfSome (remaining from.device) (λ bytes. h.found ≡ object_in (front bytes)) → IsRefused
+      by_latch true latch found = let is : fault ≡ faults.BadFile path reads.Device = (let e = device.1 latch in cc) in inl (latch, ap (λ (f : CliFault). refused_as old.entries (cli_text f)) is)
+      by_latch false latch (inl e) = absurd (sound h latch e)
+      by_latch false latch (inr e) =
+          inr (
+            latch,
+            worked latch,
+            inr (subst (IsAddWorking (remaining from.device) old.forced old.entries (string_bytes path)) (sym says)
+                (on_bytes (remaining from.device) old.forced old.entries (string_bytes path) h.found (Err h.cause) (sound h latch) e h.refuses)),
+          )
+
+  by_memory : fault ≡ faults.Memory → IfSome (remaining from.device) HasHeader → IsRefused
+  by_memory is header =
+      let after = false_from_ne_true to.has_failed (λ failed. let e = device.1 failed in absurd (cc)) in
+      inr (after, worked after, inl (ap (λ (f : CliFault). refused_as old.entries (cli_text f)) is, header))
+
+  pub not_added_by : (new : Kept) → IsAddition (remaining from.device) old new path (Err fault) → (new ≡ old) × IsRefused
+  not_added_by new (same, inl (is, header)) = (same, by_memory is header)
+  not_added_by new (same, inr h) = (same, by_refusal h)
+
+-- what the wire is like behind an addition is left out
+working_on : (known : Option (List ℕ)) (forced : List (List ℕ)) (kept : List Labelled) (path : List ℕ) (did : Stepped) → IsAddWorking known forced kept path did → IsAddOn known forced kept path did
+working_on None forced kept path did (found, sound, is) = (found, is)
+working_on (Some bytes) forced kept path did is = is
+
+pub added_over : {R : Type 0} (remaining : R → Option (List ℕ)) (from to : Latched R) (forced : List (List ℕ)) (kept : List Labelled) (path : List ℕ) (did : Stepped) → IsAddOver remaining from to forced kept path did →
+    IsAddBy remaining from forced kept path did
+added_over remaining from to forced kept path did (inl (failed, is)) = inl is
+added_over remaining from to forced kept path did (inr (after, before, inl memory)) = inr (before, inl memory)
+added_over remaining from to forced kept path did (inr (after, before, inr on)) = inr (before, inr (working_on (remaining from.device) forced kept path did on))
 
 -- ---- links
 
@@ -150,3 +167,32 @@ failed_before {R} before after r path latched device failed = device.1 (subst (�
 pub worked_before : {R : Type 0} (before after : Latched R) (path : String Global) → (IsTrue before.has_failed → after ≡ before) →
     ((Ok tt ≡ failed_with (faults.BadFile path reads.Device)) ↔ IsTrue after.has_failed) → before.has_failed ≡ false
 worked_before before after path latched device = false_from_ne_true before.has_failed (λ failed. let bad = failed_before before after (Ok tt) path latched device failed in absurd (cc))
+
+-- nor has it behind the addition
+pub worked_after : {R : Type 0} (after : Latched R) (path : String Global) → ((Ok tt ≡ failed_with (faults.BadFile path reads.Device)) ↔ IsTrue after.has_failed) → after.has_failed ≡ false
+worked_after after path device = false_from_ne_true after.has_failed (λ failed. let bad = device.1 failed in absurd (cc))
+
+-- ---- the fault of a device
+
+device_path : (path : String Global) (cause : Cause) → IsDeviceFault (fault_at path cause) → fault_at path cause ≡ faults.BadFile path reads.Device
+device_path path cannot_open h = absurd h
+device_path path (bad_file reads.ShortHeader) h = absurd h
+device_path path (bad_file reads.BadMagic) h = absurd h
+device_path path (bad_file reads.OddSize) h = absurd h
+device_path path (bad_file reads.Memory) h = absurd h
+device_path path (bad_file reads.Truncated) h = absurd h
+device_path path (bad_file reads.Device) h = refl
+device_path path (bad_object fault) h = absurd h
+device_path path (not_added fault) h = absurd h
+
+-- it is answered exactly where the wire of the file has failed
+pub device_fault : (known : Option (List ℕ)) (old new : Kept) (path : String Global) (fault : CliFault) (latch : Bool) → IsAddition known old new path (Err fault) →
+    ((failed_with fault ≡ failed_with (faults.BadFile path reads.Device)) ↔ IsTrue latch) → IsDeviceFault fault ↔ IsTrue latch
+device_fault known old new path fault latch h device = (λ is. device.0 (by_why h.1 is), λ failed. subst IsDeviceFault (sym (as_fault (device.1 failed))) tt)
+  where
+    as_fault : failed_with fault ≡ failed_with (faults.BadFile path reads.Device) → fault ≡ faults.BadFile path reads.Device
+    as_fault e = cc
+
+    by_why : ((fault ≡ faults.Memory) × IfSome known HasHeader) ⊎ IsRefusal known old path fault → IsDeviceFault fault → failed_with fault ≡ failed_with (faults.BadFile path reads.Device)
+    by_why (inl (is, header)) d = absurd (subst IsDeviceFault is d)
+    by_why (inr r) d = ap failed_with (r.names ∙ device_path path r.cause (subst IsDeviceFault r.names d))

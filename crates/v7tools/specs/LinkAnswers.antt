@@ -70,6 +70,16 @@ IsReached forced kept path (i ∷ is) = (i.0 ≡ path) ⊎ IsOkAnd (with_input f
 abbrev pub BreaksAt : List (List ℕ) → List Labelled → List (List ℕ × List ℕ) → CliFault → Type 0
 BreaksAt forced kept inputs fault = (path : String Global) → fault ≡ faults.BadFile path reads.Device → IsReached forced kept (string_bytes path) inputs
 
+-- a device broke off
+abbrev pub IsDeviceFault : CliFault → Type 0
+IsDeviceFault (faults.BadFile path reads.Device) = Unit {0}
+IsDeviceFault _ = ⊥
+
+-- a fault without the wire that comes back with it
+abbrev pub without_wire : {R : Type 0} → Result (Unit {0}) (CliFault × Latched R) → Result (Unit {0}) CliFault
+without_wire (Ok x) = Ok x
+without_wire (Err refused) = Err refused.0
+
 -- the link of the inputs, or why there is none
 abbrev pub IsLinkOf : List (List ℕ) → Choices → List (List ℕ × List ℕ) → Result Linked CliFault → Type 0
 IsLinkOf forced o inputs (Ok l) = linked forced inputs o ≡ Ok (outcome_of l)

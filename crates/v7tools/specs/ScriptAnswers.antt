@@ -88,6 +88,12 @@ NeedsNoMore n bytes = HasLine bytes ⊎ ((n ≡ 1000000) × (bytes ≢ []))
 abbrev pub TakesLine : ℕ → List ℕ → List ℕ → Asked → Type 0
 TakesLine n bytes left asks = (left ≡ behind_line bytes) × (given_behind n (lines_in bytes) ≡ and_given asks (given_behind (n + 1) (lines_in left)))
 
+-- a line that names a path, for which room is needed
+abbrev pub NamesPath : Asked → Type 0
+NamesPath (to_add path) = Unit {0}
+NamesPath (to_link path) = Unit {0}
+NamesPath _ = ⊥
+
 -- behind so many lines there is none
 abbrev pub TakesNone : ℕ → List ℕ → List ℕ → Type 0
 TakesNone n bytes left = (left ≡ []) × (given_behind n (lines_in bytes) ≡ record { lines = []; fault = None })
@@ -111,7 +117,7 @@ IsNextOf n bytes left settled (Ok (Some line)) = TakesLine n bytes left (asked_b
 IsNextOf n bytes left settled (Ok None) = TakesNone n bytes left
 IsNextOf n bytes left settled (Err faults.LongLine) = StopsInLine n bytes left
 IsNextOf n bytes left settled (Err faults.ManyLines) = StopsBehind n bytes left
-IsNextOf n bytes left settled (Err faults.Memory) = (asks : Asked) × TakesLine n bytes left asks
+IsNextOf n bytes left settled (Err faults.Memory) = (asks : Asked) × NamesPath asks × TakesLine n bytes left asks
 IsNextOf n bytes left settled (Err faults.ScriptFailed) = FailsInLine bytes left
 IsNextOf n bytes left settled (Err _) = Unit {0}
 

@@ -1,5 +1,5 @@
 -- What a step of a session does, as far as its reader's bytes are known and memory is found.
-use Rattle.std.specs.Prelude.{◌≡◌, ◌↔◌, ◌⊎◌, ℕ, false, cond, List, [], Option, Some, None, Result, Ok, Err, IfOk, IfSome, IsOk, IsErr, IsTrue, String, string_bytes}
+use Rattle.std.specs.Prelude.{◌≡◌, ◌≢◌, ◌↔◌, ◌⊎◌, ℕ, false, cond, List, [], Option, Some, None, Result, Ok, Err, IfOk, IfSome, IsOk, IsErr, IsTrue, String, string_bytes}
 use Rattle.std.specs.declared.alloc.Global.{Global}
 use Rattle.aout_core.specs.declared.file.ReadFault.TheVariants as reads
 use Rattle.aout_core.specs.Contents.{Contents}
@@ -136,10 +136,21 @@ abbrev pub IsAddition : Option (List ℕ) → Kept → Kept → String Global �
 IsAddition known old new path (Ok _) = (object : Contents) × IsAccepted known old new (string_bytes path) object
 IsAddition known old new path (Err fault) = (new ≡ old) × (((fault ≡ faults.Memory) × IfSome known HasHeader) ⊎ IsRefusal known old path fault)
 
+-- the same on some file, or some cause but that the device failed
+abbrev pub IsAddWorking : Option (List ℕ) → List (List ℕ) → List Labelled → List ℕ → Stepped → Type 0
+IsAddWorking (Some bytes) forced kept path did = did ≡ add_step kept path (input_from forced kept path (giving bytes))
+IsAddWorking None forced kept path did = (found : Result Contents Cause) × (found ≢ Err (bad_file reads.Device)) × (did ≡ add_step kept path (kept_with forced kept path found))
+
+-- what the wire is like before and after an addition: the answer is that of a device that failed exactly where this did
+abbrev pub IsAddOver : {R : Type 0} → (R → Option (List ℕ)) → Latched R → Latched R → List (List ℕ) → List Labelled → List ℕ → Stepped → Type 0
+IsAddOver remaining from to forced kept path did =
+    (IsTrue to.has_failed × (did ≡ add_step kept path (input_from forced kept path failing)))
+    ⊎ ((to.has_failed ≡ false) × (from.has_failed ≡ false) × (((did ≡ without_memory kept) × IfSome (remaining from.device) HasHeader) ⊎ IsAddWorking (remaining from.device) forced kept path did))
+
 -- the file at a path is added, or the answer says why it is not
-abbrev pub TakesAddStep : {R W : Type 0} → (R → Option (List ℕ)) → (W → Option (List ℕ)) → String Global → Latched R → Kept → Kept → Result Step CliFault → Latched W → Latched W → Type 0
-TakesAddStep remaining contents path wire old new result before after =
-    (did : Stepped) × IsAddBy remaining wire old.forced old.entries (string_bytes path) did × AddsIf did.verdict old new × Does contents did new result before after
+abbrev pub TakesAddStep : {R W : Type 0} → (R → Option (List ℕ)) → (W → Option (List ℕ)) → String Global → Latched R → Latched R → Kept → Kept → Result Step CliFault → Latched W → Latched W → Type 0
+TakesAddStep remaining contents path from to old new result before after =
+    (did : Stepped) × IsAddOver remaining from to old.forced old.entries (string_bytes path) did × AddsIf did.verdict old new × Does contents did new result before after
 
 -- a link is made, or the answer says why it is not
 abbrev pub TakesLinkStep : {W : Type 0} → (W → Option (List ℕ)) → Result Outcome LinkFault → Kept → Result Step CliFault → Latched W → Latched W → Type 0

@@ -73,7 +73,7 @@ fn add<R: Read, W: Write>(
 ) -> Result<Step, CliFault>
     ensures write_failed { IfErr result (λ fault. fault ≡ WriteFailed) }
     ensures latched { IsTrue answers.old.has_failed → (answers.new ≡ answers.old) }
-    ensures step { TakesAddStep R.remaining W.contents path wire.old session.old session.new result answers.old answers.new }
+    ensures step { TakesAddStep R.remaining W.contents path wire.old wire.new session.old session.new result answers.old answers.new }
     ensures object { IfOk result StoresObject }
 {
     match add_file(alloc, session, path, wire) {

@@ -1,8 +1,8 @@
 //! The link of files.
-ghost use Rattle.std.specs.Prelude.{◌≡◌, true, IfErr, IfOk, IfSome};
+ghost use Rattle.std.specs.Prelude.{◌≡◌, ◌↔◌, true, IfErr, IfOk, IfSome, IsTrue};
 ghost use Rattle.std.specs.List.{AllByRecursion};
 ghost use Rattle.aout_core.specs.WellFormed.{IsWellFormed};
-ghost use Rattle.v7tools.specs.LinkAnswers.{AreTaken, IsLinkOf, IsPossible, IsWorking, said_by, told};
+ghost use Rattle.v7tools.specs.LinkAnswers.{AreTaken, IsDeviceFault, IsLinkOf, IsPossible, IsWorking, said_by, told, without_wire};
 
 use crate::additions::add_file;
 use crate::fault::CliFault;
@@ -12,19 +12,23 @@ use link_session::{Forced, Session};
 use std::alloc::Global;
 use std::io::Read;
 
-/// Reads, checks and adds the inputs in their order, each before the next one.
+/// Reads, checks and adds the inputs in their order, each before the next one. The wire of the input that is refused comes
+/// back with the fault.
 fn take_inputs<R: Read + Drop>(
     alloc: Global,
     session: &mut Session,
     inputs: Vec<(String, Wire<R>)>,
-) -> Result<(), CliFault>
-    ensures faults { IfErr result (λ fault. IsPossible (said_by fault)) }
+) -> Result<(), (CliFault, Wire<R>)>
+    ensures device { IfErr result (λ refused. IsDeviceFault refused.0 ↔ IsTrue refused.1.has_failed) }
+    ensures faults { IfErr result (λ refused. IsPossible (said_by refused.0)) }
     ensures working { IfOk result (λ _. AllByRecursion IsWorking inputs.items) }
     ensures forced { session.new.forced ≡ session.old.forced }
-    ensures value { IfSome (told R.remaining inputs.items) (λ bytes. AreTaken session.old session.new bytes result) }
+    ensures value { IfSome (told R.remaining inputs.items) (λ bytes. AreTaken session.old session.new bytes (without_wire result)) }
 {
     for (path, mut wire) in inputs {
-        add_file(alloc, session, path, &mut wire)?;
+        if let Err(fault) = add_file(alloc, session, path, &mut wire) {
+            return Err((fault, wire));
+        }
     }
     Ok(())
 }
@@ -48,6 +52,8 @@ pub fn ld<R: Read + Drop>(
     ensures object { options.now.relocatable ≡ true → IfOk result (λ linked. IsWellFormed linked.file) }
 {
     let mut session = Session::with_forced(alloc, forced)?;
-    take_inputs(alloc, &mut session, inputs)?;
+    if let Err((fault, _)) = take_inputs(alloc, &mut session, inputs) {
+        return Err(fault);
+    }
     Ok(finish(alloc, &session, options)?)
 }

@@ -1,7 +1,7 @@
 //! The lines of a script.
-ghost use Rattle.std.specs.Prelude.{◌≡◌, IfOk, length, drop, true, false, MatchOption};
+ghost use Rattle.std.specs.Prelude.{◌≡◌, IfErr, IfOk, length, drop, true, false, MatchOption};
 ghost use Rattle.v7tools.specs.Scripts.{asked, has_path};
-ghost use Rattle.v7tools.specs.ScriptAnswers.{asked_by};
+ghost use Rattle.v7tools.specs.ScriptAnswers.{asked_by, NamesPath};
 
 use std::alloc::{AllocError, Global};
 
@@ -30,9 +30,10 @@ fn path_behind<'a>(word: &str, line: &'a str) -> Option<&'a str>
     if path.is_empty() { None } else { Some(path) }
 }
 
-/// What a line that is text asks for.
+/// What a line that is text asks for. Memory is wanted for a path alone.
 fn asked_in(alloc: Global, line: &str) -> Result<Line, AllocError>
-    ensures { IfOk result (λ it. asked_by it ≡ asked line.now) }
+    ensures value { IfOk result (λ it. asked_by it ≡ asked line.now) }
+    ensures room { IfErr result (λ _. NamesPath (asked line.now)) }
 {
     if let Some(path) = path_behind("add ", line) {
         return Ok(Line::Add(String::from_str(alloc, path)?));
@@ -50,9 +51,10 @@ fn asked_in(alloc: Global, line: &str) -> Result<Line, AllocError>
 }
 
 impl Line {
-    /// What the bytes of a line, without its newline, ask for. (own choice)
+    /// What the bytes of a line, without its newline, ask for. Memory is wanted for a path alone. (own choice)
     pub(crate) fn from_bytes(alloc: Global, bytes: &[u8]) -> Result<Line, AllocError>
-        ensures { IfOk result (λ line. asked_by line ≡ asked bytes.now) }
+        ensures value { IfOk result (λ line. asked_by line ≡ asked bytes.now) }
+        ensures room { IfErr result (λ _. NamesPath (asked bytes.now)) }
     {
         match str::from_utf8(bytes) {
             Ok(line) => asked_in(alloc, line),

@@ -1,4 +1,4 @@
-use Rattle.std.proofs.Common.{ℕ, List, Ok, Err, ◌++◌, ◌∙◌, subst, ap, refl}
+use Rattle.std.proofs.Common.{ℕ, List, Ok, ◌++◌, ◌∙◌, subst, ap, refl}
 use Rattle.std.specs.Prelude.{codes, string_bytes}
 use Rattle.std.specs.Io.KnownBytes.{Appends}
 use Rattle.aout_core.specs.Wires.{AppendsFront}
@@ -6,7 +6,7 @@ use Rattle.link_session.specs.Undo.{Kept}
 use Rattle.link_out.specs.Reports.{line}
 use Rattle.v7tools.specs.Answers.{add_step}
 use Rattle.v7tools.specs.FaultTexts.{cli_text}
-use Rattle.v7tools.proofs.StepLemmas.{added_by, not_added_by, refused_as, no_verdict, told_in_part, refused_verdict, label_is, failed_before, worked_before}
+use Rattle.v7tools.proofs.StepLemmas.{added_by, not_added_by, refused_as, no_verdict, told_in_part, refused_verdict, label_is, worked_before, worked_after}
 use Rattle.v7tools.proofs.answers.add.Goals as goal
 
 pub returns-in_err-put_line-in-Ok-clause-step : goal.returns-in_err-put_line-in-Ok-clause-step
@@ -22,7 +22,7 @@ returns-in_err-put_line-in-Ok-clause-step g c =
     let label = c.as_bytes.ensures.value ∙ c.last_label.ensures ∙ label_is old new _ accepted.adds in
     let sent = subst (λ (l : List ℕ). AppendsFront before after (line (codes "added " ++ l))) label c.in_err-put_line-in-Ok.ensures.bytes in (
       add_step old.entries path (Ok new.entries),
-      added_by g.R.Read.remaining c.args.wire.now old new path object working accepted,
+      added_by g.R.Read.remaining c.args.wire.now c.add_file.new.wire old new path object working (worked_after c.add_file.new.wire c.args.path c.in-Ok.ensures.device) accepted,
       (_, accepted.adds),
       record {
         kept = refl;
@@ -43,7 +43,7 @@ returns-in_ok-put_line-in-Ok-clause-step g c =
     let label = c.as_bytes.ensures.value ∙ c.last_label.ensures ∙ label_is old new _ accepted.adds in
     let sent = subst (λ (l : List ℕ). Appends before after (line (codes "added " ++ l))) label c.in_ok-put_line-in-Ok.ensures.bytes in (
       add_step old.entries path (Ok new.entries),
-      added_by g.R.Read.remaining c.args.wire.now old new path object working accepted,
+      added_by g.R.Read.remaining c.args.wire.now c.add_file.new.wire old new path object working (worked_after c.add_file.new.wire c.args.path c.in-Ok.ensures.device) accepted,
       (_, accepted.adds),
       record { kept = refl; verdict = refl; answer = (c.in_ok-put_line-in-Ok.ensures.fault, sent) },
     )
@@ -53,8 +53,7 @@ returns-in-Err-clause-step g c =
     let old = c.args.session.now in
     let new = c.add_file.new.session in
     let fault = c.in-Err.fault in
-    let failed = failed_before c.args.wire.now c.add_file.new.wire (Err fault) c.args.path c.in-Err.ensures.latched c.in-Err.ensures.device in
-    let (unchanged, by) = not_added_by g.R.Read.remaining c.args.wire.now old new c.args.path fault failed c.in-Err.ensures.value in (
+    let (unchanged, by) = not_added_by g.R.Read.remaining c.args.wire.now c.add_file.new.wire old c.args.path fault c.in-Err.ensures.latched c.in-Err.ensures.device new c.in-Err.ensures.value in (
       refused_as old.entries (cli_text fault),
       by,
       unchanged,

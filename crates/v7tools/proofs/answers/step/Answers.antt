@@ -1,7 +1,7 @@
 use Rattle.std.proofs.Common.{refl}
 use Rattle.std.specs.Prelude.{string_bytes}
 use Rattle.v7tools.specs.Answers.{step, adding, absent, listing_externals, listing_undefined, anything_else}
-use Rattle.v7tools.proofs.StepLemmas.{no_verdict, told_in_part, refused_verdict}
+use Rattle.v7tools.proofs.StepLemmas.{no_verdict, told_in_part, refused_verdict, added_over}
 use Rattle.v7tools.proofs.answers.step.Goals as goal
 
 pub returns-in_err-put_externals-in-Externals-clause-step : goal.returns-in_err-put_externals-in-Externals-clause-step
@@ -51,6 +51,12 @@ returns-in_ok-put_line-in-Bad-clause-step g c =
     let s = c.args.session.now in
     let told = c.in_ok-put_line-in-Bad.ensures in
     rw c.in-Bad.is (step s.forced c.args.options.now s.entries anything_else, refl, refl, record { kept = refl; verdict = refl; answer = (told.fault, told.bytes) })
+
+pub returns-in-Some-clause-step : goal.returns-in-Some-clause-step
+returns-in-Some-clause-step g c =
+    let s = c.args.session.now in
+    let (did, over, adds, does) = c.add.ensures.step in
+    rw (c.in-Add.is, c.in-Some.is) (did, added_over g.R.Read.remaining c.in-Some.wire c.add.new.wire s.forced s.entries (string_bytes c.in-Add.path) did over, adds, does)
 
 pub returns-in-None-clause-step : goal.returns-in-None-clause-step
 returns-in-None-clause-step g c =

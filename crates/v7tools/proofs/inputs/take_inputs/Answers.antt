@@ -1,12 +1,10 @@
-use Rattle.std.proofs.Common.{Result, Ok, Err, refl, sym, subst, ◌∙◌}
+use Rattle.std.proofs.Common.{Ok, Err, refl, sym, subst, ◌∙◌}
 use Rattle.std.specs.List.{AllByRecursion}
 use Rattle.std.proofs.lemmas.List.{nil_from_length}
-use Rattle.std.specs.Prelude.{IfSome}
-use Rattle.v7tools.specs.declared.fault.CliFault.{CliFault}
-use Rattle.v7tools.specs.LinkAnswers.{AreTaken, IsWorking, told}
-use Rattle.v7tools.proofs.AdditionLemmas.{addition_taken, carried, forced_kept}
+use Rattle.v7tools.specs.LinkAnswers.{IsWorking}
+use Rattle.v7tools.proofs.AdditionLemmas.{addition_taken, forced_kept}
 use Rattle.v7tools.proofs.AnswerLemmas.{so_far_none, so_far_more, so_far_refused, so_far_all}
-use Rattle.v7tools.proofs.StepLemmas.{worked_before}
+use Rattle.v7tools.proofs.StepLemmas.{device_fault, worked_before}
 use Rattle.v7tools.proofs.inputs.take_inputs.Goals as goal
 
 pub loop-path-init : goal.loop-path-init
@@ -18,23 +16,26 @@ loop-path-init g c =
       working = λ h. subst (AllByRecursion IsWorking) all_left h;
     }
 
-pub returns-in_err-add_file-clause-value : goal.returns-in_err-add_file-clause-value
-returns-in_err-add_file-clause-value g c =
-    let fault = c.in_err-add_file.field-0.0 in
+pub returns-in-Err-clause-device : goal.returns-in-Err-clause-device
+returns-in-Err-clause-device g c =
+    device_fault (g.R.Read.remaining c.in-Some.wire.device) c.loop-path.session c.add_file.new.session c.in-Some.path c.in-Err.fault c.add_file.new.wire.has_failed c.in-Err.ensures.value c.in-Err.ensures.device
+
+pub returns-in-Err-clause-value : goal.returns-in-Err-clause-value
+returns-in-Err-clause-value g c =
+    let fault = c.in-Err.fault in
     let before = c.loop-path.session in
     let after = c.add_file.new.session in
     let known = g.R.Read.remaining c.in-Some.wire.device in
-    subst (λ (r : Result (Unit {0}) CliFault). IfSome (told g.R.Read.remaining c.args.inputs.items) (λ all. AreTaken c.args.session.now after all r)) (sym (carried c.from_residual.result fault c.from_residual.ensures.1))
-    (so_far_refused g.R.Read.remaining c.args.inputs.items c.loop-path.path-iterator.rest.items c.next.new.self.rest.items (c.in-Some.path, c.in-Some.wire)
+    so_far_refused g.R.Read.remaining c.args.inputs.items c.loop-path.path-iterator.rest.items c.next.new.self.rest.items (c.in-Some.path, c.in-Some.wire)
     c.args.session.now before after after fault c.loop-path.invariant.forced c.loop-path.invariant.taken c.in-Some.ensures.steps.0
-    (addition_taken known before after c.in-Some.path (Err fault) c.in_err-add_file.ensures.faults c.in_err-add_file.ensures.value))
+    (addition_taken known before after c.in-Some.path (Err fault) c.in-Err.ensures.faults c.in-Err.ensures.value)
 
 pub loop-path-preserved : goal.loop-path-preserved
 loop-path-preserved g c =
     let before = c.loop-path.session in
     let after = c.add_file.new.session in
     let known = g.R.Read.remaining c.in-Some.wire.device in
-    let added = c.in_ok-add_file.ensures in
+    let added = c.in_default.ensures in
     let working = worked_before c.in-Some.wire c.add_file.new.wire c.in-Some.path added.latched added.device in
     record {
       taken = so_far_more g.R.Read.remaining c.args.inputs.items c.loop-path.path-iterator.rest.items c.next.new.self.rest.items (c.in-Some.path, c.in-Some.wire)

@@ -3,7 +3,7 @@ use Rattle.std.specs.Prelude.{IsSome}
 use Rattle.std.specs.Io.KnownBytes.{prepend_known}
 use Rattle.v7tools.specs.declared.fault.CliFault.TheVariants.{Memory}
 use Rattle.v7tools.specs.Scripts.{asked}
-use Rattle.v7tools.specs.ScriptAnswers.{asked_by, IfTold, IsNextOf, IsTakenOf}
+use Rattle.v7tools.specs.ScriptAnswers.{asked_by, IfTold, IsNextOf, IsTakenOf, NamesPath}
 use Rattle.v7tools.proofs.ScriptLemmas.{told_map, line_answered, lost_told}
 use Rattle.v7tools.proofs.script.Script.next_line.Goals as goal
 
@@ -14,7 +14,7 @@ returns-clause-next g c =
     let settled : IsSome c.if-is_last.self.settled → c.in-Ok.is_last ≡ true = search rules in
     let last : c.in-Ok.is_last ≡ true → IsSome c.if-is_last.self.settled = search rules in
     let text : c.deref.result.now ≡ c.take_line.new.line.items = search rules in
-    let meant : asked_by c.in-Ok-from_bytes.line ≡ asked c.take_line.new.line.items = c.in-Ok-from_bytes.ensures ∙ ap asked text in
+    let meant : asked_by c.in-Ok-from_bytes.line ≡ asked c.take_line.new.line.items = c.in-Ok-from_bytes.ensures.value ∙ ap asked text in
     λ _. subst (λ (P : Type 0). P)
     (λ i. IfTold (prepend_known (c.self.view_is i).held (g.R.Read.remaining (c.self.view_is i).wire.device)) (prepend_known (held i) (g.R.Read.remaining (same i).device))
     (λ bytes left. IsNextOf (c.self.view_is i).line_count bytes left c.if-is_last.self.settled (Ok (Some c.in-Ok-from_bytes.line))))
@@ -30,5 +30,7 @@ returns-in_default-from_bytes-clause-next g c =
     (λ i. IfTold (prepend_known (c.self.view_is i).held (g.R.Read.remaining (c.self.view_is i).wire.device)) (prepend_known c.take_line.new.reader.held (g.R.Read.remaining c.take_line.new.reader.wire.device))
     (λ bytes left. IsTakenOf (c.self.view_is i).line_count bytes left c.take_line.new.line.items (Ok c.in-Ok.is_last)))
     c.in-Ok.ensures.value in
+    let text : c.deref.result.now ≡ c.take_line.new.line.items = search rules in
+    let named : NamesPath (asked c.take_line.new.line.items) = subst (λ line. NamesPath (asked line)) text c.in_default-from_bytes.ensures.room in
     λ _. lost_told c.args.self.now.line_count (prepend_known c.args.self.now.held (g.R.Read.remaining c.args.self.now.wire.device)) (prepend_known c.take_line.new.reader.held (g.R.Read.remaining c.take_line.new.reader.wire.device)) (Some (Err Memory)) c.answer-in_default-from_bytes.result
-    c.take_line.new.line.items c.in-Ok.is_last (search rules) taken
+    c.take_line.new.line.items c.in-Ok.is_last (search rules) named taken
