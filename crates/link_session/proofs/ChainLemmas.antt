@@ -7,22 +7,36 @@ use Rattle.std.proofs.lemmas.Bool.Decides.{nat_tests}
 use Rattle.std.proofs.lemmas.Map.Keys.{IsDistinct-cons}
 use Rattle.std.proofs.lemmas.Map.Steps.{length-le_from_distinct_below}
 use Rattle.aout_core.specs.declared.symbol.Segment.{Segment}
+use Rattle.aout_core.specs.Words.{plus}
 use Rattle.link_session.specs.declared.cell.Cell.{Cell}
+use Rattle.link_session.specs.declared.cell.Target.{Target}
 use Rattle.link_session.specs.declared.mark.Place.{Place}
 use Rattle.link_session.specs.declared.mark.Place.TheVariants.{InText, InData}
-use Rattle.link_session.specs.Chains.{Link, link_at, IsChain, same_place, is_on, AreApart, IsWithin, bound_to, bound_one, bound_where, walk}
+use Rattle.link_session.specs.Chains.{Link, link_at, IsChain, same_place, is_on, AreApart, IsWithin, bound_to, bound_one, bound_where, nowhere, walk}
+use Rattle.link_session.specs.Cells.{segment_target}
 
 -- One cell.
 
-pub bound_one-set : (segment : Segment) (offset i : ℕ) (cs : List Cell) (d : Cell) → i < length cs → slice_set cs i (bound_to segment offset (slice_index_or cs i d)) ≡ bound_one segment offset i cs
+bound_one-set : (segment : Segment) (offset i : ℕ) (cs : List Cell) (d : Cell) → i < length cs → slice_set cs i (bound_to segment offset (slice_index_or cs i d)) ≡ bound_one segment offset i cs
 bound_one-set segment offset i [] d h = absurd (omega arith)
 bound_one-set segment offset zero (c ∷ cs) d h = refl
 bound_one-set segment offset (suc i) (c ∷ cs) d h = ap (λ (l : List Cell). c ∷ l) (bound_one-set segment offset i cs d (omega arith))
 
-pub bound_one-behind : (segment : Segment) (offset i : ℕ) (cs : List Cell) → length cs ≤ i → bound_one segment offset i cs ≡ cs
+bound_one-behind : (segment : Segment) (offset i : ℕ) (cs : List Cell) → length cs ≤ i → bound_one segment offset i cs ≡ cs
 bound_one-behind segment offset i [] h = refl
 bound_one-behind segment offset zero (c ∷ cs) h = absurd (omega arith)
 bound_one-behind segment offset (suc i) (c ∷ cs) h = ap (λ (l : List Cell). c ∷ l) (bound_one-behind segment offset i cs (omega arith))
+
+-- the cell at a place bound, where that is the index
+pub bound_at : (segment : Segment) (offset i at : ℕ) (target : Target) (cs : List Cell) → at < length cs → target ≡ segment_target segment → at ≡ i →
+    slice_set cs at (record { value = plus (slice_index_or cs at nowhere).value offset; target = target; pc = (slice_index_or cs at nowhere).pc }) ≡ bound_one segment offset i cs
+bound_at segment offset i at target cs h t e =
+    (λ k. slice_set cs at (record { value = plus (slice_index_or cs at nowhere).value offset; target = t k; pc = (slice_index_or cs at nowhere).pc }))
+    ∙ bound_one-set segment offset at cs nowhere h
+    ∙ ap (λ (n : ℕ). bound_one segment offset n cs) e
+
+pub bound_behind : (segment : Segment) (offset i at : ℕ) (cs : List Cell) → length cs ≤ at → at ≡ i → cs ≡ bound_one segment offset i cs
+bound_behind segment offset i at cs h e = sym (bound_one-behind segment offset i cs (omega (arith, h, e)))
 
 -- one more cell is bound
 pub bound_where-one : (segment : Segment) (offset : ℕ) (f g : ℕ → Bool) (i : ℕ) → f i ≡ false → g i ≡ true → ((j : ℕ) → i ≢ j → f j ≡ g j) → (cs : List Cell) →
