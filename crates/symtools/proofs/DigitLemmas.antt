@@ -32,11 +32,6 @@ next-digit place base rest d done room positive more small is =
     cond-false _ _ _ test ∙ ap (λ k. digits_onto k base false (rest / base) done) fuel
     ∙ ap (λ g. if rest / base / base == 0 then g ∷ done else digits_onto (58 + (place - 1)) base false (rest / base / base) (g ∷ done)) (glyph (rest / base % base) small ∙ sym is)
 
-pub last-digit : (place base rest : ℕ) (done : List ℕ) → rest / base ≡ 0 → digits_left place base rest done ≡ done
-last-digit place base rest done none =
-    let test : (rest / base == 0) ≡ true = grind (arith, nat_tests) in
-    cond-true _ _ _ test
-
 power-more : (base place : ℕ) → base ^ (place + 1) ≡ base ^ place * base
 power-more base place = ap (λ k. base ^ k) (add-one place) ∙ pow-suc base place
 

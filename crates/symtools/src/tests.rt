@@ -302,6 +302,17 @@ fn run_always_memory_of_nm(rt: HostRuntime) -> Result<(), Fail> {
     Ok(())
 }
 
+/// nm lists a long table whole, and does not answer Memory.
+#[test]
+fn nm_of_many_entries(rt: HostRuntime) -> Result<(), Fail> {
+    let alloc = rt.alloc();
+    let symbols = vec![in alloc; symbol(b"_f", 0o42, 0); 4_097]?;
+    let shown = list(alloc, &with_table(alloc, &symbols)?, plain())?;
+    let line = b"000000 T _f\n".as_slice();
+    assert!(rt; shown.len() == 49_164 && shown.starts_with(line) && shown.ends_with(line));
+    Ok(())
+}
+
 const FAILURES: [Failing; 3] = [
     Failing::Fails(ErrorKind::Other),
     Failing::Fails(ErrorKind::Interrupted),
