@@ -76,4 +76,19 @@ same out whole
 "$v7" ld -o out main.o count.o <&- >&- 2>&-; status=$?
 expect 'ld with a report, all closed' 2 ''
 same out reported
+
+# a file that is opened first has the lowest descriptor that is free: it is none of those three, which are held
+rm out
+"$v7" ld -o out main.o /dev/fd/0 <&- >answers 2>fault; status=$?
+expect 'descriptor 0' 2 'v7: /dev/fd/0: read error'
+"$v7" ld -o out main.o /dev/fd/1 >&- 2>fault; status=$?
+expect 'descriptor 1' 2 'v7: /dev/fd/1: read error'
+: >fault
+"$v7" ld -o out main.o /dev/fd/2 >answers 2>&-; status=$?
+expect 'descriptor 2' 2 ''
+for descriptor in 0 1 2; do
+    "$v7" ld -o out main.o /dev/fd/$descriptor <&- >&- 2>&-; status=$?
+    expect "descriptor $descriptor, all closed" 2 ''
+done
+[ ! -e out ] || { echo 'a file that is opened took the place of a stream'; failed=1; }
 exit $failed
