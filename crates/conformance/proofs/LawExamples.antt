@@ -17,7 +17,7 @@ use Rattle.link_out.proofs.PartialTheorem.{partial_stands_among}
 use Rattle.conformance.specs.Samples.{_f, sym, object, c_o, d_o, d2_o, e_o, p_o, q_o, r_o, plain, plain_s, relocatable, with_keep}
 use Rattle.std.specs.Prelude.{Result}
 
-abbrev outcome_of : Result Outcome LinkFault → Outcome
+abbrev pub outcome_of : Result Outcome LinkFault → Outcome
 outcome_of (Ok x) = x
 outcome_of (Err e) = record { file = e_o; report = record { multiples = []; reserved = []; entry_bad = Rattle.std.specs.Prelude.None; undefined = [] } }
 

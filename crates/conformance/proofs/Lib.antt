@@ -3,3 +3,7 @@ mod LinkExamples
 mod SessionExamples
 mod ToolExamples
 mod LawExamples
+mod ClauseLemmas
+mod NeededClauses
+mod DerivedLinks
+mod NearLaws

@@ -20,14 +20,14 @@ use Rattle.link_out.specs.Plans.{plan}
 use Rattle.conformance.specs.Samples.{relocs, sym, object, sized, _f, _x, _z, _end, _etext, _edata, L1, a_o, b_o, c_o, d_o, d2_o, e_o, g_o, i_o, k_o, l_o, p_o, q_o, r_o, y1_o, y2_o, plain, plain_s, relocatable, relocatable_d, with_keep, with_layout, with_entry}
 
 -- the bytes, the report's lines and its status
-abbrev Shown : Type 0
+abbrev pub Shown : Type 0
 Shown = Result (List ℕ × (List ℕ × ℕ)) LinkFault
 
-abbrev shown : Result Outcome LinkFault → Shown
+abbrev pub shown : Result Outcome LinkFault → Shown
 shown (Err e) = Err e
 shown (Ok x) = Ok (spelling x.file, (report_text x.report, status_of x.report))
 
-abbrev ld : List Contents → Choices → Shown
+abbrev pub ld : List Contents → Choices → Shown
 ld os o = shown (link [] os o)
 
 abbrev ld_u : List (List ℕ) → List Contents → Choices → Shown
@@ -41,7 +41,7 @@ abbrev report_of : Result Outcome LinkFault → List ℕ
 report_of (Err e) = []
 report_of (Ok x) = report_text x.report
 
-abbrev table_of : Result Outcome LinkFault → Result (ℕ × List Symbol) LinkFault
+abbrev pub table_of : Result Outcome LinkFault → Result (ℕ × List Symbol) LinkFault
 table_of (Err e) = Err e
 table_of (Ok x) = Ok (x.file.header.text_size, x.file.symbols)
 
@@ -55,7 +55,10 @@ end_of forced os o = (plan forced os o).at.bss_end
 strip_two_objects : ld (a_o ∷ b_o ∷ []) plain_s ≡ Ok (7 ∷ 1 ∷ 6 ∷ 0 ∷ 2 ∷ 0 ∷ 0 ∷ 0 ∷ 0 ∷ 0 ∷ 0 ∷ 0 ∷ 0 ∷ 0 ∷ 1 ∷ 0 ∷ 192 ∷ 21 ∷ 6 ∷ 0 ∷ 135 ∷ 0 ∷ 34 ∷ 0 ∷ [], ([], 0))
 strip_two_objects = refl
 
-call_forward : ld (c_o ∷ d_o ∷ []) plain ≡ Ok (7 ∷ 1 ∷ 8 ∷ 0 ∷ 0 ∷ 0 ∷ 0 ∷ 0 ∷ 24 ∷ 0 ∷ 0 ∷ 0 ∷ 0 ∷ 0 ∷ 1 ∷ 0 ∷ 247 ∷ 9 ∷ 2 ∷ 0 ∷ 160 ∷ 0 ∷ 135 ∷ 0 ∷ 76 ∷ 49 ∷ 0 ∷ 0 ∷ 0 ∷ 0 ∷ 0 ∷ 0 ∷ 2 ∷ 0 ∷ 0 ∷ 0 ∷ 95 ∷ 102 ∷ 0 ∷ 0 ∷ 0 ∷ 0 ∷ 0 ∷ 0 ∷ 34 ∷ 0 ∷ 6 ∷ 0 ∷ [], ([], 0))
+abbrev pub CallForward : Type 0
+CallForward = ld (c_o ∷ d_o ∷ []) plain ≡ Ok (7 ∷ 1 ∷ 8 ∷ 0 ∷ 0 ∷ 0 ∷ 0 ∷ 0 ∷ 24 ∷ 0 ∷ 0 ∷ 0 ∷ 0 ∷ 0 ∷ 1 ∷ 0 ∷ 247 ∷ 9 ∷ 2 ∷ 0 ∷ 160 ∷ 0 ∷ 135 ∷ 0 ∷ 76 ∷ 49 ∷ 0 ∷ 0 ∷ 0 ∷ 0 ∷ 0 ∷ 0 ∷ 2 ∷ 0 ∷ 0 ∷ 0 ∷ 95 ∷ 102 ∷ 0 ∷ 0 ∷ 0 ∷ 0 ∷ 0 ∷ 0 ∷ 34 ∷ 0 ∷ 6 ∷ 0 ∷ [], ([], 0))
+
+call_forward : CallForward
 call_forward = refl
 
 call_backward : ld (d_o ∷ c_o ∷ []) plain ≡ Ok (7 ∷ 1 ∷ 8 ∷ 0 ∷ 0 ∷ 0 ∷ 0 ∷ 0 ∷ 24 ∷ 0 ∷ 0 ∷ 0 ∷ 0 ∷ 0 ∷ 1 ∷ 0 ∷ 160 ∷ 0 ∷ 135 ∷ 0 ∷ 247 ∷ 9 ∷ 250 ∷ 255 ∷ 76 ∷ 49 ∷ 0 ∷ 0 ∷ 0 ∷ 0 ∷ 0 ∷ 0 ∷ 2 ∷ 0 ∷ 4 ∷ 0 ∷ 95 ∷ 102 ∷ 0 ∷ 0 ∷ 0 ∷ 0 ∷ 0 ∷ 0 ∷ 34 ∷ 0 ∷ 2 ∷ 0 ∷ [], ([], 0))
@@ -169,7 +172,10 @@ limits_of_a_session_bssfull = refl
 limits_of_a_session_common : table_of (link [] (sized 0 0 0 (sym (codes "_c") 0o40 65534 ∷ []) ∷ []) plain) ≡ Ok (0, sym (codes "_c") 0o44 0 ∷ [])
 limits_of_a_session_common = refl
 
-limits_of_a_session_common2 : table_of (link [] (sized 0 0 0 (sym (codes "_c") 0o40 65535 ∷ []) ∷ []) plain) ≡ Err DoesNotFit
+abbrev pub LargeCommonRefused : Type 0
+LargeCommonRefused = table_of (link [] (sized 0 0 0 (sym (codes "_c") 0o40 65535 ∷ []) ∷ []) plain) ≡ Err DoesNotFit
+
+limits_of_a_session_common2 : LargeCommonRefused
 limits_of_a_session_common2 = refl
 
 limits_of_a_session_common_r : table_of (link [] (sized 0 0 0 (sym (codes "_c") 0o40 65535 ∷ []) ∷ []) relocatable) ≡ Ok (0, sym (codes "_c") 0o40 0o177777 ∷ [])

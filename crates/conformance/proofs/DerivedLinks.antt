@@ -1,0 +1,156 @@
+-- Rows that follow from the laws of linking alone: no link is computed here.
+use Rattle.std.proofs.Common.{◌≡◌, ℕ, zero, suc, true, false, List, [], ◌∷◌, ◌++◌, Some, None, refl, sym, ◌∙◌, ap, subst, arith, inl, inr}
+use Rattle.std.specs.Prelude.{Ok, codes, slice_get, bytes_eq}
+use Rattle.std.proofs.lemmas.Slice.Eq.{bytes_eq-Decides}
+use Rattle.aout_core.specs.declared.symbol.Symbol.{Symbol}
+use Rattle.aout_core.specs.declared.symbol.Segment.{Segment}
+use Rattle.aout_core.specs.declared.symbol.Segment.TheVariants.{TextSeg, DataSeg}
+use Rattle.aout_core.specs.declared.reloc.Reloc.{Reloc}
+use Rattle.aout_core.specs.Contents.{Contents}
+use Rattle.link_session.specs.declared.state.State.{State}
+use Rattle.link_session.specs.declared.state.State.TheVariants.{Defined, Wanted}
+use Rattle.link_session.specs.Mentions.{Mention, is_among}
+use Rattle.link_out.specs.declared.linked.LinkFault.TheVariants.{DoesNotFit}
+use Rattle.link_out.specs.NameStates.{IsFirst, IsWanted}
+use Rattle.link_out.specs.ReservedNames.{etext, edata, end_name}
+use Rattle.link_out.specs.Results.{Outcome}
+use Rattle.link_out.specs.Link.{link}
+use Rattle.link_out.specs.Relocated.{IsRelocated}
+use Rattle.link_out.specs.LinkedFrom.{AreRelocated, IsReported, IsLinkedFrom, LinkedExactly}
+use Rattle.link_out.specs.Meaning.{MultiplesDiffer}
+use Rattle.link_out.specs.Refusals.{RefusedExactly}
+use Rattle.conformance.specs.Samples.{sym as entry_of, header, sized, _f, L1, c_o, d_o, d2_o, plain}
+use Rattle.conformance.proofs.LinkExamples.{shown, table_of, CallForward, LargeCommonRefused}
+use Rattle.conformance.proofs.ClauseLemmas.{only_object, only_word, no_word, as_object, at_most_so, less_so, only_wanted}
+
+two_objects : (P : List Contents → Contents → Type 0) (a b : Contents) → P [] a → P (a ∷ []) b → (before : List Contents) (k : Contents) (after : List Contents) → a ∷ b ∷ [] ≡ before ++ k ∷ after → P before k
+two_objects P a b first second [] k after e = let same : a ≡ k = cc in subst (λ (c : Contents). P [] c) same first
+two_objects P a b first second (c ∷ before) k after e =
+    let same : a ≡ c = cc in
+    let rest : b ∷ [] ≡ before ++ k ∷ after = cc in
+    subst (λ (d : Contents). P (d ∷ before) k) same (only_object (λ bs j. P (a ∷ bs) j) b second before k after rest)
+
+two_words : (P : ℕ → ℕ → Reloc → Type 0) (v w : ℕ) (q r : Reloc) → P 0 v q → P 1 w r → (i u : ℕ) (s : Reloc) → slice_get (v ∷ w ∷ []) i ≡ Some u → slice_get (q ∷ r ∷ []) i ≡ Some s → P i u s
+two_words P v w q r first second zero u s e f =
+    let word : v ≡ u = cc in
+    let reloc : q ≡ s = cc in
+    subst (λ (n : ℕ). P 0 n s) word (subst (λ (t : Reloc). P 0 v t) reloc first)
+two_words P v w q r first second (suc i) u s e f = only_word (λ j. P (suc j)) w r second i u s e f
+
+-- a call of a name that a later object defines
+
+abbrev os : List Contents
+os = c_o ∷ d_o ∷ []
+
+abbrev rows : List Symbol
+rows = entry_of _f 34 6 ∷ []
+
+abbrev forward : Outcome
+forward = record {
+  file = record {
+    header = header 263 8 0 0 24 0 1;
+    text_words = 0o4767 ∷ 2 ∷ 0o240 ∷ 0o207 ∷ [];
+    data_words = [];
+    text_reloc = [];
+    data_reloc = [];
+    symbols = entry_of L1 2 0 ∷ rows;
+  };
+  report = record { multiples = []; reserved = []; entry_bad = None; undefined = [] };
+}
+
+-- what the objects say of the name
+abbrev said : List Mention
+said = record { name = _f; says = Wanted 0 } ∷ (record { name = _f; says = Defined TextSeg 6 } ∷ [])
+
+text_relocated : AreRelocated forward.file rows os TextSeg
+text_relocated =
+    two_objects (λ before k. (i w : ℕ) (r : Reloc) → slice_get k.text_words i ≡ Some w → slice_get k.text_reloc i ≡ Some r → IsRelocated forward.file rows os before k TextSeg i w r) c_o d_o
+    (two_words (λ i w r. IsRelocated forward.file rows os [] c_o TextSeg i w r) 0o4767 0o177774 (record { 0 = 0 }) (record { 0 = 0o11 })
+    (record { added = 0; is = refl; word = refl })
+    (record { added = 6; is = record { symbol = entry_of _f 0o40 0; row = entry_of _f 34 6; named = refl; found = refl; gives = refl }; word = refl }))
+    (two_words (λ i w r. IsRelocated forward.file rows os (c_o ∷ []) d_o TextSeg i w r) 0o240 0o207 (record { 0 = 0 }) (record { 0 = 0 })
+    (record { added = 0; is = refl; word = refl })
+    (record { added = 0; is = refl; word = refl }))
+
+data_relocated : AreRelocated forward.file rows os DataSeg
+data_relocated =
+    two_objects (λ before k. (i w : ℕ) (r : Reloc) → slice_get k.data_words i ≡ Some w → slice_get k.data_reloc i ≡ Some r → IsRelocated forward.file rows os before k DataSeg i w r) c_o d_o
+    (λ i w r ew er. absurd (no_word [] refl i w ew))
+    (λ i w r ew er. absurd (no_word [] refl i w ew))
+
+-- the second mention defines the name, and it is the first that does
+first_same : (segment first : Segment) (offset at : ℕ) → Defined TextSeg 6 ≡ Defined segment offset → IsFirst said _f first at → Defined first at ≡ Defined segment offset
+first_same segment first offset at e (inl h) = let bad : Wanted 0 ≡ Defined first at = h.1 in absurd (cc)
+first_same segment first offset at e (inr h) = second h.1
+  where
+    second : IsFirst (record { name = _f; says = Defined TextSeg 6 } ∷ []) _f first at → Defined first at ≡ Defined segment offset
+    second (inl g) = let is : Defined TextSeg 6 ≡ Defined first at = g.1 in sym is ∙ e
+    second (inr g) = absurd g.1
+
+not_said : (name : List ℕ) → bytes_eq name _f ≡ false → IsWanted said name 0
+not_said name apart = record {
+  undefined = ((λ same segment offset e. other same), ((λ same segment offset e. other same), tt));
+  most = ((λ same n e. absurd (other same)), ((λ same n e. absurd (other same)), tt));
+  least = λ n h. omega arith;
+}
+  where
+    other : name ≡ _f → ⊥
+    other same = let bad : false ≡ true = sym apart ∙ (bytes_eq-Decides name _f).1 same in cc
+
+reported : IsReported [] os plain forward
+reported = record {
+  others = [];
+  picked = inr ((λ h. let bad : Wanted 0 ≡ Defined h.segment h.offset = h.says in absurd (cc)), inr ((λ h. h.differ (first_same h.segment h.first h.offset h.at h.says h.is)), refl));
+  multiples = refl;
+  reserved = inr ((λ h. h (not_said etext refl)), inr ((λ h. h (not_said edata refl)), inr ((λ h. h (not_said end_name refl)), refl)));
+  undefined = λ r. inr ((λ h. h.0.undefined.1.0 refl TextSeg 6 refl), refl);
+  none = λ r. absurd (cc);
+}
+
+forward_linked : IsLinkedFrom [] os plain forward
+forward_linked = record {
+  rows = rows;
+  holds = record { text = refl; «data» = refl; bss = at_most_so 0 0 refl; text_words = refl; data_words = refl };
+  header = record { magic = refl; symbol_size = refl; unused = refl; flag = refl; short = at_most_so 8 65535 refl; few = at_most_so 2 5461 refl };
+  names = refl;
+  are_rows = (Defined TextSeg 6, inr ((λ same segment offset e. let bad : Wanted 0 ≡ Defined segment offset = e in absurd (cc)), inl (refl, refl)), refl, refl);
+  table = refl;
+  text = text_relocated;
+  «data» = data_relocated;
+  text_relocs = refl;
+  data_relocs = refl;
+  text_kept = λ r. absurd (cc);
+  data_kept = λ r. absurd (cc);
+  entry = (refl, refl);
+  report = reported;
+}
+
+pub call_forward_follows : LinkedExactly → CallForward
+call_forward_follows exactly = ap shown ((exactly [] os plain forward (as_object c_o refl refl refl refl refl refl refl refl, (as_object d_o refl refl refl refl refl refl refl refl, tt))).1 forward_linked)
+
+-- a common of 65,535 bytes, by which a program would end at 65,536
+
+abbrev large : Contents
+large = sized 0 0 0 (entry_of (codes "_c") 0o40 65535 ∷ [])
+
+pub large_common_refused_follows : RefusedExactly → LargeCommonRefused
+large_common_refused_follows exactly =
+    ap table_of ((exactly [] (large ∷ []) plain DoesNotFit (as_object large refl refl refl refl refl refl refl refl, tt)).1
+    (65536, record { commons = 65536; take = (Wanted 65535, only_wanted (codes "_c") 65535, (0, refl, refl)); is = refl }, less_so 65535 65536 refl))
+
+-- a name that two objects define at different offsets
+
+pub multiply_defined_follows : MultiplesDiffer → (x : Outcome) → link [] (d_o ∷ d2_o ∷ []) plain ≡ Ok x → is_among x.report.multiples _f ≡ true
+multiply_defined_follows law x linked = (law [] (d_o ∷ d2_o ∷ []) plain x linked _f).1 (record {
+  one = TextSeg;
+  two = TextSeg;
+  at_one = 2;
+  at_two = 4;
+  first = record { before = []; k = d_o; after = d2_o ∷ []; all = refl; number = 0; symbol = entry_of _f 0o42 2; stands = refl; outer = refl; names = refl; is = refl };
+  second = record { before = d_o ∷ []; k = d2_o; after = []; all = refl; number = 0; symbol = entry_of _f 0o42 0; stands = refl; outer = refl; names = refl; is = refl };
+  differ = λ e. let same : 2 ≡ 4 = ap (λ (s : State). offset_of s) e in absurd (omega arith);
+})
+  where
+    offset_of : State → ℕ
+    offset_of (Defined segment offset) = offset
+    offset_of (Wanted size) = size

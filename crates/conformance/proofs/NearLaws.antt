@@ -1,0 +1,158 @@
+-- Statements near the laws of linking that do not hold: each has a link that shows it.
+use Rattle.std.proofs.Common.{◌≡◌, ◌≢◌, ◌↔◌, ℕ, ◌+◌, ◌%◌, ◌<◌, ◌≤◌, true, false, List, [], ◌∷◌, refl, sym, ◌∙◌, ap, arith, inl, inr, eq-eqb}
+use Rattle.std.specs.Prelude.{eqb, Ok, Err, replicate, sum_by}
+use Rattle.std.specs.List.{AllByRecursion}
+use Rattle.aout_core.specs.declared.symbol.Symbol.{Symbol}
+use Rattle.aout_core.specs.declared.symbol.Segment.{Segment}
+use Rattle.aout_core.specs.declared.symbol.Segment.TheVariants.{TextSeg}
+use Rattle.aout_core.specs.Contents.{Contents}
+use Rattle.link_session.specs.declared.state.State.{State}
+use Rattle.link_session.specs.declared.state.State.TheVariants.{Defined, Wanted}
+use Rattle.link_session.specs.Sessions.{IsObject}
+use Rattle.link_session.specs.Mentions.{is_among}
+use Rattle.link_out.specs.declared.linked.LinkFault.{LinkFault}
+use Rattle.link_out.specs.declared.linked.LinkFault.TheVariants.{DoesNotFit, TooManySymbols, SymbolNumber, Memory}
+use Rattle.link_out.specs.declared.options.Layout.{Layout}
+use Rattle.link_out.specs.declared.options.Layout.TheVariants.{Split}
+use Rattle.link_out.specs.Choices.{Choices}
+use Rattle.link_out.specs.NameStates.{IsFirst}
+use Rattle.link_out.specs.Results.{Outcome}
+use Rattle.link_out.specs.Link.{link}
+use Rattle.link_out.specs.Meaning.{IsSaid, HasTwoDefinitions, MultiplesDiffer, DifferInPlace, LayoutsDiffer}
+use Rattle.link_out.specs.Refusals.{CommonsTake, EndsAt, entry_count, HasFarWord, RefusedExactly}
+use Rattle.conformance.specs.Samples.{sym as entry_of, object, _f, _x, L1, a_o, c_o, d_o, i_o, plain, with_layout}
+use Rattle.conformance.proofs.LawExamples.{outcome_of}
+use Rattle.conformance.proofs.ClauseLemmas.{as_object, at_most_so, less_so, only_wanted}
+
+-- a name is reported as multiply defined exactly where the objects are so
+abbrev ReportedWhere : (List Contents → List ℕ → Type 0) → Type 0
+ReportedWhere AreSo = (forced : List (List ℕ)) (os : List Contents) (o : Choices) (x : Outcome) → link forced os o ≡ Ok x →
+    (name : List ℕ) → (is_among x.report.multiples name ≡ true) ↔ AreSo os name
+
+law_of_multiples : MultiplesDiffer → ReportedWhere HasTwoDefinitions
+law_of_multiples law = law
+
+-- two definitions, which may be equal
+record HasDefinitions (os : List Contents) (name : List ℕ) : Type 0 where
+  one : Segment
+  two : Segment
+  at_one : ℕ
+  at_two : ℕ
+  first : IsSaid os name (Defined one at_one)
+  second : IsSaid os name (Defined two at_two)
+
+-- two entries that differ, of which one may define nothing
+record HasTwoStatements (os : List Contents) (name : List ℕ) : Type 0 where
+  one : State
+  two : State
+  first : IsSaid os name one
+  second : IsSaid os name two
+  differ : one ≢ two
+
+defined_once : IsSaid (d_o ∷ []) _f (Defined TextSeg 2)
+defined_once = record { before = []; k = d_o; after = []; all = refl; number = 0; symbol = entry_of _f 34 2; stands = refl; outer = refl; names = refl; is = refl }
+
+equal_definitions_unreported : ReportedWhere HasDefinitions → ⊥
+equal_definitions_unreported law =
+    let bad : false ≡ true = (law [] (d_o ∷ []) plain (outcome_of (link [] (d_o ∷ []) plain)) refl _f).1 (record { one = TextSeg; two = TextSeg; at_one = 2; at_two = 2; first = defined_once; second = defined_once }) in
+    absurd (cc)
+
+mention_beside_definition_unreported : ReportedWhere HasTwoStatements → ⊥
+mention_beside_definition_unreported law =
+    let bad : false ≡ true = (law [] (c_o ∷ d_o ∷ []) plain (outcome_of (link [] (c_o ∷ d_o ∷ []) plain)) refl _f).1
+    (record {
+      one = Wanted 0;
+      two = Defined TextSeg 6;
+      first = record { before = []; k = c_o; after = d_o ∷ []; all = refl; number = 0; symbol = entry_of _f 32 0; stands = refl; outer = refl; names = refl; is = refl };
+      second = record { before = c_o ∷ []; k = d_o; after = []; all = refl; number = 0; symbol = entry_of _f 34 2; stands = refl; outer = refl; names = refl; is = refl };
+      differ = λ e. let clash : Wanted 0 ≡ Defined TextSeg 6 = e in cc;
+    }) in
+    absurd (cc)
+
+different : (a b : ℕ) → eqb a b ≡ false → a ≡ b → ⊥
+different a b t e = let bad : true ≡ false = sym (eq-eqb a b e) ∙ t in cc
+
+-- the links of two layouts differ so
+abbrev LayoutsGive : (List Contents → Outcome → Outcome → Type 0) → Type 0
+LayoutsGive DifferSo = (forced : List (List ℕ)) (os : List Contents) (o : Choices) (layout : Layout) (x y : Outcome) →
+    link forced os o ≡ Ok x → link forced os (record o { layout = layout }) ≡ Ok y → DifferSo os x y
+
+law_of_layouts : LayoutsDiffer → LayoutsGive DifferInPlace
+law_of_layouts law = law
+
+abbrev plain_link : List Contents → Outcome
+plain_link os = outcome_of (link [] os plain)
+
+abbrev split_link : List Contents → Outcome
+split_link os = outcome_of (link [] os (with_layout Split plain))
+
+layouts_differ_in_magic : LayoutsGive (λ os x y. x.file.header ≡ y.file.header) → ⊥
+layouts_differ_in_magic law =
+    different 263 265 refl (ap (λ h. h.magic) (law [] [] plain Split (plain_link []) (split_link []) refl refl))
+
+layouts_differ_in_symbols : LayoutsGive (λ os x y. x.file.symbols ≡ y.file.symbols) → ⊥
+layouts_differ_in_symbols law =
+    different 42 24 refl (ap (λ ss. sum_by (λ (s : Symbol). s.value) ss) (law [] (i_o ∷ []) plain Split (plain_link (i_o ∷ [])) (split_link (i_o ∷ [])) refl refl))
+
+layouts_differ_in_words : LayoutsGive (λ os x y. x.file.text_words ≡ y.file.text_words) → ⊥
+layouts_differ_in_words law =
+    different 5572 5568 refl (ap (λ ws. sum_by (λ (w : ℕ). w) ws) (law [] (a_o ∷ []) plain Split (plain_link (a_o ∷ [])) (split_link (a_o ∷ [])) refl refl))
+
+-- a link is refused where it ends behind this address, or has more than so many entries
+abbrev IsRefusedAbove : ℕ → ℕ → List (List ℕ) → List Contents → Choices → LinkFault → Type 0
+IsRefusedAbove last most forced os o DoesNotFit = (end : ℕ) × EndsAt forced os o end × (last < end)
+IsRefusedAbove last most forced os o TooManySymbols = (end : ℕ) × EndsAt forced os o end × (end ≤ last) × (most < entry_count forced os o)
+IsRefusedAbove last most forced os o SymbolNumber = (end : ℕ) × EndsAt forced os o end × (end ≤ last) × (entry_count forced os o ≤ most) × (o.relocatable ≡ true) × HasFarWord forced os o
+IsRefusedAbove last most forced os o Memory = ⊥
+
+abbrev RefusedAbove : ℕ → ℕ → Type 0
+RefusedAbove last most = (forced : List (List ℕ)) (os : List Contents) (o : Choices) (fault : LinkFault) → AllByRecursion IsObject os → (link forced os o ≡ Err fault) ↔ IsRefusedAbove last most forced os o fault
+
+law_of_refusals : RefusedExactly → RefusedAbove 65535 5461
+law_of_refusals law forced os o DoesNotFit good = law forced os o DoesNotFit good
+law_of_refusals law forced os o TooManySymbols good = law forced os o TooManySymbols good
+law_of_refusals law forced os o SymbolNumber good = law forced os o SymbolNumber good
+law_of_refusals law forced os o Memory good = law forced os o Memory good
+
+-- a common of so many bytes
+abbrev wide : ℕ → Contents
+wide size = object [] [] [] [] 0 (entry_of _x 32 size ∷ [])
+
+-- 65,534 bytes fit
+fit_at_65534 : RefusedAbove 65533 5461 → ⊥
+fit_at_65534 law =
+    let bad : Ok (outcome_of (link [] (wide 65534 ∷ []) plain)) ≡ Err DoesNotFit = (law [] (wide 65534 ∷ []) plain DoesNotFit (as_object (wide 65534) refl refl refl refl refl refl refl refl, tt)).1
+    (65534, record { commons = 65534; take = (Wanted 65534, only_wanted _x 65534, (0, refl, refl)); is = refl }, less_so 65533 65534 refl) in
+    absurd (cc)
+
+-- 65,536 bytes do not; that is the end there is
+refused_at_65536 : RefusedAbove 65536 5461 → ⊥
+refused_at_65536 law =
+    let h = (law [] (wide 65535 ∷ []) plain DoesNotFit (as_object (wide 65535) refl refl refl refl refl refl refl refl, tt)).0 refl in
+    by_state h.0 h.1.commons h.1.take h.1.is h.2
+  where
+    by_size : (end commons size rest : ℕ) → size ≤ 65535 → commons ≡ size + size % 2 + rest → rest ≡ 0 → end ≡ 0 + 0 + commons + 0 → 65536 < end → ⊥
+    by_size end commons size rest most e f g h = omega arith
+
+    none_first : (segment : Segment) (offset : ℕ) → IsFirst (record { name = _x; says = Wanted 65535 } ∷ []) _x segment offset → ⊥
+    none_first segment offset (inl h) = let bad : Wanted 65535 ≡ Defined segment offset = h.1 in cc
+    none_first segment offset (inr h) = h.1
+
+    by_state : (end commons : ℕ) → CommonsTake plain (record { name = _x; says = Wanted 65535 } ∷ []) (_x ∷ []) commons → end ≡ 0 + 0 + commons + 0 → 65536 < end → ⊥
+    by_state end commons (Defined segment offset, is, rest) g h = none_first segment offset is
+    by_state end commons (Wanted size, is, rest) g h = by_size end commons size rest.0 (is.least 65535 ((λ same n e. let at : 65535 ≡ n = cc in omega arith), tt)) rest.1 rest.2 g h
+
+-- 5,461 entries may be written, and 5,462 may not
+entries_at_5461 : RefusedAbove 65535 5460 → ⊥
+entries_at_5461 law =
+    let many : Contents = object [] [] [] [] 0 (replicate 5461 (entry_of L1 2 0)) in
+    let bad : Ok (outcome_of (link [] (many ∷ []) plain)) ≡ Err TooManySymbols = (law [] (many ∷ []) plain TooManySymbols (as_object many refl refl refl refl refl refl refl refl, tt)).1
+    (0, record { commons = 0; take = refl; is = refl }, at_most_so 0 65535 refl, less_so 5460 5461 refl) in
+    absurd (cc)
+
+refused_at_5462 : RefusedAbove 65535 5462 → ⊥
+refused_at_5462 law =
+    let many : Contents = object [] [] [] [] 0 (replicate 5462 (entry_of L1 2 0)) in
+    let h = (law [] (many ∷ []) plain TooManySymbols (as_object many refl refl refl refl refl refl refl refl, tt)).0 refl in
+    let bad : 5462 < 5462 = h.3 in
+    absurd (omega arith)
