@@ -1,6 +1,8 @@
 pub mod DeedLemmas
 pub mod LinkRunLemmas
 pub mod FileRunLemmas
+pub mod LineRunLemmas
+pub mod SessionRunLemmas
 pub mod AnswerLemmas
 pub mod CommandLemmas
 pub mod ScriptLemmas

@@ -38,7 +38,7 @@ lines_of_last : (x : ℕ) (line : List ℕ) → HasNone (x ∷ line) → lines_i
 lines_of_last x [] h = ap (λ (c : Bool). cond c ([] ∷ []) (on_first x [])) (ne_eqb x 10 h.0)
 lines_of_last x (y ∷ line) h = ap (λ (c : Bool). cond c ([] ∷ lines_in (y ∷ line)) (on_first x (lines_in (y ∷ line)))) (ne_eqb x 10 h.0) ∙ ap (on_first x) (lines_of_last y line h.1)
 
-behind_last_line : (line : List ℕ) → HasNone line → behind_line line ≡ []
+pub behind_last_line : (line : List ℕ) → HasNone line → behind_line line ≡ []
 behind_last_line [] h = refl
 behind_last_line (x ∷ line) h = ap (λ (c : Bool). cond c line (behind_line line)) (ne_eqb x 10 h.0) ∙ behind_last_line line h.1
 

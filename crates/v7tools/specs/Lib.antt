@@ -12,3 +12,5 @@ pub mod Blocks
 pub mod Deeds
 pub mod LinkRuns
 pub mod FileRuns
+pub mod SessionRuns
+pub mod CommandRuns

@@ -2,8 +2,6 @@
 use Rattle.std.specs.Prelude.{◌≡◌, ◌≢◌, ◌↔◌, ◌⊎◌, ◌+◌, ◌≤◌, ℕ, Bool, true, cond, eqb, List, [], ◌∷◌, ◌++◌, drop, length, Option, Some, None, Result, Ok, Err, IfSome, IsSome, string_bytes}
 use Rattle.std.specs.Io.KnownBytes.{Consumes, IsAtEnd}
 use Rattle.aout_core.specs.Wires.{Latched}
-use Rattle.v7tools.specs.declared.commands.Command.{Command}
-use Rattle.v7tools.specs.declared.commands.Command.TheVariants as commands
 use Rattle.v7tools.specs.declared.fault.CliFault.{CliFault}
 use Rattle.v7tools.specs.declared.fault.CliFault.TheVariants as faults
 use Rattle.v7tools.specs.declared.lines.Line.{Line}
@@ -22,16 +20,6 @@ asked_by lines.Externals = for_externals
 asked_by lines.Undefined = for_undefined
 asked_by (lines.Link path) = to_link (string_bytes path)
 asked_by lines.Bad = for_nothing
-
--- the command that a line asks for
-abbrev pub IsCommandOf : {R : Type 0} → Line → Command R → Type 0
-IsCommandOf (lines.Add path) (commands.Add p wire) = p ≡ path
-IsCommandOf lines.Withdraw commands.Withdraw = Unit {0}
-IsCommandOf lines.Externals commands.Externals = Unit {0}
-IsCommandOf lines.Undefined commands.Undefined = Unit {0}
-IsCommandOf (lines.Link path) commands.Link = Unit {0}
-IsCommandOf lines.Bad commands.Bad = Unit {0}
-IsCommandOf _ _ = ⊥
 
 -- an answer of a call: a line, the end, or a fault
 abbrev pub Answer : Type 0

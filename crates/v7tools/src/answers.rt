@@ -32,7 +32,10 @@ fn put_line<W: Write>(first: &[u8], second: &[u8], answers: &mut Wire<W>) -> Res
 }
 
 /// Writes the text of a fault and a newline.
-fn put_fault<W: Write>(fault: &CliFault, answers: &mut Wire<W>) -> Result<(), DeviceFault>
+pub(crate) fn put_fault<W: Write>(
+    fault: &CliFault,
+    answers: &mut Wire<W>,
+) -> Result<(), DeviceFault>
     ensures fault { IsErr result ↔ IsTrue answers.new.has_failed }
     ensures latched { IsTrue answers.old.has_failed → (answers.new ≡ answers.old) }
     ensures bytes { Puts result (W.contents answers.old.device) (W.contents answers.new.device) (line (cli_text fault.now)) }

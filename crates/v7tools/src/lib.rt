@@ -34,6 +34,6 @@ pub use link_answers::{Stored, link_answer};
 pub use loading::load;
 pub use office::Office;
 pub use output::emit;
-pub use program::command;
+pub use program::{command, perform};
 pub use script::Script;
 pub use words::parse;

@@ -1,44 +1,85 @@
-//! The whole of a command, over any runtime.
-ghost use Rattle.std.specs.Prelude.{◌≤◌, IfOk};
+//! The program: its words decide the call, over any office and any streams.
+ghost use Rattle.std.specs.Prelude.{◌≤◌, map, string_bytes, IfOk};
+ghost use Rattle.v7tools.specs.CommandRuns.{IsCallRun, Performs, RunsWords};
 
 use crate::block_writer::BlockWriter;
 use crate::disk::Disk;
 use crate::fault::CliFault;
 use crate::file_commands::{list_files, size_files, strip_files};
 use crate::link_command::link_files;
+use crate::office::Office;
 use crate::session_command::answer_script;
 use crate::standard_error::StandardError;
 use crate::words::parse;
 use aout_core::Wire;
 use command_words::Call;
+use std::alloc::Global;
 use std::io;
+use std::io::{Read, Write};
 use std::rt::Runtime;
 
-fn run<H: Runtime + AllocGlobal>(rt: &H, words: Vec<String>) -> Result<u8, CliFault>
-    ensures { IfOk result (λ status. status ≤ 1) }
+/// Runs a call of a tool.
+fn run_call<O: Office, R: Read + Drop, W: Write>(
+    alloc: Global,
+    office: &mut O,
+    script: Wire<R>,
+    output: &mut Wire<W>,
+    call: Call,
+) -> Result<u8, CliFault>
+    ensures small { IfOk result (λ status. status ≤ 1) }
+    ensures run { IsCallRun W.contents (R.remaining script.device) call (O.history office.old) (O.history office.new) result output.old output.new }
 {
-    let alloc = rt.alloc();
-    let mut office = Disk::new(rt);
-    let mut output = Wire::new(BlockWriter::new(io::writer(rt)));
-    match parse(alloc, words)? {
+    match call {
         Call::Ld {
             options,
             forced,
             out,
             files,
-        } => link_files(
-            alloc,
-            &mut office,
-            &options,
-            &forced,
-            out,
-            files,
-            &mut output,
-        ),
-        Call::Nm { options, files } => list_files(alloc, &mut office, options, files, &mut output),
-        Call::Size { files } => size_files(alloc, &mut office, files, &mut output),
-        Call::Strip { files } => strip_files(alloc, &mut office, files),
-        Call::Session { options, forced } => answer_script(rt, &options, &forced),
+        } => link_files(alloc, office, &options, &forced, out, files, output),
+        Call::Nm { options, files } => list_files(alloc, office, options, files, output),
+        Call::Size { files } => size_files(alloc, office, files, output),
+        Call::Strip { files } => strip_files(alloc, office, files),
+        Call::Session { options, forced } => {
+            answer_script(alloc, office, &options, &forced, script, output)
+        }
+    }
+}
+
+/// Runs the call that the words ask for.
+fn run_words<O: Office, R: Read + Drop, W: Write>(
+    alloc: Global,
+    office: &mut O,
+    script: Wire<R>,
+    output: &mut Wire<W>,
+    words: Vec<String>,
+) -> Result<u8, CliFault>
+    ensures small { IfOk result (λ status. status ≤ 1) }
+    ensures run { RunsWords W.contents (map string_bytes words.items) (R.remaining script.device) (O.history office.old) (O.history office.new) result output.old output.new }
+{
+    let call = parse(alloc, words)?;
+    run_call(alloc, office, script, output, call)
+}
+
+/// Does what the words ask for, which are those after the program's name, over any office and any streams: a session's
+/// script, standard output and standard error. It answers the status of the program: 0, or 1 where there was something
+/// to report, or 2 for a fault, whose line goes to standard error; without a fault nothing goes there. (own choice)
+pub fn perform<O: Office, R: Read + Drop, W: Write, E: Write>(
+    alloc: Global,
+    office: &mut O,
+    script: Wire<R>,
+    output: &mut Wire<W>,
+    error: &mut Wire<E>,
+    words: Vec<String>,
+) -> u8
+    ensures small { result ≤ 2 }
+    ensures run { Performs W.contents E.contents (map string_bytes words.items) (R.remaining script.device) (O.history office.old) (O.history office.new) result output.old output.new error.old error.new }
+{
+    match run_words(alloc, office, script, output, words) {
+        Ok(status) => status,
+        Err(fault) => {
+            let _ = fault.write(error);
+            2
+        }
     }
 }
 
@@ -49,11 +90,16 @@ fn run<H: Runtime + AllocGlobal>(rt: &H, words: Vec<String>) -> Result<u8, CliFa
 pub fn command<H: Runtime + AllocGlobal>(rt: &H, words: Vec<String>) -> u8
     ensures { result ≤ 2 }
 {
-    match run(rt, words) {
-        Ok(status) => status,
-        Err(fault) => {
-            let _ = fault.write(&mut Wire::new(StandardError::new(rt)));
-            2
-        }
-    }
+    let mut office = Disk::new(rt);
+    let script = Wire::new(rt.reader());
+    let mut output = Wire::new(BlockWriter::new(io::writer(rt)));
+    let mut error = Wire::new(StandardError::new(rt));
+    perform(
+        rt.alloc(),
+        &mut office,
+        script,
+        &mut output,
+        &mut error,
+        words,
+    )
 }

@@ -1,114 +1,154 @@
-//! The session as a command: each line of a script is answered before the next one is asked for.
-ghost use Rattle.std.specs.Prelude.{◌≤◌, IfOk};
-ghost use Rattle.v7tools.specs.ScriptAnswers.{IsCommandOf};
+//! The session as a command, over any office: each line of a script is answered before the next one is asked for.
+ghost use Rattle.std.specs.Prelude.{◌≤◌, string_bytes, IfOk};
+ghost use Rattle.v7tools.specs.Scripts.{to_add, to_link};
+ghost use Rattle.v7tools.specs.ScriptAnswers.{asked_by};
+ghost use Rattle.v7tools.specs.SessionRuns.{AnswersLine, IsNoLink, IsOpenedAt, IsSessionRun, TakesPlainStep};
 
-use crate::answers::step;
-use crate::block_writer::BlockWriter;
+use crate::answers::{put_fault, step};
 use crate::commands::{Command, Step};
 use crate::fault::CliFault;
 use crate::lines::Line;
-use crate::link_answers::{Stored, link_answer};
+use crate::link_answers::link_answer;
+use crate::office::Office;
 use crate::script::Script;
-use aout_core::{Wire, write_file};
-use link_out::{Linked, Options};
+use aout_core::Wire;
+use link_out::{Options, finish};
 use link_session::{Forced, Session};
-use std::io::Write;
-use std::rt::{Files, Runtime};
-use std::{fs, io};
+use std::alloc::Global;
+use std::io::{Read, Write};
 
-/// Writes the file of a link to its place.
-fn store<H: Runtime + AllocGlobal>(rt: &H, linked: &Linked, path: &str) -> Stored {
-    let Ok(device) = fs::create(rt, path) else {
-        return Stored::NotCreated;
-    };
-    let mut out = Wire::new(device);
-    if write_file(&linked.file, &mut out).is_err() || out.flush().is_err() {
-        return Stored::Failed;
-    }
-    Stored::Kept
+/// Opens the file at a path, on a wire.
+fn open_wire<O: Office>(office: &mut O, path: &str) -> Option<Wire<O::Source>>
+    ensures { IsOpenedAt O.Source.remaining (O.history office.old) (O.history office.new) path.now result }
+{
+    let source = office.open(path)?;
+    Some(Wire::new(source))
 }
 
-/// Links what the session keeps into the file at a path, and answers the status of that.
-fn link_into<H: Runtime + AllocGlobal, W: Write>(
-    rt: &H,
+/// Takes a step that is no link, and answers its status.
+fn take_step<R: Read + Drop, W: Write>(
+    alloc: Global,
     session: &mut Session,
+    options: &Options,
+    command: Command<R>,
+    answers: &mut Wire<W>,
+) -> Result<u8, CliFault>
+    requires { IsNoLink command }
+    ensures small { IfOk result (λ status. status ≤ 1) }
+    ensures run { TakesPlainStep R.remaining W.contents options.now command session.old session.new result answers.old answers.new }
+{
+    match step(alloc, session, options, command, answers)? {
+        Step::Done => Ok(0),
+        Step::Refused => Ok(1),
+        Step::ToStore(_) => unreachable!(),
+    }
+}
+
+/// Opens the file at a path, adds it and answers.
+fn answer_add<O: Office, W: Write>(
+    alloc: Global,
+    office: &mut O,
+    session: &mut Session,
+    options: &Options,
+    path: String,
+    answers: &mut Wire<W>,
+) -> Result<u8, CliFault>
+    ensures small { IfOk result (λ status. status ≤ 1) }
+    ensures run { AnswersLine W.contents options.now (to_add (string_bytes path)) session.old session.new (O.history office.old) (O.history office.new) result answers.old answers.new }
+{
+    let wire = open_wire(office, path.as_str());
+    take_step(alloc, session, options, Command::Add(path, wire), answers)
+}
+
+/// Links what the session keeps, stores the file at a path and answers.
+fn answer_link<O: Office, W: Write>(
+    alloc: Global,
+    office: &mut O,
+    session: &Session,
     options: &Options,
     path: &str,
     answers: &mut Wire<W>,
 ) -> Result<u8, CliFault>
-    ensures { IfOk result (λ status. status ≤ 1) }
+    ensures small { IfOk result (λ status. status ≤ 1) }
+    ensures run { AnswersLine W.contents options.now (to_link path.now) session.now session.now (O.history office.old) (O.history office.new) result answers.old answers.new }
 {
-    let command: Command<H::File> = Command::Link;
-    match step(rt.alloc(), session, options, command, answers)? {
-        Step::ToStore(linked) => {
-            let stored = store(rt, &linked, path);
+    match finish(alloc, session, options) {
+        Ok(linked) => {
+            let stored = office.store(path, &linked.file);
             link_answer(&linked, path, stored, answers)
         }
-        Step::Refused => Ok(1),
-        Step::Done => Ok(0),
-    }
-}
-
-/// The command of a line that asks for no link; the file of an addition is opened.
-fn command_of<H: Runtime + AllocGlobal>(rt: &H, line: Line) -> Command<H::File>
-    ensures { IsCommandOf line result }
-{
-    match line {
-        Line::Add(path) => {
-            let wire = match fs::open(rt, path.as_str()) {
-                Ok(file) => Some(Wire::new(file)),
-                Err(_) => None,
-            };
-            Command::Add(path, wire)
+        Err(fault) => {
+            put_fault(&CliFault::from(fault), answers)?;
+            Ok(1)
         }
-        Line::Withdraw => Command::Withdraw,
-        Line::Externals => Command::Externals,
-        Line::Undefined => Command::Undefined,
-        Line::Link(_) => Command::Link,
-        Line::Bad => Command::Bad,
     }
 }
 
-/// Answers a line, and answers the status of that: 0, or 1 where it was refused or its link had something to report.
-fn answer_line<H: Runtime + AllocGlobal, W: Write>(
-    rt: &H,
+/// Does what a line asks for and answers it, and gives the status of that: 0, or 1 where it was refused or its link had
+/// something to report.
+fn answer_line<O: Office, W: Write>(
+    alloc: Global,
+    office: &mut O,
     session: &mut Session,
     options: &Options,
     line: Line,
     answers: &mut Wire<W>,
 ) -> Result<u8, CliFault>
-    ensures { IfOk result (λ status. status ≤ 1) }
+    ensures small { IfOk result (λ status. status ≤ 1) }
+    ensures run { AnswersLine W.contents options.now (asked_by line) session.old session.new (O.history office.old) (O.history office.new) result answers.old answers.new }
 {
-    if let Line::Link(path) = &line {
-        return link_into(rt, session, options, path.as_str(), answers);
-    }
-    let command = command_of(rt, line);
-    match step(rt.alloc(), session, options, command, answers)? {
-        Step::Refused => Ok(1),
-        Step::Done | Step::ToStore(_) => Ok(0),
-    }
+    let command: Command<O::Source> = match line {
+        Line::Add(path) => return answer_add(alloc, office, session, options, path, answers),
+        Line::Link(path) => {
+            return answer_link(alloc, office, session, options, path.as_str(), answers);
+        }
+        Line::Withdraw => Command::Withdraw,
+        Line::Externals => Command::Externals,
+        Line::Undefined => Command::Undefined,
+        Line::Bad => Command::Bad,
+    };
+    take_step(alloc, session, options, command, answers)
 }
 
-/// Answers the lines of standard input, one after another.
-pub(crate) fn answer_script<H: Runtime + AllocGlobal>(
-    rt: &H,
+/// Answers a line, and passes the answer on.
+fn pass_answer<O: Office, W: Write>(
+    alloc: Global,
+    office: &mut O,
+    session: &mut Session,
+    options: &Options,
+    line: Line,
+    answers: &mut Wire<W>,
+) -> Result<u8, CliFault>
+    ensures small { IfOk result (λ status. status ≤ 1) }
+    ensures run { AnswersLine W.contents options.now (asked_by line) session.old session.new (O.history office.old) (O.history office.new) result answers.old answers.new }
+{
+    let status = answer_line(alloc, office, session, options, line, answers)?;
+    answers.flush()?;
+    Ok(status)
+}
+
+/// Answers the lines of a script, one after another.
+pub(crate) fn answer_script<O: Office, R: Read + Drop, W: Write>(
+    alloc: Global,
+    office: &mut O,
     options: &Options,
     forced: &Forced,
+    script: Wire<R>,
+    answers: &mut Wire<W>,
 ) -> Result<u8, CliFault>
-    ensures { IfOk result (λ status. status ≤ 1) }
+    ensures small { IfOk result (λ status. status ≤ 1) }
+    ensures run { IsSessionRun W.contents forced.now options.now (R.remaining script.device) (O.history office.old) (O.history office.new) result answers.old answers.new }
 {
-    let mut session = Session::with_forced(rt.alloc(), forced)?;
-    let mut script = Script::new(rt.alloc(), Wire::new(rt.reader()))?;
-    let mut answers = Wire::new(BlockWriter::new(io::writer(rt)));
+    let mut session = Session::with_forced(alloc, forced)?;
+    let mut script = Script::new(alloc, script)?;
     let mut status = 0;
     // a script ends at its limit of lines, long before this
     for _ in 0..u64::MAX {
         let Some(line) = script.next_line()? else {
-            break;
+            return Ok(status);
         };
-        let answered = answer_line(rt, &mut session, options, line, &mut answers)?;
+        let answered = pass_answer(alloc, office, &mut session, options, line, answers)?;
         status = status.max(answered);
-        answers.flush()?;
     }
-    Ok(status)
+    unreachable!()
 }

@@ -1,6 +1,12 @@
-use Rattle.std.proofs.Common.{◌≤◌}
+use Rattle.std.proofs.Common.{◌≡◌, ◌≤◌}
+use Rattle.v7tools.proofs.SessionRunLemmas.{Running}
 use Rattle.v7tools.proofs.session_command.answer_script.Given as goal
 
--- the status so far
+-- the lines so far were run, and the script counts them
 abbrev pub invariant-loop : goal.invariant-loop
-invariant-loop g l = l.status ≤ 1
+invariant-loop g l = record {
+  small : l.status ≤ 1;
+  count : l.script.line_count ≡ l.counter;
+  bound : l.script.line_count ≤ 1000000;
+  running : Running g.R.Read.remaining g.W.Write.contents l.options l.initial.session l.session l.initial.script l.script (g.O.Office.history l.initial.office) (g.O.Office.history l.office) l.initial.answers l.answers l.status;
+}

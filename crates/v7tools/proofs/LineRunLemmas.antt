@@ -1,0 +1,208 @@
+-- A line of a script, from the step or the link that answers it.
+use Rattle.std.proofs.Common.{◌≡◌, ℕ, max, List, [], ◌∷◌, ◌++◌, map, Option, Some, None, Result, Ok, Err, refl, sym, ap, ◌∙◌, subst, inl, inr, append_assoc, append-nil}
+use Rattle.std.specs.declared.alloc.Global.{Global}
+use Rattle.std.specs.Prelude.{IfErr, IfOk, IfSome, IsErr, IsTrue, ◌↔◌, ◌⊎◌, String, string_bytes}
+use Rattle.std.specs.List.{flat_map}
+use Rattle.std.specs.Io.KnownBytes.{Appends, Keeps}
+use Rattle.std.proofs.KnownBytes.{Appends-kept}
+use Rattle.aout_core.specs.Reading.{HasHeader}
+use Rattle.aout_core.specs.Wires.{AppendsFront, Latched, Puts}
+use Rattle.link_session.specs.Edits.{last_of}
+use Rattle.link_session.specs.Labelled.{Labelled, objects}
+use Rattle.link_session.specs.Undo.{Kept}
+use Rattle.link_out.specs.Choices.{Choices}
+use Rattle.link_out.specs.declared.linked.Linked.{Linked}
+use Rattle.link_out.specs.declared.linked.LinkFault.{LinkFault}
+use Rattle.link_out.specs.Link.{Outcome, link}
+use Rattle.link_out.specs.Outcomes.{findings_of, IsLinkOf, outcome_of}
+use Rattle.link_out.specs.Reports.{line}
+use Rattle.v7tools.specs.Answers.{adding, absent, withdrawing, listing_externals, listing_undefined, anything_else, Verdict, done, refused, to_store, Stepped, add_step, input_from, failing, giving, step, withdraw_step, link_answer_text, link_status}
+use Rattle.v7tools.specs.Deeds.{Deed, History, Extends, opened, stored}
+use Rattle.v7tools.specs.FaultTexts.{cli_text, fault_of_link}
+use Rattle.v7tools.specs.Inputs.{Cause, kept_with}
+use Rattle.v7tools.specs.Scripts.{Asked, to_add, to_withdraw, for_externals, for_undefined, to_link, for_nothing}
+use Rattle.v7tools.specs.SessionRuns.{AnswersLine, DoesStep, IsAddOf, IsLineOf, IsLineRun, IsNoLink, IsOpenedAt, LineRun, OnlyTells, OpensNone, OpensOne, TakesLast, TakesPlainStep, TellsStep, status_after}
+use Rattle.v7tools.specs.Steps.{AddsIf, Changes, Does, GoesOut, IsAddBy, IsAddOn, IsStepOn, TakesStep, WithdrawsIf, without_memory}
+use Rattle.v7tools.specs.declared.commands.Command.{Command}
+use Rattle.v7tools.specs.declared.commands.Command.TheVariants.{Add, Withdraw, Externals, Undefined, Link, Bad}
+use Rattle.v7tools.specs.declared.commands.Step.{Step}
+use Rattle.v7tools.specs.declared.commands.Step.TheVariants.{Done, Refused, ToStore}
+use Rattle.v7tools.specs.declared.fault.CliFault.{CliFault}
+use Rattle.v7tools.specs.declared.fault.CliFault.TheVariants as faults
+use Rattle.v7tools.specs.declared.link_answers.Stored.{Stored}
+use Rattle.v7tools.proofs.DeedLemmas.{nothing_asked}
+use Rattle.v7tools.proofs.StepLemmas.{link_refused_by, refused_as}
+use Rattle.aout_core.proofs.PutsLemmas.{put_broke_off}
+
+-- ---- a step that is no link
+
+-- the verdict of such a step
+abbrev Stores : Stepped → Type 0
+Stores did = (x : Outcome) × (did.verdict ≡ to_store x)
+
+adds_no_file : (kept : List Labelled) (path : List ℕ) (r : Result (List Labelled) Cause) → Stores (add_step kept path r) → ⊥
+adds_no_file kept path (Ok more) (x, h) = cc
+adds_no_file kept path (Err cause) (x, h) = cc
+
+takes_no_file : (kept : List Labelled) (last : Option Labelled) → Stores (withdraw_step kept last) → ⊥
+takes_no_file kept None (x, h) = cc
+takes_no_file kept (Some e) (x, h) = cc
+
+refused_stores : (did : Stepped) → did.verdict ≡ refused → Stores did → ⊥
+refused_stores did is (x, h) = cc
+
+done_stores : (did : Stepped) → did.verdict ≡ done → Stores did → ⊥
+done_stores did is (x, h) = cc
+
+is_no_link : (did other : Stepped) → did ≡ other → Stores did → (Stores other → ⊥) → ⊥
+is_no_link did other e s never = never (subst Stores e s)
+
+module _ {R : Type 0} (remaining : R → Option (List ℕ)) where
+  add_on_stores : (known : Option (List ℕ)) (forced : List (List ℕ)) (kept : List Labelled) (path : List ℕ) (did : Stepped) → IsAddOn known forced kept path did → Stores did → ⊥
+  add_on_stores (Some bytes) forced kept path did h s = is_no_link did _ h s (adds_no_file kept path (input_from forced kept path (giving bytes)))
+  add_on_stores None forced kept path did h s = is_no_link did _ h.1 s (adds_no_file kept path (kept_with forced kept path h.0))
+
+  add_stores : (wire : Latched R) (forced : List (List ℕ)) (kept : List Labelled) (path : List ℕ) (did : Stepped) → IsAddBy remaining wire forced kept path did → Stores did → ⊥
+  add_stores wire forced kept path did (inl e) s = is_no_link did _ e s (adds_no_file kept path (input_from forced kept path failing))
+  add_stores wire forced kept path did (inr (working, inl h)) s = refused_stores did (ap (λ (d : Stepped). d.verdict) h.0) s
+  add_stores wire forced kept path did (inr (working, inr h)) s = add_on_stores (remaining wire.device) forced kept path did h s
+
+  pub plain_stores : (o : Choices) (old : Kept) (command : Command R) (did : Stepped) → IsNoLink command → IsStepOn remaining old o command did → Stores did → ⊥
+  plain_stores o old (Add path None) did plain h s = is_no_link did _ h s (adds_no_file old.entries (string_bytes path) (input_from old.forced old.entries (string_bytes path) absent))
+  plain_stores o old (Add path (Some wire)) did plain h s = add_stores wire old.forced old.entries (string_bytes path) did h s
+  plain_stores o old Withdraw did plain h s = is_no_link did _ h s (takes_no_file old.entries (last_of old.entries))
+  plain_stores o old Externals did plain h s = done_stores did (ap (λ (d : Stepped). d.verdict) h) s
+  plain_stores o old Undefined did plain h s = done_stores did (ap (λ (d : Stepped). d.verdict) h) s
+  plain_stores o old Link did plain h s = absurd plain
+  plain_stores o old Bad did plain h s = refused_stores did (ap (λ (d : Stepped). d.verdict) h) s
+
+module _ {W : Type 0} (contents : W → Option (List ℕ)) where
+  -- an answer of which a front went out
+  broke_off : (v : Verdict) (answer : List ℕ) (fault : CliFault) (before after : Latched W) → GoesOut contents v answer (Err fault) before after → IsTrue after.has_failed × AppendsFront (contents before.device) (contents after.device) answer
+  broke_off done answer fault before after h = (h.0.0 refl, h.1)
+  broke_off refused answer fault before after h = (h.0.0 refl, h.1)
+  broke_off (to_store x) answer fault before after h = absurd (cc)
+
+  pub tells_fault : (did : Stepped) (left : Kept) (fault : CliFault) (result : Result ℕ CliFault) (before after : Latched W) → Does contents did left (Err fault) before after → fault ≡ faults.WriteFailed → result ≡ Err fault →
+      TellsStep contents did left result before after
+  tells_fault did left fault result before after h is e =
+      let out = broke_off did.verdict did.answer fault before after h.answer in
+      subst (λ (r : Result ℕ CliFault). TellsStep contents did left r before after) (sym e) (record {
+        entries = h.kept;
+        status = tt;
+        write_failed = is;
+        fault = (λ _. out.0, λ _. refl);
+        bytes = out.1;
+      })
+
+  -- ---- a line
+
+  -- a line that a step answers
+  abbrev run_of : Asked → List Deed → Stepped → Kept → LineRun
+  run_of asks deeds did left = record { line = asks; deeds = deeds; answer = did.answer; status = status_after did.verdict; kept = left }
+
+  answered_by : (o : Choices) (asks : Asked) (deeds : List Deed) (did : Stepped) (kept left : Kept) (old new : History) (result : Result ℕ CliFault) (before after : Latched W) → TellsStep contents did left result before after → Extends old new deeds →
+      IsLineOf o kept (run_of asks deeds did left) asks → AnswersLine contents o asks kept left old new result before after
+  answered_by o asks deeds did kept left old new result before after told asked is = record {
+    run = run_of asks deeds did left;
+    line = refl;
+    leaves = refl;
+    is_run = is;
+    asked = asked;
+    status = told.status;
+    write_failed = told.write_failed;
+    fault = told.fault;
+    bytes = told.bytes;
+  }
+
+  does_step : (asks : Asked) (deeds : List Deed) (did : Stepped) (left : Kept) → left.entries ≡ did.kept → DoesStep did (run_of asks deeds did left)
+  does_step asks deeds did left e = record { answer = refl; status = refl; entries = e }
+
+  -- a line that only tells
+  tells_line : (asks : Asked) (did by : Stepped) (kept left : Kept) → did ≡ by → left.entries ≡ did.kept → left ≡ kept → OnlyTells by kept (run_of asks [] did left)
+  tells_line asks did by kept left e entries same = subst (λ (d : Stepped). OnlyTells d kept (run_of asks [] did left)) e (record { deeds = refl; does = does_step asks [] did left entries; same = same })
+
+  module _ {R : Type 0} (remaining : R → Option (List ℕ)) (o : Choices) (kept left : Kept) (result : Result ℕ CliFault) (before after : Latched W) where
+    add_of : (wire : Latched R) (path : List ℕ) (did : Stepped) → IsAddBy remaining wire kept.forced kept.entries path did → IsAddOf (remaining wire.device) kept path did
+    add_of wire path did (inl e) = inl e
+    add_of wire path did (inr (working, inl h)) = inr (inl h)
+    add_of wire path did (inr (working, inr h)) = inr (inr h)
+
+    pub added_line : (old new : History) (path : String Global) (at : List ℕ) (wire : Option (Latched R)) → at ≡ string_bytes path → IsOpenedAt remaining old new at wire → TakesPlainStep remaining contents o (Add path wire) kept left result before after →
+        AnswersLine contents o (to_add (string_bytes path)) kept left old new result before after
+    added_line old new path at None is asked (did, e, changes, told) =
+        let asks = to_add (string_bytes path) in
+        let deeds = opened (string_bytes path) None ∷ [] in
+        let same : left ≡ kept = subst (λ (v : Verdict). AddsIf v kept left) (ap (λ (d : Stepped). d.verdict) e) changes in
+        answered_by o asks deeds did kept left old new result before after told (subst (λ (p : List ℕ). Extends old new (opened p None ∷ [])) is asked)
+        (inl (record { deeds = refl; does = subst (λ (d : Stepped). DoesStep d (run_of asks deeds did left)) e (does_step asks deeds did left told.entries); same = same }))
+    added_line old new path at (Some wire) is asked (did, by, changes, told) =
+        let asks = to_add (string_bytes path) in
+        let deeds = opened (string_bytes path) (Some (remaining wire.device)) ∷ [] in
+        answered_by o asks deeds did kept left old new result before after told (subst (λ (p : List ℕ). Extends old new (opened p (Some (remaining wire.device)) ∷ [])) is asked.1)
+        (inr (record { known = remaining wire.device; deeds = refl; did = did; is_add = add_of wire (string_bytes path) did by; does = does_step asks deeds did left told.entries; changes = changes }))
+
+    module _ (h : History) where
+      pub withdraw_line : TakesPlainStep remaining contents o Withdraw kept left result before after → AnswersLine contents o to_withdraw kept left h h result before after
+      withdraw_line (did, e, changes, told) =
+          answered_by o to_withdraw [] did kept left h h result before after told (nothing_asked h)
+          (subst (λ (d : Stepped). TakesLast d kept (run_of to_withdraw [] did left)) e (record { deeds = refl; does = does_step to_withdraw [] did left told.entries; changes = changes }))
+
+      pub externals_line : TakesPlainStep remaining contents o Externals kept left result before after → AnswersLine contents o for_externals kept left h h result before after
+      externals_line (did, e, changes, told) = answered_by o for_externals [] did kept left h h result before after told (nothing_asked h) (tells_line for_externals did _ kept left e told.entries changes)
+
+      pub undefined_line : TakesPlainStep remaining contents o Undefined kept left result before after → AnswersLine contents o for_undefined kept left h h result before after
+      undefined_line (did, e, changes, told) = answered_by o for_undefined [] did kept left h h result before after told (nothing_asked h) (tells_line for_undefined did _ kept left e told.entries changes)
+
+      pub bad_line : TakesPlainStep remaining contents o Bad kept left result before after → AnswersLine contents o for_nothing kept left h h result before after
+      bad_line (did, e, changes, told) = answered_by o for_nothing [] did kept left h h result before after told (nothing_asked h) (tells_line for_nothing did _ kept left e told.entries changes)
+
+  module _ (o : Choices) (path : List ℕ) (kept : Kept) (result : Result ℕ CliFault) (before after : Latched W) where
+    -- there is no link
+    pub refused_link : (h : History) (fault : LinkFault) (other : CliFault) → IsLinkOf (Err fault) (link kept.forced (objects kept.entries) o) → other ≡ fault_of_link fault → IfOk result (λ status. status ≡ 1) →
+        IfErr result (λ e. e ≡ faults.WriteFailed) → (IsErr result ↔ IsTrue after.has_failed) → Puts result (contents before.device) (contents after.device) (line (cli_text other)) → AnswersLine contents o (to_link path) kept kept h h result before after
+    refused_link h fault other is says status write_failed failed bytes =
+        let did = refused_as kept.entries (cli_text (fault_of_link fault)) in
+        answered_by o (to_link path) [] did kept kept h h result before after
+        (record { entries = refl; status = status; write_failed = write_failed; fault = failed; bytes = subst (λ (e : CliFault). Puts result (contents before.device) (contents after.device) (line (cli_text e))) says bytes })
+        (nothing_asked h)
+        (inl (record { did = did; is_link = link_refused_by kept.entries (link kept.forced (objects kept.entries) o) fault is; refuses = refl; tells = tells_line (to_link path) did did kept kept refl refl refl }))
+
+    -- there is a link, and it is known what became of its file
+    pub stored_link : (old new : History) (made : Linked) (what : Stored) → link kept.forced (objects kept.entries) o ≡ Ok (outcome_of made) → Extends old new (stored path made.file what ∷ []) →
+        IfOk result (λ status. status ≡ link_status (findings_of made.report) what) → IfErr result (λ e. e ≡ faults.WriteFailed) → (IsErr result ↔ IsTrue after.has_failed) →
+        Puts result (contents before.device) (contents after.device) (link_answer_text (findings_of made.report) path what) → AnswersLine contents o (to_link path) kept kept old new result before after
+    stored_link old new made what is asked status write_failed failed bytes = record {
+      run = record { line = to_link path; deeds = stored path made.file what ∷ []; answer = link_answer_text (findings_of made.report) path what; status = link_status (findings_of made.report) what; kept = kept };
+      line = refl;
+      leaves = refl;
+      is_run = inr (record { made = outcome_of made; is_link = is; what = what; deeds = refl; answer = refl; status = refl; same = refl });
+      asked = asked;
+      status = status;
+      write_failed = write_failed;
+      fault = failed;
+      bytes = bytes;
+    }
+
+  -- the whole answer is behind a flush that failed
+  pub not_passed : (a b c : Option (List ℕ)) (answer : List ℕ) → Appends a b answer → Keeps b c → AppendsFront a c answer
+  not_passed a b c answer sent kept = (answer, [], sym (append-nil answer), Appends-kept a b c answer sent kept)
+
+  -- a line was answered, and its answer is not passed on
+  pub not_passed_on : (o : Choices) (asks : Asked) (kept left : Kept) (old new : History) (status : ℕ) (result : Result ℕ CliFault) (before between after : Latched W) → AnswersLine contents o asks kept left old new (Ok status) before between →
+      Keeps (contents between.device) (contents after.device) → IsErr result → IfErr result (λ fault. fault ≡ faults.WriteFailed) → IsTrue after.has_failed → AnswersLine contents o asks kept left old new result before after
+  not_passed_on o asks kept left old new status result before between after h keeps err write_failed failed = record {
+    run = h.run;
+    line = h.line;
+    leaves = h.leaves;
+    is_run = h.is_run;
+    asked = h.asked;
+    status = no_status result err;
+    write_failed = write_failed;
+    fault = (λ _. failed, λ _. err);
+    bytes = put_broke_off result (contents before.device) (contents after.device) h.run.answer err (not_passed (contents before.device) (contents between.device) (contents after.device) h.run.answer h.bytes keeps);
+  }
+    where
+      no_status : (r : Result ℕ CliFault) → IsErr r → IfOk r (λ s. s ≡ h.run.status)
+      no_status (Ok s) e = absurd (cc)
+      no_status (Err fault) e = tt

@@ -1,0 +1,262 @@
+-- The lines of a script, run one after another on a session.
+use Rattle.std.proofs.Common.{◌≡◌, ℕ, ◌+◌, ◌≤◌, max, List, [], ◌∷◌, ◌++◌, map, Option, Some, None, Result, Ok, Err, refl, sym, ap, ◌∙◌, subst, inl, inr, append_assoc, append-nil, arith}
+use Rattle.std.specs.Prelude.{IfErr, IfOk, IfSome, IsErr, IsSome, IsTrue, ◌⊎◌}
+use Rattle.std.specs.List.{flat_map}
+use Rattle.std.specs.Io.KnownBytes.{Appends, prepend_known}
+use Rattle.std.proofs.KnownBytes.{Appends-nil, Appends-trans}
+use Rattle.std.proofs.lemmas.Grind.{flat_map-append}
+use Rattle.aout_core.specs.Wires.{AppendsFront, Latched}
+use Rattle.link_session.specs.Sessions.{nothing_kept}
+use Rattle.link_session.specs.Undo.{Kept}
+use Rattle.link_out.specs.Choices.{Choices}
+use Rattle.v7tools.specs.Deeds.{Deed, History, Extends}
+use Rattle.v7tools.specs.Scripts.{Asked, lines_in, Given, ScriptFault, long_line, many_lines, and_given, ends_with_fault, given_behind}
+use Rattle.v7tools.specs.ScriptAnswers.{Answer, IfTold, IsNextOf, Progress, Settles, asked_by, lines_of}
+use Rattle.v7tools.specs.SessionRuns.{AnswersLine, AreFirst, AreLines, BreaksOff, Chains, IsLineRun, IsSessionRun, LineRun, Ran, RunsAll, RunsUpTo, StopsBehind, answers_of, deeds_of, given, lines_asked, worst}
+use Rattle.v7tools.specs.declared.fault.CliFault.{CliFault}
+use Rattle.v7tools.specs.declared.fault.CliFault.TheVariants as faults
+use Rattle.v7tools.specs.declared.lines.Line.{Line}
+use Rattle.v7tools.proofs.DeedLemmas.{asked_behind, map-append, nothing_asked}
+use Rattle.v7tools.proofs.ScriptLemmas.{behind_last_line}
+
+-- ---- one more line
+
+chains_more : (o : Choices) (old mid new : Kept) (runs : List LineRun) (r : LineRun) → Chains o old runs mid → IsLineRun o mid r → r.kept ≡ new → Chains o old (runs ++ r ∷ []) new
+chains_more o old mid new [] r h is e = (subst (λ (k : Kept). IsLineRun o k r) h is, sym e)
+chains_more o old mid new (s ∷ ss) r h is e = (h.0, chains_more o s.kept mid new ss r h.1 is e)
+
+worst_more : (runs : List LineRun) (r : LineRun) → worst (runs ++ r ∷ []) ≡ max (worst runs) r.status
+worst_more [] r = omega arith
+worst_more (s ∷ ss) r = let h : worst (ss ++ r ∷ []) ≡ max (worst ss) r.status = worst_more ss r in omega arith
+
+row_more : {A : Type 0} (f : LineRun → List A) (runs : List LineRun) (r : LineRun) → flat_map f (runs ++ r ∷ []) ≡ flat_map f runs ++ f r
+row_more {A} f runs r = flat_map-append f runs (r ∷ []) ∙ ap (λ (l : List A). flat_map f runs ++ l) (append-nil (f r))
+
+pub larger_small : (a b : ℕ) → a ≤ 1 → b ≤ 1 → max a b ≤ 1
+larger_small a b p q = omega arith
+
+-- ---- what a script gave so far
+
+abbrev before_given : List Asked → Given → Given
+before_given lines g = record { lines = lines ++ g.lines; fault = g.fault }
+
+-- these lines were given, and these bytes are left for those behind them
+abbrev GivesFirst : List Asked → ℕ → List ℕ → List ℕ → Type 0
+GivesFirst lines n bytes left = given bytes ≡ before_given lines (given_behind n (lines_in left))
+
+abbrev IsEmpty : List ℕ → List ℕ → Type 0
+IsEmpty bytes left = left ≡ []
+
+-- a script gave these lines, and goes on or is at its end
+pub record Reading (first now : Option (List ℕ)) (n : ℕ) (settled : Option Answer) (lines : List Asked) : Type 0 where
+  pub told : IfTold first now (GivesFirst lines n)
+  pub goes : (settled ≡ None) ⊎ ((settled ≡ Some (Ok None)) × IfTold first now IsEmpty)
+
+pub reads_first : (first : Option (List ℕ)) (settled : Option Answer) → settled ≡ None → Reading first first 0 settled []
+reads_first None settled e = record { told = tt; goes = inl e }
+reads_first (Some bytes) settled e = record { told = refl; goes = inl e }
+
+told_on : (first mid now : Option (List ℕ)) (P Q S : List ℕ → List ℕ → Type 0) → ((a b c : List ℕ) → P a b → Q b c → S a c) → IfTold first mid P → IfTold mid now Q → IfTold first now S
+told_on None mid now P Q S f h k = tt
+told_on (Some a) None now P Q S f h k = absurd h
+told_on (Some a) (Some b) None P Q S f h k = absurd k
+told_on (Some a) (Some b) (Some c) P Q S f h k = f a b c h k
+
+told_alone : (first now : Option (List ℕ)) (P : List ℕ → List ℕ → Type 0) (Q : List ℕ → Type 0) → ((a b : List ℕ) → P a b → Q a) → IfTold first now P → IfSome first Q
+told_alone None now P Q f h = tt
+told_alone (Some a) None P Q f h = absurd h
+told_alone (Some a) (Some b) P Q f h = f a b h
+
+told_both : (first now : Option (List ℕ)) (P Q S : List ℕ → List ℕ → Type 0) → ((a b : List ℕ) → P a b → Q a b → S a b) → IfTold first now P → IfTold first now Q → IfTold first now S
+told_both None now P Q S f h k = tt
+told_both (Some a) None P Q S f h k = absurd h
+told_both (Some a) (Some b) P Q S f h k = f a b h k
+
+-- a line behind others
+before_and_given : (lines : List Asked) (a : Asked) (g : Given) → before_given lines (and_given a g) ≡ before_given (lines ++ a ∷ []) g
+before_and_given lines a g = ap (λ (l : List Asked). let r : Given = record { lines = l; fault = g.fault } in r) (sym (append_assoc lines (a ∷ []) g.lines))
+
+before_end : (lines : List Asked) (fault : Option ScriptFault) → before_given lines (record { lines = []; fault = fault }) ≡ record { lines = lines; fault = fault }
+before_end lines fault = ap (λ (l : List Asked). let r : Given = record { lines = l; fault = fault } in r) (append-nil lines)
+
+-- the answer of a script that is not settled
+abbrev pub Next : Option (List ℕ) → Option (List ℕ) → ℕ → Option Answer → Option Answer → Answer → Type 0
+Next mid now n settled later answer = settled ≡ None → IfTold mid now (λ bytes left. IsNextOf n bytes left later answer)
+
+-- the answer of one that is settled
+abbrev pub Stays : Option Answer → Answer → Type 0
+Stays settled answer = IfSome settled (λ a. answer ≡ a)
+
+reads_front : (first mid : Option (List ℕ)) (n : ℕ) (settled : Option Answer) (lines : List Asked) → Reading first mid n settled lines → AreFirst first lines
+reads_front first mid n settled lines h =
+    told_alone first mid (GivesFirst lines n) (λ a. (more : List Asked) × ((given a).lines ≡ lines ++ more)) (λ a b k. ((given_behind n (lines_in b)).lines, ap (λ (g : Given). g.lines) k)) h.told
+
+pub stays_alone : (settled : Option Answer) (answer : Answer) (same : Type 0) → IfSome settled (λ a. (answer ≡ a) × same) → Stays settled answer
+stays_alone None answer same h = tt
+stays_alone (Some a) answer same h = h.0
+
+nothing_held : (known : Option (List ℕ)) → prepend_known [] known ≡ known
+nothing_held None = refl
+nothing_held (Some bytes) = refl
+
+module _ (first mid now : Option (List ℕ)) (n : ℕ) (settled later : Option Answer) (lines : List Asked) (h : Reading first mid n settled lines) where
+  open_script : (answer : Answer) → Stays settled answer → (answer ≡ Ok None → ⊥) → settled ≡ None
+  open_script answer stays other = by h.goes
+    where
+      by : (settled ≡ None) ⊎ ((settled ≡ Some (Ok None)) × IfTold first mid IsEmpty) → settled ≡ None
+      by (inl e) = e
+      by (inr (e, ended)) = absurd (other (subst (λ (s : Option Answer). Stays s answer) e stays))
+
+  -- a line more
+  pub reads_line : (it : Line) (m : ℕ) → Stays settled (Ok (Some it)) → Settles (Ok (Some it)) later → Next mid now n settled later (Ok (Some it)) → m ≡ n + 1 → Reading first now m later (lines ++ asked_by it ∷ [])
+  reads_line it m stays settles next count = record { told = told; goes = goes later refl settles }
+    where
+      next_told : IfTold mid now (λ bytes left. IsNextOf n bytes left later (Ok (Some it)))
+      next_told = next (open_script (Ok (Some it)) stays (λ e. cc))
+
+      told : IfTold first now (GivesFirst (lines ++ asked_by it ∷ []) m)
+      told =
+          told_on first mid now (GivesFirst lines n) (λ bytes left. IsNextOf n bytes left later (Ok (Some it))) (GivesFirst (lines ++ asked_by it ∷ []) m)
+          (λ a b c first_given is.
+          let g = given_behind m (lines_in c) in
+          first_given ∙ ap (before_given lines) (is.0.1 ∙ ap (λ (k : ℕ). and_given (asked_by it) (given_behind k (lines_in c))) (sym count)) ∙ before_and_given lines (asked_by it) g)
+          h.told next_told
+
+      goes : (s : Option Answer) → later ≡ s → IfSome s (λ a. a ≡ Ok None) → (later ≡ None) ⊎ ((later ≡ Some (Ok None)) × IfTold first now IsEmpty)
+      goes None e settled_so = inl e
+      goes (Some answer) e settled_so =
+          inr (
+            e ∙ ap (λ (a : Answer). let r : Option Answer = Some a in r) settled_so,
+            told_on first mid now (GivesFirst lines n) (λ bytes left. IsNextOf n bytes left later (Ok (Some it))) IsEmpty
+                (λ a b c first_given is. is.0.0 ∙ behind_last_line b (is.1.0 (subst (λ (o : Option Answer). IsSome o) (sym e) refl)))
+                h.told next_told,
+          )
+
+  -- no line more
+  pub reads_end : Stays settled (Ok None) → Next mid now n settled later (Ok None) → AreLines first lines None
+  reads_end stays next = by h.goes
+    where
+      by : (settled ≡ None) ⊎ ((settled ≡ Some (Ok None)) × IfTold first mid IsEmpty) → AreLines first lines None
+      by (inl e) =
+          told_alone first now (λ a c. given a ≡ record { lines = lines; fault = None }) (λ a. given a ≡ record { lines = lines; fault = None }) (λ a c k. k)
+          (told_on first mid now (GivesFirst lines n) (λ bytes left. IsNextOf n bytes left later (Ok None)) (λ a c. given a ≡ record { lines = lines; fault = None })
+          (λ a b c first_given is. first_given ∙ ap (before_given lines) is.1 ∙ before_end lines None) h.told (next e))
+      by (inr (e, ended)) =
+          told_alone first mid (λ a b. given a ≡ record { lines = lines; fault = None }) (λ a. given a ≡ record { lines = lines; fault = None }) (λ a b k. k)
+          (told_both first mid (GivesFirst lines n) IsEmpty (λ a b. given a ≡ record { lines = lines; fault = None })
+          (λ a b first_given empty. first_given ∙ ap (λ (l : List ℕ). before_given lines (given_behind n (lines_in l))) empty ∙ before_end lines None) h.told ended)
+
+  -- a fault behind the lines
+  stops_with : (fault : CliFault) → Settles (Err fault) later → IfTold mid now (λ bytes left. IsNextOf n bytes left later (Err fault)) → StopsBehind first lines fault
+  stops_with faults.LongLine settles next =
+      told_alone first now (λ a c. given a ≡ record { lines = lines; fault = Some long_line }) (λ a. given a ≡ record { lines = lines; fault = Some long_line }) (λ a c k. k)
+      (told_on first mid now (GivesFirst lines n) (λ bytes left. IsNextOf n bytes left later (Err faults.LongLine)) (λ a c. given a ≡ record { lines = lines; fault = Some long_line })
+      (λ a b c first_given is. first_given ∙ ap (before_given lines) is.1 ∙ before_end lines (Some long_line)) h.told next)
+  stops_with faults.ManyLines settles next =
+      told_alone first now (λ a c. given a ≡ record { lines = lines; fault = Some many_lines }) (λ a. given a ≡ record { lines = lines; fault = Some many_lines }) (λ a c k. k)
+      (told_on first mid now (GivesFirst lines n) (λ bytes left. IsNextOf n bytes left later (Err faults.ManyLines)) (λ a c. given a ≡ record { lines = lines; fault = Some many_lines })
+      (λ a b c first_given is. first_given ∙ ap (before_given lines) is.1 ∙ before_end lines (Some many_lines)) h.told next)
+  stops_with faults.ScriptFailed settles next = reads_front first mid n settled lines h
+  stops_with faults.Memory settles next =
+      told_alone first now (λ a c. (x : Asked) × (more : List Asked) × ((given a).lines ≡ lines ++ x ∷ more)) (λ a. (x : Asked) × (more : List Asked) × ((given a).lines ≡ lines ++ x ∷ more)) (λ a c k. k)
+      (told_on first mid now (GivesFirst lines n) (λ bytes left. IsNextOf n bytes left later (Err faults.Memory)) (λ a c. (x : Asked) × (more : List Asked) × ((given a).lines ≡ lines ++ x ∷ more))
+      (λ a b c first_given is. (is.0, (given_behind (n + 1) (lines_in c)).lines, ap (λ (g : Given). g.lines) (first_given ∙ ap (before_given lines) is.1.1))) h.told next)
+  stops_with faults.Usage settles next = absurd settles
+  stops_with (faults.CannotOpen path) settles next = absurd settles
+  stops_with (faults.BadFile path fault) settles next = absurd settles
+  stops_with (faults.BadObject path fault) settles next = absurd settles
+  stops_with (faults.NotAdded path fault) settles next = absurd settles
+  stops_with (faults.NotLinked fault) settles next = absurd settles
+  stops_with (faults.CannotCreate path) settles next = absurd settles
+  stops_with faults.WriteFailed settles next = absurd settles
+
+  pub reads_fault : (fault : CliFault) → Stays settled (Err fault) → Settles (Err fault) later → Next mid now n settled later (Err fault) → StopsBehind first lines fault
+  reads_fault fault stays settles next = stops_with fault settles (next (open_script (Err fault) stays (λ e. cc)))
+
+-- ---- the lines that were run
+
+-- what a script has left: what it holds, and what its reader has
+abbrev pub left_of : {R : Type 0} → (R → Option (List ℕ)) → Progress R → Option (List ℕ)
+left_of remaining script = prepend_known script.held (remaining script.wire.device)
+
+module _ {R W : Type 0} (remaining : R → Option (List ℕ)) (contents : W → Option (List ℕ)) where
+  -- some lines of a script were run
+  pub record Running (o : Choices) (start kept : Kept) (begun script : Progress R) (old new : History) (before after : Latched W) (status : ℕ) : Type 0 where
+    pub runs : List LineRun
+    pub ran : Ran contents o start kept runs old new before after
+    pub reading : Reading (left_of remaining begun) (left_of remaining script) script.line_count script.settled (lines_asked runs)
+    pub worst_so_far : status ≡ worst runs
+
+  pub runs_none : (o : Choices) (start : Kept) (begun : Progress R) (old : History) (before : Latched W) → begun.line_count ≡ 0 → begun.settled ≡ None → Running o start start begun begun old old before before 0
+  runs_none o start begun old before none e = record {
+    runs = [];
+    ran = record { chain = refl; asked = nothing_asked old; answers = Appends-nil (contents before.device); working = λ t. t };
+    reading = subst (λ (k : ℕ). Reading (left_of remaining begun) (left_of remaining begun) k begun.settled []) (sym none) (reads_first (left_of remaining begun) begun.settled e);
+    worst_so_far = refl;
+  }
+
+  module _ (o : Choices) (start mid : Kept) (begun script : Progress R) (old between : History) (before during : Latched W) (status : ℕ) (h : Running o start mid begun script old between before during status) where
+    abbrev asked_so_far : List Asked
+    asked_so_far = lines_asked h.runs
+
+    -- one more line
+    pub runs_more : (next : Progress R) (it : Line) (left : Kept) (new : History) (after : Latched W) (answered : ℕ) → Reading (left_of remaining begun) (left_of remaining next) next.line_count next.settled (asked_so_far ++ asked_by it ∷ []) →
+        AnswersLine contents o (asked_by it) mid left between new (Ok answered) during after → Running o start left begun next old new before after (max status answered)
+    runs_more next it left new after answered reading line = record {
+      runs = h.runs ++ line.run ∷ [];
+      ran = record {
+        chain = chains_more o start mid left h.runs line.run h.ran.chain line.is_run line.leaves;
+        asked = subst (Extends old new) (sym (row_more (λ (r : LineRun). r.deeds) h.runs line.run)) (asked_behind old between new (deeds_of h.runs) line.run.deeds h.ran.asked line.asked);
+        answers = subst (Appends (contents before.device) (contents after.device)) (sym (row_more (λ (r : LineRun). r.answer) h.runs line.run))
+            (Appends-trans (contents before.device) (contents during.device) (contents after.device) (answers_of h.runs) line.run.answer h.ran.answers line.bytes);
+        working = λ t. absurd (let bad = line.fault.1 t in cc);
+      };
+      reading = subst (Reading (left_of remaining begun) (left_of remaining next) next.line_count next.settled) (sym (map-append (λ (r : LineRun). r.line) h.runs (line.run ∷ []) ∙ ap (λ (a : Asked). asked_so_far ++ a ∷ []) line.line)) reading;
+      worst_so_far = ap (λ (k : ℕ). max k answered) h.worst_so_far ∙ ap (max (worst h.runs)) line.status ∙ sym (worst_more h.runs line.run);
+    }
+
+    -- ---- how it ends
+
+    module _ (forced : List (List ℕ)) (source : Latched R) (is : start ≡ nothing_kept forced) (held : begun.held ≡ []) (wire : begun.wire ≡ source) (result : Result ℕ CliFault) where
+      first_is : left_of remaining begun ≡ remaining source.device
+      first_is = ap (λ (l : List ℕ). prepend_known l (remaining begun.wire.device)) held ∙ nothing_held (remaining begun.wire.device) ∙ ap (λ (w : Latched R). remaining w.device) wire
+
+      pub all_run : AreLines (left_of remaining begun) asked_so_far None → result ≡ Ok status → IsSessionRun contents forced o (remaining source.device) old between result before during
+      all_run all answer = inr (inl (record {
+        runs = h.runs;
+        kept = mid;
+        ran = subst (λ (k : Kept). Ran contents o k mid h.runs old between before during) is h.ran;
+        all = subst (λ (known : Option (List ℕ)). AreLines known asked_so_far None) first_is all;
+        status = answer ∙ ap (λ (k : ℕ). let r : Result ℕ CliFault = Ok k in r) h.worst_so_far;
+      }))
+
+      pub run_up_to : (fault : CliFault) → StopsBehind (left_of remaining begun) asked_so_far fault → result ≡ Err fault → IsSessionRun contents forced o (remaining source.device) old between result before during
+      run_up_to fault stops answer = inr (inr (inl (record {
+        runs = h.runs;
+        kept = mid;
+        ran = subst (λ (k : Kept). Ran contents o k mid h.runs old between before during) is h.ran;
+        fault = fault;
+        stops = subst (λ (known : Option (List ℕ)). StopsBehind known asked_so_far fault) first_is stops;
+        refusal = answer;
+      })))
+
+      pub broke_off : (next : Progress R) (it : Line) (left : Kept) (new : History) (after : Latched W) (fault : CliFault) → Reading (left_of remaining begun) (left_of remaining next) next.line_count next.settled (asked_so_far ++ asked_by it ∷ []) →
+          AnswersLine contents o (asked_by it) mid left between new (Err fault) during after → result ≡ Err fault → IsSessionRun contents forced o (remaining source.device) old new result before after
+      broke_off next it left new after fault reading line answer =
+          let (part, rest, split, sent) = line.bytes in
+          inr (inr (inr (record {
+            runs = h.runs;
+            kept = mid;
+            chain = subst (λ (k : Kept). Chains o k h.runs mid) is h.ran.chain;
+            last = line.run;
+            is_run = line.is_run;
+            first = subst (λ (known : Option (List ℕ)). AreFirst known (asked_so_far ++ line.run.line ∷ [])) first_is
+                (subst (λ (a : Asked). AreFirst (left_of remaining begun) (asked_so_far ++ a ∷ [])) (sym line.line) (reads_front (left_of remaining begun) (left_of remaining next) next.line_count next.settled (asked_so_far ++ asked_by it ∷ []) reading));
+            asked = asked_behind old between new (deeds_of h.runs) line.run.deeds h.ran.asked line.asked;
+            part = part;
+            rest = rest;
+            split = split;
+            answers = Appends-trans (contents before.device) (contents during.device) (contents after.device) (answers_of h.runs) part h.ran.answers sent;
+            failed = line.fault.0 refl;
+            refusal = answer ∙ ap (λ (f : CliFault). let r : Result ℕ CliFault = Err f in r) line.write_failed;
+          })))

@@ -1,0 +1,17 @@
+use Rattle.std.proofs.Common.{sym, ap, ◌∙◌}
+use Rattle.link_out.specs.Outcomes.{outcome_of}
+use Rattle.v7tools.specs.Steps.{verdict_of}
+use Rattle.v7tools.proofs.DeedLemmas.{passed_on}
+use Rattle.v7tools.proofs.LineRunLemmas.{plain_stores, tells_fault}
+use Rattle.v7tools.proofs.session_command.take_step.Goals as goal
+
+pub returns-in_err-step-clause-run : goal.returns-in_err-step-clause-run
+returns-in_err-step-clause-run g c =
+    let (did, on, changes, does) = c.in_err-step.ensures.step in
+    let fault = c.in_err-step.field-0.0 in
+    (did, on, changes, tells_fault g.W.Write.contents did c.step.new.session fault c.from_residual.result c.args.answers.now c.step.new.answers does c.in_err-step.ensures.write_failed (passed_on c.from_residual.result fault c.from_residual.ensures.1))
+
+pub unreachable-requires : goal.unreachable-requires
+unreachable-requires g c =
+    let (did, on, changes, does) = c.in_ok-step.ensures.step in
+    plain_stores g.R.Read.remaining c.args.options.now c.args.session.now c.args.command did c.requires on (outcome_of c.in-ToStore.field-0, sym does.verdict ∙ ap verdict_of c.in-ToStore.is)

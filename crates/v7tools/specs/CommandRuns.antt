@@ -1,0 +1,59 @@
+-- What the program does with its words: which call it runs, what it tells of a fault, and its status.
+use Rattle.std.specs.Prelude.{◌≡◌, ◌⊎◌, ℕ, List, [], map, Option, Result, Ok, Err, string_bytes}
+use Rattle.aout_core.specs.Wires.{Latched}
+use Rattle.symtools.specs.NmLists.{nm_text}
+use Rattle.symtools.specs.SizeLines.{size_text}
+use Rattle.command_words.specs.Calls.{IsAsked, IsWhole, dashes_in, files_of}
+use Rattle.command_words.specs.declared.words.Call.{Call}
+use Rattle.command_words.specs.declared.words.Call.TheVariants.{Ld, Nm, Size, Strip, Session}
+use Rattle.v7tools.specs.Calls.{AsksForNone, IsOfWords}
+use Rattle.v7tools.specs.Deeds.{History, Extends}
+use Rattle.v7tools.specs.Emits.{PutsUnless}
+use Rattle.v7tools.specs.FaultTexts.{fault_line}
+use Rattle.v7tools.specs.FileRuns.{IsListRun, IsStripRun, OnlyWriteFailed, OrMemory}
+use Rattle.v7tools.specs.LinkRuns.{IsLinkRun, Refuses}
+use Rattle.v7tools.specs.SessionRuns.{IsSessionRun}
+use Rattle.v7tools.specs.declared.fault.CliFault.{CliFault}
+
+-- a call was run, with a script of these bytes, where they are known
+abbrev pub IsCallRun : {W : Type 0} → (W → Option (List ℕ)) → Option (List ℕ) → Call → History → History → Result ℕ CliFault → Latched W → Latched W → Type 0
+IsCallRun contents script (Ld options forced out files) old new result before after = IsLinkRun contents forced options out (map string_bytes files.items) old new result before after
+IsCallRun contents script (Nm options files) old new result before after = IsListRun contents OrMemory (nm_text options) files.items old new result before after
+IsCallRun contents script (Size files) old new result before after = IsListRun contents OnlyWriteFailed size_text files.items old new result before after
+IsCallRun contents script (Strip files) old new result before after = IsStripRun old new files.items result × (after ≡ before)
+IsCallRun contents script (Session options forced) old new result before after = IsSessionRun contents forced options script old new result before after
+
+-- the words ask for this call, with each dash alone among its files
+pub record AsksFor (words : List (List ℕ)) (call : Call) : Type 0 where
+  pub whole : IsWhole call
+  pub asked : IsAsked words call
+  pub dashes : dashes_in words ≡ dashes_in (files_of call)
+
+-- the words ask for a call, and it was run
+pub record RunsCall {W : Type 0} (contents : W → Option (List ℕ)) (words : List (List ℕ)) (script : Option (List ℕ)) (old new : History) (result : Result ℕ CliFault) (before after : Latched W) : Type 0 where
+  pub call : Call
+  pub asks : AsksFor words call
+  pub run : IsCallRun contents script call old new result before after
+
+-- the words ask for no call, or memory was wanted to read them: nothing is asked of the office, and nothing is written
+pub record RefusesWords {W : Type 0} (words : List (List ℕ)) (old new : History) (result : Result ℕ CliFault) (before after : Latched W) : Type 0 where
+  pub fault : CliFault
+  pub of_words : IsOfWords fault
+  pub none : AsksForNone words fault
+  pub asked : Extends old new []
+  pub refuses : Refuses fault result before after
+
+-- what the words ask for was done
+abbrev pub RunsWords : {W : Type 0} → (W → Option (List ℕ)) → List (List ℕ) → Option (List ℕ) → History → History → Result ℕ CliFault → Latched W → Latched W → Type 0
+RunsWords contents words script old new result before after =
+    RefusesWords words old new result before after ⊎ RunsCall contents words script old new result before after
+
+-- the status of the program, and what is written to standard error: nothing, or with 2 the line of a fault
+abbrev pub Ends : {E : Type 0} → (E → Option (List ℕ)) → Result ℕ CliFault → ℕ → Latched E → Latched E → Type 0
+Ends contents (Ok answer) status before after = (status ≡ answer) × (after ≡ before)
+Ends contents (Err fault) status before after = (status ≡ 2) × PutsUnless after.has_failed (contents before.device) (contents after.device) (fault_line fault)
+
+-- the words were done, and the program ended so
+abbrev pub Performs : {W E : Type 0} → (W → Option (List ℕ)) → (E → Option (List ℕ)) → List (List ℕ) → Option (List ℕ) → History → History → ℕ → Latched W → Latched W → Latched E → Latched E → Type 0
+Performs out_contents error_contents words script old new status out_before out_after error_before error_after =
+    (result : Result ℕ CliFault) × RunsWords out_contents words script old new result out_before out_after × Ends error_contents result status error_before error_after

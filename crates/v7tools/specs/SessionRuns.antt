@@ -1,0 +1,230 @@
+-- What a session does with the lines of a script: what it opens, stores and answers, and its status.
+use Rattle.std.specs.Prelude.{◌≡◌, ◌↔◌, ◌⊎◌, ℕ, max, false, List, [], ◌∷◌, ◌++◌, map, Option, Some, None, Result, Ok, Err, IfErr, IfOk, IfSome, IsErr, IsTrue}
+use Rattle.std.specs.List.{flat_map}
+use Rattle.std.specs.Io.KnownBytes.{Appends}
+use Rattle.aout_core.specs.Reading.{HasHeader}
+use Rattle.aout_core.specs.Wires.{Latched, Puts}
+use Rattle.link_session.specs.Labelled.{Labelled, objects}
+use Rattle.link_session.specs.Sessions.{nothing_kept}
+use Rattle.link_session.specs.Undo.{Kept}
+use Rattle.link_out.specs.Choices.{Choices}
+use Rattle.link_out.specs.Link.{Outcome, link}
+use Rattle.v7tools.specs.Answers.{absent, failing, adding, withdrawing, listing_externals, listing_undefined, anything_else, Verdict, done, refused, Stepped, add_step, input_from, step, link_answer_text, link_status}
+use Rattle.v7tools.specs.Deeds.{Deed, History, Extends, opened, stored}
+use Rattle.v7tools.specs.LinkRuns.{Refuses}
+use Rattle.v7tools.specs.Scripts.{Asked, to_add, to_withdraw, for_externals, for_undefined, to_link, for_nothing, lines_in, Given, ScriptFault, long_line, many_lines, given_behind}
+use Rattle.v7tools.specs.Steps.{AddsIf, Changes, IsAddOn, IsLinkBy, IsStepOn, WithdrawsIf, without_memory}
+use Rattle.v7tools.specs.declared.commands.Command.{Command}
+use Rattle.v7tools.specs.declared.commands.Command.TheVariants.{Link}
+use Rattle.v7tools.specs.declared.fault.CliFault.{CliFault}
+use Rattle.v7tools.specs.declared.fault.CliFault.TheVariants as faults
+use Rattle.v7tools.specs.declared.link_answers.Stored.{Stored}
+
+-- a line: what it asked for, what it asked of the office, its answer, its status, and what is kept behind it
+pub record LineRun : Type 0 where
+  pub line : Asked
+  pub deeds : List Deed
+  pub answer : List ℕ
+  pub status : ℕ
+  pub kept : Kept
+
+-- the status of a step that is no link
+abbrev pub status_after : Verdict → ℕ
+status_after done = 0
+status_after _ = 1
+
+-- the line did what this step does
+pub record DoesStep (did : Stepped) (r : LineRun) : Type 0 where
+  pub answer : r.answer ≡ did.answer
+  pub status : r.status ≡ status_after did.verdict
+  pub entries : r.kept.entries ≡ did.kept
+
+-- the file that was opened is added on its bytes, where they are known; its device may fail, and behind a header of a
+-- file memory may be wanted
+abbrev pub IsAddOf : Option (List ℕ) → Kept → List ℕ → Stepped → Type 0
+IsAddOf known old path did =
+    (did ≡ add_step old.entries path (input_from old.forced old.entries path failing))
+    ⊎ (((did ≡ without_memory old.entries) × IfSome known HasHeader)
+    ⊎ IsAddOn known old.forced old.entries path did)
+
+-- the file at the path that is named can't be opened
+pub record OpensNone (o : Choices) (old : Kept) (path : List ℕ) (r : LineRun) : Type 0 where
+  pub deeds : r.deeds ≡ opened path None ∷ []
+  pub does : DoesStep (step old.forced o old.entries (adding path absent)) r
+  pub same : r.kept ≡ old
+
+-- the file at the path that is named was opened
+pub record OpensOne (old : Kept) (path : List ℕ) (r : LineRun) : Type 0 where
+  pub known : Option (List ℕ)
+  pub deeds : r.deeds ≡ opened path (Some known) ∷ []
+  pub did : Stepped
+  pub is_add : IsAddOf known old path did
+  pub does : DoesStep did r
+  pub changes : AddsIf did.verdict old r.kept
+
+-- nothing was opened or stored, and nothing is changed
+pub record OnlyTells (did : Stepped) (old : Kept) (r : LineRun) : Type 0 where
+  pub deeds : r.deeds ≡ []
+  pub does : DoesStep did r
+  pub same : r.kept ≡ old
+
+-- the last object is taken away, if there is one
+pub record TakesLast (did : Stepped) (old : Kept) (r : LineRun) : Type 0 where
+  pub deeds : r.deeds ≡ []
+  pub does : DoesStep did r
+  pub changes : WithdrawsIf did.verdict old r.kept
+
+-- there is no link: nothing is stored
+pub record LinksNone (o : Choices) (old : Kept) (r : LineRun) : Type 0 where
+  pub did : Stepped
+  pub is_link : IsLinkBy old.entries (link old.forced (objects old.entries) o) did
+  pub refuses : did.verdict ≡ refused
+  pub tells : OnlyTells did old r
+
+-- the file of the link was to be stored at the path that is named, and the answer says what became of it
+pub record LinksInto (o : Choices) (old : Kept) (path : List ℕ) (r : LineRun) : Type 0 where
+  pub made : Outcome
+  pub is_link : link old.forced (objects old.entries) o ≡ Ok made
+  pub what : Stored
+  pub deeds : r.deeds ≡ stored path made.file what ∷ []
+  pub answer : r.answer ≡ link_answer_text made.report path what
+  pub status : r.status ≡ link_status made.report what
+  pub same : r.kept ≡ old
+
+-- a line that asks for this was run on a session
+abbrev pub IsLineOf : Choices → Kept → LineRun → Asked → Type 0
+IsLineOf o old r (to_add path) = OpensNone o old path r ⊎ OpensOne old path r
+IsLineOf o old r to_withdraw = TakesLast (step old.forced o old.entries withdrawing) old r
+IsLineOf o old r for_externals = OnlyTells (step old.forced o old.entries listing_externals) old r
+IsLineOf o old r for_undefined = OnlyTells (step old.forced o old.entries listing_undefined) old r
+IsLineOf o old r (to_link path) = LinksNone o old r ⊎ LinksInto o old path r
+IsLineOf o old r for_nothing = OnlyTells (step old.forced o old.entries anything_else) old r
+
+abbrev pub IsLineRun : Choices → Kept → LineRun → Type 0
+IsLineRun o old r = IsLineOf o old r r.line
+
+-- ---- how a line is answered
+
+-- the file at a path was opened, on a wire that has not failed, or could not be
+abbrev pub IsOpenedAt : {R : Type 0} → (R → Option (List ℕ)) → History → History → List ℕ → Option (Latched R) → Type 0
+IsOpenedAt remaining old new path None = Extends old new (opened path None ∷ [])
+IsOpenedAt remaining old new path (Some wire) = (wire.has_failed ≡ false) × Extends old new (opened path (Some (remaining wire.device)) ∷ [])
+
+abbrev pub IsNoLink : {R : Type 0} → Command R → Type 0
+IsNoLink Link = ⊥
+IsNoLink _ = Unit {0}
+
+-- the status of a step is told, and its answer went out, or on a fault a front of it
+pub record TellsStep {W : Type 0} (contents : W → Option (List ℕ)) (did : Stepped) (left : Kept) (result : Result ℕ CliFault) (before after : Latched W) : Type 0 where
+  pub entries : left.entries ≡ did.kept
+  pub status : IfOk result (λ status. status ≡ status_after did.verdict)
+  pub write_failed : IfErr result (λ fault. fault ≡ faults.WriteFailed)
+  pub fault : IsErr result ↔ IsTrue after.has_failed
+  pub bytes : Puts result (contents before.device) (contents after.device) did.answer
+
+-- a step on a command that is no link was taken
+abbrev pub TakesPlainStep : {R W : Type 0} → (R → Option (List ℕ)) → (W → Option (List ℕ)) → Choices → Command R → Kept → Kept → Result ℕ CliFault → Latched W → Latched W → Type 0
+TakesPlainStep remaining contents o command old new result before after =
+    (did : Stepped) × IsStepOn remaining old o command did × Changes command did.verdict old new × TellsStep contents did new result before after
+
+-- a line was run; its answer went out, or on a fault a front of it
+pub record AnswersLine {W : Type 0} (contents : W → Option (List ℕ)) (o : Choices) (asks : Asked) (kept left : Kept) (old new : History) (result : Result ℕ CliFault) (before after : Latched W) : Type 0 where
+  pub run : LineRun
+  pub line : run.line ≡ asks
+  pub leaves : run.kept ≡ left
+  pub is_run : IsLineRun o kept run
+  pub asked : Extends old new run.deeds
+  pub status : IfOk result (λ status. status ≡ run.status)
+  pub write_failed : IfErr result (λ fault. fault ≡ faults.WriteFailed)
+  pub fault : IsErr result ↔ IsTrue after.has_failed
+  pub bytes : Puts result (contents before.device) (contents after.device) run.answer
+
+-- ---- the lines of a script
+
+-- the lines were run in order, each on the session that the one before it left
+abbrev pub Chains : Choices → Kept → List LineRun → Kept → Type 0
+Chains o old [] new = new ≡ old
+Chains o old (r ∷ rs) new = IsLineRun o old r × Chains o r.kept rs new
+
+abbrev pub lines_asked : List LineRun → List Asked
+lines_asked runs = map (λ r. r.line) runs
+
+abbrev pub deeds_of : List LineRun → List Deed
+deeds_of runs = flat_map (λ r. r.deeds) runs
+
+abbrev pub answers_of : List LineRun → List ℕ
+answers_of runs = flat_map (λ r. r.answer) runs
+
+-- the largest status of all
+abbrev pub worst : List LineRun → ℕ
+worst [] = 0
+worst (r ∷ rs) = max r.status (worst rs)
+
+-- the lines were run on a session, and their answers went out whole
+pub record Ran {W : Type 0} (contents : W → Option (List ℕ)) (o : Choices) (start kept : Kept) (runs : List LineRun) (old new : History) (before after : Latched W) : Type 0 where
+  pub chain : Chains o start runs kept
+  pub asked : Extends old new (deeds_of runs)
+  pub answers : Appends (contents before.device) (contents after.device) (answers_of runs)
+  pub working : IsTrue after.has_failed → IsTrue before.has_failed
+
+-- what a script gives, by its bytes
+abbrev pub given : List ℕ → Given
+given bytes = given_behind 0 (lines_in bytes)
+
+-- the lines are all, and this ends them
+abbrev pub AreLines : Option (List ℕ) → List Asked → Option ScriptFault → Type 0
+AreLines known lines fault = IfSome known (λ bytes. given bytes ≡ record { lines = lines; fault = fault })
+
+-- the lines are the first ones
+abbrev pub AreFirst : Option (List ℕ) → List Asked → Type 0
+AreFirst known lines = IfSome known (λ bytes. (more : List Asked) × ((given bytes).lines ≡ lines ++ more))
+
+-- behind these lines the script gives no further one; its device may fail, and memory be wanted for a line
+abbrev pub StopsBehind : Option (List ℕ) → List Asked → CliFault → Type 0
+StopsBehind known lines faults.LongLine = AreLines known lines (Some long_line)
+StopsBehind known lines faults.ManyLines = AreLines known lines (Some many_lines)
+StopsBehind known lines faults.ScriptFailed = AreFirst known lines
+StopsBehind known lines faults.Memory = IfSome known (λ bytes. (a : Asked) × (more : List Asked) × ((given bytes).lines ≡ lines ++ a ∷ more))
+StopsBehind known lines _ = ⊥
+
+-- all lines were run: the status is the largest of theirs
+pub record RunsAll {W : Type 0} (contents : W → Option (List ℕ)) (forced : List (List ℕ)) (o : Choices) (script : Option (List ℕ)) (old new : History) (result : Result ℕ CliFault) (before after : Latched W) : Type 0 where
+  pub runs : List LineRun
+  pub kept : Kept
+  pub ran : Ran contents o (nothing_kept forced) kept runs old new before after
+  pub all : AreLines script (lines_asked runs) None
+  pub status : result ≡ Ok (worst runs)
+
+-- the script gave a fault behind the lines that were run
+pub record RunsUpTo {W : Type 0} (contents : W → Option (List ℕ)) (forced : List (List ℕ)) (o : Choices) (script : Option (List ℕ)) (old new : History) (result : Result ℕ CliFault) (before after : Latched W) : Type 0 where
+  pub runs : List LineRun
+  pub kept : Kept
+  pub ran : Ran contents o (nothing_kept forced) kept runs old new before after
+  pub fault : CliFault
+  pub stops : StopsBehind script (lines_asked runs) fault
+  pub refusal : result ≡ Err fault
+
+-- one more line was run behind those, and of its answer a front went out
+pub record BreaksOff {W : Type 0} (contents : W → Option (List ℕ)) (forced : List (List ℕ)) (o : Choices) (script : Option (List ℕ)) (old new : History) (result : Result ℕ CliFault) (before after : Latched W) : Type 0 where
+  pub runs : List LineRun
+  pub kept : Kept
+  pub chain : Chains o (nothing_kept forced) runs kept
+  pub last : LineRun
+  pub is_run : IsLineRun o kept last
+  pub first : AreFirst script (lines_asked runs ++ last.line ∷ [])
+  pub asked : Extends old new (deeds_of runs ++ last.deeds)
+  pub part : List ℕ
+  pub rest : List ℕ
+  pub split : last.answer ≡ part ++ rest
+  pub answers : Appends (contents before.device) (contents after.device) (answers_of runs ++ part)
+  pub failed : IsTrue after.has_failed
+  pub refusal : result ≡ Err faults.WriteFailed
+
+-- a session that begins with these forced names and no objects: memory is wanted before a line is read, all lines are
+-- run, those up to a fault of the script, or those up to one whose answer can't be written
+abbrev pub IsSessionRun : {W : Type 0} → (W → Option (List ℕ)) → List (List ℕ) → Choices → Option (List ℕ) → History → History → Result ℕ CliFault → Latched W → Latched W → Type 0
+IsSessionRun contents forced o script old new result before after =
+    (Extends old new [] × Refuses faults.Memory result before after)
+    ⊎ (RunsAll contents forced o script old new result before after
+    ⊎ (RunsUpTo contents forced o script old new result before after
+    ⊎ BreaksOff contents forced o script old new result before after))
