@@ -260,3 +260,8 @@ module _ {R W : Type 0} (remaining : R → Option (List ℕ)) (contents : W → 
             failed = line.fault.0 refl;
             refusal = answer ∙ ap (λ (f : CliFault). let r : Result ℕ CliFault = Err f in r) line.write_failed;
           })))
+
+-- memory is wanted before a line is read
+pub no_memory : {W : Type 0} (contents : W → Option (List ℕ)) (o : Choices) (forced : List (List ℕ)) (script : Option (List ℕ)) (old : History) (before : Latched W) (fault : CliFault) (result : Result ℕ CliFault) → fault ≡ faults.Memory → result ≡ Err fault →
+    IsSessionRun contents forced o script old old result before before
+no_memory contents o forced script old before fault result is answer = inl (nothing_asked old, record { refusal = answer ∙ ap (λ (f : CliFault). let r : Result ℕ CliFault = Err f in r) is; silent = refl })

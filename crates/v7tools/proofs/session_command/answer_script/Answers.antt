@@ -4,7 +4,7 @@ use Rattle.v7tools.specs.ScriptAnswers.{IsNextOf, IfTold, Settles, asked_by, lin
 use Rattle.v7tools.specs.SessionRuns.{lines_asked}
 use Rattle.v7tools.specs.declared.lines.Line.{Line}
 use Rattle.v7tools.proofs.DeedLemmas.{passed_on}
-use Rattle.v7tools.proofs.SessionRunLemmas.{Stays, Reading, all_run, broke_off, larger_small, left_of, reads_end, reads_fault, reads_line, run_up_to, runs_more, runs_none, stays_alone}
+use Rattle.v7tools.proofs.SessionRunLemmas.{Stays, Reading, all_run, broke_off, larger_small, left_of, no_memory, reads_end, reads_fault, reads_line, run_up_to, runs_more, runs_none, stays_alone}
 use Rattle.v7tools.proofs.session_command.answer_script.Goals as goal
 
 pub loop-init : goal.loop-init
@@ -100,3 +100,9 @@ loop-preserved g c =
       bound = told.bound;
       running = rw c.max-status.ensures after;
     }
+
+pub returns-in_err-script-clause-run : goal.returns-in_err-script-clause-run
+returns-in_err-script-clause-run g c =
+    let fault = c.in_err-script.field-0.0 in
+    let r = c.from_residual-in_err-script.result in
+    no_memory g.W.Write.contents c.args.options.now c.args.forced.now (g.R.Read.remaining c.args.script.device) (g.O.Office.history c.args.office.now) c.args.answers.now fault r c.in_err-script.ensures.err (passed_on r fault c.from_residual-in_err-script.ensures.1)
