@@ -11,7 +11,7 @@ use Rattle.link_session.specs.Undo.{Kept}
 use Rattle.link_out.specs.Choices.{Choices}
 use Rattle.v7tools.specs.Deeds.{Deed, History, Extends}
 use Rattle.v7tools.specs.Scripts.{Asked, lines_in, Given, ScriptFault, long_line, many_lines, and_given, ends_with_fault, given_behind}
-use Rattle.v7tools.specs.ScriptAnswers.{Answer, IfTold, IsNextOf, Progress, Settles, asked_by, lines_of}
+use Rattle.v7tools.specs.ScriptAnswers.{Answer, IfTold, IsNextOf, NamesPath, Progress, Settles, asked_by, lines_of}
 use Rattle.v7tools.specs.SessionRuns.{AnswersLine, AreFirst, AreLines, BreaksOff, Chains, IsLineRun, IsSessionRun, LineRun, Ran, RunsAll, RunsUpTo, StopsBehind, answers_of, deeds_of, given, lines_asked, worst}
 use Rattle.v7tools.specs.declared.fault.CliFault.{CliFault}
 use Rattle.v7tools.specs.declared.fault.CliFault.TheVariants as faults
@@ -158,9 +158,9 @@ module _ (first mid now : Option (List ℕ)) (n : ℕ) (settled later : Option A
       (λ a b c first_given is. first_given ∙ ap (before_given lines) is.1 ∙ before_end lines (Some many_lines)) h.told next)
   stops_with faults.ScriptFailed settles next = reads_front first mid n settled lines h
   stops_with faults.Memory settles next =
-      told_alone first now (λ a c. (x : Asked) × (more : List Asked) × ((given a).lines ≡ lines ++ x ∷ more)) (λ a. (x : Asked) × (more : List Asked) × ((given a).lines ≡ lines ++ x ∷ more)) (λ a c k. k)
-      (told_on first mid now (GivesFirst lines n) (λ bytes left. IsNextOf n bytes left later (Err faults.Memory)) (λ a c. (x : Asked) × (more : List Asked) × ((given a).lines ≡ lines ++ x ∷ more))
-      (λ a b c first_given is. (is.0, (given_behind (n + 1) (lines_in c)).lines, ap (λ (g : Given). g.lines) (first_given ∙ ap (before_given lines) is.1.1))) h.told next)
+      told_alone first now (λ a c. (x : Asked) × (more : List Asked) × NamesPath x × ((given a).lines ≡ lines ++ x ∷ more)) (λ a. (x : Asked) × (more : List Asked) × NamesPath x × ((given a).lines ≡ lines ++ x ∷ more)) (λ a c k. k)
+      (told_on first mid now (GivesFirst lines n) (λ bytes left. IsNextOf n bytes left later (Err faults.Memory)) (λ a c. (x : Asked) × (more : List Asked) × NamesPath x × ((given a).lines ≡ lines ++ x ∷ more))
+      (λ a b c first_given is. (is.0, (given_behind (n + 1) (lines_in c)).lines, is.1, ap (λ (g : Given). g.lines) (first_given ∙ ap (before_given lines) is.2.1))) h.told next)
   stops_with faults.Usage settles next = absurd settles
   stops_with (faults.CannotOpen path) settles next = absurd settles
   stops_with (faults.BadFile path fault) settles next = absurd settles

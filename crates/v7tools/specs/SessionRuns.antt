@@ -13,6 +13,7 @@ use Rattle.v7tools.specs.Answers.{absent, failing, adding, withdrawing, listing_
 use Rattle.v7tools.specs.Deeds.{Deed, History, Extends, opened, stored}
 use Rattle.v7tools.specs.LinkRuns.{Refuses}
 use Rattle.v7tools.specs.Scripts.{Asked, to_add, to_withdraw, for_externals, for_undefined, to_link, for_nothing, lines_in, Given, ScriptFault, long_line, many_lines, given_behind}
+use Rattle.v7tools.specs.ScriptAnswers.{NamesPath}
 use Rattle.v7tools.specs.Steps.{AddsIf, Changes, IsAddOn, IsLinkBy, IsStepOn, WithdrawsIf, without_memory}
 use Rattle.v7tools.specs.declared.commands.Command.{Command}
 use Rattle.v7tools.specs.declared.commands.Command.TheVariants.{Link}
@@ -179,12 +180,12 @@ AreLines known lines fault = IfSome known (λ bytes. given bytes ≡ record { li
 abbrev pub AreFirst : Option (List ℕ) → List Asked → Type 0
 AreFirst known lines = IfSome known (λ bytes. (more : List Asked) × ((given bytes).lines ≡ lines ++ more))
 
--- behind these lines the script gives no further one; its device may fail, and memory be wanted for a line
+-- behind these lines the script gives no further one; its device may fail, and memory be wanted for a line that has a path
 abbrev pub StopsBehind : Option (List ℕ) → List Asked → CliFault → Type 0
 StopsBehind known lines faults.LongLine = AreLines known lines (Some long_line)
 StopsBehind known lines faults.ManyLines = AreLines known lines (Some many_lines)
 StopsBehind known lines faults.ScriptFailed = AreFirst known lines
-StopsBehind known lines faults.Memory = IfSome known (λ bytes. (a : Asked) × (more : List Asked) × ((given bytes).lines ≡ lines ++ a ∷ more))
+StopsBehind known lines faults.Memory = IfSome known (λ bytes. (a : Asked) × (more : List Asked) × NamesPath a × ((given bytes).lines ≡ lines ++ a ∷ more))
 StopsBehind known lines _ = ⊥
 
 -- all lines were run: the status is the largest of theirs
