@@ -4,8 +4,8 @@ ghost use Rattle.link_out.specs.Outcomes.{findings_of};
 ghost use Rattle.v7tools.specs.LinkRuns.{IsLinkRun, IsOpening, Reports, ReportsIf};
 
 use crate::fault::CliFault;
-use crate::inputs::ld;
 use crate::link_answers::Stored;
+use crate::linking::ld;
 use crate::office::Office;
 use aout_core::Wire;
 use link_out::{Linked, Options, Report};

@@ -4,13 +4,13 @@ ghost use Rattle.v7tools.specs.Scripts.{to_add, to_link};
 ghost use Rattle.v7tools.specs.ScriptAnswers.{asked_by};
 ghost use Rattle.v7tools.specs.SessionRuns.{AnswersLine, IsNoLink, IsOpenedAt, IsSessionRun, TakesPlainStep};
 
-use crate::answers::{put_fault, step};
 use crate::commands::{Command, Step};
 use crate::fault::CliFault;
 use crate::lines::Line;
 use crate::link_answers::link_answer;
 use crate::office::Office;
 use crate::script::Script;
+use crate::steps::{put_fault, step};
 use aout_core::Wire;
 use link_out::{Options, finish};
 use link_session::{Forced, Session};

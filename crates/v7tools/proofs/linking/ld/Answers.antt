@@ -1,7 +1,7 @@
 use Rattle.std.proofs.Common.{Err, refl}
 use Rattle.v7tools.specs.LinkAnswers.{told}
 use Rattle.v7tools.proofs.AnswerLemmas.{not_taken, linked_file, linked_refused}
-use Rattle.v7tools.proofs.inputs.ld.Goals as goal
+use Rattle.v7tools.proofs.linking.ld.Goals as goal
 
 pub returns-in-Err-clause-value : goal.returns-in-Err-clause-value
 returns-in-Err-clause-value g c =

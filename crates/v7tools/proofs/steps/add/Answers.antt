@@ -7,7 +7,7 @@ use Rattle.link_out.specs.Reports.{line}
 use Rattle.v7tools.specs.Answers.{add_step}
 use Rattle.v7tools.specs.FaultTexts.{cli_text}
 use Rattle.v7tools.proofs.StepLemmas.{added_by, not_added_by, refused_as, no_verdict, told_in_part, refused_verdict, label_is, worked_before, worked_after}
-use Rattle.v7tools.proofs.answers.add.Goals as goal
+use Rattle.v7tools.proofs.steps.add.Goals as goal
 
 pub returns-in_err-put_line-in-Ok-clause-step : goal.returns-in_err-put_line-in-Ok-clause-step
 returns-in_err-put_line-in-Ok-clause-step g c =

@@ -5,7 +5,7 @@ use Rattle.v7tools.specs.LinkAnswers.{IsWorking}
 use Rattle.v7tools.proofs.AdditionLemmas.{addition_taken, forced_kept}
 use Rattle.v7tools.proofs.AnswerLemmas.{so_far_none, so_far_more, so_far_refused, so_far_all}
 use Rattle.v7tools.proofs.StepLemmas.{device_fault, worked_before}
-use Rattle.v7tools.proofs.inputs.take_inputs.Goals as goal
+use Rattle.v7tools.proofs.linking.take_inputs.Goals as goal
 
 pub loop-path-init : goal.loop-path-init
 loop-path-init g c =

@@ -1,6 +1,6 @@
 use Rattle.std.proofs.Common.{◌≡◌}
 use Rattle.v7tools.proofs.AnswerLemmas.{SoFar, WorkingSoFar}
-use Rattle.v7tools.proofs.inputs.take_inputs.Given as goal
+use Rattle.v7tools.proofs.linking.take_inputs.Given as goal
 
 -- the inputs so far are taken, and their wires had not failed
 abbrev pub invariant-loop-path : goal.invariant-loop-path

@@ -8,7 +8,7 @@ use Rattle.v7tools.specs.declared.fault.CliFault.{CliFault}
 use Rattle.v7tools.specs.Answers.{link_step}
 use Rattle.v7tools.specs.FaultTexts.{cli_text, fault_of_link}
 use Rattle.v7tools.proofs.StepLemmas.{link_refused_by, refused_as, refused_verdict}
-use Rattle.v7tools.proofs.answers.make_link.Goals as goal
+use Rattle.v7tools.proofs.steps.make_link.Goals as goal
 
 pub returns-in-Ok-clause-step : goal.returns-in-Ok-clause-step
 returns-in-Ok-clause-step g c =

@@ -2,7 +2,7 @@ use Rattle.std.proofs.Common.{refl}
 use Rattle.std.specs.Prelude.{string_bytes}
 use Rattle.v7tools.specs.Answers.{step, adding, absent, listing_externals, listing_undefined, anything_else}
 use Rattle.v7tools.proofs.StepLemmas.{no_verdict, told_in_part, refused_verdict, added_over}
-use Rattle.v7tools.proofs.answers.step.Goals as goal
+use Rattle.v7tools.proofs.steps.step.Goals as goal
 
 pub returns-in_err-put_externals-in-Externals-clause-step : goal.returns-in_err-put_externals-in-Externals-clause-step
 returns-in_err-put_externals-in-Externals-clause-step g c =

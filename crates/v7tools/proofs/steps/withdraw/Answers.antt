@@ -7,7 +7,7 @@ use Rattle.link_out.specs.Reports.{line}
 use Rattle.v7tools.specs.Answers.{Stepped}
 use Rattle.v7tools.specs.Steps.{WithdrawsIf}
 use Rattle.v7tools.proofs.StepLemmas.{withdrawn_last, withdrawn_none}
-use Rattle.v7tools.proofs.answers.withdraw.Goals as goal
+use Rattle.v7tools.proofs.steps.withdraw.Goals as goal
 
 pub returns-in_err-put_line-in-Some-clause-bytes : goal.returns-in_err-put_line-in-Some-clause-bytes
 returns-in_err-put_line-in-Some-clause-bytes g c =

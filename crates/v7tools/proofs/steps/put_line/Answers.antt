@@ -1,6 +1,6 @@
 use Rattle.std.proofs.Common.{[], ◌∷◌, ◌++◌}
 use Rattle.aout_core.proofs.PutsLemmas.{puts_behind, put_stops}
-use Rattle.v7tools.proofs.answers.put_line.Goals as goal
+use Rattle.v7tools.proofs.steps.put_line.Goals as goal
 
 pub returns-in_err-put_both-clause-bytes : goal.returns-in_err-put_both-clause-bytes
 returns-in_err-put_both-clause-bytes g c =

@@ -1,7 +1,7 @@
 use Rattle.aout_core.proofs.PutsLemmas.{put_broke_off}
 use Rattle.link_out.specs.Reports.{line}
 use Rattle.v7tools.specs.FaultTexts.{cli_text}
-use Rattle.v7tools.proofs.answers.refuse.Goals as goal
+use Rattle.v7tools.proofs.steps.refuse.Goals as goal
 
 pub returns-in_err-put_fault-clause-bytes : goal.returns-in_err-put_fault-clause-bytes
 returns-in_err-put_fault-clause-bytes g c =

@@ -2,7 +2,7 @@ use Rattle.std.proofs.Common.{◌≡◌, ◌-◌, ◌∙◌, Some, length, sym, 
 use Rattle.std.specs.Prelude.{slice_get}
 use Rattle.v7tools.specs.Steps.{label_of}
 use Rattle.v7tools.proofs.StepLemmas.{last_of-slice_get}
-use Rattle.v7tools.proofs.answers.last_label.Goals as goal
+use Rattle.v7tools.proofs.steps.last_label.Goals as goal
 
 pub returns-in-Some : goal.returns-in-Some
 returns-in-Some c =

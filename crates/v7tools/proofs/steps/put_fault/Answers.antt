@@ -1,7 +1,7 @@
 use Rattle.std.proofs.Common.{[], ◌∷◌}
 use Rattle.aout_core.proofs.PutsLemmas.{puts_behind, put_stops}
 use Rattle.v7tools.specs.FaultTexts.{cli_text}
-use Rattle.v7tools.proofs.answers.put_fault.Goals as goal
+use Rattle.v7tools.proofs.steps.put_fault.Goals as goal
 
 pub returns-in_err-write_text-clause-bytes : goal.returns-in_err-write_text-clause-bytes
 returns-in_err-write_text-clause-bytes g c =
