@@ -7,3 +7,4 @@ mod ClauseLemmas
 mod NeededClauses
 mod DerivedLinks
 mod NearLaws
+mod NeededPremises

@@ -1,28 +1,32 @@
 -- Statements near the laws of linking that do not hold: each has a link that shows it.
-use Rattle.std.proofs.Common.{◌≡◌, ◌≢◌, ◌↔◌, ℕ, ◌+◌, ◌%◌, ◌<◌, ◌≤◌, true, false, List, [], ◌∷◌, refl, sym, ◌∙◌, ap, arith, inl, inr, eq-eqb}
-use Rattle.std.specs.Prelude.{eqb, Ok, Err, replicate, sum_by}
+use Rattle.std.proofs.Common.{◌≡◌, ◌≢◌, ◌↔◌, ℕ, ◌+◌, ◌%◌, ◌<◌, ◌≤◌, true, false, List, [], ◌∷◌, ◌++◌, Some, refl, sym, ◌∙◌, ap, arith, inl, inr, eq-eqb}
+use Rattle.std.specs.Prelude.{◌⊎◌, eqb, Ok, Err, length, replicate, slice_get, sum_by}
 use Rattle.std.specs.List.{AllByRecursion}
 use Rattle.aout_core.specs.declared.symbol.Symbol.{Symbol}
 use Rattle.aout_core.specs.declared.symbol.Segment.{Segment}
 use Rattle.aout_core.specs.declared.symbol.Segment.TheVariants.{TextSeg}
+use Rattle.aout_core.specs.declared.reloc.Reloc.{Reloc}
+use Rattle.aout_core.specs.declared.reloc.Kind.TheVariants.{External}
 use Rattle.aout_core.specs.Contents.{Contents}
+use Rattle.aout_core.specs.WellFormed.{kind_of, symbol_number}
 use Rattle.link_session.specs.declared.state.State.{State}
 use Rattle.link_session.specs.declared.state.State.TheVariants.{Defined, Wanted}
 use Rattle.link_session.specs.Sessions.{IsObject}
-use Rattle.link_session.specs.Mentions.{is_among}
+use Rattle.link_session.specs.Mentions.{mentions, externals, is_among, place_of}
 use Rattle.link_out.specs.declared.linked.LinkFault.{LinkFault}
 use Rattle.link_out.specs.declared.linked.LinkFault.TheVariants.{DoesNotFit, TooManySymbols, SymbolNumber, Memory}
 use Rattle.link_out.specs.declared.options.Layout.{Layout}
 use Rattle.link_out.specs.declared.options.Layout.TheVariants.{Split}
-use Rattle.link_out.specs.Choices.{Choices}
-use Rattle.link_out.specs.NameStates.{IsFirst}
+use Rattle.link_out.specs.Choices.{Choices, lays_commons}
+use Rattle.link_out.specs.NameStates.{IsFirst, IsWanted}
 use Rattle.link_out.specs.Results.{Outcome}
 use Rattle.link_out.specs.Link.{link}
+use Rattle.link_out.specs.Relocated.{segment_words, segment_relocs}
 use Rattle.link_out.specs.Meaning.{IsSaid, HasTwoDefinitions, MultiplesDiffer, DifferInPlace, LayoutsDiffer}
-use Rattle.link_out.specs.Refusals.{CommonsTake, EndsAt, entry_count, HasFarWord, RefusedExactly}
-use Rattle.conformance.specs.Samples.{sym as entry_of, object, _f, _x, L1, a_o, c_o, d_o, i_o, plain, with_layout}
+use Rattle.link_out.specs.Refusals.{CommonsTake, EndsAt, kept_locals, entry_count, HasFarWord, RefusedExactly}
+use Rattle.conformance.specs.Samples.{sym as entry_of, object, _f, _x, L1, a_o, c_o, d_o, i_o, plain, relocatable, with_layout}
 use Rattle.conformance.proofs.LawExamples.{outcome_of}
-use Rattle.conformance.proofs.ClauseLemmas.{as_object, at_most_so, less_so, only_wanted}
+use Rattle.conformance.proofs.ClauseLemmas.{only_object, only_word, no_word, as_object, at_most_so, less_so, only_wanted}
 
 -- a name is reported as multiply defined exactly where the objects are so
 abbrev ReportedWhere : (List Contents → List ℕ → Type 0) → Type 0
@@ -98,20 +102,85 @@ layouts_differ_in_words : LayoutsGive (λ os x y. x.file.text_words ≡ y.file.t
 layouts_differ_in_words law =
     different 5572 5568 refl (ap (λ ws. sum_by (λ (w : ℕ). w) ws) (law [] (a_o ∷ []) plain Split (plain_link (a_o ∷ [])) (split_link (a_o ∷ [])) refl refl))
 
--- a link is refused where it ends behind this address, or has more than so many entries
-abbrev IsRefusedAbove : ℕ → ℕ → List (List ℕ) → List Contents → Choices → LinkFault → Type 0
-IsRefusedAbove last most forced os o DoesNotFit = (end : ℕ) × EndsAt forced os o end × (last < end)
-IsRefusedAbove last most forced os o TooManySymbols = (end : ℕ) × EndsAt forced os o end × (end ≤ last) × (most < entry_count forced os o)
-IsRefusedAbove last most forced os o SymbolNumber = (end : ℕ) × EndsAt forced os o end × (end ≤ last) × (entry_count forced os o ≤ most) × (o.relocatable ≡ true) × HasFarWord forced os o
-IsRefusedAbove last most forced os o Memory = ⊥
+-- a word refers to a name that is not bound with relocation, and whose number would be over this one
+record IsFarAbove (number : ℕ) (forced : List (List ℕ)) (os : List Contents) (o : Choices) : Type 0 where
+  before : List Contents
+  k : Contents
+  after : List Contents
+  all : os ≡ before ++ k ∷ after
+  segment : Segment
+  i : ℕ
+  w : ℕ
+  r : Reloc
+  word : slice_get (segment_words segment k) i ≡ Some w
+  reloc : slice_get (segment_relocs segment k) i ≡ Some r
+  kind : kind_of r ≡ Some External
+  symbol : Symbol
+  named : slice_get k.symbols (symbol_number r) ≡ Some symbol
+  size : ℕ
+  wanted : IsWanted (mentions forced os) symbol.name size
+  waits : (size ≡ 0) ⊎ (lays_commons o ≡ false)
+  far : number < length (kept_locals o os) + place_of symbol.name (externals forced os)
 
-abbrev RefusedAbove : ℕ → ℕ → Type 0
-RefusedAbove last most = (forced : List (List ℕ)) (os : List Contents) (o : Choices) (fault : LinkFault) → AllByRecursion IsObject os → (link forced os o ≡ Err fault) ↔ IsRefusedAbove last most forced os o fault
+-- a link is refused where it ends behind this address, has more than so many entries, or needs a number over this one
+abbrev IsRefusedAbove : ℕ → ℕ → ℕ → List (List ℕ) → List Contents → Choices → LinkFault → Type 0
+IsRefusedAbove last most number forced os o DoesNotFit = (end : ℕ) × EndsAt forced os o end × (last < end)
+IsRefusedAbove last most number forced os o TooManySymbols = (end : ℕ) × EndsAt forced os o end × (end ≤ last) × (most < entry_count forced os o)
+IsRefusedAbove last most number forced os o SymbolNumber = (end : ℕ) × EndsAt forced os o end × (end ≤ last) × (entry_count forced os o ≤ most) × (o.relocatable ≡ true) × IsFarAbove number forced os o
+IsRefusedAbove last most number forced os o Memory = ⊥
 
-law_of_refusals : RefusedExactly → RefusedAbove 65535 5461
+abbrev RefusedAbove : ℕ → ℕ → ℕ → Type 0
+RefusedAbove last most number = (forced : List (List ℕ)) (os : List Contents) (o : Choices) (fault : LinkFault) → AllByRecursion IsObject os → (link forced os o ≡ Err fault) ↔ IsRefusedAbove last most number forced os o fault
+
+law_of_refusals : RefusedExactly → RefusedAbove 65535 5461 4095
 law_of_refusals law forced os o DoesNotFit good = law forced os o DoesNotFit good
 law_of_refusals law forced os o TooManySymbols good = law forced os o TooManySymbols good
-law_of_refusals law forced os o SymbolNumber good = law forced os o SymbolNumber good
+law_of_refusals law forced os o SymbolNumber good = (
+  (λ e. let h = (law forced os o SymbolNumber good).0 e in (h.0, h.1, h.2, h.3, h.4, there h.5)),
+  (λ h. (law forced os o SymbolNumber good).1 (h.0, h.1, h.2, h.3, h.4, back h.5)),
+)
+  where
+    there : HasFarWord forced os o → IsFarAbove 4095 forced os o
+    there h = record {
+      before = h.before;
+      k = h.k;
+      after = h.after;
+      all = h.all;
+      segment = h.segment;
+      i = h.i;
+      w = h.w;
+      r = h.r;
+      word = h.word;
+      reloc = h.reloc;
+      kind = h.kind;
+      symbol = h.symbol;
+      named = h.named;
+      size = h.size;
+      wanted = h.wanted;
+      waits = h.waits;
+      far = h.far;
+    }
+
+    back : IsFarAbove 4095 forced os o → HasFarWord forced os o
+    back h = record {
+      before = h.before;
+      k = h.k;
+      after = h.after;
+      all = h.all;
+      segment = h.segment;
+      i = h.i;
+      w = h.w;
+      r = h.r;
+      word = h.word;
+      reloc = h.reloc;
+      kind = h.kind;
+      symbol = h.symbol;
+      named = h.named;
+      size = h.size;
+      wanted = h.wanted;
+      waits = h.waits;
+      far = h.far;
+    }
 law_of_refusals law forced os o Memory good = law forced os o Memory good
 
 -- a common of so many bytes
@@ -119,14 +188,14 @@ abbrev wide : ℕ → Contents
 wide size = object [] [] [] [] 0 (entry_of _x 32 size ∷ [])
 
 -- 65,534 bytes fit
-fit_at_65534 : RefusedAbove 65533 5461 → ⊥
+fit_at_65534 : RefusedAbove 65533 5461 4095 → ⊥
 fit_at_65534 law =
     let bad : Ok (outcome_of (link [] (wide 65534 ∷ []) plain)) ≡ Err DoesNotFit = (law [] (wide 65534 ∷ []) plain DoesNotFit (as_object (wide 65534) refl refl refl refl refl refl refl refl, tt)).1
     (65534, record { commons = 65534; take = (Wanted 65534, only_wanted _x 65534, (0, refl, refl)); is = refl }, less_so 65533 65534 refl) in
     absurd (cc)
 
 -- 65,536 bytes do not; that is the end there is
-refused_at_65536 : RefusedAbove 65536 5461 → ⊥
+refused_at_65536 : RefusedAbove 65536 5461 4095 → ⊥
 refused_at_65536 law =
     let h = (law [] (wide 65535 ∷ []) plain DoesNotFit (as_object (wide 65535) refl refl refl refl refl refl refl refl, tt)).0 refl in
     by_state h.0 h.1.commons h.1.take h.1.is h.2
@@ -143,16 +212,74 @@ refused_at_65536 law =
     by_state end commons (Wanted size, is, rest) g h = by_size end commons size rest.0 (is.least 65535 ((λ same n e. let at : 65535 ≡ n = cc in omega arith), tt)) rest.1 rest.2 g h
 
 -- 5,461 entries may be written, and 5,462 may not
-entries_at_5461 : RefusedAbove 65535 5460 → ⊥
+entries_at_5461 : RefusedAbove 65535 5460 4095 → ⊥
 entries_at_5461 law =
     let many : Contents = object [] [] [] [] 0 (replicate 5461 (entry_of L1 2 0)) in
     let bad : Ok (outcome_of (link [] (many ∷ []) plain)) ≡ Err TooManySymbols = (law [] (many ∷ []) plain TooManySymbols (as_object many refl refl refl refl refl refl refl refl, tt)).1
     (0, record { commons = 0; take = refl; is = refl }, at_most_so 0 65535 refl, less_so 5460 5461 refl) in
     absurd (cc)
 
-refused_at_5462 : RefusedAbove 65535 5462 → ⊥
+refused_at_5462 : RefusedAbove 65535 5462 4095 → ⊥
 refused_at_5462 law =
     let many : Contents = object [] [] [] [] 0 (replicate 5462 (entry_of L1 2 0)) in
     let h = (law [] (many ∷ []) plain TooManySymbols (as_object many refl refl refl refl refl refl refl refl, tt)).0 refl in
     let bad : 5462 < 5462 = h.3 in
     absurd (omega arith)
+
+-- a word that refers to an undefined name behind so many locals; the number 4,095 may be needed, and 4,096 may not
+
+abbrev far_o : ℕ → Contents
+far_o locals = object (0 ∷ []) (0o10 ∷ []) [] [] 0 (entry_of _f 0o40 0 ∷ replicate locals (entry_of L1 2 0))
+
+-- what each word of an object refers to
+abbrev RefersToIt : List Contents → Contents → Type 0
+RefersToIt before k = (segment : Segment) (i w : ℕ) (r : Reloc) → slice_get (segment_words segment k) i ≡ Some w → slice_get (segment_relocs segment k) i ≡ Some r →
+    (symbol : Symbol) → slice_get k.symbols (symbol_number r) ≡ Some symbol → symbol ≡ entry_of _f 0o40 0
+
+number_at_4095 : RefusedAbove 65535 5461 4094 → ⊥
+number_at_4095 law =
+    let bad : Ok (outcome_of (link [] (far_o 4095 ∷ []) relocatable)) ≡ Err SymbolNumber = (law [] (far_o 4095 ∷ []) relocatable SymbolNumber (as_object (far_o 4095) refl refl refl refl refl refl refl refl, tt)).1 (
+      2,
+      record { commons = 0; take = (Wanted 0, only_wanted _f 0, (0, refl, refl)); is = refl },
+      at_most_so 2 65535 refl,
+      at_most_so 4096 5461 refl,
+      refl,
+      record {
+        before = [];
+        k = far_o 4095;
+        after = [];
+        all = refl;
+        segment = TextSeg;
+        i = 0;
+        w = 0;
+        r = record { 0 = 0o10 };
+        word = refl;
+        reloc = refl;
+        kind = refl;
+        symbol = entry_of _f 0o40 0;
+        named = refl;
+        size = 0;
+        wanted = only_wanted _f 0;
+        waits = inl refl;
+        far = less_so 4094 4095 refl;
+      },
+    ) in
+    absurd (cc)
+
+refused_at_4096 : RefusedAbove 65535 5461 4096 → ⊥
+refused_at_4096 law =
+    let h = (law [] (far_o 4096 ∷ []) relocatable SymbolNumber (as_object (far_o 4096) refl refl refl refl refl refl refl refl, tt)).0 refl in
+    let f = h.5 in
+    let symbol : f.symbol ≡ entry_of _f 0o40 0 = only_object RefersToIt (far_o 4096) by_segment f.before f.k f.after f.all f.segment f.i f.w f.r f.word f.reloc f.symbol f.named in
+    let place : place_of f.symbol.name (_f ∷ []) ≡ 0 = ap (λ (s : Symbol). place_of s.name (_f ∷ [])) symbol in
+    not_far (place_of f.symbol.name (_f ∷ [])) place f.far
+  where
+    in_text : (symbol : Symbol) → slice_get (far_o 4096).symbols 0 ≡ Some symbol → symbol ≡ entry_of _f 0o40 0
+    in_text symbol e = let it : Some (entry_of _f 0o40 0) ≡ Some symbol = e in let same : entry_of _f 0o40 0 ≡ symbol = cc in sym same
+
+    by_segment : RefersToIt [] (far_o 4096)
+    by_segment TextSeg i w r e f = only_word (λ i w r. (symbol : Symbol) → slice_get (far_o 4096).symbols (symbol_number r) ≡ Some symbol → symbol ≡ entry_of _f 0o40 0) 0 (record { 0 = 0o10 }) in_text i w r e f
+    by_segment segment i w r e f = absurd (no_word [] refl i w e)
+
+    not_far : (place : ℕ) → place ≡ 0 → 4096 < 4096 + place → ⊥
+    not_far place e f = omega arith

@@ -1,5 +1,5 @@
 -- No clause of the relation of linking can be left out: for each, a wrong file or report that all the others let through.
-use Rattle.std.proofs.Common.{◌≡◌, ◌≢◌, ℕ, zero, suc, ◌+◌, ◌*◌, ◌≤◌, Bool, true, false, cond, ◌&&◌, List, [], ◌∷◌, ◌++◌, map, length, Option, Some, None, refl, sym, ◌∙◌, ap, subst, arith, inl, inr, eqb-true}
+use Rattle.std.proofs.Common.{◌≡◌, ◌≢◌, ℕ, ◌+◌, ◌≤◌, Bool, true, false, List, [], ◌∷◌, length, Some, None, refl, sym, subst, arith, inl, inr, eqb-true}
 use Rattle.std.specs.Prelude.{eqb, Ok, Err, slice_get, replicate, sum_by}
 use Rattle.aout_core.specs.declared.header.Header.{Header}
 use Rattle.aout_core.specs.declared.symbol.Symbol.{Symbol}
@@ -54,7 +54,7 @@ passed_empty x table h = empty_so x.file.symbols h
 passed_empty x text h = no_words x.file [] TextSeg
 passed_empty x «data» h = no_words x.file [] DataSeg
 passed_empty x multiples h = ([], refl, empty_so x.report.multiples h)
-passed_empty x reserved h = subst (λ (ns : List (List ℕ)). Says reserved [] [] plain (with_report (record silent { reserved = ns })) []) (Rattle.std.proofs.Common.sym (empty_so x.report.reserved h)) nothing_reserved
+passed_empty x reserved h = subst (λ (ns : List (List ℕ)). Says reserved [] [] plain (with_report (record silent { reserved = ns })) []) (sym (empty_so x.report.reserved h)) nothing_reserved
 passed_empty x undefined h = λ r. empty_so x.report.undefined h
 passed_empty x none h = λ r. absurd (cc)
 passed_empty x c h = passed [] [] plain x [] c h

@@ -1,0 +1,167 @@
+-- Premises of the laws that are needed: each law without one of them, and a link for which it is then false.
+use Rattle.std.proofs.Common.{◌≡◌, ◌≢◌, ℕ, ◌+◌, ◌≤◌, true, false, List, [], ◌∷◌, ◌++◌, map, length, Some, None, refl, sym, ◌∙◌, ap, arith, inl, inr, eq-eqb}
+use Rattle.std.specs.Prelude.{eqb, filter, Result, Ok, slice_get}
+use Rattle.std.specs.List.{AllByRecursion}
+use Rattle.aout_core.specs.declared.symbol.Symbol.{Symbol}
+use Rattle.aout_core.specs.declared.symbol.Segment.{Segment}
+use Rattle.aout_core.specs.declared.symbol.Segment.TheVariants.{TextSeg}
+use Rattle.aout_core.specs.declared.reloc.Reloc.{Reloc}
+use Rattle.aout_core.specs.Contents.{Contents}
+use Rattle.aout_core.specs.Strip.{stripped}
+use Rattle.aout_core.specs.WellFormed.{is_external, masked_type, IsWellFormed}
+use Rattle.link_session.specs.Sessions.{IsObject}
+use Rattle.link_session.specs.Mentions.{externals, is_among}
+use Rattle.link_out.specs.declared.linked.LinkFault.{LinkFault}
+use Rattle.link_out.specs.declared.options.Keep.TheVariants.{All, NotL, Nothing}
+use Rattle.link_out.specs.Choices.{Choices, lays_commons, option_fault}
+use Rattle.link_out.specs.Results.{Outcome}
+use Rattle.link_out.specs.Link.{link}
+use Rattle.link_out.specs.Partials.{KeepsNoMore, IsPartialLink, without_multiples}
+use Rattle.link_out.specs.Relocated.{entry_of, segment_words, segment_relocs, IsRelocated, HoldsObjects, IsEntry}
+use Rattle.link_out.specs.Meaning.{IsDefined, IsCommon, HasRoom}
+use Rattle.conformance.specs.Samples.{sym as entry, sized, _f, _x, _z, c_o, d_o, d2_o, x4_o, plain, plain_s, relocatable, with_keep, with_entry}
+use Rattle.conformance.proofs.LawExamples.{outcome_of}
+use Rattle.conformance.proofs.ClauseLemmas.{as_object, only_wanted}
+
+-- what is equal counts the same
+counts : {A : Type 0} (f : A → ℕ) (x y : A) → eqb (f x) (f y) ≡ false → x ≡ y → ⊥
+counts f x y apart e = let bad : true ≡ false = sym (eq-eqb (f x) (f y) (ap f e)) ∙ apart in cc
+
+all_kept : All ≢ Nothing
+all_kept e = cc
+
+abbrev link_of : List Contents → Choices → Outcome
+link_of os o = outcome_of (link [] os o)
+
+abbrev both : List Contents
+both = c_o ∷ d_o ∷ []
+
+c_good : IsObject c_o
+c_good = as_object c_o refl refl refl refl refl refl refl refl
+
+d_good : IsObject d_o
+d_good = as_object d_o refl refl refl refl refl refl refl refl
+
+-- the law of stripping, without its premise that relocation is not kept
+strips_relocation : ((forced : List (List ℕ)) (os : List Contents) (o : Choices) (x : Outcome) →
+    link forced os o ≡ Ok x → link forced os (record o { keep = Nothing }) ≡ Ok (record x { file = stripped x.file })) → ⊥
+strips_relocation law =
+    let kept : Outcome = link_of both relocatable in
+    let dropped : Outcome = link_of both (with_keep Nothing relocatable) in
+    let e : Ok dropped ≡ Ok (record kept { file = stripped kept.file }) = law [] both relocatable kept refl in
+    let same : dropped ≡ record kept { file = stripped kept.file } = cc in
+    counts (λ (x : Outcome). x.file.header.flag) dropped (record kept { file = stripped kept.file }) refl same
+
+-- the meaning of words, where no table is written
+words_without_table : ((forced : List (List ℕ)) (before : List Contents) (k : Contents) (after : List Contents) (o : Choices) (x : Outcome) →
+    AllByRecursion IsObject (before ++ k ∷ after) → link forced (before ++ k ∷ after) o ≡ Ok x →
+    (segment : Segment) (i w : ℕ) (r : Reloc) → slice_get (segment_words segment k) i ≡ Some w → slice_get (segment_relocs segment k) i ≡ Some r →
+    IsRelocated x.file x.file.symbols (before ++ k ∷ after) before k segment i w r) → ⊥
+words_without_table law =
+    let h = (law [] [] c_o (d_o ∷ []) plain_s (link_of both plain_s) (c_good, (d_good, tt)) refl TextSeg 1 0o177774 (record { 0 = 0o11 }) refl refl).is in
+    let bad : None ≡ Some h.row = h.found in
+    absurd (cc)
+
+-- what the segments hold, of lists that are no objects
+filled_by_others : ((forced : List (List ℕ)) (os : List Contents) (o : Choices) (x : Outcome) → link forced os o ≡ Ok x → HoldsObjects x.file os) → ⊥
+filled_by_others law = counts (λ (n : ℕ). n) 0 8 refl (law [] (sized 8 0 0 [] ∷ []) plain (link_of (sized 8 0 0 [] ∷ []) plain) refl).text_words
+
+-- definitions, where a name is multiply defined
+definitions_of_multiples : ((forced : List (List ℕ)) (before : List Contents) (k : Contents) (after : List Contents) (o : Choices) (x : Outcome) →
+    o.keep ≢ Nothing → link forced (before ++ k ∷ after) o ≡ Ok x →
+    (j : ℕ) (s : Symbol) → slice_get k.symbols j ≡ Some s → is_external s ≡ true → eqb (masked_type s) 0 ≡ false →
+    IsDefined x.file (before ++ k ∷ after) before k s) → ⊥
+definitions_of_multiples law =
+    let h = law [] (d_o ∷ []) d2_o [] plain (link_of (d_o ∷ d2_o ∷ []) plain) all_kept refl 0 (entry _f 34 0) refl refl refl in
+    let found : Some (entry _f 34 2) ≡ Some h.row = h.found in
+    let same : entry _f 34 2 ≡ h.row = cc in
+    counts (λ (n : ℕ). n) 2 4 refl (ap (λ (s : Symbol). s.value) same ∙ h.value)
+
+-- addresses of names, with relocation, and where a name is undefined
+addresses_with_relocation : ((forced : List (List ℕ)) (os : List Contents) (o : Choices) (x : Outcome) →
+    o.keep ≢ Nothing → link forced os o ≡ Ok x → x.report.undefined ≡ [] →
+    (name : List ℕ) (row : Symbol) → entry_of x.file.symbols name ≡ Some row → eqb (masked_type row) 0 ≡ false) → ⊥
+addresses_with_relocation law =
+    let bad : true ≡ false = law [] (c_o ∷ []) relocatable (link_of (c_o ∷ []) relocatable) all_kept refl refl _f (entry _f 32 0) refl in
+    absurd (cc)
+
+addresses_of_undefined : ((forced : List (List ℕ)) (os : List Contents) (o : Choices) (x : Outcome) →
+    o.keep ≢ Nothing → o.relocatable ≡ false → link forced os o ≡ Ok x →
+    (name : List ℕ) (row : Symbol) → entry_of x.file.symbols name ≡ Some row → eqb (masked_type row) 0 ≡ false) → ⊥
+addresses_of_undefined law =
+    let bad : true ≡ false = law [] (c_o ∷ []) plain (link_of (c_o ∷ []) plain) all_kept refl refl _f (entry _f 32 0) refl in
+    absurd (cc)
+
+-- entries, the entry word and what is missing, where no table is written
+entries_without_table : ((forced : List (List ℕ)) (os : List Contents) (o : Choices) (x : Outcome) → link forced os o ≡ Ok x →
+    map (λ s. s.name) (filter is_external x.file.symbols) ≡ externals forced os) → ⊥
+entries_without_table law = counts (λ (ns : List (List ℕ)). length ns) [] (_f ∷ []) refl (law [] (c_o ∷ []) plain_s (link_of (c_o ∷ []) plain_s) refl)
+
+entry_without_table : ((forced : List (List ℕ)) (os : List Contents) (o : Choices) (x : Outcome) → link forced os o ≡ Ok x →
+    IsEntry x.file.symbols o.entry x.file.header.entry_point x.report.entry_bad) → ⊥
+entry_without_table law = by_case (law [] both (with_entry _f plain_s) (link_of both (with_entry _f plain_s)) refl)
+  where
+    by_case : IsEntry [] (Some _f) 6 None → ⊥
+    by_case (inl h) = let bad : None ≡ Some h.0 = h.1 in cc
+    by_case (inr h) = counts (λ (n : ℕ). n) 6 0 refl h.1
+
+missing_without_table : ((forced : List (List ℕ)) (os : List Contents) (o : Choices) (x : Outcome) → link forced os o ≡ Ok x →
+    (name : List ℕ) → is_among x.report.undefined name ≡ true → (row : Symbol) × (entry_of x.file.symbols name ≡ Some row) × (row.type_bits ≡ 32) × (row.value ≡ 0)) → ⊥
+missing_without_table law =
+    let h = law [] (c_o ∷ []) plain_s (link_of (c_o ∷ []) plain_s) refl _f refl in
+    let bad : None ≡ Some h.0 = h.1 in
+    absurd (cc)
+
+-- room of commons, where none are laid out
+room_of_waiting : ((forced : List (List ℕ)) (os : List Contents) (o : Choices) (x : Outcome) → o.keep ≢ Nothing → link forced os o ≡ Ok x →
+    (name : List ℕ) (size : ℕ) → IsCommon forced os name size → HasRoom x.file os name size) → ⊥
+room_of_waiting law =
+    let h = law [] (x4_o ∷ []) relocatable (link_of (x4_o ∷ []) relocatable) all_kept refl _x 4 (record { wanted = only_wanted _x 4; sized = refl }) in
+    let found : Some (entry _x 32 4) ≡ Some h.row = h.found in
+    let same : entry _x 32 4 ≡ h.row = cc in
+    counts (λ (n : ℕ). n) 32 36 refl (ap (λ (s : Symbol). s.type_bits) same ∙ h.type_bits)
+
+-- a common has no byte more than it wants
+one_byte_more : ((forced : List (List ℕ)) (os : List Contents) (o : Choices) (x : Outcome) → o.keep ≢ Nothing → lays_commons o ≡ true → link forced os o ≡ Ok x →
+    (name : List ℕ) (size : ℕ) → IsCommon forced os name size → HasRoom x.file os name (size + 1)) → ⊥
+one_byte_more law =
+    let h = law [] (x4_o ∷ []) plain (link_of (x4_o ∷ []) plain) all_kept refl refl _x 4 (record { wanted = only_wanted _x 4; sized = refl }) in
+    let room : h.row.value + 5 ≤ 4 = h.before in
+    absurd (omega arith)
+
+-- the file of a link without relocation is no object
+object_without_relocation : ((forced : List (List ℕ)) (os : List Contents) (o : Choices) (x : Outcome) → AllByRecursion IsWellFormed os →
+    option_fault o.layout o.relocatable o.keep ≡ None → link forced os o ≡ Ok x → IsWellFormed x.file) → ⊥
+object_without_relocation law = let h = law [] (c_o ∷ []) plain (link_of (c_o ∷ []) plain) (refl, tt) refl refl in cc
+
+-- a partial link alone: its multiples are reported no more, and what it dropped is not kept
+c_d2_partial : IsPartialLink [] (d_o ∷ d2_o ∷ []) relocatable (link_of (d_o ∷ d2_o ∷ []) relocatable)
+c_d2_partial = record { allowed = refl; relocatable = refl; no_commons = refl; linked = refl }
+
+partial_with_multiples : ((forced : List (List ℕ)) (os : List Contents) (by o : Choices) (x : Outcome) → AllByRecursion IsWellFormed os →
+    IsPartialLink forced os by x → KeepsNoMore o.keep by.keep → link forced (x.file ∷ []) o ≡ link forced os o) → ⊥
+partial_with_multiples law =
+    let m : Outcome = link_of (d_o ∷ d2_o ∷ []) relocatable in
+    counts (λ (r : Result Outcome LinkFault). length (outcome_of r).report.multiples) (link [] (m.file ∷ []) plain) (link [] (d_o ∷ d2_o ∷ []) plain) refl
+    (law [] (d_o ∷ d2_o ∷ []) relocatable plain m (refl, (refl, tt)) c_d2_partial (λ name h. h))
+
+c_partial : IsPartialLink [] (c_o ∷ []) (with_keep NotL relocatable) (link_of (c_o ∷ []) (with_keep NotL relocatable))
+c_partial = record { allowed = refl; relocatable = refl; no_commons = refl; linked = refl }
+
+partial_keeps_more : ((forced : List (List ℕ)) (os : List Contents) (by o : Choices) (x : Outcome) → AllByRecursion IsWellFormed os →
+    IsPartialLink forced os by x → without_multiples (link forced (x.file ∷ []) o) ≡ without_multiples (link forced os o)) → ⊥
+partial_keeps_more law =
+    let m : Outcome = link_of (c_o ∷ []) (with_keep NotL relocatable) in
+    counts (λ (r : Result Outcome LinkFault). length (outcome_of r).file.symbols) (without_multiples (link [] (m.file ∷ []) plain)) (without_multiples (link [] (c_o ∷ []) plain)) refl
+    (law [] (c_o ∷ []) (with_keep NotL relocatable) plain m (refl, tt) c_partial)
+
+z_partial : IsPartialLink (_z ∷ []) [] relocatable (outcome_of (link (_z ∷ []) [] relocatable))
+z_partial = record { allowed = refl; relocatable = refl; no_commons = refl; linked = refl }
+
+-- names that were forced in the partial link, and are not later
+partial_forces_more : ((own forced : List (List ℕ)) (os : List Contents) (by o : Choices) (x : Outcome) → AllByRecursion IsWellFormed os →
+    IsPartialLink own os by x → KeepsNoMore o.keep by.keep → without_multiples (link forced (x.file ∷ []) o) ≡ without_multiples (link forced os o)) → ⊥
+partial_forces_more law =
+    let m : Outcome = outcome_of (link (_z ∷ []) [] relocatable) in
+    counts (λ (r : Result Outcome LinkFault). length (outcome_of r).file.symbols) (without_multiples (link [] (m.file ∷ []) plain)) (without_multiples (link [] [] plain)) refl
+    (law (_z ∷ []) [] [] relocatable plain m tt z_partial (λ name h. h))
