@@ -14,11 +14,20 @@ pub fn forcing(alloc: Global) -> Outcome {
     }
 }
 
+/// A session with the object `first.o` added, where there is memory for it.
+fn with_first(mut session: Session, alloc: Global, bytes: &[u8]) -> Option<Session> {
+    match try_add(&mut session, alloc, "first.o", bytes) {
+        Some(()) => Some(session),
+        None => None,
+    }
+}
+
 /// A session of one object, where there is memory for it.
 fn one_added(alloc: Global, forced: &Forced, bytes: &[u8]) -> Option<Session> {
-    let mut session = Session::with_forced(alloc, forced).ok()?;
-    try_add(&mut session, alloc, "first.o", bytes)?;
-    Some(session)
+    match Session::with_forced(alloc, forced) {
+        Ok(session) => with_first(session, alloc, bytes),
+        Err(_) => None,
+    }
 }
 
 /// What a session of one object shows.

@@ -37,6 +37,3 @@ pub use listing::nm;
 pub use options::NmOptions;
 pub use sizes::size;
 pub use symbol_line::line;
-
-#[cfg(test)]
-mod tests;
