@@ -14,15 +14,10 @@ pub mod Reports
 pub mod Link
 pub mod Outcomes
 pub mod Partials
-pub mod FromCells
-pub mod Rows
-pub mod Reach
 pub mod Runs
 pub mod Laws
 pub mod Meaning
 pub mod Beyond
 pub mod LinkedFrom
 pub mod Refusals
-pub mod InOrder
-pub mod Entries
-pub mod Passes
+pub mod steps

@@ -1,4 +1,8 @@
--- What linking is: when a file and a report come of these objects, told by the objects, the file and the report alone.
+-- What linking is: when a file and a report come of these objects, told by the objects, the file and the report alone. (ld(1))
+--
+-- This relation is what a reader has to believe of the link. It says of a linked file, part by part: that it holds the objects'
+-- words, relocated; what its symbol table has, row by row; that with relocation each word still has its relocation word; its
+-- entry point; and what is reported. `LinkedExactly` and `LinkedOnce` tie it to the function `link`: both are proved.
 use Rattle.std.specs.Prelude.{◌≡◌, ◌≢◌, ◌↔◌, ℕ, ◌+◌, ◌-◌, ◌*◌, ◌/◌, ◌%◌, ◌≤◌, ◌⊎◌, true, false, cond, eqb, if◌then◌else◌, List, [], ◌∷◌, ◌++◌, map, filter, length, Option, Some, None, Ok, slice_get, bytes_eq}
 use Rattle.std.specs.List.{flat_map, AllByRecursion}
 use Rattle.aout_core.specs.declared.header.Header.{Header}
@@ -32,19 +36,19 @@ shown name type_bits value = record { name = name; type_bits = type_bits; value 
 -- the row of an undefined name: without relocation the ends of text, data and bss have their names
 abbrev pub undefined_row : Header → Choices → List ℕ → Symbol
 undefined_row h o name =
-    if o.relocatable then shown name 32 0
-    else (if bytes_eq name etext then shown name 34 h.text_size
-    else (if bytes_eq name edata then shown name 35 (data_begins h + h.data_size)
-    else (if bytes_eq name end_name then shown name 36 (data_begins h + h.data_size + h.bss_size)
-    else shown name 32 0)))
+    if o.relocatable then shown name 0o40 0
+    else (if bytes_eq name etext then shown name 0o42 h.text_size
+    else (if bytes_eq name edata then shown name 0o43 (data_begins h + h.data_size)
+    else (if bytes_eq name end_name then shown name 0o44 (data_begins h + h.data_size + h.bss_size)
+    else shown name 0o40 0)))
 
 -- the row of a name in this state, beside so many bytes of the objects' bss, where a common has this address
 abbrev pub row_for : Header → ℕ → Choices → ℕ → List ℕ → State → Symbol
 row_for h bss o at name (Defined segment offset) = shown name (external_type segment) (plus (begins h bss segment) offset)
 row_for h bss o at name (Wanted size) =
     if eqb size 0 then undefined_row h o name
-    else (if lays_commons o then shown name 36 at
-    else shown name 32 size)
+    else (if lays_commons o then shown name 0o44 at
+    else shown name 0o40 size)
 
 -- the bytes that a name in this state takes as a common, rounded up to even
 abbrev pub room_for : Choices → State → ℕ
@@ -77,7 +81,7 @@ AreRelocated file rows os segment = (before : List Contents) (k : Contents) (aft
 
 -- the bits of a relocation word that names a row: the segment that it is bound in, or 010 and its number in the table
 abbrev pub row_bits : Symbol → ℕ → ℕ
-row_bits r number = if eqb (masked_type r) 0 then 8 + 16 * number else 2 * (masked_type r - 1)
+row_bits r number = if eqb (masked_type r) 0 then 0o10 + 0o20 * number else 2 * (masked_type r - 1)
 
 -- the external row that a symbol number of an object names, behind so many locals, and its bits; a number is at most 4,095
 pub record IsNamedBy (rows : List Symbol) (locals : ℕ) (k : Contents) (number bits : ℕ) : Type 0 where
@@ -157,7 +161,7 @@ pub record IsLinkedFrom (forced : List (List ℕ)) (os : List Contents) (o : Cho
   pub entry : IsEntry rows o.entry x.file.header.entry_point x.report.entry_bad
   pub report : IsReported forced os o x
 
--- a link is answered exactly where the relation holds
+-- there is a link exactly where the relation holds
 abbrev pub LinkedExactly : Type 0
 LinkedExactly = (forced : List (List ℕ)) (os : List Contents) (o : Choices) (x : Outcome) → AllByRecursion IsObject os → (link forced os o ≡ Ok x) ↔ IsLinkedFrom forced os o x
 

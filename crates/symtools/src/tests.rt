@@ -291,7 +291,7 @@ fn size_lines(rt: HostRuntime) -> Result<(), Fail> {
     Ok(())
 }
 
-/// nm on a file with symbols answers Ok, and not always Memory.
+/// nm on a file with symbols returns Ok, and not always Memory.
 #[test]
 fn run_always_memory_of_nm(rt: HostRuntime) -> Result<(), Fail> {
     let alloc = rt.alloc();
@@ -356,7 +356,7 @@ fn s_o(alloc: Global) -> Option<Vec<(String, File)>> {
     Vec::from_array(alloc, [(path, file)]).ok()
 }
 
-/// Whether nm under these options answers Ok with the whole list, or Memory with a front of it.
+/// Whether nm under these options returns Ok with the whole list, or Memory with a prefix of it.
 fn lists_or_refuses<R: Eprint + AllocGlobal>(
     rt: &R,
     files: &[(String, File)],

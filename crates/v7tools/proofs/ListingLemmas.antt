@@ -9,11 +9,12 @@ use Rattle.std.proofs.lemmas.List.{take_more, take_all}
 use Rattle.std.proofs.lemmas.Option.{slice_get_within, get_or_from_slice_get}
 use Rattle.aout_core.specs.Wires.{AppendsFront}
 use Rattle.aout_core.proofs.PutsLemmas.{front_of_row}
-use Rattle.link_session.specs.Additions.{Named}
+use Rattle.link_session.specs.Image.{Named}
 use Rattle.link_session.specs.Image.{named_states}
 use Rattle.link_session.specs.Labelled.{Labelled, objects}
 use Rattle.link_session.specs.Mentions.{mentions}
-use Rattle.link_out.specs.InOrder.{is_missing, missing_in}
+use Rattle.link_out.specs.Reports.{is_missing}
+use Rattle.link_out.specs.steps.InOrder.{missing_in}
 use Rattle.link_out.specs.Reports.{line}
 use Rattle.link_out.proofs.InOrderLemmas.{missing-undefined}
 use Rattle.v7tools.specs.Answers.{undefined_text}

@@ -13,7 +13,7 @@ use Rattle.link_session.specs.Sessions.{Adds, Withdraws}
 use Rattle.link_session.specs.Undo.{Kept}
 use Rattle.link_out.specs.declared.linked.LinkFault.{LinkFault}
 use Rattle.link_out.specs.Choices.{Choices}
-use Rattle.link_out.specs.InOrder.{is_missing}
+use Rattle.link_out.specs.Reports.{is_missing}
 use Rattle.link_out.specs.Link.{Outcome, link}
 use Rattle.link_out.specs.Outcomes.{outcome_of}
 use Rattle.link_out.specs.Reports.{line}
