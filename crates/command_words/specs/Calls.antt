@@ -81,10 +81,6 @@ abbrev pub fault_of_words : ErrorKind → WordsFault
 fault_of_words OutOfMemory = faults.Memory
 fault_of_words kind = faults.Usage
 
--- a call of this name, with these options and files, fails only where there is no memory
-abbrev pub HasNoCall : List ℕ → List Row → List (List ℕ) → WordsFault → Type 0
-HasNoCall name rows paths fault = (call : Call) → IsWhole call → name_of call ≡ name → Asks rows paths call → fault ≡ faults.Memory
-
 -- words that ask for a call fail only where there is no memory
 abbrev pub AsksForNone : List (List ℕ) → WordsFault → Type 0
 AsksForNone words fault = (call : Call) → IsWhole call → IsAsked words call → dashes_in words ≡ dashes_in (files_of call) → fault ≡ faults.Memory
