@@ -55,7 +55,7 @@ among_multiples_all = refl
 
 -- a name with bytes behind its NUL
 abbrev one_name : Contents
-one_name = object [] [] [] [] 0 (sym _f 0o40 0 ∷ [])
+one_name = object [] [] [] [] 0 (sym _f 32 0 ∷ [])
 
 abbrev odd_bytes : List ℕ
 odd_bytes = take 18 (spelling one_name) ++ (0 ∷ 7 ∷ 1 ∷ 0 ∷ 0 ∷ 9 ∷ []) ++ drop 24 (spelling one_name)

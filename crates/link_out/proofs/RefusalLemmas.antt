@@ -36,7 +36,7 @@ use Rattle.link_out.specs.Reports.{findings}
 use Rattle.link_out.specs.steps.InOrder.{room_in}
 use Rattle.link_out.specs.NameStates.{HasState, IsWanted}
 use Rattle.link_out.specs.Relocated.{segment_words}
-use Rattle.link_out.specs.LinkedFrom.{room_for}
+use Rattle.link_out.specs.LinkedTable.{room_for}
 use Rattle.link_out.specs.Link.{Outcome, linked_file, link}
 use Rattle.link_out.specs.Refusals.{CommonsTake, EndsAt, kept_locals, entries, entry_count, HasFarWord, IsRefused}
 use Rattle.link_out.proofs.InOrderLemmas.{named_by, room-commons}

@@ -18,6 +18,9 @@ pub mod Runs
 pub mod Laws
 pub mod Meaning
 pub mod Beyond
+pub mod LinkedTable
+pub mod LinkedWords
+pub mod Reported
 pub mod LinkedFrom
 pub mod Refusals
 pub mod steps

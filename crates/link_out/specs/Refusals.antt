@@ -24,7 +24,7 @@ use Rattle.link_out.specs.Layouts.{data_base}
 use Rattle.link_out.specs.NameStates.{HasState, IsWanted}
 use Rattle.link_out.specs.KeptSymbols.{is_kept_local}
 use Rattle.link_out.specs.Relocated.{segment_words, segment_relocs}
-use Rattle.link_out.specs.LinkedFrom.{room_for}
+use Rattle.link_out.specs.LinkedTable.{room_for}
 use Rattle.link_out.specs.Link.{link}
 
 -- the commons among these names take so many bytes

@@ -1,4 +1,6 @@
--- What a command that links does: what it opens, what it stores, what it reports, and its status.
+-- What ld does: what it opens, what it stores, what it writes, and its status. (ld(1); the order of these: own choice)
+--
+-- All inputs are opened before any is read. Only a link is stored, and only what was stored is reported.
 use Rattle.std.specs.declared.alloc.Global.{Global}
 use Rattle.std.specs.Prelude.{◌≡◌, ◌↔◌, ◌⊎◌, ℕ, List, [], ◌∷◌, ◌++◌, map, Option, Some, None, Result, Ok, Err, IfErr, IfOk, IfSome, IsErr, IsTrue, String, string_bytes, Vec}
 use Rattle.std.specs.List.{AllByRecursion}

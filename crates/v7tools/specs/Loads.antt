@@ -1,4 +1,6 @@
--- A file that is read at a path.
+-- What a file is that was read at a path. (own choice)
+--
+-- `load` is `read_file` with the path: the path comes back with the file, or stands in the fault.
 use Rattle.std.specs.Prelude.{◌≡◌, ◌≢◌, Result, Ok, Err, String}
 use Rattle.std.specs.declared.alloc.Global.{Global}
 use Rattle.aout_core.specs.declared.file.ReadFault.{ReadFault}
