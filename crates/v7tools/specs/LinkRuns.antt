@@ -90,7 +90,7 @@ pub record StoresLink {W : Type 0} (contents : W → Option (List ℕ)) (forced 
   pub asked : Extends old new (opens found ++ stored (string_bytes out) made.file what ∷ [])
   pub reports : ReportsIf contents what out (findings_of made.report) result before after
 
--- want of memory before anything was opened, a file that can't be opened, no link, or a link
+-- no memory before anything was opened, a file that can't be opened, no link, or a link
 abbrev pub IsLinkRun : {W : Type 0} → (W → Option (List ℕ)) → List (List ℕ) → Choices → String Global → List (List ℕ) → History → History → Result ℕ CliFault → Latched W → Latched W → Type 0
 IsLinkRun contents forced o out files old new result before after =
     (Extends old new [] × Refuses faults.Memory result before after)

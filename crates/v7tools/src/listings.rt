@@ -26,7 +26,7 @@ fn segment_number(segment: Segment) -> u16
     }
 }
 
-/// An external as an entry of a symbol table: with the merged offset where it is defined, else with the size that is
+/// An external as a symbol of a table: with the merged offset where it is defined, else with the size that is
 /// wanted.
 fn entry_of(name: Name, state: State) -> Symbol
     ensures { result ≡ entry_of name state }
