@@ -3,8 +3,8 @@
 
 A promise is the contract of a public function, what contracts see of a public type, or the contract of one of the functions
 in ALSO, which docs/PROOFS.md names though their crate keeps them to itself. From the definitions that it cites this follows
-the imports. Each file that they lead to has to stand in specs/ of its crate, not in specs/steps/, and in the table "What a
-reader has to trust" of docs/PROOFS.md, and that table has no other. Nothing in src/ or specs/ of a crate may import the
+the imports. Each file that they lead to has to stand in specs/ of its crate, not in a folder of STEPS there, and in the table
+"What a reader has to trust" of docs/PROOFS.md, and that table has no other. Nothing in src/ or specs/ of a crate may import the
 steps of another.
 
 The lines that are counted are those of definitions: imports, comments and empty lines are left out.
@@ -17,6 +17,9 @@ import sys
 ALSO = {
     "v7tools": ["link_files", "list_files", "size_files", "strip_files", "command_of"],
 }
+
+# v7tools has a file Steps, of the steps of a session, so those of its code have another folder
+STEPS = ["steps", "parts"]
 
 # definitions name no constants of the code, but for the ids by which `command_words` knows its options
 IDS = ["command_words"]
@@ -113,7 +116,7 @@ def trusted():
             if module.endswith("TheConstants") and "/specs/" in why and crate not in IDS:
                 faults.append(f"{why}, a constant of the code")
             continue
-        if folder == "proofs" or module.split(".")[0] == "steps":
+        if folder == "proofs" or module.split(".")[0] in STEPS:
             faults.append(f"{why}, of {crate}/{folder}/{module.replace('.', '/')}")
             continue
         path = f"crates/{crate}/specs/{module}.antt"
@@ -129,7 +132,7 @@ def other_steps():
     """Imports of the steps of another crate."""
     for path in glob.glob("crates/*/src/**/*.rt", recursive=True) + glob.glob("crates/*/specs/**/*.antt", recursive=True):
         for name, (crate, folder, module) in imports(read(path)):
-            if module.split(".")[0] == "steps" and path.split("/")[1] != crate:
+            if module.split(".")[0] in STEPS and path.split("/")[1] != crate:
                 faults.append(f"{path} imports {name}, of the steps of {crate}")
 
 

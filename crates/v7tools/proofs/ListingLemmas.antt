@@ -18,7 +18,7 @@ use Rattle.link_out.specs.steps.InOrder.{missing_in}
 use Rattle.link_out.specs.Reports.{line}
 use Rattle.link_out.proofs.InOrderLemmas.{missing-undefined}
 use Rattle.v7tools.specs.Answers.{undefined_text}
-use Rattle.v7tools.specs.Steps.{missing_line}
+use Rattle.v7tools.specs.parts.StepParts.{missing_line}
 
 is_at : {A : Type 0} (items : List A) (i : ℕ) (item : A) → slice_get items i ≡ Some item → item ≡ slice_index_or items i item
 is_at items i item at = sym (get_or_from_slice_get items i item item at)

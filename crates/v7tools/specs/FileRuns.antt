@@ -3,7 +3,7 @@
 -- Each file is opened and read before the next one is opened, and nothing is written or stored before all are read: that one bad
 -- file leaves all as it was is an own choice.
 use Rattle.std.specs.declared.alloc.Global.{Global}
-use Rattle.std.specs.Prelude.{◌≡◌, ◌≢◌, ◌↔◌, ◌⊎◌, ℕ, List, [], ◌∷◌, ◌++◌, map, Option, Some, None, Result, Ok, Err, IfErr, IfOk, IfSome, IsErr, IsTrue, String, string_bytes, Vec}
+use Rattle.std.specs.Prelude.{◌≡◌, ◌≢◌, ◌↔◌, ◌⊎◌, ℕ, List, [], ◌∷◌, ◌++◌, map, Option, Some, None, Result, Ok, Err, IfErr, IfOk, IfSome, IsTrue, String, string_bytes}
 use Rattle.aout_core.specs.declared.file.ReadFault.TheVariants as reads
 use Rattle.aout_core.specs.Contents.{Contents}
 use Rattle.aout_core.specs.Front.{front}
@@ -63,10 +63,6 @@ ReadsAll old new files loaded = (files ≡ map (λ l. l.0) loaded) × Reads old 
 -- only those up to one that was not read; or there was no memory before
 abbrev pub ReadsNotAll : History → History → List (String Global) → CliFault → Type 0
 ReadsNotAll old new files fault = ((fault ≡ faults.Memory) × Extends old new []) ⊎ ReadsUpTo old new files fault
-
-abbrev pub IsLoading : History → History → List (String Global) → Result (Vec Loaded Global) CliFault → Type 0
-IsLoading old new files (Ok loaded) = ReadsAll old new files loaded.items
-IsLoading old new files (Err fault) = ReadsNotAll old new files fault
 
 abbrev pub OnlyWriteFailed : CliFault → Type 0
 OnlyWriteFailed fault = fault ≡ faults.WriteFailed

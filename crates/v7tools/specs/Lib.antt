@@ -12,3 +12,4 @@ pub mod Blocks
 pub mod Deeds
 pub mod LinkRuns
 pub mod FileRuns
+pub mod parts
