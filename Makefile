@@ -25,8 +25,9 @@ demo: build/v7
 	cmp examples/ab.out build/program
 	od -An -v -tx1 build/program
 
-# the gate: every proof from nothing, the edits that must fail, the tests, the program's stored run
+# the gate: what has to be trusted, every proof from nothing, the edits that must fail, the tests, the program's stored run
 test:
+	python3 tests/trusted.py
 	rt ci
 
 # the calls of crates/memory, with the first, the second, .. request for memory refused

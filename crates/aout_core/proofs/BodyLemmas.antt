@@ -9,7 +9,7 @@ use Rattle.aout_core.specs.Words.{words_in}
 use Rattle.aout_core.specs.Contents.{Contents, has_whole_sizes, with_relocation}
 use Rattle.aout_core.specs.Spelling.{relocation_at, symbols_at, file_length}
 use Rattle.aout_core.specs.Front.{part, relocs_in, symbol_in, symbols_in, contents_in}
-use Rattle.aout_core.specs.Rows.{row_in, word_in, reloc_in}
+use Rattle.aout_core.specs.steps.Rows.{row_in, word_in, reloc_in}
 use Rattle.aout_core.proofs.SpellingLemmas.{with_relocation-add}
 use Rattle.aout_core.proofs.FrontLemmas.{with_relocation-even}
 use Rattle.aout_core.proofs.SpellsLemmas.{symbols_front}

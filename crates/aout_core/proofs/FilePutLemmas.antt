@@ -5,7 +5,7 @@ use Rattle.aout_core.specs.Words.{all_word_bytes}
 use Rattle.aout_core.specs.Contents.{Contents}
 use Rattle.aout_core.specs.Spelling.{header_spelling, reloc_spelling, symbol_spelling, spelling}
 use Rattle.aout_core.specs.Wires.{AppendsFront}
-use Rattle.aout_core.specs.Blocks.{AppendsBut}
+use Rattle.aout_core.specs.steps.Blocks.{AppendsBut}
 use Rattle.aout_core.proofs.OutgoingLemmas.{appends_but_more, broke_before, broke_more}
 
 -- text and data, and their relocation

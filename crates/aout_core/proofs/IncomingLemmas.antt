@@ -8,9 +8,9 @@ use Rattle.aout_core.specs.declared.file.ReadFault.TheVariants.{ShortHeader, Bad
 use Rattle.std.specs.Prelude.{Err}
 use Rattle.aout_core.specs.declared.header.Header.{Header}
 use Rattle.aout_core.specs.Spelling.{file_length}
-use Rattle.aout_core.specs.Reading.{EndsEarly, IsBodyRead}
-use Rattle.aout_core.specs.Blocks.{Awaited, awaited, EndsBefore, Refills, Takes}
-use Rattle.aout_core.specs.Rows.{row_in, TakesItem, TakesRow}
+use Rattle.aout_core.specs.steps.ReadParts.{EndsEarly, IsBodyRead}
+use Rattle.aout_core.specs.steps.Blocks.{Awaited, awaited, EndsBefore, Refills, Takes}
+use Rattle.aout_core.specs.steps.Rows.{row_in, TakesItem, TakesRow}
 
 -- bytes taken from those that waited
 pub taken_waiting : (a : Option (List ℕ)) (waiting out rest : List ℕ) → waiting ≡ out ++ rest → Consumes (prepend_known waiting a) (prepend_known rest a) out

@@ -7,7 +7,7 @@ use Rattle.std.specs.List.{flat_map}
 use Rattle.std.specs.Io.KnownBytes.{Appends}
 use Rattle.std.proofs.KnownBytes.{Appends-trans}
 use Rattle.aout_core.specs.Wires.{AppendsFront, Puts}
-use Rattle.aout_core.specs.Blocks.{AppendsBut, PutsBut}
+use Rattle.aout_core.specs.steps.Blocks.{AppendsBut, PutsBut}
 use Rattle.aout_core.proofs.PutsLemmas.{front_before, row_at}
 
 -- the text behind a text that broke off

@@ -8,7 +8,8 @@ use Rattle.aout_core.specs.Words.{words_in}
 use Rattle.aout_core.specs.Contents.{Contents, is_magic, has_whole_sizes, Fits}
 use Rattle.aout_core.specs.Spelling.{file_length}
 use Rattle.aout_core.specs.Front.{header_of, header_in, contents_in, front_with, front}
-use Rattle.aout_core.specs.Reading.{IsFileHeader, TakesHeader, TakesBody, EndsEarly, IsHeaderRead, IsBodyRead, IsReadOf, LeavesAfter}
+use Rattle.aout_core.specs.Reading.{IsFileHeader, IsReadOf, LeavesAfter}
+use Rattle.aout_core.specs.steps.ReadParts.{TakesHeader, TakesBody, EndsEarly, IsHeaderRead, IsBodyRead}
 use Rattle.aout_core.proofs.FrontLemmas.{contents_in_fits}
 
 -- what is made of a whole body fits

@@ -1,4 +1,6 @@
 -- What is seen of the devices of `samples`: what they hold, when and how they fail, and how often they were called.
+--
+-- They are readers and writers for tests, which give or take at most so many bytes a call, and fail from a certain place on.
 use Rattle.std.specs.Prelude.{ℕ, List}
 use Rattle.std.specs.declared.io.ErrorKind.{ErrorKind}
 use Rattle.aout_core.specs.declared.samples.Failing.{Failing}

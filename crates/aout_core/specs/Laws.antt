@@ -1,4 +1,6 @@
--- The laws of the format.
+-- The laws of the format, each proved by a function of the module `laws`.
+--
+-- What was written is read back, whatever follows it; what is read is what the bytes spell; and bytes spell one file at most.
 use Rattle.std.specs.Prelude.{◌≡◌, ℕ, ◌<◌, List, ◌++◌, take, Ok}
 use Rattle.std.specs.List.{AllByRecursion}
 use Rattle.aout_core.specs.Contents.{Contents, IsSound}

@@ -7,9 +7,8 @@ pub mod Spelling
 pub mod Spells
 pub mod Front
 pub mod Reading
-pub mod Blocks
-pub mod Rows
 pub mod WellFormed
 pub mod Strip
 pub mod Laws
 pub mod Devices
+pub mod steps

@@ -1,4 +1,7 @@
 -- What a clause says of a wire: its device, its latch, and what a write leaves behind.
+--
+-- A wire is a reader or a writer with a latch that goes on when the device fails, and stays on. What a writer holds is a list of
+-- bytes where it is known (`Some`), and writing appends to it: all of a text, or on a fault a prefix of it.
 use Rattle.std.specs.Prelude.{◌≡◌, ℕ, List, ◌++◌, Bool, Option, Result, MatchResult}
 use Rattle.std.specs.Io.KnownBytes.{Appends}
 
@@ -7,10 +10,10 @@ pub record Latched (D : Type 0) : Type 0 where
   pub device : D
   pub has_failed : Bool
 
--- a front of the bytes went out
+-- a prefix of the bytes went out
 abbrev pub AppendsFront : Option (List ℕ) → Option (List ℕ) → List ℕ → Type 0
 AppendsFront old new bytes = (front : List ℕ) × (rest : List ℕ) × (bytes ≡ front ++ rest) × Appends old new front
 
--- all the bytes went out, or on a fault a front of them
+-- all the bytes went out, or on a fault a prefix of them
 abbrev pub Puts : {T E : Type 0} → Result T E → Option (List ℕ) → Option (List ℕ) → List ℕ → Type 0
 Puts result old new bytes = MatchResult result (λ _. Appends old new bytes) (λ _. AppendsFront old new bytes)

@@ -31,7 +31,7 @@ impl Model for Block {
     ghost invariant = { λ b. (b.start ≤ b.end) × (b.end ≤ BLOCK_SIZE) };
 }
 
-/// Moves the bytes from `start` to `end` to the front, and answers where they end there.
+/// Moves the bytes from `start` to `end` to the front, and returns where they end there.
 fn bring_front(bytes: &mut [u8; BLOCK_SIZE], start: usize, end: usize) -> usize
     requires ordered { start ≤ end }
     requires within { end ≤ BLOCK_SIZE }
@@ -76,7 +76,7 @@ impl Block {
         self.start == self.end
     }
 
-    /// Takes as many of the bytes as there is room for behind those that wait, and answers how many. An empty block
+    /// Takes as many of the bytes as there is room for behind those that wait, and returns how many. An empty block
     /// has room for `BLOCK_SIZE`. (own choice)
     pub fn take_in(&mut self, bytes: &[u8]) -> usize
         ensures count { result ≡ min (length bytes.now) (BLOCK_SIZE - length self.old) }
@@ -99,7 +99,7 @@ impl Block {
         self.start += n;
     }
 
-    /// Moves bytes that wait to the front of `out`, as many as both have, and answers how many. (own choice)
+    /// Moves bytes that wait to the front of `out`, as many as both have, and returns how many. (own choice)
     pub fn give_out(&mut self, out: &mut [u8]) -> usize
         ensures count { result ≡ min (length self.old) (length out.old) }
         ensures value { out.new ≡ take result self.old ++ drop result out.old }
@@ -146,7 +146,7 @@ impl Block {
         Ok(())
     }
 
-    /// Sends what waits, so that nothing does. On a fault a front of it went out, and all of it still waits. (own
+    /// Sends what waits, so that nothing does. On a fault a prefix of it went out, and all of it still waits. (own
     /// choice)
     pub fn send<W: Write>(&mut self, wire: &mut Wire<W>) -> Result<(), DeviceFault>
         ensures fault { IsErr result ↔ IsTrue wire.new.has_failed }

@@ -127,6 +127,7 @@ impl File {
         ensures value { result.now ≡ self.now.text_words }
         ensures short { 2 * length result.now < 2 ^ 16 }
     {
+        // that the size is a word is known once it is read: the clause `short` rests on it
         let _size = self.parts.header.text_size;
         &self.parts.text_words
     }
@@ -136,6 +137,7 @@ impl File {
         ensures value { result.now ≡ self.now.data_words }
         ensures short { 2 * length result.now < 2 ^ 16 }
     {
+        // that the size is a word is known once it is read: the clause `short` rests on it
         let _size = self.parts.header.data_size;
         &self.parts.data_words
     }
@@ -145,6 +147,7 @@ impl File {
         ensures value { result.now ≡ self.now.text_reloc }
         ensures short { 2 * length result.now < 2 ^ 16 }
     {
+        // that the size is a word is known once it is read: the clause `short` rests on it
         let _size = self.parts.header.text_size;
         &self.parts.text_reloc
     }
@@ -154,6 +157,7 @@ impl File {
         ensures value { result.now ≡ self.now.data_reloc }
         ensures short { 2 * length result.now < 2 ^ 16 }
     {
+        // that the size is a word is known once it is read: the clause `short` rests on it
         let _size = self.parts.header.data_size;
         &self.parts.data_reloc
     }
@@ -163,6 +167,7 @@ impl File {
         ensures value { result.now ≡ self.now.symbols }
         ensures short { 12 * length result.now < 2 ^ 16 }
     {
+        // that the size is a word is known once it is read: the clause `short` rests on it
         let _size = self.parts.header.symbol_size;
         &self.parts.symbols
     }

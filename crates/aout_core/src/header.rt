@@ -17,7 +17,7 @@ pub struct Header {
     pub data_size: u16,
     /// The size of the data that begins as zeros, even.
     pub bss_size: u16,
-    /// The size of the symbol table, 12 bytes for each entry.
+    /// The size of the symbol table, 12 bytes for each symbol.
     pub symbol_size: u16,
     /// The address at which the program starts.
     pub entry_point: u16,

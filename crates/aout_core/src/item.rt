@@ -5,8 +5,8 @@ ghost use Rattle.std.specs.Io.KnownBytes.{prepend_known};
 ghost use Rattle.aout_core.specs.Words.{word_bytes};
 ghost use Rattle.aout_core.specs.Front.{symbol_in};
 ghost use Rattle.aout_core.specs.Spelling.{symbol_spelling};
-ghost use Rattle.aout_core.specs.Blocks.{awaited, EndsBefore, PutsBut};
-ghost use Rattle.aout_core.specs.Rows.{word_in, reloc_in, TakesRow};
+ghost use Rattle.aout_core.specs.steps.Blocks.{awaited, EndsBefore, PutsBut};
+ghost use Rattle.aout_core.specs.steps.Rows.{word_in, reloc_in, TakesRow};
 
 use crate::file::ReadFault;
 use crate::incoming::Incoming;
@@ -21,8 +21,8 @@ use std::io::{Read, Write};
 pub(crate) trait Item: Copy {
     ghost use Rattle.std.specs.Prelude.{◌≡◌, ◌≤◌, ◌++◌, ◌↔◌, ℕ, List, false, IfOk, IfErr, IsErr, IsTrue, Err};
     ghost use Rattle.std.specs.Io.KnownBytes.{prepend_known};
-    ghost use Rattle.aout_core.specs.Blocks.{awaited, EndsBefore, PutsBut};
-    ghost use Rattle.aout_core.specs.Rows.{TakesItem};
+    ghost use Rattle.aout_core.specs.steps.Blocks.{awaited, EndsBefore, PutsBut};
+    ghost use Rattle.aout_core.specs.steps.Rows.{TakesItem};
 
     ghost width: { ℕ };
 

@@ -25,7 +25,8 @@ impl Model for Name {
     ghost Value = { List ℕ };
 
     ghost use Rattle.std.specs.Prelude.{◌≡◌};
-    ghost use Rattle.aout_core.specs.Names.{before_nul, padded, from_padded};
+    ghost use Rattle.aout_core.specs.Names.{before_nul, padded};
+    ghost use Rattle.aout_core.specs.steps.NameBytes.{from_padded};
 
     ghost view = { λ a. before_nul a.padded_bytes };
 

@@ -9,7 +9,7 @@ use std::marker::Model;
 use thiserror::Error;
 
 /// A well-formed file: magic 0407, with relocation, and each relocation word has a kind and, where it is that of an
-/// external, the number of an entry that is external and of type 0. Contracts see it as the file. (a.out(5); that
+/// external, the number of a symbol that is external and of type 0. Contracts see it as the file. (a.out(5); that
 /// such a file alone is an object: own choice)
 #[derive(Debug, Drop)]
 pub struct Object {
@@ -40,12 +40,12 @@ pub enum ObjectFault {
     /// 3: the relocation word at this index has kind 012, 014 or 016.
     #[error("bad relocation at word {0}")]
     BadRelocation(u16),
-    /// 4: the relocation word at this index has kind 010 and a number that is not that of an external entry of type 0.
+    /// 4: the relocation word at this index has kind 010 and a number that is not that of an external symbol of type 0.
     #[error("bad symbol number at word {0}")]
     BadSymbolNumber(u16),
 }
 
-/// Whether the entry is one that a word may wait for.
+/// Whether the symbol is one that a word may wait for.
 fn is_wanted(symbols: &[Symbol], number: usize) -> bool
     ensures { result ≡ is_wanted (slice_get symbols.now number) }
 {
@@ -88,7 +88,7 @@ impl Object {
     /// Errors, the first that applies, and the file is handed back: `NotAnObject`, 1, where the magic is not 0407;
     /// `NoRelocation`, 2, where the flag is not 0; and for the first bad word, text before data, `BadRelocation`, 3,
     /// where its kind is 012, 014 or 016, or `BadSymbolNumber`, 4, where its kind is 010 and its number not that of
-    /// an external entry of type 0.
+    /// an external symbol of type 0.
     pub fn from_file(file: File) -> Result<Object, (File, ObjectFault)>
         ensures object { IfOk result (λ object. object ≡ file) }
         ensures well { IsOk result ↔ IsWellFormed file }

@@ -2,7 +2,8 @@
 ghost use Rattle.std.specs.Prelude.{◌≡◌, ◌↔◌, false, IfOk, IfErr, IfSome, IsTrue};
 ghost use Rattle.aout_core.specs.Contents.{has_whole_sizes};
 ghost use Rattle.aout_core.specs.Parts.{contents_of};
-ghost use Rattle.aout_core.specs.Reading.{HasRoom, IsBodyRead, IsFileHeader, IsHeaderRead, IsReadOf, LeavesAfter, TakesBody};
+ghost use Rattle.aout_core.specs.steps.ReadParts.{HasRoom, IsBodyRead, IsHeaderRead, TakesBody};
+ghost use Rattle.aout_core.specs.Reading.{IsFileHeader, IsReadOf, LeavesAfter};
 
 use crate::file::{File, Parts, ReadFault, has_whole_sizes, is_magic};
 use crate::header::Header;

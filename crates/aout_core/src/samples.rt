@@ -129,7 +129,7 @@ pub const Y2_O: [u8; 40] = [
 ];
 
 /// A reader over bytes in memory: it gives at most `most` bytes a call, and once `before_failure` bytes were given each
-/// call answers an error of the kind `failure`. It counts its calls. (own choice)
+/// call returns an error of the kind `failure`. It counts its calls. (own choice)
 #[derive(Drop)]
 pub struct TestReader<'a> {
     left: &'a [u8],
@@ -234,7 +234,7 @@ pub enum Failing {
 }
 
 /// A writer over memory: it takes at most `most` bytes a call, and once `before_failure` bytes were taken each call
-/// answers an error or takes 0 bytes. A flush then answers the error too. It counts its calls. (own choice)
+/// returns an error or takes 0 bytes. A flush then returns the error too. It counts its calls. (own choice)
 #[derive(Drop)]
 pub struct TestWriter {
     taken: Vec<u8>,
@@ -268,7 +268,7 @@ impl TestWriter {
         }
     }
 
-    /// A writer behind the bytes in `taken` that fails for want of memory alone.
+    /// A writer behind the bytes in `taken` that fails only where there is no memory.
     pub fn whole(taken: Vec<u8>) -> TestWriter
         ensures { result ≡ record { taken = taken.items; most = 2 ^ 64 - 1; before_failure = 2 ^ 64 - 1; failure = TakesNothing; calls = 0; flushes = 0 } }
     {

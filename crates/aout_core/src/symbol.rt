@@ -1,4 +1,4 @@
-//! The entries of the symbol table.
+//! Symbols.
 ghost use Rattle.std.specs.Prelude.{◌≡◌};
 ghost use Rattle.aout_core.specs.WellFormed.{is_external, segment_of};
 ghost use Rattle.aout_core.specs.Spelling.{symbol_spelling};
@@ -8,7 +8,7 @@ use crate::name::Name;
 use crate::word::word_bytes;
 use byteorder::{ByteOrder, LittleEndian};
 
-/// An entry of the symbol table, 12 bytes long. (a.out(5))
+/// A symbol of the symbol table, 12 bytes long. (a.out(5))
 #[derive(Clone, Copy, Debug, PartialEq, Eq)]
 pub struct Symbol {
     pub name: Name,
@@ -19,7 +19,7 @@ pub struct Symbol {
     pub value: u16,
 }
 
-/// What the type word of an entry speaks of. (a.out(5))
+/// Where a symbol is defined, by its type word. (a.out(5))
 #[derive(Clone, Copy, Debug, PartialEq, Eq)]
 pub enum Segment {
     Undefined,
@@ -52,7 +52,7 @@ impl Symbol {
         }
     }
 
-    /// The entry that 12 bytes spell; what stands behind a NUL in its name is left out.
+    /// The symbol that 12 bytes spell; what stands behind a NUL in its name is left out.
     pub(crate) fn from_bytes(bytes: &[u8; 12]) -> Symbol
         ensures { result ≡ symbol_in bytes.now }
     {
@@ -63,7 +63,7 @@ impl Symbol {
         }
     }
 
-    /// The 12 bytes that spell the entry, its name padded with NULs.
+    /// The 12 bytes that spell the symbol, its name padded with NULs.
     pub(crate) fn to_bytes(&self) -> [u8; 12]
         ensures { result ≡ symbol_spelling self.now }
     {

@@ -15,8 +15,8 @@ pub struct DeviceFault;
 
 /// A reader or a writer, and a latch: whether the device has failed.
 ///
-/// The latch goes on where a call of the device answers an error of any kind, or where a write of some bytes takes
-/// none of them. A wire whose latch is on touches its device no more: each use of it answers `DeviceFault`. (own
+/// The latch goes on where a call of the device returns an error of any kind, or where a write of some bytes takes
+/// none of them. A wire whose latch is on touches its device no more: each use of it returns `DeviceFault`. (own
 /// choice)
 #[derive(Drop)]
 pub struct Wire<D> {
@@ -85,7 +85,7 @@ impl<R: Read> Wire<R> {
         }
     }
 
-    /// Reads until `buf` is full or the device is at its end, and answers how many bytes were read. What a working
+    /// Reads until `buf` is full or the device is at its end, and returns how many bytes were read. What a working
     /// device leaves behind them, or on a fault, is not said. (own choice)
     pub fn fill(&mut self, buf: &mut [u8]) -> Result<usize, DeviceFault>
         ensures fault { IsErr result ↔ IsTrue self.new.has_failed }
@@ -111,7 +111,7 @@ impl<R: Read> Wire<R> {
 }
 
 impl<W: Write> Wire<W> {
-    /// Writes all the bytes, or on a fault a front of them. Writing no bytes is a use of the wire too. (own choice)
+    /// Writes all the bytes, or on a fault a prefix of them. Writing no bytes is a use of the wire too. (own choice)
     pub fn put(&mut self, bytes: &[u8]) -> Result<(), DeviceFault>
         ensures fault { IsErr result ↔ IsTrue self.new.has_failed }
         ensures latched { IsTrue self.old.has_failed → (self.new ≡ self.old) }
@@ -133,7 +133,7 @@ impl<W: Write> Wire<W> {
         Ok(())
     }
 
-    /// Writes one text and then another, or on a fault a front of both. (own choice)
+    /// Writes one text and then another, or on a fault a prefix of both. (own choice)
     pub fn put_both(&mut self, first: &[u8], second: &[u8]) -> Result<(), DeviceFault>
         ensures fault { IsErr result ↔ IsTrue self.new.has_failed }
         ensures latched { IsTrue self.old.has_failed → (self.new ≡ self.old) }

@@ -10,7 +10,7 @@ use crate::wire::{DeviceFault, Wire};
 use std::io::Write;
 
 /// Writes the file: header, text, data, relocation and symbols, in that order, names padded with NULs. On a fault a
-/// front of the file went out. (a.out(5))
+/// prefix of the file went out. (a.out(5))
 pub fn write_file<W: Write>(file: &File, wire: &mut Wire<W>) -> Result<(), DeviceFault>
     ensures fault { IsErr result ↔ IsTrue wire.new.has_failed }
     ensures latched { IsTrue wire.old.has_failed → (wire.new ≡ wire.old) }

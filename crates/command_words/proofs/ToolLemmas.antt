@@ -20,7 +20,8 @@ use Rattle.command_words.specs.declared.fault.WordsFault.{WordsFault}
 use Rattle.command_words.specs.declared.fault.WordsFault.TheVariants.{Memory}
 use Rattle.command_words.specs.declared.words.Call.{Call}
 use Rattle.command_words.specs.declared.words.TheConstants.{FILE}
-use Rattle.command_words.specs.Calls.{Asks, AsksForNone, HasNoCall, IsAsked, fault_of_words, name_of}
+use Rattle.command_words.specs.Calls.{Asks, AsksForNone, IsAsked, fault_of_words, name_of}
+use Rattle.command_words.specs.steps.ToolCalls.{HasNoCall}
 use Rattle.command_words.specs.LinkWords.{values_of}
 use Rattle.command_words.specs.Tools.{v7_app}
 use Rattle.command_words.proofs.WordsLemmas.{dashes-asked, dashes-bytes, is_dash}

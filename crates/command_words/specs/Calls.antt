@@ -1,4 +1,7 @@
--- What every call of a tool keeps, and what it takes over from the words.
+-- What every call of a tool keeps, and what it takes over from the words. (ld(1), nm(1), size(1), strip(1))
+--
+-- A call is a tool with its options and files. It is asked for by words if `clap` takes them, they name its tool, and its options
+-- and files are those that are read of them; nm and size without files take the program, `a.out`.
 use Rattle.std.specs.Prelude.{◌≡◌, ◌<◌, ℕ, List, [], ◌∷◌, map, filter, length, Ok, Some, bytes_eq, codes, string_bytes, unwrap_or, vec_len}
 use Rattle.clap.specs.Faults.{fault_of}
 use Rattle.clap.specs.Simple.{subcommand_of}
@@ -10,7 +13,7 @@ use Rattle.command_words.specs.declared.fault.WordsFault.{WordsFault}
 use Rattle.command_words.specs.declared.fault.WordsFault.TheVariants as faults
 use Rattle.command_words.specs.declared.words.Call.{Call}
 use Rattle.command_words.specs.declared.words.Call.TheVariants.{Ld, Nm, Size, Strip, Session}
-use Rattle.command_words.specs.declared.words.TheConstants.{FILE, OUT, PROGRAM, EXTERNAL, BY_VALUE, EACH_LINE, TABLE_ORDER, REVERSE, UNDEFINED}
+use Rattle.command_words.specs.declared.words.TheConstants.{FILE, OUT, EXTERNAL, BY_VALUE, EACH_LINE, TABLE_ORDER, REVERSE, UNDEFINED}
 use Rattle.command_words.specs.LinkWords.{AreAllowed, AreForced, forced_asked, is_given, options_asked, values_of}
 use Rattle.command_words.specs.Tools.{v7_app}
 
@@ -23,8 +26,11 @@ IsWhole (Strip files) = 0 < vec_len files
 IsWhole (Session options forced) = AreAllowed options × AreForced forced
 
 -- the program, where no file is named
+abbrev pub program : List ℕ
+program = codes "a.out"
+
 abbrev pub or_program : List (List ℕ) → List (List ℕ)
-or_program [] = PROGRAM.now ∷ []
+or_program [] = program ∷ []
 or_program (file ∷ files) = file ∷ files
 
 abbrev pub list_asked : List Row → NmOptions
@@ -40,7 +46,7 @@ list_asked rows = record {
 -- the options, the forced names and the output are those that were read, and the files are these; a session has none
 abbrev pub Asks : List Row → List (List ℕ) → Call → Type 0
 Asks rows paths (Ld options forced out files) =
-    (options_asked rows ≡ Ok options) × (forced_asked rows ≡ Ok forced) × (string_bytes out ≡ unwrap_or (first_of OUT.now rows) PROGRAM.now) × (map string_bytes files.items ≡ paths)
+    (options_asked rows ≡ Ok options) × (forced_asked rows ≡ Ok forced) × (string_bytes out ≡ unwrap_or (first_of OUT.now rows) program) × (map string_bytes files.items ≡ paths)
 Asks rows paths (Session options forced) = (options_asked rows ≡ Ok options) × (forced_asked rows ≡ Ok forced) × (paths ≡ [])
 Asks rows paths (Nm options files) = (options ≡ list_asked rows) × (map string_bytes files.items ≡ or_program paths)
 Asks rows paths (Size files) = map string_bytes files.items ≡ or_program paths
@@ -70,15 +76,11 @@ name_of (Session options forced) = codes "session"
 abbrev pub IsAsked : List (List ℕ) → Call → Type 0
 IsAsked words call = (fault_of v7_app words ≡ []) × (rows : List Row) × (subcommand_of v7_app words ≡ Some (name_of call, rows)) × Asks rows (values_of rows FILE.now) call
 
--- want of memory is told from all other causes
+-- that there was no memory is told from all other causes
 abbrev pub fault_of_words : ErrorKind → WordsFault
 fault_of_words OutOfMemory = faults.Memory
 fault_of_words kind = faults.Usage
 
--- a call of this name, with these options and files, fails for want of memory alone
-abbrev pub HasNoCall : List ℕ → List Row → List (List ℕ) → WordsFault → Type 0
-HasNoCall name rows paths fault = (call : Call) → IsWhole call → name_of call ≡ name → Asks rows paths call → fault ≡ faults.Memory
-
--- words that ask for a call fail for want of memory alone
+-- words that ask for a call fail only where there is no memory
 abbrev pub AsksForNone : List (List ℕ) → WordsFault → Type 0
 AsksForNone words fault = (call : Call) → IsWhole call → IsAsked words call → dashes_in words ≡ dashes_in (files_of call) → fault ≡ faults.Memory

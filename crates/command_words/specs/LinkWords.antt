@@ -1,4 +1,6 @@
--- What the options that ld and session share ask for, by the rows that were read of the words.
+-- What the options that ld and session share ask for, by the rows that were read of the words. (ld(1))
+--
+-- A row is an option with its values. Where options exclude each other, the words ask for nothing.
 use Rattle.std.specs.Prelude.{◌≡◌, ◌≤◌, ℕ, Bool, true, false, cond, nat_lt, if◌then◌else◌, List, [], ◌∷◌, take, length, Option, Some, None, option_map, unwrap_or, Result, Ok, Err}
 use Rattle.clap.specs.Walk.{Row, all_of, count_of, first_of}
 use Rattle.aout_core.specs.Names.{before_nul}
@@ -62,7 +64,7 @@ options_with rows (Err fault) = Err fault
 abbrev pub options_asked : List Row → Result Choices WordsFault
 options_asked rows = options_with rows (layout_asked rows)
 
--- each name put behind the names before it, where it is not there already and there is room
+-- each name appended to the names before it, where it is not there already and there is room
 abbrev pub with_names : List (List ℕ) → List (List ℕ) → Result (List (List ℕ)) WordsFault
 with_names names [] = Ok names
 with_names names (text ∷ texts) = cond (takes names (name_in text)) (with_names (with_name names (name_in text)) texts) (Err Usage)

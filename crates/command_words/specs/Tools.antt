@@ -1,10 +1,14 @@
--- The tools as the words see them: which options each takes, and which take files.
+-- The tools as the words see them: which options each takes, and which take files. (ld(1), nm(1), size(1), strip(1))
+--
+-- How words are read, the definitions of the kit's `clap` say, by rules: an option is a letter, and is a flag (`Count`), has a value
+-- (`Set`), or may have several (`Append`). Here are the rules of each tool.
 use Rattle.std.specs.Prelude.{ℕ, true, List, [], ◌∷◌, Some, codes, fold}
 use Rattle.clap.specs.Lexer.{usize_max}
 use Rattle.clap.specs.Simple.{App, new_app, new_rule, on_top, with_rule, with_subcommand}
 use Rattle.clap.specs.Walk.{Rule}
 use Rattle.clap.specs.declared.builder.action.ArgAction.{ArgAction}
 use Rattle.clap.specs.declared.builder.action.ArgAction.TheVariants.{Append, Count, Set}
+use Rattle.aout_core.specs.Words.{letter_of}
 use Rattle.command_words.specs.declared.link_words.TheConstants.{RELOCATABLE, STRIP, EXTERNALS, NOT_L, PURE, SPLIT, COMMONS, FORCED, ENTRY}
 use Rattle.command_words.specs.declared.words.TheConstants.{OUT, FILE, EXTERNAL, BY_VALUE, EACH_LINE, TABLE_ORDER, REVERSE, UNDEFINED}
 
@@ -26,18 +30,18 @@ with_rules app rules = fold with_rule app rules
 -- -r, -s, -x, -X, -n, -i, -d, -u and -e
 abbrev pub link_rules : List Rule
 link_rules =
-    letter_rule RELOCATABLE.now 114 Count ∷ letter_rule STRIP.now 115 Count ∷ letter_rule EXTERNALS.now 120 Count ∷ letter_rule NOT_L.now 88 Count ∷ letter_rule PURE.now 110 Count
-    ∷ letter_rule SPLIT.now 105 Count ∷ letter_rule COMMONS.now 100 Count ∷ letter_rule FORCED.now 117 Append ∷ letter_rule ENTRY.now 101 Set ∷ []
+    letter_rule RELOCATABLE.now (letter_of (codes "r")) Count ∷ letter_rule STRIP.now (letter_of (codes "s")) Count ∷ letter_rule EXTERNALS.now (letter_of (codes "x")) Count ∷ letter_rule NOT_L.now (letter_of (codes "X")) Count ∷ letter_rule PURE.now (letter_of (codes "n")) Count
+    ∷ letter_rule SPLIT.now (letter_of (codes "i")) Count ∷ letter_rule COMMONS.now (letter_of (codes "d")) Count ∷ letter_rule FORCED.now (letter_of (codes "u")) Append ∷ letter_rule ENTRY.now (letter_of (codes "e")) Set ∷ []
 
 -- -g, -n, -o, -p, -r and -u
 abbrev pub list_rules : List Rule
 list_rules =
-    letter_rule EXTERNAL.now 103 Count ∷ letter_rule BY_VALUE.now 110 Count ∷ letter_rule EACH_LINE.now 111 Count ∷ letter_rule TABLE_ORDER.now 112 Count ∷ letter_rule REVERSE.now 114 Count
-    ∷ letter_rule UNDEFINED.now 117 Count ∷ []
+    letter_rule EXTERNAL.now (letter_of (codes "g")) Count ∷ letter_rule BY_VALUE.now (letter_of (codes "n")) Count ∷ letter_rule EACH_LINE.now (letter_of (codes "o")) Count ∷ letter_rule TABLE_ORDER.now (letter_of (codes "p")) Count ∷ letter_rule REVERSE.now (letter_of (codes "r")) Count
+    ∷ letter_rule UNDEFINED.now (letter_of (codes "u")) Count ∷ []
 
 -- the link's options, -o, and files
 abbrev pub ld_app : App
-ld_app = with_rule (with_rule (with_rules (bare (codes "ld")) link_rules) (letter_rule OUT.now 111 Set)) files_rule
+ld_app = with_rule (with_rule (with_rules (bare (codes "ld")) link_rules) (letter_rule OUT.now (letter_of (codes "o")) Set)) files_rule
 
 abbrev pub nm_app : App
 nm_app = with_rule (with_rules (bare (codes "nm")) list_rules) files_rule

@@ -4,7 +4,8 @@ ghost use Rattle.clap.specs.Matches.{found_of};
 ghost use Rattle.clap.specs.Simple.{app_of};
 ghost use Rattle.clap.specs.Walk.{first_of, rows_of, rule_of};
 ghost use Rattle.command_words.specs.declared.fault.WordsFault.TheVariants.{Memory};
-ghost use Rattle.command_words.specs.Calls.{Asks, AsksForNone, HasNoCall, IsAsked, IsWhole, dashes_in, files_of, name_of, or_program};
+ghost use Rattle.command_words.specs.Calls.{Asks, AsksForNone, IsAsked, IsWhole, dashes_in, files_of, name_of, or_program, program};
+ghost use Rattle.command_words.specs.steps.ToolCalls.{HasNoCall};
 ghost use Rattle.command_words.specs.LinkWords.{values_of};
 ghost use Rattle.command_words.specs.Tools.{bare, files_rule, ld_app, nm_app, v7_alone, v7_app};
 
@@ -166,7 +167,7 @@ fn files_or_program(alloc: Global, mut files: Vec<String>) -> Result<Vec<String>
 
 /// The path of the output.
 fn output(alloc: Global, given: &ArgMatches<'_>) -> Result<String, WordsFault>
-    ensures value { IfOk result (λ out. string_bytes out ≡ unwrap_or (first_of OUT.now (rows_of (found_of given.now))) PROGRAM.now) }
+    ensures value { IfOk result (λ out. string_bytes out ≡ unwrap_or (first_of OUT.now (rows_of (found_of given.now))) program) }
     ensures faults { IfErr result (λ fault. fault ≡ Memory) }
 {
     let path = given.get_str(OUT).unwrap_or(PROGRAM);

@@ -16,7 +16,9 @@ use Rattle.link_out.specs.ReservedNames.{etext, edata, end_name}
 use Rattle.link_out.specs.Results.{Outcome}
 use Rattle.link_out.specs.Link.{link}
 use Rattle.link_out.specs.Relocated.{IsRelocated}
-use Rattle.link_out.specs.LinkedFrom.{AreRelocated, IsReported, IsLinkedFrom, LinkedExactly}
+use Rattle.link_out.specs.LinkedWords.{AreRelocated}
+use Rattle.link_out.specs.Reported.{IsReported}
+use Rattle.link_out.specs.LinkedFrom.{IsLinkedFrom, LinkedExactly}
 use Rattle.link_out.specs.Meaning.{MultiplesDiffer}
 use Rattle.link_out.specs.Refusals.{RefusedExactly}
 use Rattle.conformance.specs.Samples.{sym as entry_of, header, sized, _f, L1, c_o, d_o, d2_o, plain}

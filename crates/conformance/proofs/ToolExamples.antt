@@ -68,11 +68,11 @@ file_name_symbol = refl
 nm_orders_long : nm_text (record { external = false; by_value = false; each_line = false; table_order = false; reverse = false; undefined = false }) ((codes "t.o", object [] [] [] [] 0 (sym (codes "_longnam") 0o42 65535 ∷ [])) ∷ []) ≡ 49 ∷ 55 ∷ 55 ∷ 55 ∷ 55 ∷ 55 ∷ 32 ∷ 84 ∷ 32 ∷ 95 ∷ 108 ∷ 111 ∷ 110 ∷ 103 ∷ 110 ∷ 97 ∷ 109 ∷ 10 ∷ []
 nm_orders_long = refl
 
-size_lines : size_line (header 263 4 2 2 0 0 0) ≡ codes "4+2+2 = 8b = 010b"
+size_lines : size_line (header 0o407 4 2 2 0 0 0) ≡ codes "4+2+2 = 8b = 010b"
 unfolding digits
 size_lines = refl
 
-size_lines_big : size_line (header 263 65534 65534 65534 0 0 0) ≡ codes "65534+65534+65534 = 196602b = 0577772b"
+size_lines_big : size_line (header 0o407 65534 65534 65534 0 0 0) ≡ codes "65534+65534+65534 = 196602b = 0577772b"
 unfolding digits
 size_lines_big = refl
 

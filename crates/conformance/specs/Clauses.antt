@@ -15,7 +15,10 @@ use Rattle.link_out.specs.ReservedNames.{reserved_names}
 use Rattle.link_out.specs.Results.{Outcome}
 use Rattle.link_out.specs.Link.{link}
 use Rattle.link_out.specs.Relocated.{data_begins, begins, IsEntry}
-use Rattle.link_out.specs.LinkedFrom.{AreRows, carried_locals, AreRelocated, AreKept, ArePicked, IsOther, IsLinkedFrom}
+use Rattle.link_out.specs.LinkedTable.{AreRows, carried_locals}
+use Rattle.link_out.specs.LinkedWords.{AreRelocated, AreKept}
+use Rattle.link_out.specs.Reported.{ArePicked, IsOther}
+use Rattle.link_out.specs.LinkedFrom.{IsLinkedFrom}
 
 -- each by the name that it has there
 pub data Clause : Type 0 where

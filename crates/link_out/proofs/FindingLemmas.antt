@@ -5,7 +5,7 @@ use Rattle.std.proofs.lemmas.List.Recursion.{is_position_or_len}
 use Rattle.std.proofs.lemmas.Bool.{le-ltb, lt-ltb, cases_lt}
 use Rattle.link_session.specs.declared.state.State.{State}
 use Rattle.link_session.specs.declared.state.State.TheVariants.{Wanted}
-use Rattle.link_session.specs.Additions.{Named, state_at}
+use Rattle.link_session.specs.Image.{Named, state_at}
 use Rattle.link_session.specs.Image.{named_states}
 use Rattle.link_session.specs.Mentions.{Mention, is_among, names_by_first_mention, place_of}
 use Rattle.link_session.specs.States.{state}
@@ -13,9 +13,10 @@ use Rattle.link_session.proofs.PlaceLemmas.{found_place, missing_state}
 use Rattle.link_session.proofs.MentionedLemmas.{keys-named_states, state_for-named_states}
 use Rattle.link_out.specs.Plans.{Plan}
 use Rattle.link_out.specs.Finals.{final, type_of}
-use Rattle.link_out.specs.FromCells.{finals}
-use Rattle.link_out.specs.InOrder.{is_missing, missing_in}
-use Rattle.link_out.specs.Entries.{text_address, text_address_at, address_in_text}
+use Rattle.link_out.specs.steps.FromCells.{finals}
+use Rattle.link_out.specs.Reports.{is_missing}
+use Rattle.link_out.specs.steps.InOrder.{missing_in}
+use Rattle.link_out.specs.steps.Entries.{text_address, text_address_at, address_in_text}
 use Rattle.link_out.proofs.CellWordLemmas.{mapped_at_place}
 use Rattle.link_out.proofs.InOrderLemmas.{drop_next}
 

@@ -19,12 +19,12 @@ use Rattle.link_out.specs.Layouts.{Bases, data_base, magic_of}
 use Rattle.link_out.specs.Plans.{Plan, plan, commons_laid}
 use Rattle.link_out.specs.Words.{final_words}
 use Rattle.link_out.specs.Finals.{Final}
-use Rattle.link_out.specs.FromCells.{finals, word_of_cell, reloc_of_cell, is_far}
-use Rattle.link_out.specs.InOrder.{finals_from}
+use Rattle.link_out.specs.steps.FromCells.{finals, word_of_cell, reloc_of_cell, is_far}
+use Rattle.link_out.specs.steps.InOrder.{finals_from}
 use Rattle.link_out.specs.Tables.{table, final_relocs, has_far_in}
 use Rattle.link_out.specs.Reports.{entry_word}
 use Rattle.link_out.specs.Link.{linked_header, linked_file}
-use Rattle.link_out.specs.Passes.{IsPassed, header_for}
+use Rattle.link_out.specs.steps.Passes.{IsPassed, header_for}
 use Rattle.link_out.proofs.InOrderLemmas.{finals-in_order}
 use Rattle.link_out.proofs.CellWordLemmas.{final_words-cells}
 use Rattle.link_out.proofs.CellRelocLemmas.{final_relocs-cells, has_far_in-cells}

@@ -6,7 +6,7 @@ use Rattle.std.proofs.lemmas.Option.{slice_get_within, get_or_from_slice_get}
 use Rattle.std.proofs.lemmas.List.Sums.{sum_by-append}
 use Rattle.link_session.specs.declared.state.State.{State}
 use Rattle.link_session.specs.declared.state.State.TheVariants.{Defined, Wanted}
-use Rattle.link_session.specs.Additions.{Named}
+use Rattle.link_session.specs.Image.{Named}
 use Rattle.link_session.specs.Image.{named_states}
 use Rattle.link_session.specs.Mentions.{Mention, is_among, new_names, names_of, names_by_first_mention, place_of}
 use Rattle.link_session.specs.States.{state}
@@ -16,9 +16,11 @@ use Rattle.link_out.specs.Choices.{Choices}
 use Rattle.link_out.specs.Layouts.{Bases}
 use Rattle.link_out.specs.Plans.{Plan, common_size, room_of, commons_total, common_offset}
 use Rattle.link_out.specs.Finals.{Final, final, final_by}
-use Rattle.link_out.specs.FromCells.{finals}
+use Rattle.link_out.specs.steps.FromCells.{finals}
 use Rattle.link_out.specs.Reports.{is_undefined, reserved_names, undefined_names}
-use Rattle.link_out.specs.InOrder.{final_at, finals_from, room_in, is_missing, missing_in}
+use Rattle.link_out.specs.Finals.{final_at}
+use Rattle.link_out.specs.steps.InOrder.{finals_from, room_in, missing_in}
+use Rattle.link_out.specs.Reports.{is_missing}
 
 -- names with their states
 abbrev pub named_by : List Mention → List (List ℕ) → Named
@@ -62,11 +64,6 @@ place_behind (x ∷ xs) after name h = by_test (bytes_eq name x) h (place_behind
         cond t 0 (place_of name (xs ++ name ∷ after) + 1) ≡ length (x ∷ xs)
     by_test true h rest = absurd (cc)
     by_test false h rest = let shorter = rest h in omega arith
-
--- a name with its commons before it
-final-at : (p : Plan) (name : List ℕ) (s : State) → final_at p.choices p.at (common_offset p.said name) name s ≡ final_by p name s
-final-at p name (Defined segment place) = refl
-final-at p name (Wanted size) = refl
 
 -- the commons before a name are those of the names before it
 offset_behind : (ms : List Mention) (before after : List (List ℕ)) (name : List ℕ) → is_among before name ≡ false → before ++ name ∷ after ≡ names_by_first_mention ms → common_offset ms name ≡ room_of ms before
@@ -114,7 +111,7 @@ finals_new p seen before (x ∷ xs) within all =
     by_test false e all same more =
         let offset = offset_behind p.said before rest x (not_before seen before x (within x) e) all in
         let head : final_at p.choices p.at (room_of p.said before) x (state p.said x) ≡ final p x =
-        ap (λ (k : ℕ). final_at p.choices p.at k x (state p.said x)) (sym offset) ∙ final-at p x (state p.said x) in
+        ap (λ (k : ℕ). final_at p.choices p.at k x (state p.said x)) (sym offset) in
         let tail : finals_from p.choices p.at (room_of p.said before + common_size (state p.said x)) (named_by p.said rest) ≡ map (final p) rest =
         ap (λ (k : ℕ). finals_from p.choices p.at k (named_by p.said rest)) (sym (room_more p.said before x)) ∙ more (append_assoc before (x ∷ []) rest ∙ all) in
         λ i. head i ∷ tail i

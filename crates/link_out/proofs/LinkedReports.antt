@@ -10,7 +10,7 @@ use Rattle.link_session.specs.States.{Definition, definition_by, first_definitio
 use Rattle.link_session.proofs.ListLemmas.{all_map}
 use Rattle.link_session.proofs.UpdateLemmas.{own_name}
 use Rattle.link_out.specs.Reports.{is_undefined, reserved_names, reserved_taken}
-use Rattle.link_out.specs.LinkedFrom.{ArePicked, IsOther}
+use Rattle.link_out.specs.Reported.{ArePicked, IsOther}
 use Rattle.link_out.specs.NameStates.{HasState, IsWanted}
 use Rattle.link_out.proofs.MultipleLemmas.{none_defines, of_each_name, agrees_with, own_again}
 use Rattle.link_out.proofs.HasStateLemmas.{first_is, has_first, has_state, state_is}

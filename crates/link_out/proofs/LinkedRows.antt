@@ -14,10 +14,11 @@ use Rattle.link_out.specs.Layouts.{Bases}
 use Rattle.link_out.specs.Plans.{Plan, common_size}
 use Rattle.link_out.specs.Finals.{final, bound_at, waiting, undefined_name, etext, edata, end_name}
 use Rattle.link_out.specs.Tables.{external_row}
-use Rattle.link_out.specs.InOrder.{final_at, finals_from, room_in}
-use Rattle.link_out.specs.Rows as rows
+use Rattle.link_out.specs.Finals.{final_at}
+use Rattle.link_out.specs.steps.InOrder.{finals_from, room_in}
+use Rattle.link_out.specs.steps.Rows as rows
 use Rattle.link_out.specs.Relocated.{data_begins}
-use Rattle.link_out.specs.LinkedFrom.{undefined_row, row_for, room_for, AreRows}
+use Rattle.link_out.specs.LinkedTable.{undefined_row, row_for, room_for, AreRows}
 use Rattle.link_out.proofs.PartialLemmas.{IsProper}
 use Rattle.link_out.proofs.InOrderLemmas.{named_by}
 use Rattle.link_out.proofs.HasStateLemmas.{has_state, state_is}

@@ -19,11 +19,14 @@ use Rattle.link_out.specs.Plans.{Plan, plan, commons_laid}
 use Rattle.link_out.specs.Tables.{local_rows, external_row, external_rows, rows_kept, table, final_reloc, final_relocs, has_far_in, has_far_word}
 use Rattle.link_out.specs.Words.{final_words}
 use Rattle.link_out.specs.Reports.{findings, reserved_names, undefined_names, entry_word, entry_found_bad}
-use Rattle.link_out.specs.InOrder.{finals_from, room_in}
-use Rattle.link_out.specs.Rows as rows
+use Rattle.link_out.specs.steps.InOrder.{finals_from, room_in}
+use Rattle.link_out.specs.steps.Rows as rows
 use Rattle.link_out.specs.Link.{Outcome, linked_header, linked_file, link}
 use Rattle.link_out.specs.Relocated.{data_begins, begins, IsEntry}
-use Rattle.link_out.specs.LinkedFrom.{AreRows, carried_locals, AreRelocated, AreKept, ArePicked, IsReported, IsLinkedFrom}
+use Rattle.link_out.specs.LinkedTable.{AreRows, carried_locals}
+use Rattle.link_out.specs.LinkedWords.{AreRelocated, AreKept}
+use Rattle.link_out.specs.Reported.{ArePicked, IsReported}
+use Rattle.link_out.specs.LinkedFrom.{IsLinkedFrom}
 use Rattle.link_out.specs.NameStates.{IsWanted}
 use Rattle.link_out.proofs.PartialLemmas.{IsProper, state_is_proper}
 use Rattle.link_out.proofs.OutcomeLemmas.{IsMade, made, is_made}

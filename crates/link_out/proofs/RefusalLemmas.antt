@@ -33,10 +33,10 @@ use Rattle.link_out.specs.Plans.{Plan, plan, common_size, common_offset}
 use Rattle.link_out.specs.Finals.{final, final_by, bound_at, waiting, undefined_name}
 use Rattle.link_out.specs.Tables.{is_kept_local, rows_kept, moved_local, local_rows, external_row, external_rows, table, row_of, waits_far, is_out_of_reach, has_far_in, has_far_word}
 use Rattle.link_out.specs.Reports.{findings}
-use Rattle.link_out.specs.InOrder.{room_in}
+use Rattle.link_out.specs.steps.InOrder.{room_in}
 use Rattle.link_out.specs.NameStates.{HasState, IsWanted}
 use Rattle.link_out.specs.Relocated.{segment_words}
-use Rattle.link_out.specs.LinkedFrom.{room_for}
+use Rattle.link_out.specs.LinkedTable.{room_for}
 use Rattle.link_out.specs.Link.{Outcome, linked_file, link}
 use Rattle.link_out.specs.Refusals.{CommonsTake, EndsAt, kept_locals, entries, entry_count, HasFarWord, IsRefused}
 use Rattle.link_out.proofs.InOrderLemmas.{named_by, room-commons}

@@ -12,7 +12,8 @@ use Rattle.link_session.specs.Edits.{Change, addition, withdrawal, refusal, last
 use Rattle.link_out.specs.declared.edit.Edit.{Edit}
 use Rattle.link_out.specs.declared.edit.Reply.{Reply}
 use Rattle.link_out.specs.declared.edit.Reply.TheVariants as replies
-use Rattle.link_out.specs.Runs.{change_of, answer_of, IsDone, IsReplied, AreDone}
+use Rattle.link_out.specs.Runs.{change_of, answer_of}
+use Rattle.link_out.specs.steps.Replies.{IsDone, IsReplied, AreDone}
 
 -- an accepted addition
 pub added_done : (old new : Kept) (e : Labelled) → refusal old.forced (objects old.entries) e.object ≡ None → Adds old new e →

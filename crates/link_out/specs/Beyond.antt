@@ -1,4 +1,6 @@
--- Partial links under weaker premises, again and again, and grouped in any way.
+-- Partial links under weaker premises, again and again, and grouped in any way. (ld(1), the option `-r`)
+--
+-- Large programs are linked in parts. These laws say when the parts may be cut as one likes.
 use Rattle.std.specs.Prelude.{◌≡◌, ℕ, true, List, [], ◌∷◌, ◌++◌, None, Ok}
 use Rattle.std.specs.List.{AllByRecursion}
 use Rattle.aout_core.specs.declared.symbol.Segment.{Segment}

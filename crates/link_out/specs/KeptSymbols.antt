@@ -1,6 +1,10 @@
--- Which symbols are kept.
-use Rattle.std.specs.Prelude.{ℕ, Bool, true, false, not, ◌&&◌, eqb, List, [], ◌∷◌}
+-- Which symbols are kept. (ld(1), the options `-s`, `-x` and `-X`)
+--
+-- Externals go into the table, unless all symbols are dropped. Of the locals all are kept, or those whose names do not begin with
+-- L, as a compiler's labels do, or none.
+use Rattle.std.specs.Prelude.{ℕ, Bool, true, false, not, ◌&&◌, eqb, List, [], ◌∷◌, codes}
 use Rattle.aout_core.specs.declared.symbol.Symbol.{Symbol}
+use Rattle.aout_core.specs.Words.{letter_of}
 use Rattle.aout_core.specs.WellFormed.{is_external}
 use Rattle.link_out.specs.declared.options.Keep.{Keep}
 use Rattle.link_out.specs.declared.options.Keep.TheVariants.{All, NotL, Externals, Nothing}
@@ -8,7 +12,7 @@ use Rattle.link_out.specs.declared.options.Keep.TheVariants.{All, NotL, External
 -- a name that begins with L
 abbrev pub begins_with_l : List ℕ → Bool
 begins_with_l [] = false
-begins_with_l (b ∷ bs) = eqb b 76
+begins_with_l (b ∷ bs) = eqb b (letter_of (codes "L"))
 
 abbrev pub keeps : Keep → List ℕ → Bool
 keeps All name = true

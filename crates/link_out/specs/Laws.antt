@@ -1,4 +1,6 @@
--- The laws of linking.
+-- The laws of linking, each proved by a function of the module `laws`. (ld(1), strip(1))
+--
+-- Stripping a program is linking it without symbols; a partial link is an object, and may stand for its objects.
 use Rattle.std.specs.Prelude.{◌≡◌, ℕ, true, false, List, [], ◌∷◌, ◌++◌, None, Ok}
 use Rattle.std.specs.List.{AllByRecursion}
 use Rattle.aout_core.specs.Contents.{Contents}

@@ -1,4 +1,7 @@
--- What a linked file means, told by the files that were linked and by the linked file alone.
+-- What a linked file means, told by the files that were linked and by the linked file alone. (ld(1))
+--
+-- Each law is about one question: where is this word, this definition, this common now? Is this name reported, and rightly? They
+-- follow from the relation of LinkedFrom, and are here for who has one such question; nothing rests on them.
 use Rattle.std.specs.Prelude.{◌≡◌, ◌≢◌, ◌↔◌, ℕ, ◌+◌, ◌≤◌, ◌⊎◌, true, false, eqb, List, [], ◌∷◌, ◌++◌, map, filter, Some, None, Ok, slice_get, bytes_eq}
 use Rattle.std.specs.List.{AllByRecursion}
 use Rattle.aout_core.specs.declared.symbol.Symbol.{Symbol}
@@ -32,7 +35,7 @@ WordsAreRelocated = (forced : List (List ℕ)) (before : List Contents) (k : Con
 abbrev pub ObjectsFill : Type 0
 ObjectsFill = (forced : List (List ℕ)) (os : List Contents) (o : Choices) (x : Outcome) → AllByRecursion IsObject os → link forced os o ≡ Ok x → HoldsObjects x.file os
 
--- the name of a definition has an external entry, of its segment, whose value is the definition's, carried with its segment
+-- the name of a definition has an external symbol, of its segment, whose value is the definition's, carried with its segment
 pub record IsDefined (file : Contents) (os before : List Contents) (k : Contents) (s : Symbol) : Type 0 where
   pub row : Symbol
   pub found : entry_of file.symbols s.name ≡ Some row
@@ -46,7 +49,7 @@ DefinitionsHold = (forced : List (List ℕ)) (before : List Contents) (k : Conte
     (j : ℕ) (s : Symbol) → slice_get k.symbols j ≡ Some s → is_external s ≡ true → eqb (masked_type s) 0 ≡ false →
     IsDefined x.file (before ++ k ∷ after) before k s
 
--- an external entry of one of the objects says so of this name; offsets are those of the merged segments
+-- an external symbol of one of the objects says so of this name; offsets are those of the merged segments
 pub record IsSaid (os : List Contents) (name : List ℕ) (says : State) : Type 0 where
   pub before : List Contents
   pub k : Contents
@@ -74,13 +77,13 @@ abbrev pub MultiplesDiffer : Type 0
 MultiplesDiffer = (forced : List (List ℕ)) (os : List Contents) (o : Choices) (x : Outcome) → link forced os o ≡ Ok x →
     (name : List ℕ) → (is_among x.report.multiples name ≡ true) ↔ HasTwoDefinitions os name
 
--- where no name is reported undefined, each external entry of a link without relocation gives an address
+-- where no name is reported undefined, each external symbol of a link without relocation gives an address
 abbrev pub NamesHaveAddresses : Type 0
 NamesHaveAddresses = (forced : List (List ℕ)) (os : List Contents) (o : Choices) (x : Outcome) →
     o.keep ≢ Nothing → o.relocatable ≡ false → link forced os o ≡ Ok x → x.report.undefined ≡ [] →
     (name : List ℕ) (row : Symbol) → entry_of x.file.symbols name ≡ Some row → eqb (masked_type row) 0 ≡ false
 
--- each external name of the objects, and each forced one, has one external entry and no more
+-- each external name of the objects, and each forced one, has one external symbol and no more
 abbrev pub EntriesStandOnce : Type 0
 EntriesStandOnce = (forced : List (List ℕ)) (os : List Contents) (o : Choices) (x : Outcome) → o.keep ≢ Nothing → link forced os o ≡ Ok x →
     map (λ s. s.name) (filter is_external x.file.symbols) ≡ externals forced os
@@ -90,11 +93,11 @@ pub record IsCommon (forced : List (List ℕ)) (os : List Contents) (name : List
   pub wanted : IsWanted (mentions forced os) name size
   pub sized : eqb size 0 ≡ false
 
--- an entry of bss with so many bytes of its own between data and bss
+-- a symbol of bss with so many bytes of its own between data and bss
 pub record HasRoom (file : Contents) (os : List Contents) (name : List ℕ) (size : ℕ) : Type 0 where
   pub row : Symbol
   pub found : entry_of file.symbols name ≡ Some row
-  pub type_bits : row.type_bits ≡ 36
+  pub type_bits : row.type_bits ≡ 0o44
   pub after : data_begins file.header + file.header.data_size ≤ row.value
   pub before : row.value + size ≤ begins file.header (total BssSeg os) BssSeg
 
@@ -113,17 +116,17 @@ CommonsLieApart = (forced : List (List ℕ)) (os : List Contents) (o : Choices) 
 abbrev pub EntryIsFound : Type 0
 EntryIsFound = (forced : List (List ℕ)) (os : List Contents) (o : Choices) (x : Outcome) → o.keep ≢ Nothing → link forced os o ≡ Ok x → IsEntry x.file.symbols o.entry x.file.header.entry_point x.report.entry_bad
 
--- a name that is reported undefined has an entry without address
+-- a name that is reported undefined has a symbol without address
 abbrev pub MissingHaveNoAddress : Type 0
 MissingHaveNoAddress = (forced : List (List ℕ)) (os : List Contents) (o : Choices) (x : Outcome) → o.keep ≢ Nothing → link forced os o ≡ Ok x →
-    (name : List ℕ) → is_among x.report.undefined name ≡ true → (row : Symbol) × (entry_of x.file.symbols name ≡ Some row) × (row.type_bits ≡ 32) × (row.value ≡ 0)
+    (name : List ℕ) → is_among x.report.undefined name ≡ true → (row : Symbol) × (entry_of x.file.symbols name ≡ Some row) × (row.type_bits ≡ 0o40) × (row.value ≡ 0)
 
 -- the file of a link with relocation is an object, which may be added to a session
 abbrev pub PartialMayBeAdded : Type 0
 PartialMayBeAdded = (forced : List (List ℕ)) (os : List Contents) (o : Choices) (x : Outcome) → AllByRecursion IsObject os →
     option_fault o.layout o.relocatable o.keep ≡ None → o.relocatable ≡ true → link forced os o ≡ Ok x → IsObject x.file
 
--- two entries that differ at most by where the segment that they name begins
+-- two symbols that differ at most by where the segment that they name begins
 pub record IsShifted (g h : Header) (bss : ℕ) (s t : Symbol) : Type 0 where
   pub name : s.name ≡ t.name
   pub type_bits : s.type_bits ≡ t.type_bits

@@ -1,4 +1,7 @@
--- What the mentions make of a name, told by the mentions alone.
+-- What the mentions make of a name, told by the mentions alone. (ld(1))
+--
+-- Either one mention is the first that defines the name, and the name is defined as it says; or none defines it, and it is wanted
+-- at the largest size that a mention asks for.
 use Rattle.std.specs.Prelude.{◌≡◌, ◌≢◌, ℕ, ◌≤◌, ◌⊎◌, List, [], ◌∷◌}
 use Rattle.std.specs.List.{AllByRecursion}
 use Rattle.aout_core.specs.declared.symbol.Segment.{Segment}

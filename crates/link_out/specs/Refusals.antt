@@ -1,4 +1,7 @@
--- When a link is refused, and for what, by the objects, the forced names and the options alone.
+-- When a link is refused, and for what, by the objects, the forced names and the options alone. (own choice)
+--
+-- A file has 16 bits for an address, so a program that ends behind 65,535 has none. Its header has 16 bits for the bytes of the
+-- table, which are 12 for a symbol, so a table has at most 5,461. A relocation word has 12 bits for the number of a symbol.
 use Rattle.std.specs.Prelude.{◌≡◌, ◌↔◌, ℕ, ◌+◌, ◌<◌, ◌≤◌, ◌⊎◌, true, false, List, [], ◌∷◌, ◌++◌, filter, length, Some, Err, slice_get}
 use Rattle.std.specs.List.{flat_map, AllByRecursion}
 use Rattle.aout_core.specs.declared.symbol.Symbol.{Symbol}
@@ -21,7 +24,7 @@ use Rattle.link_out.specs.Layouts.{data_base}
 use Rattle.link_out.specs.NameStates.{HasState, IsWanted}
 use Rattle.link_out.specs.KeptSymbols.{is_kept_local}
 use Rattle.link_out.specs.Relocated.{segment_words, segment_relocs}
-use Rattle.link_out.specs.LinkedFrom.{room_for}
+use Rattle.link_out.specs.LinkedTable.{room_for}
 use Rattle.link_out.specs.Link.{link}
 
 -- the commons among these names take so many bytes
@@ -38,7 +41,7 @@ pub record EndsAt (forced : List (List ℕ)) (os : List Contents) (o : Choices) 
 abbrev pub kept_locals : Choices → List Contents → List Symbol
 kept_locals o os = flat_map (λ (k : Contents). filter (is_kept_local o.keep) k.symbols) os
 
--- how many entries the table has of so many locals and externals
+-- how many symbols the table has of so many locals and externals
 abbrev pub entries : Keep → ℕ → ℕ
 entries Nothing count = 0
 entries _ count = count
@@ -66,7 +69,7 @@ pub record HasFarWord (forced : List (List ℕ)) (os : List Contents) (o : Choic
   pub waits : (size ≡ 0) ⊎ (lays_commons o ≡ false)
   pub far : 4095 < length (kept_locals o os) + place_of symbol.name (externals forced os)
 
--- the first of these that applies: the end is over 65,535; there are more than 5,461 entries; a number is too large
+-- the first of these that applies: the end is over 65,535; there are more than 5,461 symbols; a number is too large
 abbrev pub IsRefused : List (List ℕ) → List Contents → Choices → LinkFault → Type 0
 IsRefused forced os o DoesNotFit = (end : ℕ) × EndsAt forced os o end × (65535 < end)
 IsRefused forced os o TooManySymbols = (end : ℕ) × EndsAt forced os o end × (end ≤ 65535) × (5461 < entry_count forced os o)

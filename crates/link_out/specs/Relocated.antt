@@ -1,4 +1,8 @@
--- What becomes of the objects' words, and the entry word, by the header and the external entries of a linked file.
+-- What becomes of the objects' words, and the entry word, by the header and the external symbols of a linked file. (a.out(5), ld(1))
+--
+-- The header of a linked file tells where its segments begin, and its symbols where each name is. A word that refers to a segment
+-- of its object is carried as far as that segment was; a word that refers to a name has the address of the name added; and a word
+-- relative to the pc is less by how far it was carried itself. Nothing else is needed to say what linking does to words.
 use Rattle.std.specs.Prelude.{◌≡◌, ℕ, ◌+◌, ◌-◌, ◌*◌, ◌/◌, ◌≤◌, ◌⊎◌, false, cond, ◌&&◌, eqb, if◌then◌else◌, List, [], ◌∷◌, length, Option, Some, None, slice_get, bytes_eq}
 use Rattle.aout_core.specs.declared.header.Header.{Header}
 use Rattle.aout_core.specs.declared.symbol.Symbol.{Symbol}
@@ -15,8 +19,8 @@ use Rattle.link_session.specs.Starts.{total, own}
 -- where data begins in core, as the magic says
 abbrev pub data_begins : Header → ℕ
 data_begins h =
-    if eqb h.magic 263 then h.text_size
-    else (if eqb h.magic 264 then (h.text_size + 8191) / 8192 * 8192
+    if eqb h.magic 0o407 then h.text_size
+    else (if eqb h.magic 0o410 then (h.text_size + 0o17777) / 0o20000 * 0o20000
     else 0)
 
 -- where a segment begins in core, by the header and the objects' bytes of bss
@@ -32,16 +36,16 @@ carried h os before k DataSeg = minus (begins h (total BssSeg os) DataSeg + tota
 carried h os before k BssSeg = minus (begins h (total BssSeg os) BssSeg + total BssSeg before) (own k BssSeg)
 carried h os before k _ = 0
 
--- the external entry of a name
+-- the external symbol of a name
 abbrev pub entry_of : List Symbol → List ℕ → Option Symbol
 entry_of [] name = None
 entry_of (s ∷ ss) name = cond (is_external s && bytes_eq name s.name) (Some s) (entry_of ss name)
 
--- the address that an entry gives, 0 if it gives none
+-- the address that a symbol gives, 0 if it gives none
 abbrev pub address_in : Symbol → ℕ
 address_in row = cond (eqb (masked_type row) 0) 0 row.value
 
--- the entry that a symbol number of an object names, its name's external entry among these, and the address there
+-- the symbol that a number of an object names, its name's external symbol among these, and the address there
 pub record IsAddressOf (rows : List Symbol) (k : Contents) (number address : ℕ) : Type 0 where
   pub symbol : Symbol
   pub row : Symbol
@@ -86,14 +90,14 @@ pub record HoldsObjects (file : Contents) (os : List Contents) : Type 0 where
 
 -- the type word of an external that is defined there
 abbrev pub external_type : Segment → ℕ
-external_type TextSeg = 34
-external_type DataSeg = 35
-external_type BssSeg = 36
-external_type _ = 33
+external_type TextSeg = 0o42
+external_type DataSeg = 0o43
+external_type BssSeg = 0o44
+external_type _ = 0o41
 
--- the entry word is the address of its name where that has an external entry in text, and else it is 0 and the name is bad
+-- the entry word is the address of its name where that has an external symbol in text, and else it is 0 and the name is bad
 abbrev pub IsEntry : List Symbol → Option (List ℕ) → ℕ → Option (List ℕ) → Type 0
 IsEntry rows None word bad = (word ≡ 0) × (bad ≡ None)
 IsEntry rows (Some name) word bad =
-    ((row : Symbol) × (entry_of rows name ≡ Some row) × (row.type_bits ≡ 34) × (word ≡ row.value) × (bad ≡ None))
-    ⊎ (((row : Symbol) → entry_of rows name ≡ Some row → eqb row.type_bits 34 ≡ false) × (word ≡ 0) × (bad ≡ Some name))
+    ((row : Symbol) × (entry_of rows name ≡ Some row) × (row.type_bits ≡ 0o42) × (word ≡ row.value) × (bad ≡ None))
+    ⊎ (((row : Symbol) → entry_of rows name ≡ Some row → eqb row.type_bits 0o42 ≡ false) × (word ≡ 0) × (bad ≡ Some name))

@@ -1,4 +1,6 @@
--- The names of the ends of text, data and bss.
+-- The names of the ends of text, data and bss. (end(3), ld(1))
+--
+-- A program that refers to one of them and does not define it gets the address from the linker.
 use Rattle.std.specs.Prelude.{ℕ, List, [], ◌∷◌, codes}
 
 abbrev pub etext : List ℕ

@@ -12,16 +12,16 @@ use thiserror::Error;
 /// A change of what is kept. (own choice)
 #[derive(Debug, Drop)]
 pub enum Edit {
-    /// This object, known by this label, is put last.
+    /// This object, known by this label, is appended.
     Add(String, Object),
     /// The last object is taken away.
     Withdraw,
 }
 
-/// The answer to an edit. (own choice)
+/// The reply to an edit. (own choice)
 #[derive(Debug, Drop)]
 pub enum Reply {
-    /// The object was put last.
+    /// The object was appended.
     Added,
     /// The object was not added, for another cause than memory.
     Refused(AddFault),

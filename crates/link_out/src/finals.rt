@@ -2,8 +2,9 @@
 ghost use Rattle.std.specs.Prelude.{◌≡◌, ◌≤◌, ◌+◌, ◌*◌, ◌%◌, bytes_eq, IfOk};
 ghost use Rattle.link_session.specs.Undo.{image_of};
 ghost use Rattle.link_out.specs.Finals.{bound_at, waiting, undefined_name};
-ghost use Rattle.link_out.specs.FromCells.{finals};
-ghost use Rattle.link_out.specs.InOrder.{final_at, finals_from, plan_of};
+ghost use Rattle.link_out.specs.steps.FromCells.{finals};
+ghost use Rattle.link_out.specs.Finals.{final_at};
+ghost use Rattle.link_out.specs.steps.InOrder.{finals_from, plan_of};
 
 use crate::layout::{Bases, common_size};
 use crate::options::Options;
@@ -53,7 +54,7 @@ fn waiting(size: u16) -> Final
     }
 }
 
-/// Whether a name has this spelling.
+/// Whether a name is this text.
 pub(crate) fn is_named(name: &Name, text: &[u8]) -> bool
     ensures { result ≡ bytes_eq name.now text.now }
 {

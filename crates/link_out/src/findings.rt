@@ -1,14 +1,15 @@
 //! What is reported of a link.
 ghost use Rattle.std.specs.Prelude.{◌≡◌, ◌++◌, ◌∷◌, [], not, filter, bytes_eq, position, Some, IfOk, OnOk};
-ghost use Rattle.link_session.specs.Additions.{state_at};
+ghost use Rattle.link_session.specs.Image.{state_at};
 ghost use Rattle.link_session.specs.Labelled.{objects};
 ghost use Rattle.link_session.specs.Mentions.{mentions, externals, is_among};
 ghost use Rattle.link_session.specs.States.{state};
 ghost use Rattle.link_session.specs.Undo.{image_of};
-ghost use Rattle.link_out.specs.FromCells as from_cells;
-ghost use Rattle.link_out.specs.Entries.{text_address, text_address_at, entry_found, unfound};
+ghost use Rattle.link_out.specs.steps.FromCells as from_cells;
+ghost use Rattle.link_out.specs.steps.Entries.{text_address, text_address_at, entry_found, unfound};
 ghost use Rattle.link_out.specs.Reports.{is_undefined, reserved_names, reserved_taken, findings};
-ghost use Rattle.link_out.specs.InOrder.{is_missing, missing_in, plan_of};
+ghost use Rattle.link_out.specs.Reports.{is_missing};
+ghost use Rattle.link_out.specs.steps.InOrder.{missing_in, plan_of};
 ghost use Rattle.link_out.specs.Outcomes.{findings_of};
 
 use crate::finals::{Final, is_named};
@@ -52,7 +53,7 @@ fn state_of(session: &Session, name: &Name) -> State
     }
 }
 
-/// Puts a name last if it is defined, or a common.
+/// Appends a name if it is defined, or a common.
 fn put_if_taken(names: &mut Vec<Name>, session: &Session, name: Name) -> Result<(), AllocError>
     ensures { OnOk result (names.new.items ≡ names.old.items ++ filter (λ n. not (is_undefined (state (mentions session.now.forced (objects session.now.entries)) n))) (name ∷ [])) }
 {
@@ -88,7 +89,7 @@ pub fn is_missing(name: &Name, state: State) -> bool
     is_undefined(state) && !is_reserved(name)
 }
 
-/// Puts a name last if it is reported as undefined.
+/// Appends a name if it is reported as undefined.
 fn put_if_missing(names: &mut Vec<Name>, name: Name, state: State) -> Result<(), AllocError>
     ensures { OnOk result (names.new.items ≡ names.old.items ++ missing_in ((name, state) ∷ [])) }
 {

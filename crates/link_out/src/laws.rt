@@ -31,11 +31,11 @@ pub fn partial_law()
 /// - `fill`: the segments hold the objects' bytes and no others, and bss what commons take besides.
 /// - `definitions`: where no name is multiply defined, each definition of each object is in the table, carried.
 /// - `multiples`: a name is reported so exactly where the objects have two definitions of it that differ.
-/// - `names`: without relocation, and where no name is reported undefined, each external entry gives an address.
-/// - `once`: each external of the objects, and each forced name, has one external entry, in order of first mention.
+/// - `names`: without relocation, and where no name is reported undefined, each external symbol gives an address.
+/// - `once`: each external of the objects, and each forced name, has one external symbol, in order of first mention.
 /// - `room`, `apart`: commons that are laid out lie between data and bss, each on bytes of its own.
 /// - `entry`: the entry word is the address of its name where that is an external in text; else it is 0, and reported.
-/// - `missing`: a name that is reported undefined has an entry without an address.
+/// - `missing`: a name that is reported undefined has a symbol without an address.
 /// - `added`: the file of a link with relocation is an object, so that a session takes it.
 /// - `layouts`: the links of two layouts differ by their magic, and by where data and bss begin, alone.
 pub fn meaning_law()
@@ -73,11 +73,11 @@ pub fn beyond_law()
 {}
 
 /// What linking is: the relation `IsLinkedFrom` of specs/LinkedFrom, told by the objects, the file and the report alone,
-/// holds exactly of what a link answers, and of one file and report at most. (ld(1), a.out(5))
+/// holds exactly of what a link gives, and of one file and report at most. (ld(1), a.out(5))
 ///
 /// - `exactly`: a link of objects is answered with a file and a report exactly where these are linked from them.
 /// - `once`: no two files or reports are linked from the same objects, forced names and options.
-/// - `refused`: a link of objects is refused exactly where its end, its entries or a word's number are too large, with
+/// - `refused`: a link of objects is refused exactly where its end, its table or a word's number is too large, with
 ///   the first of these, told by the objects, the forced names and the options alone.
 pub fn linking_law()
     ensures exactly { LinkedExactly }

@@ -9,7 +9,7 @@ ghost use Rattle.link_session.specs.Undo.{image_of};
 ghost use Rattle.aout_core.specs.declared.symbol.Segment.TheVariants.{TextSeg, DataSeg};
 ghost use Rattle.link_out.specs.Layouts.{bases, data_base};
 ghost use Rattle.link_out.specs.Plans.{common_size, commons_laid};
-ghost use Rattle.link_out.specs.InOrder.{plan_of, room_in};
+ghost use Rattle.link_out.specs.steps.InOrder.{plan_of, room_in};
 
 use crate::options::{Layout, Options};
 use link_session::{Session, State};
@@ -130,6 +130,7 @@ pub(crate) fn link_bases(session: &Session, options: &Options) -> Bases
     ensures value { result ≡ (plan_of session.now options.now).at }
     ensures text { result.text_end ≤ 65535 }
 {
+    // for its clauses: what the session keeps are objects, and it is within its limits
     let _objects = session.entries();
     segment_bases(
         options.layout(),

@@ -3,7 +3,8 @@ ghost use Rattle.std.specs.Prelude.{◌≡◌, ◌↔◌, ◌++◌, IsErr, IsTru
 ghost use Rattle.std.specs.List.{flat_map};
 ghost use Rattle.aout_core.specs.Wires.{Puts};
 ghost use Rattle.link_out.specs.Reports.{report_text, status_of, entry_lines, undefined_lines};
-ghost use Rattle.link_out.specs.Outcomes.{findings_of, is_silent, multiple_lines};
+ghost use Rattle.link_out.specs.Outcomes.{findings_of};
+ghost use Rattle.link_out.specs.steps.ReportParts.{is_silent, multiple_lines};
 ghost use Rattle.link_out.specs.declared.linked.LinkFault.TheVariants.{Memory};
 
 use aout_core::{DeviceFault, File, Name, Wire};
@@ -23,7 +24,7 @@ pub struct Linked {
 /// What is reported of a link. Its lines stand in the order of the fields. (ld(1))
 #[derive(Debug, Drop)]
 pub struct Report {
-    /// A name for each entry that defines it otherwise than its first definition does.
+    /// A name for each symbol that defines it otherwise than its first definition does.
     pub multiples: Vec<Name>,
     /// Those of `_etext`, `_edata` and `_end` that the objects define, or make commons.
     pub reserved: Vec<Name>,
@@ -39,7 +40,7 @@ pub enum LinkFault {
     /// 1: the end of bss would pass 65,535.
     #[error("does not fit")]
     DoesNotFit,
-    /// 2: more than 5,461 entries would be written.
+    /// 2: more than 5,461 symbols would be written.
     #[error("too many symbols")]
     TooManySymbols,
     /// 3: a relocation word would need a symbol number over 4,095.
@@ -93,7 +94,7 @@ impl Report {
 
     /// Writes the report: a line `NAME: Multiply defined` for each of `multiples` and `reserved`, the line
     /// `NAME: Entry point not in text`, and the line `Undefined:` with the undefined names below it, one a line.
-    /// On a fault a front of this went out. (own choice)
+    /// On a fault a prefix of this went out. (own choice)
     pub fn write<W: Write>(&self, out: &mut Wire<W>) -> Result<(), DeviceFault>
         ensures fault { IsErr result ↔ IsTrue out.new.has_failed }
         ensures latched { IsTrue out.old.has_failed → (out.new ≡ out.old) }

@@ -7,11 +7,11 @@ ghost use Rattle.aout_core.specs.Parts.{contents_of};
 ghost use Rattle.link_session.specs.Labelled.{objects};
 ghost use Rattle.link_session.specs.Sessions.{IsObject};
 ghost use Rattle.link_out.specs.Layouts.{magic_of};
-ghost use Rattle.link_out.specs.FromCells as from_cells;
+ghost use Rattle.link_out.specs.steps.FromCells as from_cells;
 ghost use Rattle.link_out.specs.Reports.{entry_word};
 ghost use Rattle.link_out.specs.Link.{link, link_by, linked_file};
-ghost use Rattle.link_out.specs.InOrder.{plan_of};
-ghost use Rattle.link_out.specs.Passes.{header_for, IsPassed};
+ghost use Rattle.link_out.specs.steps.InOrder.{plan_of};
+ghost use Rattle.link_out.specs.steps.Passes.{header_for, IsPassed};
 ghost use Rattle.link_out.specs.Outcomes.{IsLinkOf};
 
 use crate::finals::{Final, finals_of};
@@ -100,6 +100,7 @@ fn parts_of(
     ensures fits { IfOk result (λ parts. Fits (contents_of parts)) }
     ensures object { options.now.relocatable ≡ true → IfOk result (λ parts. IsWellFormed (contents_of parts)) }
 {
+    // for its clauses: what the session keeps are objects, and it is within its limits
     let _objects = session.entries();
     let text_cells = session.text_cells();
     let data_cells = session.data_cells();
@@ -136,7 +137,7 @@ fn locals_passed(session: &Session, options: &Options, bases: &Bases) -> Result<
 /// object, which can be linked again. The session is only read. (ld(1) and a.out(5); the limits are an own choice)
 ///
 /// Errors, the first that applies: `DoesNotFit`, 1, where the end of bss would pass 65,535; `TooManySymbols`, 2,
-/// where more than 5,461 entries would be written; `SymbolNumber`, 3, where a relocation word would need a number
+/// where more than 5,461 symbols would be written; `SymbolNumber`, 3, where a relocation word would need a number
 /// over 4,095; `Memory`, 4, where there is no room for file and report.
 pub fn finish(alloc: Global, session: &Session, options: &Options) -> Result<Linked, LinkFault>
     ensures value { IsLinkOf result (link session.now.forced (objects session.now.entries) options.now) }

@@ -17,7 +17,7 @@ pub enum Layout {
     Split,
 }
 
-/// Which entries of the symbol table are written. (ld(1))
+/// Which symbols of the symbol table are written. (ld(1))
 #[derive(Clone, Copy, Debug, PartialEq, Eq)]
 pub enum Keep {
     /// All locals, and the externals.
@@ -26,7 +26,7 @@ pub enum Keep {
     NotL,
     /// The externals (the option `-x`).
     Externals,
-    /// No entry at all (the option `-s`).
+    /// No symbol at all (the option `-s`).
     Nothing,
 }
 

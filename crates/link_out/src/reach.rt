@@ -3,9 +3,9 @@ ghost use Rattle.std.specs.Prelude.{◌≡◌, true, length, slice_get};
 ghost use Rattle.std.specs.List.{list_any};
 ghost use Rattle.link_session.specs.Labelled.{objects};
 ghost use Rattle.link_session.specs.Undo.{image_of};
-ghost use Rattle.link_out.specs.InOrder.{plan_of};
+ghost use Rattle.link_out.specs.steps.InOrder.{plan_of};
 ghost use Rattle.link_out.specs.Tables.{local_rows, has_far_word};
-ghost use Rattle.link_out.specs.Reach.{kept_bound, kept_bound_of, is_out};
+ghost use Rattle.link_out.specs.steps.Reach.{kept_bound, kept_bound_of, is_out};
 
 use crate::options::Options;
 use crate::relocs::waits_far;
@@ -65,6 +65,7 @@ pub(crate) fn has_far_word(session: &Session, options: &Options, locals: u16) ->
     requires locals { locals ≡ length (local_rows (plan_of session.now options.now) (objects session.now.entries)) }
     ensures { result ≡ has_far_word (plan_of session.now options.now) (objects session.now.entries) }
 {
+    // for its clauses: what the session keeps are objects, and it is within its limits
     let _entries = session.entries();
     let commons = options.lays_commons();
     let in_text = is_any_out(session, commons, locals, session.text_cells());

@@ -3,7 +3,8 @@ ghost use Rattle.std.specs.Prelude.{◌≡◌, true, map, IfOk};
 ghost use Rattle.aout_core.specs.WellFormed.{IsWellFormed};
 ghost use Rattle.link_session.specs.Edits.{addition, withdrawal, answers};
 ghost use Rattle.link_session.specs.Sessions.{labelled};
-ghost use Rattle.link_out.specs.Runs.{change_of, link_after, IsDone, IsReplied, AreDone, IsRunOf};
+ghost use Rattle.link_out.specs.Runs.{change_of, link_after, IsRunOf};
+ghost use Rattle.link_out.specs.steps.Replies.{IsDone, IsReplied, AreDone};
 
 use crate::edit::{Edit, Reply, RunFault};
 use crate::linked::Linked;

@@ -5,10 +5,10 @@ ghost use Rattle.link_session.specs.Labelled.{objects};
 ghost use Rattle.link_session.specs.Mentions.{mentions};
 ghost use Rattle.link_session.specs.Undo.{image_of};
 ghost use Rattle.link_out.specs.Finals.{type_of};
-ghost use Rattle.link_out.specs.FromCells as from_cells;
+ghost use Rattle.link_out.specs.steps.FromCells as from_cells;
 ghost use Rattle.link_out.specs.Plans.{Plan};
 ghost use Rattle.link_out.specs.Tables.{begins_with_l, keeps, is_kept_local, local_rows, table};
-ghost use Rattle.link_out.specs.Rows.{moves_by, value_moved, symbol_moved, rows_in, count_in, kept_count, row_for, rows_for};
+ghost use Rattle.link_out.specs.steps.Rows.{moves_by, value_moved, symbol_moved, rows_in, count_in, kept_count, row_for, rows_for};
 
 use crate::finals::Final;
 use crate::layout::Bases;
@@ -18,7 +18,7 @@ use aout_core::{Name, Segment, Symbol};
 use link_session::{Entry, Session, Shifts, Starts};
 use std::alloc::{AllocError, Global};
 
-/// The most entries of a table: one more, of 12 bytes each, would not fit the size in the header.
+/// The most symbols of a table: one more, of 12 bytes each, would not fit the size in the header.
 const MOST_ROWS: usize = 5461;
 
 /// How far the segments of an object move, modulo 65,536.
@@ -85,14 +85,14 @@ fn keeps(keep: Keep, name: &Name) -> bool
     }
 }
 
-/// Whether the entry is a local that is kept.
+/// Whether the symbol is a local that is kept.
 fn is_kept_local(keep: Keep, symbol: &Symbol) -> bool
     ensures { result ≡ is_kept_local keep symbol.now }
 {
     !symbol.is_external() && keeps(keep, &symbol.name)
 }
 
-/// How many of the entries are locals that are kept.
+/// How many of the symbols are locals that are kept.
 fn count_kept(keep: Keep, symbols: &[Symbol]) -> usize
     ensures { result ≡ count_in keep symbols.now }
 {
@@ -134,7 +134,7 @@ pub(crate) fn locals_within(session: &Session, keep: Keep) -> Option<u16>
     count_locals(session.entries(), keep, session.external_count())
 }
 
-/// Puts the kept locals of an object last.
+/// Appends the kept locals of an object.
 fn put_locals_of(
     rows: &mut Vec<Symbol>,
     keep: Keep,
@@ -196,7 +196,7 @@ fn row_for(name: Name, last: &Final) -> Symbol
     }
 }
 
-/// Puts the rows of the externals last, by first mention.
+/// Appends the rows of the externals, by first mention.
 fn put_externals(
     rows: &mut Vec<Symbol>,
     session: &Session,

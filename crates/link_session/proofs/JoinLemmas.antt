@@ -10,14 +10,15 @@ use Rattle.link_session.specs.Mentions.{new_names}
 use Rattle.link_session.specs.Image.{Image}
 use Rattle.link_session.specs.declared.cell.Cell.{Cell}
 use Rattle.link_session.specs.declared.mark.Mark.{Mark}
-use Rattle.link_session.specs.Chains.{Link}
-use Rattle.link_session.specs.Settled.{settled_over, places_of, IsCovered}
-use Rattle.link_session.specs.Threads.{Threads, IsThreaded, cut_heads, bound_heads, next_threads, undo_threads}
-use Rattle.link_session.specs.Restores.{Restores, LeavesMarks, TakesBack}
-use Rattle.link_session.specs.Counts.{NotesBound}
+use Rattle.link_session.specs.steps.Chains.{Link}
+use Rattle.link_session.specs.steps.Settled.{settled_over, places_of, IsCovered}
+use Rattle.link_session.specs.steps.Threads.{Threads, IsThreaded, cut_heads, bound_heads, next_threads, undo_threads}
+use Rattle.link_session.specs.steps.Restores.{Restores, LeavesMarks, TakesBack}
+use Rattle.link_session.specs.steps.Counts.{NotesBound}
 use Rattle.link_session.specs.Undo.{put_all_back, undo}
-use Rattle.link_session.specs.Fields.{sizes_of, cut_by, with_cells, with_heads, with_own_cells, with_own_threads, threads_by, with_heads_back}
-use Rattle.link_session.specs.Additions.{Named, all_mentioned, all_clashes, mention_by, mentions_by, state_marks, settled, new_count, next_limit, next_shifts, next_mentions, next_named, entered, joined_image}
+use Rattle.link_session.specs.steps.Fields.{sizes_of, cut_by, with_cells, with_heads, with_own_cells, with_own_threads, threads_by, with_heads_back}
+use Rattle.link_session.specs.Image.{Named}
+use Rattle.link_session.specs.steps.Additions.{all_mentioned, all_clashes, mention_by, mentions_by, state_marks, settled, new_count, next_limit, next_shifts, next_mentions, next_named, entered, joined_image}
 use Rattle.link_session.proofs.MentionedLemmas.{length-all_mentioned}
 use Rattle.link_session.proofs.LimitLemmas.{new_count-le}
 use Rattle.link_session.proofs.TotalLemmas.{within_limit}

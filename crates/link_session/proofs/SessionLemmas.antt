@@ -16,12 +16,13 @@ use Rattle.link_session.specs.Image.{Image, image, named_states}
 use Rattle.link_session.specs.Edits.{limit_passed, refusal}
 use Rattle.link_session.specs.Undo.{put_all_back, undo, UndoesImage, IsJournal}
 use Rattle.link_session.specs.Sessions.{newest, Adds, IsObject}
-use Rattle.link_session.specs.Fields.{sizes_of, cut_by, marks_in, sizes_in, sizes_before, threads_by, with_heads_back, IsBehind, IsSmall, IsSession}
-use Rattle.link_session.specs.Additions.{all_mentioned, settled, next_limit, next_named, joined_image}
-use Rattle.link_session.specs.Settled.{IsCovered}
-use Rattle.link_session.specs.Chains.{Link}
-use Rattle.link_session.specs.Threads.{Threads, IsThreaded, KeepsThreads, next_threads, next_texts, next_datas}
-use Rattle.link_session.specs.Restores.{TakesBack}
+use Rattle.link_session.specs.steps.Fields.{sizes_of, cut_by, sizes_in, sizes_before, threads_by, with_heads_back, IsBehind, IsSmall, IsSession}
+use Rattle.link_session.specs.Undo.{marks_in}
+use Rattle.link_session.specs.steps.Additions.{all_mentioned, settled, next_limit, next_named, joined_image}
+use Rattle.link_session.specs.steps.Settled.{IsCovered}
+use Rattle.link_session.specs.steps.Chains.{Link}
+use Rattle.link_session.specs.steps.Threads.{Threads, IsThreaded, KeepsThreads, next_threads, next_texts, next_datas}
+use Rattle.link_session.specs.steps.Restores.{TakesBack}
 use Rattle.link_session.proofs.EarlierLemmas.{with_earlier-append}
 use Rattle.link_session.proofs.JournalLemmas.{journal_push, journal_pop, journal_empty}
 use Rattle.link_session.proofs.MentionedLemmas.{keys-named_states, all_mentioned-named_states}

@@ -9,12 +9,5 @@ pub mod Image
 pub mod Edits
 pub mod Undo
 pub mod Bounds
-pub mod Updates
-pub mod Additions
 pub mod Sessions
-pub mod Chains
-pub mod Settled
-pub mod Counts
-pub mod Threads
-pub mod Restores
-pub mod Fields
+pub mod steps

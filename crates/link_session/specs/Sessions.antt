@@ -1,4 +1,7 @@
--- What the calls of a session do to what it keeps.
+-- What the calls of a session do to what it keeps. (own choice)
+--
+-- A session keeps forced names, objects with labels, and a journal. `add` appends an object and its marks, `withdraw` takes the
+-- last ones away. These records say so, and that the marks undo their addition.
 use Rattle.std.specs.Prelude.{◌≡◌, ℕ, ◌≤◌, List, [], ◌∷◌, ◌++◌, length, Option, Some, None, String, string_bytes}
 use Rattle.std.specs.List.{AllByRecursion}
 use Rattle.std.specs.declared.alloc.Global.{Global}
@@ -23,7 +26,7 @@ nothing_kept forced = record { forced = forced; entries = []; journal = [] }
 abbrev pub labelled : String Global → Contents → Labelled
 labelled label object = record { label = string_bytes label; object = object }
 
--- an object was put last, and its marks take it back: they lie inside the old image, and are no more than they need be
+-- an object was appended, and its marks take it back: they lie inside the old image, and are no more than they need be
 pub record Adds (old new : Kept) (e : Labelled) : Type 0 where
   pub forced : new.forced ≡ old.forced
   pub entries : new.entries ≡ old.entries ++ e ∷ []
@@ -40,7 +43,7 @@ pub record Withdraws (old new : Kept) (e : Labelled) : Type 0 where
   pub marks : List Mark
   pub journal : old.journal ≡ new.journal ++ marks ∷ []
 
--- a limit is the cause where one is passed, and else want of memory
+-- a limit is the cause where one is passed, and else that there was no memory
 abbrev pub IsCause : Option AddFault → AddFault → Type 0
 IsCause None cause = cause ≡ Memory
 IsCause (Some limit) cause = cause ≡ limit

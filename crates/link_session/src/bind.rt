@@ -1,11 +1,11 @@
 //! The cells that wait for names, bound once the names are defined.
 ghost use Rattle.std.specs.Prelude.{◌≡◌, ◌*◌, ◌≤◌, ◌++◌, length, slice_set, map, None, OnOk, OnErr, take};
-ghost use Rattle.link_session.specs.Chains.{bound_one, cell_at, EndsWithin, IsWithin, BindsText, BindsData, NotesChain, AreChained, bound_if};
-ghost use Rattle.link_session.specs.Restores.{LeavesMarks};
-ghost use Rattle.link_session.specs.Additions.{place_in, state_for};
-ghost use Rattle.link_session.specs.Settled.{settled_at, settled_over, places_of};
-ghost use Rattle.link_session.specs.Counts.{NotesWaiting, NotesBound};
-ghost use Rattle.link_session.specs.Threads.{cut_by_state, cut_heads};
+ghost use Rattle.link_session.specs.steps.Chains.{bound_one, cell_at, EndsWithin, IsWithin, BindsText, BindsData, NotesChain, AreChained, bound_if};
+ghost use Rattle.link_session.specs.steps.Restores.{LeavesMarks};
+ghost use Rattle.link_session.specs.steps.Additions.{place_in, state_for};
+ghost use Rattle.link_session.specs.steps.Settled.{settled_at, settled_over, places_of};
+ghost use Rattle.link_session.specs.steps.Counts.{NotesWaiting, NotesBound};
+ghost use Rattle.link_session.specs.steps.Threads.{cut_by_state, cut_heads};
 
 use crate::cell::Cell;
 use crate::chain::{Link, Links, cut_chain, link_at, link_in};
@@ -42,7 +42,7 @@ struct Awaited<'a> {
     name: Name,
 }
 
-/// The entries whose names cells may wait for.
+/// The symbols whose names cells may wait for.
 #[derive(Clone, Copy)]
 pub(crate) struct Mentioned<'a> {
     pub(crate) text_links: &'a [Link],
@@ -186,7 +186,7 @@ fn bind_defined(
     }
 }
 
-/// Binds the chains of the names that these entries mention and that are defined: marks their cells, binds them, and
+/// Binds the chains of the names that these symbols mention and that are defined: marks their cells, binds them, and
 /// cuts the chains. After an error the marks bring back what was bound.
 pub(crate) fn bind_names(
     text_cells: &mut [Cell],

@@ -1,7 +1,7 @@
 //! Chains of the cells that wait for one name: a head names the first, and beside each cell a link names the next.
 ghost use Rattle.std.specs.Prelude.{◌≡◌, ◌+◌, ◌<◌, ◌≤◌, ◌++◌, ◌∷◌, [], length, slice_index_or, slice_set, None, Some, vec_len, vec_capacity};
-ghost use Rattle.link_session.specs.Chains.{link_at, head_for, with_head, unthreaded};
-ghost use Rattle.link_session.specs.Threads.{grown_heads};
+ghost use Rattle.link_session.specs.steps.Chains.{link_at, head_for, with_head, unthreaded};
+ghost use Rattle.link_session.specs.steps.Threads.{grown_heads};
 
 use crate::cell::{Cell, Target};
 use crate::mark::Place;
@@ -77,7 +77,7 @@ pub(crate) fn set_head(heads: &mut [Link], target: Target, link: Link)
     }
 }
 
-/// Puts a cell in front of the chain that it waits in, if it waits, and its link last. There is room for the link.
+/// Puts a cell in front of the chain that it waits in, if it waits, and appends its link. There is room for the link.
 pub(crate) fn thread(links: &mut Vec<Link>, heads: &mut [Link], target: Target, place: Place)
     requires { vec_len links.old < vec_capacity links.old }
     ensures links { links.new.items ≡ links.old.items ++ head_for target heads.old ∷ [] }

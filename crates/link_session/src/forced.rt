@@ -22,7 +22,8 @@ impl Model for Forced {
 
     ghost Value = { List (List ℕ) };
 
-    ghost use Rattle.link_session.specs.ForcedNames.{forced_of, IsForced, slots_of, slots_back};
+    ghost use Rattle.link_session.specs.ForcedNames.{forced_of};
+    ghost use Rattle.link_session.specs.steps.ForcedSlots.{IsForced, slots_of, slots_back};
 
     ghost view = { forced_of };
 
@@ -44,7 +45,7 @@ impl Forced {
         }
     }
 
-    /// Puts a name last, unless it is there already, and answers whether it is there now: false means that 64 other
+    /// Appends a name, unless it is there already, and returns whether it is there now: false means that 64 other
     /// names are, and then nothing changes. (own choice)
     pub fn push(&mut self, name: Name) -> bool
         ensures answer { result ≡ takes self.old name }

@@ -4,13 +4,13 @@ ghost use Rattle.indexmap.specs.IndexMap.{spare};
 ghost use Rattle.aout_core.specs.declared.symbol.Segment.TheVariants as segments;
 ghost use Rattle.aout_core.specs.Contents.{Fits};
 ghost use Rattle.aout_core.specs.WellFormed.{is_external, IsWellFormed};
-ghost use Rattle.link_session.specs.Fields.{image_in, threads_in, with_cells, with_heads, with_own_cells, with_own_threads, KeepsRoom, IsSmall};
-ghost use Rattle.link_session.specs.Chains.{AreChained};
-ghost use Rattle.link_session.specs.Restores.{LeavesMarks, TakesBack};
-ghost use Rattle.link_session.specs.Settled.{settled_over, places_of, IsCovered};
-ghost use Rattle.link_session.specs.Threads.{cut_heads, next_threads, IsThreaded};
-ghost use Rattle.link_session.specs.Counts.{NotesBound};
-ghost use Rattle.link_session.specs.Additions.{joined_image, next_limit};
+ghost use Rattle.link_session.specs.steps.Fields.{image_in, threads_in, with_cells, with_heads, with_own_cells, with_own_threads, KeepsRoom, IsSmall};
+ghost use Rattle.link_session.specs.steps.Chains.{AreChained};
+ghost use Rattle.link_session.specs.steps.Restores.{LeavesMarks, TakesBack};
+ghost use Rattle.link_session.specs.steps.Settled.{settled_over, places_of, IsCovered};
+ghost use Rattle.link_session.specs.steps.Threads.{cut_heads, next_threads, IsThreaded};
+ghost use Rattle.link_session.specs.steps.Counts.{NotesBound};
+ghost use Rattle.link_session.specs.steps.Additions.{joined_image, next_limit};
 
 use crate::bind::{Mentioned, bind_names};
 use crate::chain::grow_heads;
@@ -74,7 +74,7 @@ fn make_room(image: &mut Merged, marks: &mut Vec<Mark>, file: &File) -> Result<(
     marks.reserve(entries)
 }
 
-/// Puts the object's own cells and bss last, behind heads for its new names. There is room for them.
+/// Appends the object's own cells and bss, behind heads for its new names. There is room for them.
 fn settle(image: &mut Merged, file: &File, shifts: &Shifts)
     requires names { length image.old.externals.entries ≤ 65535 }
     requires bss { image.old.bss_total + file.now.header.bss_size ≤ 65534 }
@@ -148,7 +148,7 @@ fn bind_waiting(
     )
 }
 
-/// Joins an object to the image, and answers the marks of what it overwrote. An error leaves the image as it was.
+/// Joins an object to the image, and returns the marks of what it overwrote. An error leaves the image as it was.
 pub(crate) fn join(
     image: &mut Merged,
     object: &Object,

@@ -5,8 +5,8 @@ ghost use Rattle.std.specs.Map.{keys_of};
 ghost use Rattle.aout_core.specs.WellFormed.{is_external};
 ghost use Rattle.link_session.specs.Mentions.{is_among};
 ghost use Rattle.link_session.specs.Sessions.{IsObject};
-ghost use Rattle.link_session.specs.Fields.{image_in, IsSmall};
-ghost use Rattle.link_session.specs.Additions.{external_names, new_count, next_limit};
+ghost use Rattle.link_session.specs.steps.Fields.{image_in, IsSmall};
+ghost use Rattle.link_session.specs.steps.Additions.{external_names, new_count, next_limit};
 
 use crate::entry::AddFault;
 use crate::mention::count_external;
@@ -19,14 +19,14 @@ const MOST_BYTES: usize = 65_534;
 /// The most external names.
 const MOST_NAMES: usize = 65_535;
 
-/// Whether the entry is external and has the name.
+/// Whether the symbol is external and has the name.
 fn is_mention_of(symbol: &Symbol, name: &Name) -> bool
     ensures { result ≡ (is_external symbol.now && bytes_eq name.now symbol.now.name) }
 {
     symbol.is_external() && *name == symbol.name
 }
 
-/// Whether an external entry among these has the name.
+/// Whether an external symbol among these has the name.
 fn mentions(symbols: &[Symbol], name: &Name) -> bool
     ensures { result ≡ list_any (λ s. is_external s && bytes_eq name.now s.name) symbols.now }
 {
@@ -44,14 +44,14 @@ fn contains(externals: &Externals, name: &Name) -> bool
     externals.contains_key(name)
 }
 
-/// Whether an entry is the first to mention its name, behind these.
+/// Whether a symbol is the first to mention its name, behind these.
 fn is_new(externals: &Externals, before: &[Symbol], symbol: &Symbol) -> bool
     ensures { result ≡ (is_external symbol.now && not (is_among (keys_of externals.now.entries ++ external_names before.now) symbol.now.name)) }
 {
     symbol.is_external() && !(contains(externals, &symbol.name) || mentions(before, &symbol.name))
 }
 
-/// How many names the entries would add. This takes time by the square of their number, and no memory.
+/// How many names the symbols would add. This takes time by the square of their number, and no memory.
 fn count_new(externals: &Externals, symbols: &[Symbol]) -> usize
     requires { 12 * length symbols.now < 2 ^ 16 }
     ensures { result ≡ new_count (keys_of externals.now.entries) symbols.now }

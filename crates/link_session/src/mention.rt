@@ -3,8 +3,8 @@ ghost use Rattle.std.specs.Prelude.{◌≡◌, ◌+◌, ◌*◌, ◌^◌, ◌≤
 ghost use Rattle.indexmap.specs.IndexMap.{spare};
 ghost use Rattle.aout_core.specs.WellFormed.{is_external, segment_of};
 ghost use Rattle.link_session.specs.Mentions.{is_among};
-ghost use Rattle.link_session.specs.Updates.{updated, clashes};
-ghost use Rattle.link_session.specs.Additions.{definition_by_shift, mentioned, said, clash, state_mark, place_in, state_for, changes, statement_by, mentions_by, all_mentioned, state_marks, all_clashes};
+ghost use Rattle.link_session.specs.steps.Updates.{updated, clashes};
+ghost use Rattle.link_session.specs.steps.Additions.{definition_by_shift, mentioned, said, clash, state_mark, place_in, state_for, changes, statement_by, mentions_by, all_mentioned, state_marks, all_clashes};
 
 use crate::mark::Mark;
 use crate::merged::Externals;
@@ -31,21 +31,21 @@ pub(crate) fn look_up(externals: &Externals, name: &Name) -> (usize, State)
     }
 }
 
-/// A name, and what an entry says of it.
+/// A name, and what a symbol says of it.
 #[derive(Clone, Copy, Debug)]
 struct Claim {
     name: Name,
     says: State,
 }
 
-/// The entries of an object's symbol table, and what is added to their addresses.
+/// The symbols of an object's symbol table, and what is added to their addresses.
 #[derive(Clone, Copy)]
 pub(crate) struct Table<'a> {
     pub(crate) symbols: &'a [Symbol],
     pub(crate) shifts: Shifts,
 }
 
-/// What an entry says of its name.
+/// What a symbol says of its name.
 fn statement(symbol: &Symbol, shifts: &Shifts) -> State
     ensures { result ≡ statement_by shifts.now (segment_of symbol.now) symbol.now.value }
 {
@@ -131,7 +131,7 @@ pub(crate) fn mention(externals: &mut Externals, name: Name, says: State)
     externals.insert(name, updated(was, says)).unwrap();
 }
 
-/// Enters an external entry of an object. There is room for it; `kept` names were there before the object.
+/// Enters an external symbol of an object. There is room for it; `kept` names were there before the object.
 fn enter(
     externals: &mut Externals,
     multiples: &mut Vec<Name>,
@@ -159,7 +159,7 @@ fn enter(
     externals.insert(name, updated(was, says)).unwrap();
 }
 
-/// How many of the entries are external.
+/// How many of the symbols are external.
 pub(crate) fn count_external(symbols: &[Symbol]) -> usize
     requires { 12 * length symbols.now < 2 ^ 16 }
     ensures { result ≡ length (filter is_external symbols.now) }
@@ -173,7 +173,7 @@ pub(crate) fn count_external(symbols: &[Symbol]) -> usize
     count
 }
 
-/// Enters all external entries of an object, in order. There is room for them; `kept` names were there before.
+/// Enters all external symbols of an object, in order. There is room for them; `kept` names were there before.
 pub(crate) fn enter_all(
     externals: &mut Externals,
     multiples: &mut Vec<Name>,

@@ -1,6 +1,6 @@
 //! The merged image, and how an addition is taken back.
 ghost use Rattle.std.specs.Prelude.{◌≡◌, ◌*◌, ◌+◌, ◌-◌, ◌<◌, ◌≤◌, ◌∷◌, ◌++◌, [], length, take, slice_set};
-ghost use Rattle.link_session.specs.Fields.{image_in, threads_in, no_threads, sizes_of, cut_by, IsBehind, unthreaded_behind, threads_by, with_heads_back};
+ghost use Rattle.link_session.specs.steps.Fields.{image_in, threads_in, no_threads, sizes_of, cut_by, IsBehind, unthreaded_behind, threads_by, with_heads_back};
 ghost use Rattle.link_session.specs.Undo.{put_back, put_all_back, with_state};
 
 use crate::cell::Cell;

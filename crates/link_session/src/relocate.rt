@@ -3,9 +3,10 @@ ghost use Rattle.std.specs.Prelude.{◌≡◌, ◌+◌, ◌≤◌, ◌++◌, ◌
 ghost use Rattle.aout_core.specs.WellFormed.{kind_of, symbol_number};
 ghost use Rattle.link_session.specs.Starts.{no_starts, next_starts, shifts_at};
 ghost use Rattle.link_session.specs.Cells.{name_in, name_target, offset_in, segment_target};
-ghost use Rattle.link_session.specs.Fields.{image_in};
-ghost use Rattle.link_session.specs.Additions.{next_shifts, shift_by, referred, own_cell, own_cells, place_at, state_for, place_in};
-ghost use Rattle.link_session.specs.Chains.{threaded};
+ghost use Rattle.link_session.specs.steps.Fields.{image_in};
+ghost use Rattle.link_session.specs.steps.Additions.{next_shifts, referred, own_cell, own_cells, place_at, state_for, place_in};
+ghost use Rattle.link_session.specs.Starts.{shift_by};
+ghost use Rattle.link_session.specs.steps.Chains.{threaded};
 
 use crate::cell::{Cell, Target};
 use crate::chain::{Link, thread};
@@ -187,7 +188,7 @@ fn place_at(segment: Segment, index: u16) -> Place
     }
 }
 
-/// Puts the cells of an object's words last, each in front of the chain that it waits in. There is room for them and
+/// Appends the cells of an object's words, each in front of the chain that it waits in. There is room for them and
 /// for their links.
 pub(crate) fn append_cells(
     cells: &mut Vec<Cell>,

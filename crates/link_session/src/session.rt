@@ -8,11 +8,11 @@ ghost use Rattle.link_session.specs.Labelled.{objects};
 ghost use Rattle.link_session.specs.Mentions.{externals, forced_mention};
 ghost use Rattle.link_session.specs.Edits.{limit_passed, refusal};
 ghost use Rattle.link_session.specs.Undo.{image_of, IsJournal};
-ghost use Rattle.link_session.specs.Fields.{image_in, threads_in, IsSmall};
-ghost use Rattle.link_session.specs.Threads.{next_threads, IsThreaded};
-ghost use Rattle.link_session.specs.Settled.{IsCovered};
-ghost use Rattle.link_session.specs.Restores.{TakesBack};
-ghost use Rattle.link_session.specs.Additions.{all_mentioned, joined_image, next_limit};
+ghost use Rattle.link_session.specs.steps.Fields.{image_in, threads_in, IsSmall};
+ghost use Rattle.link_session.specs.steps.Threads.{next_threads, IsThreaded};
+ghost use Rattle.link_session.specs.steps.Settled.{IsCovered};
+ghost use Rattle.link_session.specs.steps.Restores.{TakesBack};
+ghost use Rattle.link_session.specs.steps.Additions.{all_mentioned, joined_image, next_limit};
 ghost use Rattle.link_session.specs.Sessions.{nothing_kept, labelled, newest, Adds, Withdraws, IsCause, IsObject};
 
 use crate::cell::Cell;
@@ -66,7 +66,8 @@ impl Model for Session {
     ghost Value = { Kept };
 
     ghost use Rattle.std.specs.Prelude.{map};
-    ghost use Rattle.link_session.specs.Fields.{image_in, marks_in, threads_in, IsSession};
+    ghost use Rattle.link_session.specs.steps.Fields.{image_in, threads_in, IsSession};
+    ghost use Rattle.link_session.specs.Undo.{marks_in};
 
     ghost view = { λ s. record { forced = s.forced; entries = s.entries.items; journal = map marks_in s.steps.items } };
 
@@ -129,7 +130,7 @@ impl Session {
         self.forced.names().len() as u16
     }
 
-    /// Puts an object last, and joins it to the merged image: words that refer to names which are defined, before or
+    /// Appends an object, and joins it to the merged image: words that refer to names which are defined, before or
     /// now, are bound. (ld(1); the limits are an own choice)
     ///
     /// Errors, the first that applies: `TextFull`, 1, `DataFull`, 2, and `BssFull`, 3, where that segment would pass
@@ -175,7 +176,7 @@ impl Session {
         }
     }
 
-    /// Takes the object added last out again, and answers its label and the object: the image is then that of the
+    /// Takes the object added last out again, and returns its label and the object: the image is then that of the
     /// others. `None` where no object is there. (own choice)
     pub fn withdraw(&mut self) -> Option<(String, Object)>
         ensures none { IsNone result → (self.old.entries ≡ []) × (self.new ≡ self.old) }
@@ -247,7 +248,7 @@ impl Session {
         }
     }
 
-    /// The names that are defined more than once, and otherwise than at first: one for each such entry.
+    /// The names that are defined more than once, and otherwise than at first: one for each such symbol.
     pub fn multiples(&self) -> &[Name]
         ensures { result.now ≡ (image_of self.now).multiples }
     {

@@ -1,5 +1,8 @@
--- The list that nm writes.
-use Rattle.std.specs.Prelude.{ℕ, Bool, not, ◌&&◌, ◌||◌, cond, eqb, nat_lt, if◌then◌else◌, List, [], ◌∷◌, ◌++◌, filter, reverse, length}
+-- The list that nm writes. (nm(1); that `-p` wins over the other orders: own choice)
+--
+-- The symbols that the options ask for, in the order that they ask for, a line each. With several files, the name of each file
+-- stands above its lines, or by `-o` before each line.
+use Rattle.std.specs.Prelude.{ℕ, Bool, not, ◌&&◌, ◌||◌, cond, eqb, nat_lt, if◌then◌else◌, List, [], ◌∷◌, ◌++◌, filter, reverse, length, codes}
 use Rattle.std.specs.List.{flat_map}
 use Rattle.std.specs.Cmp.Lexicographic.{slice_cmp}
 use Rattle.std.specs.Ordering.{nat_cmp, is_lt}
@@ -41,11 +44,11 @@ shown o c = arranged o (filter (is_shown o) c.symbols)
 
 -- what stands before each line of a file
 abbrev pub line_front : NmOptions → List ℕ → List ℕ
-line_front o file = if o.each_line then file ++ 58 ∷ [] else []
+line_front o file = if o.each_line then file ++ codes ":" else []
 
 -- what stands above the lines of a file, one of so many
 abbrev pub heading : NmOptions → ℕ → List ℕ → List ℕ
-heading o files file = if not o.each_line && nat_lt 1 files then file ++ (58 ∷ 10 ∷ []) else []
+heading o files file = if not o.each_line && nat_lt 1 files then file ++ codes ":\n" else []
 
 abbrev pub file_lines : NmOptions → ℕ → List ℕ → Contents → List ℕ
 file_lines o files file c = heading o files file ++ flat_map (λ s. line_front o file ++ symbol_line s) (shown o c)

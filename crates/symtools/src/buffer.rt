@@ -74,7 +74,7 @@ impl LineBuffer {
     }
 }
 
-/// Writes a number at the end of six places, and answers the place of its first digit.
+/// Writes a number at the end of six places, and returns the place of its first digit.
 fn write_digits(number: u32, base: u32, places: &mut [u8; 6]) -> usize
     requires base { (2 ≤ base) × (base ≤ 10) }
     requires short { number < base ^ 6 }

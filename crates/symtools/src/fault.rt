@@ -9,7 +9,7 @@ use thiserror::Error;
 /// Why not all lines went out. (own choice)
 #[derive(Clone, Copy, Debug, PartialEq, Eq, Error)]
 pub enum ToolFault {
-    /// 1: no room for the entries that are to be put in order.
+    /// 1: no room for the symbols that are to be put in order.
     #[error("no memory")]
     Memory,
     /// 2: the device failed, in this call or before it.

@@ -1,6 +1,6 @@
 //! What a file's symbol table and sizes look like: the lines of nm and size.
 //!
-//! Both work on files of all four magics, linked or not. Lines go out through a `Wire`; on a fault a front of them
+//! Both work on files of all four magics, linked or not. Lines go out through a `Wire`; on a fault a prefix of them
 //! went out.
 //!
 //! An example, which `library_uses` runs:

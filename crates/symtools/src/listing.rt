@@ -15,11 +15,11 @@ use aout_core::{DeviceFault, File, Symbol, Wire};
 use std::alloc::{AllocError, Global};
 use std::io::Write;
 
-/// The entries of each file's symbol table, a line each as `line` has it, in the order that the options ask for; the
+/// The symbols of each file's symbol table, a line each as `line` has it, in the order that the options ask for; the
 /// files stay in the order given. With several files, a line with the file and `:` stands above its lines, unless
 /// the options want the file before each line. (nm(1))
 ///
-/// Errors: `Memory`, 1, where there is no room for the entries of a file; `Device`, 2, where the device failed, in
+/// Errors: `Memory`, 1, where there is no room for the symbols of a file; `Device`, 2, where the device failed, in
 /// this call or before it.
 pub fn nm<W: Write>(
     alloc: Global,
@@ -80,7 +80,7 @@ fn put_lines<W: Write>(
     Ok(())
 }
 
-/// The entries that the options keep, in their order.
+/// The symbols that the options keep, in their order.
 fn shown(alloc: Global, table: &[Symbol], options: NmOptions) -> Result<Vec<Symbol>, ToolFault>
     ensures ok { IfOk result (λ list. list.items ≡ arranged options (filter (is_shown options) table.now)) }
     ensures err { IfErr result (λ e. e ≡ Memory) }
@@ -120,14 +120,14 @@ fn is_shown(symbol: &Symbol, options: NmOptions) -> bool
         && (!options.undefined || is_shown_undefined(symbol))
 }
 
-/// Entries of one name keep their order.
+/// Symbols of one name keep their order.
 fn sort_by_name(list: &mut Vec<Symbol>) -> Result<(), AllocError>
     ensures { OnOk result (list.new.items ≡ in_order name_before list.old.items) }
 {
     list.sort_by_key(|symbol| symbol.name)
 }
 
-/// By name where the values are equal; entries of one value and name keep their order.
+/// By name where the values are equal; symbols of one value and name keep their order.
 fn sort_by_value(list: &mut Vec<Symbol>) -> Result<(), AllocError>
     ensures { OnOk result (list.new.items ≡ in_order value_before list.old.items) }
 {

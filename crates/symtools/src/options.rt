@@ -1,12 +1,12 @@
 //! The options of nm.
 
-/// Which entries of a symbol table nm shows, and in which order. (nm(1))
+/// Which symbols of a symbol table nm shows, and in which order. (nm(1))
 ///
-/// With no option all entries are shown in the order of their names, compared by bytes; entries of one name stand in
+/// With no option all symbols are shown in the order of their names, compared by bytes; symbols of one name stand in
 /// the order of the table.
 #[derive(Clone, Copy, Debug, Default, PartialEq, Eq)]
 pub struct NmOptions {
-    /// `-g`: external entries alone.
+    /// `-g`: external symbols alone.
     pub external: bool,
     /// `-n`: by value, then by name.
     pub by_value: bool,
@@ -16,6 +16,6 @@ pub struct NmOptions {
     pub table_order: bool,
     /// `-r`: the list from its end to its beginning.
     pub reverse: bool,
-    /// `-u`: undefined entries alone, those of letter u or U.
+    /// `-u`: undefined symbols alone, those of letter u or U.
     pub undefined: bool,
 }

@@ -1,4 +1,4 @@
-//! The nm line of one entry of a symbol table.
+//! The nm line of one symbol.
 ghost use Rattle.std.specs.Prelude.{◌≡◌, ◌↔◌, ◌≤◌, ◌+◌, ◌/◌, ◌%◌, IsErr, IsTrue};
 ghost use Rattle.aout_core.specs.Wires.{Puts};
 ghost use Rattle.aout_core.specs.WellFormed.{masked_type};
@@ -8,11 +8,11 @@ use crate::buffer::LineBuffer;
 use aout_core::{DeviceFault, Symbol, Wire};
 use std::io::Write;
 
-/// The nm line of one entry, and a newline: value, space, letter, space, name. The value is six octal digits, or six
+/// The nm line of one symbol, and a newline: value, space, letter, space, name. The value is six octal digits, or six
 /// blanks for the letters u and U. (nm(1))
 ///
 /// The letter is by the type word masked with 037: 0 with value 0 is `u` and with another value `c`, 1 is `a`, 2 `t`,
-/// 3 `d`, 4 `b`, 024 `r`, 037 `f`, any other `a`. It is upper case for an external entry.
+/// 3 `d`, 4 `b`, 024 `r`, 037 `f`, any other `a`. It is upper case for an external symbol.
 pub fn line<W: Write>(symbol: &Symbol, out: &mut Wire<W>) -> Result<(), DeviceFault>
     ensures fault { IsErr result ↔ IsTrue out.new.has_failed }
     ensures latched { IsTrue out.old.has_failed → (out.new ≡ out.old) }
@@ -65,7 +65,7 @@ fn octal_digit(word: u16, place: u16) -> u8
     b'0' + (word / place % 8) as u8
 }
 
-/// Whether the letter of an entry is u or U.
+/// Whether the letter of a symbol is u or U.
 pub(crate) fn is_shown_undefined(symbol: &Symbol) -> bool
     ensures { result ≡ is_shown_undefined symbol.now }
 {

@@ -21,8 +21,9 @@ use Rattle.v7tools.specs.declared.fault.CliFault.TheVariants as faults
 use Rattle.v7tools.specs.Inputs.{Cause, cannot_open, bad_file, bad_object, not_added, Refusal, of_input, object_or, object_in, added_unless, kept_with, with_input, at_path}
 use Rattle.v7tools.specs.FaultTexts.{fault_at, fault_of_addition}
 use Rattle.v7tools.specs.Loads.{read_of, IsAtPath}
-use Rattle.v7tools.specs.LinkAnswers.{said_by, IsPossible, IsTrueOf, BreaksAt, IsTaken, IsCheckOf}
-use Rattle.v7tools.specs.Steps.{IsFound, IsRefusal, IsAccepted, IsAddition}
+use Rattle.v7tools.specs.LinkAnswers.{said_by, IsPossible, IsTrueOf, BreaksAt}
+use Rattle.v7tools.specs.parts.InputParts.{IsTaken, IsCheckOf}
+use Rattle.v7tools.specs.parts.StepParts.{IsFound, IsRefusal, IsAccepted, IsAddition}
 
 -- ---- what was read
 

@@ -19,7 +19,8 @@ use Rattle.v7tools.specs.declared.fault.CliFault.{CliFault}
 use Rattle.v7tools.specs.declared.fault.CliFault.TheVariants as faults
 use Rattle.v7tools.specs.FaultTexts.{fault_of_link}
 use Rattle.v7tools.specs.Inputs.{Cause, Refusal, object_in, kept_with, with_input, with_inputs, at_path, and_then, link_or_refusal, linked}
-use Rattle.v7tools.specs.LinkAnswers.{Said, said_by, refuses, says_nothing, never, IsTrueOf, IsReached, AreTaken, IsLinkOf, IsTaken, IsWorking, and_told, told}
+use Rattle.v7tools.specs.LinkAnswers.{Said, said_by, refuses, says_nothing, never, IsTrueOf, IsReached, IsLinkOf, IsWorking, and_told, told}
+use Rattle.v7tools.specs.parts.InputParts.{AreTaken, IsTaken}
 
 -- the inputs before those that are left are put behind what was kept
 abbrev pub Known : Kept → List Labelled → List (List ℕ × List ℕ) → Option (List (List ℕ × List ℕ)) → Type 0

@@ -9,7 +9,8 @@ use Rattle.link_out.specs.Choices.{Choices}
 use Rattle.link_out.specs.Outcomes.{findings_of}
 use Rattle.v7tools.specs.Deeds.{Deed, History, Extends, Opened, opened, opens, paths_of, stored}
 use Rattle.v7tools.specs.LinkAnswers.{and_told, IsLinkOf, IsPossible, IsWorking, said_by, told}
-use Rattle.v7tools.specs.LinkRuns.{sources, all_told, IsOpening, OpensAll, IsLinkOfFiles, IsLinkRun, Refuses, ReportsIf}
+use Rattle.v7tools.specs.parts.Openings.{sources, IsOpening, OpensAll}
+use Rattle.v7tools.specs.LinkRuns.{all_told, IsLinkOfFiles, IsLinkRun, Refuses, ReportsIf}
 use Rattle.v7tools.specs.declared.fault.CliFault.{CliFault}
 use Rattle.v7tools.specs.declared.fault.CliFault.TheVariants as faults
 use Rattle.v7tools.specs.declared.link_answers.Stored.{Stored}

@@ -9,15 +9,16 @@ use Rattle.std.proofs.lemmas.List.{take_more, take_all}
 use Rattle.std.proofs.lemmas.Option.{slice_get_within, get_or_from_slice_get}
 use Rattle.aout_core.specs.Wires.{AppendsFront}
 use Rattle.aout_core.proofs.PutsLemmas.{front_of_row}
-use Rattle.link_session.specs.Additions.{Named}
+use Rattle.link_session.specs.Image.{Named}
 use Rattle.link_session.specs.Image.{named_states}
 use Rattle.link_session.specs.Labelled.{Labelled, objects}
 use Rattle.link_session.specs.Mentions.{mentions}
-use Rattle.link_out.specs.InOrder.{is_missing, missing_in}
+use Rattle.link_out.specs.Reports.{is_missing}
+use Rattle.link_out.specs.steps.InOrder.{missing_in}
 use Rattle.link_out.specs.Reports.{line}
 use Rattle.link_out.proofs.InOrderLemmas.{missing-undefined}
 use Rattle.v7tools.specs.Answers.{undefined_text}
-use Rattle.v7tools.specs.Steps.{missing_line}
+use Rattle.v7tools.specs.parts.StepParts.{missing_line}
 
 is_at : {A : Type 0} (items : List A) (i : ℕ) (item : A) → slice_get items i ≡ Some item → item ≡ slice_index_or items i item
 is_at items i item at = sym (get_or_from_slice_get items i item item at)

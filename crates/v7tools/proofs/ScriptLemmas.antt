@@ -7,7 +7,8 @@ use Rattle.v7tools.specs.declared.fault.CliFault.TheVariants as faults
 use Rattle.v7tools.specs.declared.lines.Line.{Line}
 use Rattle.v7tools.specs.declared.script.Stop.TheVariants as stops
 use Rattle.v7tools.specs.Scripts.{asked, lines_in, on_first, long_line, many_lines, and_given, ends_with_fault, given_behind}
-use Rattle.v7tools.specs.ScriptAnswers.{Answer, asked_by, HasLine, HasNone, NamesPath, behind_line, IfTold, IsStopOf, IsTakenOf, IsNextOf}
+use Rattle.v7tools.specs.ScriptAnswers.{Answer, asked_by, HasLine, HasNone, NamesPath, behind_line, IfTold, IsNextOf}
+use Rattle.v7tools.specs.parts.LineParts.{IsStopOf, IsTakenOf}
 
 pub has_none_push : (line : List ℕ) (b : ℕ) → HasNone line → b ≢ 10 → HasNone (line ++ b ∷ [])
 has_none_push [] b h n = (n, tt)

@@ -26,8 +26,9 @@ use Rattle.v7tools.specs.declared.commands.Step.TheVariants.{Refused}
 use Rattle.v7tools.specs.Inputs.{Cause, cannot_open, bad_file, bad_object, not_added, object_in, kept_with}
 use Rattle.v7tools.specs.FaultTexts.{cause_text, cli_text, fault_at, fault_of_link}
 use Rattle.v7tools.specs.Answers.{done, refused, Stepped, add_step, withdraw_step, link_step}
-use Rattle.v7tools.specs.LinkAnswers.{IsDeviceFault}
-use Rattle.v7tools.specs.Steps.{IsRefusal, IsAccepted, IsAddition, IsAddOn, IsAddBy, IsAddOver, IsAddWorking, IsLinkBy, label_of, verdict_of}
+use Rattle.v7tools.specs.parts.InputParts.{IsDeviceFault}
+use Rattle.v7tools.specs.parts.StepParts.{IsRefusal, IsAccepted, IsAddition, IsAddOver, IsAddWorking, label_of}
+use Rattle.v7tools.specs.Steps.{IsAddOn, IsAddBy, IsLinkBy, verdict_of}
 
 -- ---- the last object
 

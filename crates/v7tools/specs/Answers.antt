@@ -1,4 +1,7 @@
--- The answers of a session.
+-- The answers of a session. (own choice)
+--
+-- Each command has its answer by the objects that are kept: what was added or withdrawn, the list that was asked for, or the text of
+-- the fault. A link is answered once it is known what became of its file.
 use Rattle.std.specs.Prelude.{ℕ, ◌+◌, List, [], ◌++◌, Option, Some, None, Result, Ok, Err, codes, decimal}
 use Rattle.std.specs.List.{flat_map}
 use Rattle.aout_core.specs.declared.symbol.Symbol.{Symbol}
@@ -59,10 +62,10 @@ abbrev pub withdraw_step : List Labelled → Option Labelled → Stepped
 withdraw_step kept None = record { verdict = refused; answer = line (codes "nothing to withdraw"); kept = kept }
 withdraw_step kept (Some e) = record { verdict = done; answer = line (codes "withdrew " ++ e.label); kept = without_last kept }
 
--- an external as an entry: its type and its merged offset, or the size that is wanted
+-- an external as a symbol: its type and its merged offset, or the size that is wanted
 abbrev pub entry_of : List ℕ → State → Symbol
-entry_of name (Defined segment offset) = record { name = name; type_bits = 32 + segment_number segment; value = offset }
-entry_of name (Wanted size) = record { name = name; type_bits = 32; value = size }
+entry_of name (Defined segment offset) = record { name = name; type_bits = 0o40 + segment_number segment; value = offset }
+entry_of name (Wanted size) = record { name = name; type_bits = 0o40; value = size }
 
 abbrev pub externals_text : List (List ℕ) → List Labelled → List ℕ
 externals_text forced kept = flat_map (λ e. symbol_line (entry_of e.0 e.1)) (image forced (objects kept)).externals

@@ -1,4 +1,4 @@
--- Which fault of the program stands for words that ask for no call.
+-- Which fault of the program stands for words that ask for no call. (own choice)
 use Rattle.std.specs.Prelude.{◌≡◌, ℕ, List}
 use Rattle.command_words.specs.Calls.{IsAsked, IsWhole, dashes_in, files_of}
 use Rattle.command_words.specs.declared.fault.WordsFault.{WordsFault}
@@ -11,7 +11,7 @@ abbrev pub fault_of_words : WordsFault → CliFault
 fault_of_words words.Usage = faults.Usage
 fault_of_words words.Memory = faults.Memory
 
--- words are refused for what they ask, or for want of memory
+-- words are refused for what they ask, or where there is no memory
 abbrev pub IsOfWords : CliFault → Type 0
 IsOfWords faults.Usage = Unit {0}
 IsOfWords faults.Memory = Unit {0}
@@ -26,6 +26,6 @@ IsOfWords faults.LongLine = ⊥
 IsOfWords faults.ManyLines = ⊥
 IsOfWords faults.ScriptFailed = ⊥
 
--- words that ask for a call fail for want of memory alone
+-- words that ask for a call fail only where there is no memory
 abbrev pub AsksForNone : List (List ℕ) → CliFault → Type 0
 AsksForNone words fault = (call : Call) → IsWhole call → IsAsked words call → dashes_in words ≡ dashes_in (files_of call) → fault ≡ faults.Memory

@@ -1,9 +1,9 @@
--- What a writer holds behind a text, unless it failed.
+-- What a writer holds behind a text, unless it failed. (own choice)
 use Rattle.std.specs.Prelude.{ℕ, Bool, true, false, List, Option}
 use Rattle.std.specs.Io.KnownBytes.{Appends}
 use Rattle.aout_core.specs.Wires.{AppendsFront}
 
--- all the bytes went out, or where the device failed a front of them
+-- all the bytes went out, or where the device failed a prefix of them
 abbrev pub PutsUnless : Bool → Option (List ℕ) → Option (List ℕ) → List ℕ → Type 0
 PutsUnless false old new bytes = Appends old new bytes
 PutsUnless true old new bytes = AppendsFront old new bytes

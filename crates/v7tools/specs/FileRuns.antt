@@ -1,6 +1,9 @@
--- What nm, size and strip do: what they open and read, what they write, and their status.
+-- What nm, size and strip do: what they open and read, what they write or store, and their status. (nm(1), size(1), strip(1))
+--
+-- Each file is opened and read before the next one is opened, and nothing is written or stored before all are read: that one bad
+-- file leaves all as it was is an own choice.
 use Rattle.std.specs.declared.alloc.Global.{Global}
-use Rattle.std.specs.Prelude.{◌≡◌, ◌≢◌, ◌↔◌, ◌⊎◌, ℕ, List, [], ◌∷◌, ◌++◌, map, Option, Some, None, Result, Ok, Err, IfErr, IfOk, IfSome, IsErr, IsTrue, String, string_bytes, Vec}
+use Rattle.std.specs.Prelude.{◌≡◌, ◌≢◌, ◌↔◌, ◌⊎◌, ℕ, List, [], ◌∷◌, ◌++◌, map, Option, Some, None, Result, Ok, Err, IfErr, IfOk, IfSome, IsTrue, String, string_bytes}
 use Rattle.aout_core.specs.declared.file.ReadFault.TheVariants as reads
 use Rattle.aout_core.specs.Contents.{Contents}
 use Rattle.aout_core.specs.Front.{front}
@@ -57,13 +60,9 @@ pub record ReadsUpTo (old new : History) (files : List (String Global)) (fault :
 abbrev pub ReadsAll : History → History → List (String Global) → List Loaded → Type 0
 ReadsAll old new files loaded = (files ≡ map (λ l. l.0) loaded) × Reads old new loaded
 
--- only those up to one that was not read; or memory was wanted before
+-- only those up to one that was not read; or there was no memory before
 abbrev pub ReadsNotAll : History → History → List (String Global) → CliFault → Type 0
 ReadsNotAll old new files fault = ((fault ≡ faults.Memory) × Extends old new []) ⊎ ReadsUpTo old new files fault
-
-abbrev pub IsLoading : History → History → List (String Global) → Result (Vec Loaded Global) CliFault → Type 0
-IsLoading old new files (Ok loaded) = ReadsAll old new files loaded.items
-IsLoading old new files (Err fault) = ReadsNotAll old new files fault
 
 abbrev pub OnlyWriteFailed : CliFault → Type 0
 OnlyWriteFailed fault = fault ≡ faults.WriteFailed
@@ -71,7 +70,7 @@ OnlyWriteFailed fault = fault ≡ faults.WriteFailed
 abbrev pub OrMemory : CliFault → Type 0
 OrMemory fault = (fault ≡ faults.WriteFailed) ⊎ (fault ≡ faults.Memory)
 
--- the text went out, or on a fault a front of it
+-- the text went out, or on a fault a prefix of it
 pub record Lists {W : Type 0} (contents : W → Option (List ℕ)) (may_be : CliFault → Type 0) (text : List ℕ) (result : Result ℕ CliFault) (before after : Latched W) : Type 0 where
   pub status : IfOk result (λ status. status ≡ 0)
   pub other : IfErr result may_be

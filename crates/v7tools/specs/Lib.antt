@@ -14,3 +14,4 @@ pub mod LinkRuns
 pub mod FileRuns
 pub mod SessionRuns
 pub mod CommandRuns
+pub mod parts

@@ -1,19 +1,18 @@
--- What the answer to a link of files says of the bytes of its inputs.
+-- What the result of a link of files says of the bytes of its inputs. (own choice)
+--
+-- Where all bytes are known, it is the link of these bytes, or the first refusal; a device that fails and a lack of memory may come
+-- before it.
 use Rattle.std.specs.declared.alloc.Global.{Global}
 use Rattle.std.specs.Prelude.{◌≡◌, ◌⊎◌, ℕ, false, List, [], ◌∷◌, Option, Some, None, Result, Ok, Err, IsOkAnd, String, string_bytes}
 use Rattle.aout_core.specs.declared.file.ReadFault.TheVariants as reads
-use Rattle.aout_core.specs.declared.object.ObjectFault.{ObjectFault}
-use Rattle.aout_core.specs.Contents.{Contents}
-use Rattle.aout_core.specs.WellFormed.{first_object_fault}
 use Rattle.aout_core.specs.Wires.{Latched}
 use Rattle.link_session.specs.declared.entry.AddFault.TheVariants as adds
 use Rattle.link_session.specs.Labelled.{Labelled}
-use Rattle.link_session.specs.Undo.{Kept}
 use Rattle.link_out.specs.declared.linked.Linked.{Linked}
 use Rattle.link_out.specs.declared.linked.LinkFault.TheVariants as links
 use Rattle.link_out.specs.Choices.{Choices}
 use Rattle.link_out.specs.Outcomes.{outcome_of}
-use Rattle.v7tools.specs.Inputs.{bad_file, bad_object, not_added, Refusal, of_input, not_linked, with_input, with_inputs, at_path, linked}
+use Rattle.v7tools.specs.Inputs.{bad_file, bad_object, not_added, Refusal, of_input, not_linked, with_input, linked}
 use Rattle.v7tools.specs.declared.fault.CliFault.{CliFault}
 use Rattle.v7tools.specs.declared.fault.CliFault.TheVariants as faults
 
@@ -38,7 +37,7 @@ pub data Said : Type 0 where
   says_nothing : Said
   never : Said
 
--- a device that fails and want of memory say nothing; no other fault than these comes from a link
+-- a device that fails and a lack of memory say nothing; no other fault than these comes from a link
 abbrev pub said_by : CliFault → Said
 said_by (faults.BadFile path reads.Device) = says_nothing
 said_by (faults.BadFile path reads.Memory) = never
@@ -70,32 +69,7 @@ IsReached forced kept path (i ∷ is) = (i.0 ≡ path) ⊎ IsOkAnd (with_input f
 abbrev pub BreaksAt : List (List ℕ) → List Labelled → List (List ℕ × List ℕ) → CliFault → Type 0
 BreaksAt forced kept inputs fault = (path : String Global) → fault ≡ faults.BadFile path reads.Device → IsReached forced kept (string_bytes path) inputs
 
--- a device broke off
-abbrev pub IsDeviceFault : CliFault → Type 0
-IsDeviceFault (faults.BadFile path reads.Device) = Unit {0}
-IsDeviceFault _ = ⊥
-
--- a fault without the wire that comes back with it
-abbrev pub without_wire : {R : Type 0} → Result (Unit {0}) (CliFault × Latched R) → Result (Unit {0}) CliFault
-without_wire (Ok x) = Ok x
-without_wire (Err refused) = Err refused.0
-
 -- the link of the inputs, or why there is none
 abbrev pub IsLinkOf : List (List ℕ) → Choices → List (List ℕ × List ℕ) → Result Linked CliFault → Type 0
 IsLinkOf forced o inputs (Ok l) = linked forced inputs o ≡ Ok (outcome_of l)
 IsLinkOf forced o inputs (Err fault) = IsTrueOf (said_by fault) (linked forced inputs o) × BreaksAt forced [] inputs fault
-
--- the inputs were put behind what is kept, or why one was not
-abbrev pub AreTaken : Kept → Kept → List (List ℕ × List ℕ) → Result (Unit {0}) CliFault → Type 0
-AreTaken old new inputs (Ok _) = with_inputs old.forced old.entries inputs ≡ Ok new.entries
-AreTaken old new inputs (Err fault) = IsTrueOf (said_by fault) (with_inputs old.forced old.entries inputs) × BreaksAt old.forced old.entries inputs fault
-
--- the same for one input
-abbrev pub IsTaken : Kept → Kept → List ℕ → List ℕ → Result (Unit {0}) CliFault → Type 0
-IsTaken old new path bytes (Ok _) = with_input old.forced old.entries path bytes ≡ Ok new.entries
-IsTaken old new path bytes (Err fault) = IsTrueOf (said_by fault) (at_path path (with_input old.forced old.entries path bytes)) × BreaksAt old.forced old.entries ((path, bytes) ∷ []) fault
-
--- an object, or why the file is none
-abbrev pub IsCheckOf : String Global → Contents → Result (String Global × Contents) CliFault → Type 0
-IsCheckOf path c (Ok r) = (r.0 ≡ path) × (r.1 ≡ c) × (first_object_fault c ≡ None)
-IsCheckOf path c (Err fault) = (cause : ObjectFault) × (fault ≡ faults.BadObject path cause) × (first_object_fault c ≡ Some cause)

@@ -1,22 +1,19 @@
--- What a command that links does: what it opens, what it stores, what it reports, and its status.
+-- What ld does: what it opens, what it stores, what it writes, and its status. (ld(1); the order of these: own choice)
+--
+-- All inputs are opened before any is read. Only a link is stored, and only what was stored is reported.
 use Rattle.std.specs.declared.alloc.Global.{Global}
-use Rattle.std.specs.Prelude.{◌≡◌, ◌↔◌, ◌⊎◌, ℕ, List, [], ◌∷◌, ◌++◌, map, Option, Some, None, Result, Ok, Err, IfErr, IfOk, IfSome, IsErr, IsTrue, String, string_bytes, Vec}
-use Rattle.std.specs.List.{AllByRecursion}
+use Rattle.std.specs.Prelude.{◌≡◌, ◌↔◌, ◌⊎◌, ℕ, List, [], ◌∷◌, ◌++◌, Option, Some, None, Result, Ok, Err, IfErr, IfOk, IfSome, IsErr, IsTrue, String, string_bytes}
 use Rattle.aout_core.specs.Wires.{Latched, Puts}
 use Rattle.link_out.specs.declared.linked.Linked.{Linked}
 use Rattle.link_out.specs.Choices.{Choices}
 use Rattle.link_out.specs.Outcomes.{findings_of}
 use Rattle.link_out.specs.Reports.{Findings, report_text, status_of}
 use Rattle.v7tools.specs.Deeds.{History, Extends, Opened, opened, opens, paths_of, stored}
-use Rattle.v7tools.specs.LinkAnswers.{and_told, IsLinkOf, IsPossible, IsWorking, said_by}
+use Rattle.v7tools.specs.LinkAnswers.{and_told, IsLinkOf, IsPossible, said_by}
 use Rattle.v7tools.specs.declared.fault.CliFault.{CliFault}
 use Rattle.v7tools.specs.declared.fault.CliFault.TheVariants as faults
 use Rattle.v7tools.specs.declared.link_answers.Stored.{Stored}
 use Rattle.v7tools.specs.declared.link_answers.Stored.TheVariants.{Kept, NotCreated, Failed}
-
--- the inputs, with what is known of their bytes
-abbrev pub sources : {R : Type 0} → (R → Option (List ℕ)) → List (String Global × Latched R) → List Opened
-sources remaining inputs = map (λ i. (string_bytes i.0, remaining i.1.device)) inputs
 
 -- the files were opened one after another up to the one at this path, which can't be
 pub record StopsAt (old new : History) (files : List (List ℕ)) (path : List ℕ) : Type 0 where
@@ -24,17 +21,6 @@ pub record StopsAt (old new : History) (files : List (List ℕ)) (path : List �
   pub rest : List (List ℕ)
   pub order : files ≡ paths_of found ++ path ∷ rest
   pub asked : Extends old new (opens found ++ opened path None ∷ [])
-
--- all files were opened in order, and none of their wires has failed
-abbrev pub OpensAll : {R : Type 0} → (R → Option (List ℕ)) → History → History → List (String Global) → List (String Global × Latched R) → Type 0
-OpensAll remaining old new files inputs = Extends old new (opens (sources remaining inputs)) × (files ≡ map (λ i. i.0) inputs) × AllByRecursion IsWorking inputs
-
--- all files were opened, or those up to the first that can't be; memory is wanted only before
-abbrev pub IsOpening : {R : Type 0} → (R → Option (List ℕ)) → History → History → List (String Global) → Result (Vec (String Global × Latched R) Global) CliFault → Type 0
-IsOpening remaining old new files (Ok inputs) = OpensAll remaining old new files inputs.items
-IsOpening remaining old new files (Err (faults.CannotOpen path)) = StopsAt old new (map string_bytes files) (string_bytes path)
-IsOpening remaining old new files (Err faults.Memory) = Extends old new []
-IsOpening remaining old new files (Err _) = ⊥
 
 -- the paths with their bytes, where all are known
 abbrev pub all_told : List Opened → Option (List (List ℕ × List ℕ))
@@ -88,7 +74,7 @@ pub record StoresLink {W : Type 0} (contents : W → Option (List ℕ)) (forced 
   pub asked : Extends old new (opens found ++ stored (string_bytes out) made.file what ∷ [])
   pub reports : ReportsIf contents what out (findings_of made.report) result before after
 
--- want of memory before anything was opened, a file that can't be opened, no link, or a link
+-- no memory before anything was opened, a file that can't be opened, no link, or a link
 abbrev pub IsLinkRun : {W : Type 0} → (W → Option (List ℕ)) → List (List ℕ) → Choices → String Global → List (List ℕ) → History → History → Result ℕ CliFault → Latched W → Latched W → Type 0
 IsLinkRun contents forced o out files old new result before after =
     (Extends old new [] × Refuses faults.Memory result before after)

@@ -1,16 +1,16 @@
--- What the reader of a script answers, call by call.
-use Rattle.std.specs.Prelude.{◌≡◌, ◌≢◌, ◌↔◌, ◌⊎◌, ◌+◌, ◌≤◌, ℕ, Bool, true, cond, eqb, List, [], ◌∷◌, ◌++◌, drop, length, Option, Some, None, Result, Ok, Err, IfSome, IsSome, string_bytes}
-use Rattle.std.specs.Io.KnownBytes.{Consumes, IsAtEnd}
+-- What the reader of a script returns, call by call. (own choice)
+--
+-- Each call returns the next line that the bytes give, or the end, or a fault; the end and a fault are returned for good. What was
+-- read and not used waits, and no more is asked of the reader than is needed for the next line.
+use Rattle.std.specs.Prelude.{◌≡◌, ◌≢◌, ◌↔◌, ◌⊎◌, ◌+◌, ◌≤◌, ℕ, cond, eqb, List, [], ◌∷◌, ◌++◌, drop, length, Option, Some, None, Result, Ok, Err, IfSome, IsSome, string_bytes}
 use Rattle.aout_core.specs.Wires.{Latched}
 use Rattle.v7tools.specs.declared.fault.CliFault.{CliFault}
 use Rattle.v7tools.specs.declared.fault.CliFault.TheVariants as faults
 use Rattle.v7tools.specs.declared.lines.Line.{Line}
 use Rattle.v7tools.specs.declared.lines.Line.TheVariants as lines
-use Rattle.v7tools.specs.declared.script.Ending.{Ending}
-use Rattle.v7tools.specs.declared.script.Ending.TheVariants as endings
 use Rattle.v7tools.specs.declared.script.Stop.{Stop}
 use Rattle.v7tools.specs.declared.script.Stop.TheVariants as stops
-use Rattle.v7tools.specs.Scripts.{Asked, asked, to_add, to_withdraw, for_externals, for_undefined, to_link, for_nothing, lines_in, long_line, many_lines, and_given, ends_with_fault, given_behind}
+use Rattle.v7tools.specs.Scripts.{Asked, to_add, to_withdraw, for_externals, for_undefined, to_link, for_nothing, lines_in, long_line, many_lines, and_given, ends_with_fault, given_behind}
 
 -- what a line that was given asks for
 abbrev pub asked_by : Line → Asked
@@ -116,23 +116,3 @@ answer_of stops.LongLine = Err faults.LongLine
 answer_of stops.ManyLines = Err faults.ManyLines
 answer_of stops.ReadFailed = Err faults.ScriptFailed
 answer_of stops.Memory = Err faults.Memory
-
--- a line was read: what ended it, what was left before and after, and its bytes
-abbrev pub EndsLine : Ending → Option (List ℕ) → Option (List ℕ) → List ℕ → Type 0
-EndsLine endings.Newline old new line = HasNone line × Consumes old new (line ++ 10 ∷ [])
-EndsLine endings.End old new line = HasNone line × Consumes old new line × IsAtEnd new
-EndsLine endings.Long old new line = (b : ℕ) × HasNone (line ++ b ∷ []) × Consumes old new (line ++ b ∷ [])
-EndsLine endings.Failed old new line = HasNone line × Consumes old new line
-
--- behind so many lines these bytes give no further line
-abbrev pub IsStopOf : ℕ → List ℕ → List ℕ → Stop → Type 0
-IsStopOf n bytes left stops.End = TakesNone n bytes left
-IsStopOf n bytes left stops.LongLine = StopsInLine n bytes left
-IsStopOf n bytes left stops.ManyLines = StopsBehind n bytes left
-IsStopOf n bytes left stops.ReadFailed = FailsInLine bytes left
-IsStopOf n bytes left stops.Memory = ⊥
-
--- a line was taken behind so many others, the last one or not, or why none was
-abbrev pub IsTakenOf : ℕ → List ℕ → List ℕ → List ℕ → Result Bool Stop → Type 0
-IsTakenOf n bytes left line (Ok is_last) = TakesLine n bytes left (asked line) × (is_last ≡ true ↔ HasNone bytes)
-IsTakenOf n bytes left line (Err stop) = IsStopOf n bytes left stop

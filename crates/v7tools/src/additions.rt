@@ -2,8 +2,9 @@
 ghost use Rattle.std.specs.Prelude.{◌≡◌, ◌↔◌, Err, IfErr, IsTrue};
 ghost use Rattle.aout_core.specs.declared.file.ReadFault.TheVariants.{Device};
 ghost use Rattle.v7tools.specs.declared.fault.CliFault.TheVariants.{BadFile};
-ghost use Rattle.v7tools.specs.LinkAnswers.{IsCheckOf, IsPossible, said_by};
-ghost use Rattle.v7tools.specs.Steps.{IsAddition};
+ghost use Rattle.v7tools.specs.parts.InputParts.{IsCheckOf};
+ghost use Rattle.v7tools.specs.LinkAnswers.{IsPossible, said_by};
+ghost use Rattle.v7tools.specs.parts.StepParts.{IsAddition};
 
 use crate::fault::CliFault;
 use crate::loading::load;

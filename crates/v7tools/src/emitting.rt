@@ -14,7 +14,7 @@ use std::io::Write;
 /// Writes the whole file to the first wire and then the report to the second, and answers the report's status. It
 /// takes no memory. (own choice)
 ///
-/// Errors: `WriteFailed`, 8, where one of the wires failed, now or before: a front of its bytes then went out, and
+/// Errors: `WriteFailed`, 8, where one of the wires failed, now or before: a prefix of its bytes then went out, and
 /// where it was the file's wire, the report's is not touched.
 pub fn emit<W: Write, V: Write>(
     linked: &Linked,

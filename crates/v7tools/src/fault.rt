@@ -242,7 +242,7 @@ fn put_link_fault<W: Write>(fault: LinkFault, out: &mut Wire<W>) -> Result<(), D
 
 impl CliFault {
     /// Writes the fault's line: `v7: `, the text of the fault, and a newline. It takes no memory. On a fault of the
-    /// device a front of the line went out. (own choice)
+    /// device a prefix of the line went out. (own choice)
     pub fn write<W: Write>(&self, out: &mut Wire<W>) -> Result<(), DeviceFault>
         ensures fault { IsErr result ↔ IsTrue out.new.has_failed }
         ensures latched { IsTrue out.old.has_failed → (out.new ≡ out.old) }

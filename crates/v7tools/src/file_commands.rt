@@ -3,7 +3,8 @@ ghost use Rattle.std.specs.Prelude.{◌≤◌, IfOk};
 ghost use Rattle.symtools.specs.Files.{by_bytes};
 ghost use Rattle.symtools.specs.NmLists.{nm_text};
 ghost use Rattle.symtools.specs.SizeLines.{size_text};
-ghost use Rattle.v7tools.specs.FileRuns.{IsKept, IsListRun, IsLoadAt, IsLoading, IsStripping, IsStripRun, Lists, OnlyWriteFailed, OrMemory};
+ghost use Rattle.v7tools.specs.FileRuns.{IsKept, IsListRun, IsLoadAt, IsStripping, IsStripRun, Lists, OnlyWriteFailed, OrMemory};
+ghost use Rattle.v7tools.specs.parts.Openings.{IsLoading};
 
 use crate::fault::CliFault;
 use crate::link_answers::Stored;

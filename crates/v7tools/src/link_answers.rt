@@ -87,7 +87,7 @@ fn put_link_answer<W: Write>(
 /// `PATH: cannot create`, or `PATH: write error`. It answers the status of the link: the report's, or 1 where the
 /// file is not stored. It takes no memory. (own choice)
 ///
-/// Errors: `WriteFailed`, 8, where the wire failed, now or before: a front of the answer then went out.
+/// Errors: `WriteFailed`, 8, where the wire failed, now or before: a prefix of the answer then went out.
 pub fn link_answer<W: Write>(
     linked: &Linked,
     path: &str,

@@ -1,7 +1,8 @@
 //! The command ld, over any office.
 ghost use Rattle.std.specs.Prelude.{◌≤◌, map, string_bytes, IfOk};
 ghost use Rattle.link_out.specs.Outcomes.{findings_of};
-ghost use Rattle.v7tools.specs.LinkRuns.{IsLinkRun, IsOpening, Reports, ReportsIf};
+ghost use Rattle.v7tools.specs.LinkRuns.{IsLinkRun, Reports, ReportsIf};
+ghost use Rattle.v7tools.specs.parts.Openings.{IsOpening};
 
 use crate::fault::CliFault;
 use crate::link_answers::Stored;

@@ -2,7 +2,8 @@
 ghost use Rattle.std.specs.Prelude.{◌≡◌, ◌↔◌, true, IfErr, IfOk, IfSome, IsTrue};
 ghost use Rattle.std.specs.List.{AllByRecursion};
 ghost use Rattle.aout_core.specs.WellFormed.{IsWellFormed};
-ghost use Rattle.v7tools.specs.LinkAnswers.{AreTaken, IsDeviceFault, IsLinkOf, IsPossible, IsWorking, said_by, told, without_wire};
+ghost use Rattle.v7tools.specs.parts.InputParts.{AreTaken, IsDeviceFault, without_wire};
+ghost use Rattle.v7tools.specs.LinkAnswers.{IsLinkOf, IsPossible, IsWorking, said_by, told};
 
 use crate::additions::add_file;
 use crate::fault::CliFault;

@@ -3,7 +3,7 @@ ghost use Rattle.std.specs.Prelude.{◌≡◌, ◌↔◌, ◌≤◌, IsErr, IsTr
 ghost use Rattle.aout_core.specs.Wires.{Puts};
 ghost use Rattle.link_session.specs.States.{segment_number};
 ghost use Rattle.v7tools.specs.Answers.{entry_of, externals_text, undefined_text};
-ghost use Rattle.v7tools.specs.Steps.{missing_line};
+ghost use Rattle.v7tools.specs.parts.StepParts.{missing_line};
 
 use aout_core::{DeviceFault, Name, Segment, Symbol, Wire};
 use link_out::is_missing;
@@ -26,7 +26,7 @@ fn segment_number(segment: Segment) -> u16
     }
 }
 
-/// An external as an entry of a symbol table: with the merged offset where it is defined, else with the size that is
+/// An external as a symbol of a table: with the merged offset where it is defined, else with the size that is
 /// wanted.
 fn entry_of(name: Name, state: State) -> Symbol
     ensures { result ≡ entry_of name state }

@@ -3,7 +3,8 @@ ghost use Rattle.std.specs.Prelude.{◌≡◌, ◌↔◌, ◌+◌, ◌<◌, ◌�
 ghost use Rattle.std.specs.Io.KnownBytes.{prepend_known};
 ghost use Rattle.aout_core.specs.declared.block.TheConstants.{BLOCK_SIZE};
 ghost use Rattle.v7tools.specs.declared.fault.CliFault.TheVariants.{Memory, ScriptFailed};
-ghost use Rattle.v7tools.specs.ScriptAnswers.{answer_of, EndsLine, HasLine, IfTold, IsNextOf, IsStopOf, IsTakenOf, lines_of, NeedsNoMore, Settles};
+ghost use Rattle.v7tools.specs.ScriptAnswers.{answer_of, HasLine, IfTold, IsNextOf, lines_of, NeedsNoMore, Settles};
+ghost use Rattle.v7tools.specs.parts.LineParts.{EndsLine, IsStopOf, IsTakenOf};
 
 use crate::block_reader::BlockReader;
 use crate::fault::CliFault;

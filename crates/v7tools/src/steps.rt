@@ -9,7 +9,8 @@ ghost use Rattle.v7tools.specs.declared.fault.CliFault.TheVariants.{WriteFailed}
 ghost use Rattle.v7tools.specs.declared.commands.Step.TheVariants.{Refused};
 ghost use Rattle.v7tools.specs.Answers.{withdraw_step};
 ghost use Rattle.v7tools.specs.FaultTexts.{cli_text};
-ghost use Rattle.v7tools.specs.Steps.{label_of, StoresObject, TakesAddStep, TakesStep, TakesLinkStep, verdict_of, WithdrawsIf};
+ghost use Rattle.v7tools.specs.parts.StepParts.{label_of, TakesAddStep, TakesLinkStep};
+ghost use Rattle.v7tools.specs.Steps.{StoresObject, TakesStep, verdict_of, WithdrawsIf};
 
 use crate::additions::add_file;
 use crate::commands::{Command, Step};

@@ -1,6 +1,6 @@
 use Rattle.std.proofs.Common.{◌++◌, sym, subst, append_assoc}
 use Rattle.std.specs.List.{flat_map}
-use Rattle.aout_core.specs.Blocks.{PutsBut}
+use Rattle.aout_core.specs.steps.Blocks.{PutsBut}
 use Rattle.aout_core.proofs.OutgoingLemmas.{broke_before, broke_off, puts_but_more}
 use Rattle.aout_core.proofs.item.put_both.Goals as goal
 

@@ -1,6 +1,6 @@
 use Rattle.std.proofs.Common.{◌≡◌, ◌++◌, false, take}
 use Rattle.std.specs.List.{flat_map}
-use Rattle.aout_core.specs.Blocks.{AppendsBut}
+use Rattle.aout_core.specs.steps.Blocks.{AppendsBut}
 use Rattle.aout_core.proofs.item.put_items.Given as goal
 
 -- the items so far went out, but for what waits

@@ -1,5 +1,5 @@
 use Rattle.std.proofs.Common.{◌≡◌, ◌+◌, ◌-◌, ◌≤◌, false, vec_len, vec_capacity}
-use Rattle.aout_core.specs.Rows.{TakesRow}
+use Rattle.aout_core.specs.steps.Rows.{TakesRow}
 use Rattle.aout_core.proofs.item.take_items.Given as goal
 
 -- the items so far were taken, and there is room for those that are left

@@ -1,11 +1,11 @@
 use Rattle.std.proofs.Common.{◌≡◌, refl, ◌++◌, ◌*◌, ◌/◌, ap, ◌∙◌, subst, sym, rules}
 use Rattle.std.specs.Prelude.{Err, IfErr}
 use Rattle.aout_core.specs.Contents.{Contents}
-use Rattle.aout_core.specs.Reading.{IsBodyRead}
+use Rattle.aout_core.specs.steps.ReadParts.{IsBodyRead}
 use Rattle.aout_core.specs.Front.{symbol_in}
 use Rattle.aout_core.specs.Parts.{contents_of}
-use Rattle.aout_core.specs.Blocks.{Awaited, Takes}
-use Rattle.aout_core.specs.Rows.{row_in, word_in, reloc_in}
+use Rattle.aout_core.specs.steps.Blocks.{Awaited, Takes}
+use Rattle.aout_core.specs.steps.Rows.{row_in, word_in, reloc_in}
 use Rattle.aout_core.proofs.BodyLemmas.{AreRows, all_rows, rows_are_body}
 use Rattle.aout_core.proofs.IncomingLemmas.{unread, ends_in_body, takes_more, took_body}
 use Rattle.aout_core.proofs.reader.read_lists.Goals as goal

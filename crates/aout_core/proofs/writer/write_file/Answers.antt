@@ -3,7 +3,7 @@ use Rattle.std.specs.List.{flat_map}
 use Rattle.aout_core.specs.Words.{all_word_bytes}
 use Rattle.aout_core.specs.Spelling.{header_spelling, reloc_spelling, symbol_spelling, spelling}
 use Rattle.aout_core.specs.Wires.{AppendsFront}
-use Rattle.aout_core.specs.Blocks.{AppendsBut}
+use Rattle.aout_core.specs.steps.Blocks.{AppendsBut}
 use Rattle.aout_core.proofs.PutsLemmas.{put_broke_off}
 use Rattle.aout_core.proofs.OutgoingLemmas.{put_at_last}
 use Rattle.aout_core.proofs.FilePutLemmas.{segments, relocation, broke_in_header, broke_in_segments, broke_in_relocation, broke_in_table, sent_segments, sent_relocation, sent_symbols}

@@ -2,8 +2,8 @@ use Rattle.std.proofs.Common.{◌∙◌, position, sym, ap}
 use Rattle.std.specs.Prelude.{bytes_eq}
 use Rattle.link_session.specs.Labelled.{objects}
 use Rattle.link_session.specs.Mentions.{externals}
-use Rattle.link_out.specs.Entries.{text_address_at, entry_found}
-use Rattle.link_out.specs.InOrder.{plan_of}
+use Rattle.link_out.specs.steps.Entries.{text_address_at, entry_found}
+use Rattle.link_out.specs.steps.InOrder.{plan_of}
 use Rattle.link_out.proofs.FindingLemmas.{address-found}
 use Rattle.link_out.proofs.findings.entry_address.Goals as goal
 

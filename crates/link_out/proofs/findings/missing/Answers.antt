@@ -1,6 +1,6 @@
 use Rattle.std.proofs.Common.{◌+◌, ◌++◌, ◌∙◌, drop, sym, ap}
 use Rattle.link_session.specs.Undo.{image_of}
-use Rattle.link_out.specs.InOrder.{missing_in}
+use Rattle.link_out.specs.steps.InOrder.{missing_in}
 use Rattle.link_out.proofs.FindingLemmas.{missing_more}
 use Rattle.link_out.proofs.findings.missing.Goals as goal
 

@@ -3,7 +3,7 @@ use Rattle.aout_core.specs.declared.symbol.Segment.TheVariants.{TextSeg, DataSeg
 use Rattle.aout_core.specs.Contents.{Fits}
 use Rattle.aout_core.specs.WellFormed.{IsWellFormed}
 use Rattle.link_session.specs.Labelled.{objects}
-use Rattle.link_out.specs.InOrder.{plan_of}
+use Rattle.link_out.specs.steps.InOrder.{plan_of}
 use Rattle.link_out.specs.Tables.{table}
 use Rattle.link_out.proofs.FinishLemmas.{near_text, near_data, words_planned, relocs_planned, header_planned, linked_parts}
 use Rattle.link_out.proofs.FitLemmas.{linked_fits}

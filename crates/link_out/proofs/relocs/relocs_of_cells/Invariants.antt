@@ -2,7 +2,7 @@ use Rattle.std.proofs.Common.{◌≡◌, ◌++◌, drop, false}
 use Rattle.std.specs.Prelude.{map}
 use Rattle.std.specs.List.{list_any}
 use Rattle.link_session.specs.declared.cell.Cell.{Cell}
-use Rattle.link_out.specs.FromCells.{is_far, reloc_of_cell}
+use Rattle.link_out.specs.steps.FromCells.{is_far, reloc_of_cell}
 use Rattle.link_out.proofs.relocs.relocs_of_cells.Given as goal
 
 -- the words so far, and those of the cells that are left, none of which is too far

@@ -1,5 +1,6 @@
 use Rattle.std.proofs.Common.{map}
-use Rattle.link_out.specs.Runs.{change_of, AreDone}
+use Rattle.link_out.specs.Runs.{change_of}
+use Rattle.link_out.specs.steps.Replies.{AreDone}
 use Rattle.link_out.proofs.runner.replies_to.Given as goal
 
 abbrev pub invariant-loop-edit : goal.invariant-loop-edit

@@ -4,7 +4,7 @@ use Rattle.std.proofs.lemmas.Option.{slice_get_read}
 use Rattle.link_session.specs.declared.state.State.{State}
 use Rattle.link_session.specs.Undo.{image_of}
 use Rattle.std.specs.Map.{keys_of}
-use Rattle.link_out.specs.Rows.{rows_for}
+use Rattle.link_out.specs.steps.Rows.{rows_for}
 use Rattle.link_out.specs.Finals.{Final}
 use Rattle.link_out.proofs.InOrderLemmas.{none_behind}
 use Rattle.link_out.proofs.RowLemmas.{row_put}

@@ -1,7 +1,7 @@
 use Rattle.std.proofs.Common.{◌≡◌, ◌++◌, drop}
 use Rattle.std.specs.Map.{keys_of}
 use Rattle.link_session.specs.Undo.{image_of}
-use Rattle.link_out.specs.Rows.{rows_for}
+use Rattle.link_out.specs.steps.Rows.{rows_for}
 use Rattle.link_out.proofs.table.put_externals.Given as goal
 
 -- the rows so far, and those of the names that are left

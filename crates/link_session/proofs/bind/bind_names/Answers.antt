@@ -3,12 +3,12 @@ use Rattle.std.proofs.lemmas.List.{drop_more, drop_all}
 use Rattle.aout_core.specs.declared.symbol.Symbol.{Symbol}
 use Rattle.aout_core.specs.WellFormed.{is_external}
 use Rattle.link_session.specs.declared.cell.Cell.{Cell}
-use Rattle.link_session.specs.Additions.{place_in, state_for}
-use Rattle.link_session.specs.Chains.{AreChained}
-use Rattle.link_session.specs.Restores.{LeavesMarks}
-use Rattle.link_session.specs.Settled.{settled_at, settled_over, places_of}
-use Rattle.link_session.specs.Threads.{cut_by_state, cut_heads}
-use Rattle.link_session.specs.Counts.{NotesBound}
+use Rattle.link_session.specs.steps.Additions.{place_in, state_for}
+use Rattle.link_session.specs.steps.Chains.{AreChained}
+use Rattle.link_session.specs.steps.Restores.{LeavesMarks}
+use Rattle.link_session.specs.steps.Settled.{settled_at, settled_over, places_of}
+use Rattle.link_session.specs.steps.Threads.{cut_by_state, cut_heads}
+use Rattle.link_session.specs.steps.Counts.{NotesBound}
 use Rattle.link_session.proofs.FewLemmas.{noted_then}
 use Rattle.link_session.proofs.NamesLemmas.{next_external, next_local, places_next, places_pass, none_left, leaves_then}
 use Rattle.link_session.proofs.bind.bind_names.Goals.{then-is_external+in_ok-bind_defined, else-is_external}

@@ -6,10 +6,10 @@ use Rattle.aout_core.specs.WellFormed.{is_external}
 use Rattle.link_session.specs.declared.merged.Sizes.{Sizes}
 use Rattle.link_session.specs.Undo.{put_all_back}
 use Rattle.link_session.specs.Image.{Image}
-use Rattle.link_session.specs.Threads.{Threads}
-use Rattle.link_session.specs.Chains.{AreChained}
-use Rattle.link_session.specs.Fields.{image_in, threads_in, cut_by, sizes_of, threads_by, with_heads_back, IsBehind}
-use Rattle.link_session.specs.Additions.{next_mentions, state_marks}
+use Rattle.link_session.specs.steps.Threads.{Threads}
+use Rattle.link_session.specs.steps.Chains.{AreChained}
+use Rattle.link_session.specs.steps.Fields.{image_in, threads_in, cut_by, sizes_of, threads_by, with_heads_back, IsBehind}
+use Rattle.link_session.specs.steps.Additions.{next_mentions, state_marks}
 use Rattle.link_session.proofs.JoinLemmas.{entered-is, few_named, few_new, bound-is, heads-are, marks-are, undone, joined-is, joined_threads}
 use Rattle.link_session.proofs.join.join.Goals as goal
 

@@ -1,9 +1,10 @@
 use Rattle.std.proofs.Common.{◌≡◌, ◌++◌, length, ◌∙◌, ap}
 use Rattle.std.specs.Vec.{with_items}
 use Rattle.std.proofs.lemmas.List.{with_items_is}
-use Rattle.link_session.specs.Additions.{own_cells, place_at, shift_by}
-use Rattle.link_session.specs.Chains.{threaded}
-use Rattle.link_session.specs.Threads.{grown_heads}
+use Rattle.link_session.specs.steps.Additions.{own_cells, place_at}
+use Rattle.link_session.specs.Starts.{shift_by}
+use Rattle.link_session.specs.steps.Chains.{threaded}
+use Rattle.link_session.specs.steps.Threads.{grown_heads}
 use Rattle.link_session.proofs.join.settle.Goals as goal
 
 pub returns-clause-threads : goal.returns-clause-threads

@@ -1,7 +1,7 @@
 use Rattle.std.proofs.Common.{◌≡◌, ◌+◌, ◌≤◌, ◌++◌, drop, length}
 use Rattle.std.specs.Prelude.{vec_len, vec_capacity}
-use Rattle.link_session.specs.Additions.{own_cells, place_at}
-use Rattle.link_session.specs.Chains.{threaded}
+use Rattle.link_session.specs.steps.Additions.{own_cells, place_at}
+use Rattle.link_session.specs.steps.Chains.{threaded}
 use Rattle.link_session.proofs.relocate.append_cells.Given as goal
 
 -- the cells, links and heads so far, and those that are left; there is room for them

@@ -1,6 +1,6 @@
 use Rattle.std.proofs.Common.{sym, subst, ◌∙◌}
 use Rattle.v7tools.specs.FaultTexts.{fault_of_addition}
-use Rattle.v7tools.specs.Steps.{IsAddition}
+use Rattle.v7tools.specs.parts.StepParts.{IsAddition}
 use Rattle.v7tools.proofs.AdditionLemmas.{carried, addition_unread, addition_unchecked, addition_refused, read_object}
 use Rattle.v7tools.proofs.additions.add_file.Goals as goal
 

@@ -3,7 +3,7 @@ use Rattle.std.specs.Prelude.{vec_len, vec_capacity}
 use Rattle.std.specs.List.{AllByRecursion}
 use Rattle.v7tools.specs.Deeds.{Extends, opened, opens}
 use Rattle.v7tools.specs.LinkAnswers.{IsWorking}
-use Rattle.v7tools.specs.LinkRuns.{sources}
+use Rattle.v7tools.specs.parts.Openings.{sources}
 use Rattle.v7tools.proofs.DeedLemmas.{all_behind, nothing_asked, one_more, opened_at, opens_more, map-append, stops_at}
 use Rattle.v7tools.proofs.link_command.open_all.Goals as goal
 

@@ -4,7 +4,7 @@ use Rattle.aout_core.specs.Wires.{AppendsFront}
 use Rattle.aout_core.proofs.PutsLemmas.{put_broke_off}
 use Rattle.link_session.specs.Undo.{image_of}
 use Rattle.v7tools.specs.Answers.{undefined_text}
-use Rattle.v7tools.specs.Steps.{missing_line}
+use Rattle.v7tools.specs.parts.StepParts.{missing_line}
 use Rattle.v7tools.proofs.ListingLemmas.{sent_next, stops_next, sent_all, missing-text}
 use Rattle.v7tools.proofs.listings.put_undefined.Goals as goal
 

@@ -1,6 +1,6 @@
 use Rattle.std.proofs.Common.{◌++◌}
 use Rattle.link_out.specs.Reports.{entry_lines, undefined_lines}
-use Rattle.link_out.specs.Outcomes.{multiple_lines}
+use Rattle.link_out.specs.steps.ReportParts.{multiple_lines}
 use Rattle.aout_core.proofs.PutsLemmas.{puts_behind, put_stops}
 use Rattle.link_out.proofs.linked.Report.write.Goals as goal
 

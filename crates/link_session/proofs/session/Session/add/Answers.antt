@@ -5,10 +5,11 @@ use Rattle.link_session.specs.Labelled.{objects}
 use Rattle.link_session.specs.Edits.{refusal}
 use Rattle.link_session.specs.Undo.{Kept}
 use Rattle.link_session.specs.Sessions.{IsCause, Adds, labelled}
-use Rattle.link_session.specs.Fields.{image_in, threads_in, marks_in, IsSession}
-use Rattle.link_session.specs.Additions.{next_limit, joined_image}
-use Rattle.link_session.specs.Threads.{next_threads}
-use Rattle.link_session.specs.Restores.{TakesBack}
+use Rattle.link_session.specs.steps.Fields.{image_in, threads_in, IsSession}
+use Rattle.link_session.specs.Undo.{marks_in}
+use Rattle.link_session.specs.steps.Additions.{next_limit, joined_image}
+use Rattle.link_session.specs.steps.Threads.{next_threads}
+use Rattle.link_session.specs.steps.Restores.{TakesBack}
 use Rattle.link_session.specs.declared.session.Step.{Step}
 use Rattle.link_session.proofs.SessionLemmas.{small, session_covered, refusal-fields, added_session, adds}
 use Rattle.link_session.proofs.session.Session.add.Goals as goal

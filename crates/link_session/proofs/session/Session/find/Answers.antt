@@ -1,6 +1,6 @@
 use Rattle.std.proofs.Common.{ℕ, List, position, ap, ◌∙◌}
 use Rattle.std.specs.Prelude.{bytes_eq}
-use Rattle.link_session.specs.Fields.{image_in, threads_in}
+use Rattle.link_session.specs.steps.Fields.{image_in, threads_in}
 use Rattle.link_session.specs.Labelled.{objects}
 use Rattle.link_session.specs.Mentions.{externals}
 use Rattle.link_session.proofs.SessionLemmas.{externals-fields}

@@ -1,5 +1,5 @@
 use Rattle.std.proofs.Common.{arith}
-use Rattle.link_session.specs.Fields.{image_in, threads_in, IsSmall}
+use Rattle.link_session.specs.steps.Fields.{image_in, threads_in, IsSmall}
 use Rattle.link_session.proofs.SessionLemmas.{small}
 use Rattle.link_session.proofs.session.Session.text_cells.Goals as goal
 

@@ -2,9 +2,10 @@ use Rattle.std.proofs.Common.{◌≡◌, ℕ, ◌+◌, List, [], ◌≤◌, None
 use Rattle.std.specs.Prelude.{vec_len, vec_capacity}
 use Rattle.std.proofs.lemmas.List.{length-map}
 use Rattle.link_session.specs.Mentions.{Mention, forced_mention, names_of}
-use Rattle.link_session.specs.Additions.{Named, all_mentioned}
-use Rattle.link_session.specs.Threads.{Threads, grown_heads}
-use Rattle.link_session.specs.Fields.{image_in, threads_in, IsSession}
+use Rattle.link_session.specs.Image.{Named}
+use Rattle.link_session.specs.steps.Additions.{all_mentioned}
+use Rattle.link_session.specs.steps.Threads.{Threads, grown_heads}
+use Rattle.link_session.specs.steps.Fields.{image_in, threads_in, IsSession}
 use Rattle.link_session.proofs.LimitLemmas.{length-new_names}
 use Rattle.link_session.proofs.MentionedLemmas.{length-all_mentioned}
 use Rattle.link_session.proofs.HeadLemmas.{grown_none}

@@ -1,6 +1,6 @@
 use Rattle.std.proofs.Common.{◌≡◌, ◌++◌, ◌∷◌, [], ◌∙◌, ap, sym, subst, rules}
 use Rattle.link_session.specs.Undo.{put_all_back}
-use Rattle.link_session.specs.Fields.{image_in, threads_in, cut_by, threads_by, with_heads_back, IsSession}
+use Rattle.link_session.specs.steps.Fields.{image_in, threads_in, cut_by, threads_by, with_heads_back, IsSession}
 use Rattle.link_session.proofs.SessionLemmas.{behind, withdrawn_session}
 use Rattle.link_session.proofs.session.Session.withdraw.Goals as goal
 

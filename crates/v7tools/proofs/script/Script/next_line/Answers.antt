@@ -3,7 +3,8 @@ use Rattle.std.specs.Prelude.{IsSome}
 use Rattle.std.specs.Io.KnownBytes.{prepend_known}
 use Rattle.v7tools.specs.declared.fault.CliFault.TheVariants.{Memory}
 use Rattle.v7tools.specs.Scripts.{asked}
-use Rattle.v7tools.specs.ScriptAnswers.{asked_by, IfTold, IsNextOf, IsTakenOf, NamesPath}
+use Rattle.v7tools.specs.ScriptAnswers.{asked_by, IfTold, IsNextOf, NamesPath}
+use Rattle.v7tools.specs.parts.LineParts.{IsTakenOf}
 use Rattle.v7tools.proofs.ScriptLemmas.{told_map, line_answered, lost_told}
 use Rattle.v7tools.proofs.script.Script.next_line.Goals as goal
 

@@ -3,14 +3,14 @@ use Rattle.std.specs.Prelude.{◌≡◌, ℕ, ◌+◌, min, List, ◌++◌, leng
 use Rattle.std.specs.Io.KnownBytes.{Appends, Consumes, prepend_known}
 use Rattle.aout_core.specs.declared.file.ReadFault.{ReadFault}
 use Rattle.aout_core.specs.declared.file.ReadFault.TheVariants.{Truncated, Device}
-use Rattle.aout_core.specs.Reading.{EndsEarly}
+use Rattle.aout_core.specs.steps.ReadParts.{EndsEarly}
 use Rattle.aout_core.specs.Wires.{AppendsFront}
 
 -- all the bytes went out but those that wait
 abbrev pub AppendsBut : Option (List ℕ) → Option (List ℕ) → List ℕ → List ℕ → Type 0
 AppendsBut old new waiting bytes = (sent : List ℕ) × (bytes ≡ sent ++ waiting) × Appends old new sent
 
--- all the bytes went out but those that wait, or on a fault a front of them
+-- all the bytes went out but those that wait, or on a fault a prefix of them
 abbrev pub PutsBut : {T E : Type 0} → Result T E → Option (List ℕ) → Option (List ℕ) → List ℕ → List ℕ → Type 0
 PutsBut result old new waiting bytes = MatchResult result (λ _. AppendsBut old new waiting bytes) (λ _. AppendsFront old new bytes)
 

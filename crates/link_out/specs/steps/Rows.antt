@@ -9,7 +9,7 @@ use Rattle.aout_core.specs.WellFormed.{segment_of}
 use Rattle.link_session.specs.declared.relocate.Starts.{Starts}
 use Rattle.link_session.specs.declared.relocate.Shifts.{Shifts}
 use Rattle.link_session.specs.Starts.{next_starts, shifts_at}
-use Rattle.link_session.specs.Additions.{shift_by}
+use Rattle.link_session.specs.Starts.{shift_by}
 use Rattle.link_out.specs.declared.options.Keep.{Keep}
 use Rattle.link_out.specs.declared.table.Moves.{Moves}
 use Rattle.link_out.specs.Layouts.{Bases, base}

@@ -2,8 +2,9 @@
 use Rattle.std.specs.Prelude.{◌≡◌, ℕ, ◌+◌, is_some, List, filter, length}
 use Rattle.link_session.specs.declared.cell.Cell.{Cell}
 use Rattle.link_session.specs.declared.mark.Mark.{Mark}
-use Rattle.link_session.specs.Additions.{Named, binding}
-use Rattle.link_session.specs.Chains.{waits_at}
+use Rattle.link_session.specs.Image.{Named}
+use Rattle.link_session.specs.steps.Additions.{binding}
+use Rattle.link_session.specs.steps.Chains.{waits_at}
 
 abbrev pub waiting_for : ℕ → List Cell → List Cell
 waiting_for k cs = filter (λ c. waits_at k c.target) cs

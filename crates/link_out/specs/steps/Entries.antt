@@ -6,7 +6,7 @@ use Rattle.link_out.specs.Reports.{is_in_text}
 
 abbrev pub text_address : Option Final → Option ℕ
 text_address None = None
-text_address (Some f) = cond (eqb (type_of f.bound) 34) (Some f.address) None
+text_address (Some f) = cond (eqb (type_of f.bound) 0o42) (Some f.address) None
 
 -- of the name with this index, if it has one
 abbrev pub text_address_at : List Final → Option ℕ → Option ℕ

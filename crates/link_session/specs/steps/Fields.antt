@@ -11,10 +11,10 @@ use Rattle.link_session.specs.declared.session.Step.{Step}
 use Rattle.link_session.specs.Earlier.{with_earlier}
 use Rattle.link_session.specs.Labelled.{Labelled, objects}
 use Rattle.link_session.specs.Image.{Image, image}
-use Rattle.link_session.specs.Undo.{IsJournal}
-use Rattle.link_session.specs.Additions.{own_cells}
-use Rattle.link_session.specs.Chains.{Link, unthreaded, heads_back}
-use Rattle.link_session.specs.Threads.{Threads, IsThreaded, KeepsThreads, grown_heads, with_texts, with_datas, cut_threads}
+use Rattle.link_session.specs.Undo.{IsJournal, marks_in}
+use Rattle.link_session.specs.steps.Additions.{own_cells}
+use Rattle.link_session.specs.steps.Chains.{Link, unthreaded, heads_back}
+use Rattle.link_session.specs.steps.Threads.{Threads, IsThreaded, KeepsThreads, grown_heads, with_texts, with_datas, cut_threads}
 use Rattle.link_session.specs.Edits.{limit_passed}
 use Rattle.link_session.specs.Sessions.{IsObject}
 
@@ -81,7 +81,7 @@ with_cells texts datas m = record m { text_cells = texts; data_cells = datas }
 abbrev pub with_heads : List Link → Threads → Threads
 with_heads heads t = record t { heads = heads }
 
--- an object's cells and its bss put last, once its names are entered
+-- an object's cells and its bss appended, once its names are entered
 abbrev pub with_own_cells : Image → Contents → Shifts → Image
 with_own_cells m o shifts = record m {
   text_cells = m.text_cells ++ own_cells m.externals o.symbols shifts shifts.text o.text_words o.text_reloc;
@@ -102,9 +102,6 @@ pub record KeepsRoom (old new : Merged) : Type 0 where
   pub text_links : vec_capacity old.text_links ≤ vec_capacity new.text_links
   pub data_links : vec_capacity old.data_links ≤ vec_capacity new.data_links
   pub heads : vec_capacity old.heads ≤ vec_capacity new.heads
-
-abbrev pub marks_in : Step → List Mark
-marks_in s = s.marks.items
 
 abbrev pub sizes_in : Step → Sizes
 sizes_in s = s.sizes

@@ -10,9 +10,10 @@ use Rattle.link_session.specs.Earlier.{with_earlier}
 use Rattle.link_session.specs.Mentions.{externals}
 use Rattle.link_session.specs.Image.{Image, image}
 use Rattle.link_session.specs.Undo.{IsJournalOf}
-use Rattle.link_session.specs.Additions.{Named, state_at, own_cells, next_shifts, next_named}
-use Rattle.link_session.specs.Chains.{Link, threaded, unthreaded, heads_back, AreChained}
-use Rattle.link_session.specs.Settled.{places_of}
+use Rattle.link_session.specs.Image.{Named, state_at}
+use Rattle.link_session.specs.steps.Additions.{own_cells, next_shifts, next_named}
+use Rattle.link_session.specs.steps.Chains.{Link, threaded, unthreaded, heads_back, AreChained}
+use Rattle.link_session.specs.steps.Settled.{places_of}
 
 -- the links of text and of data, one for each cell, and the heads, one for each external
 pub record Threads : Type 0 where
@@ -34,7 +35,7 @@ cut_heads es (k ∷ ks) heads = cut_heads es ks (cut_by_state (state_at es k) k 
 abbrev pub grown_heads : ℕ → List Link → List Link
 grown_heads n heads = heads ++ replicate (n - length heads) None
 
--- the threads once these cells of text, or of data, are put last, each in front of its chain
+-- the threads once these cells of text, or of data, are appended, each in front of its chain
 abbrev pub with_texts : List Cell → Threads → Threads
 with_texts cs t = record t {
   text_links = t.text_links ++ (threaded (λ i. InText i) (length t.text_links) cs t.heads).0;

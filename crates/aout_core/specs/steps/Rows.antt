@@ -2,7 +2,7 @@
 use Rattle.std.specs.Prelude.{◌≡◌, ℕ, zero, suc, ◌*◌, List, [], ◌∷◌, ◌++◌, take, drop, length, slice_index, Option}
 use Rattle.aout_core.specs.declared.reloc.Reloc.{Reloc}
 use Rattle.aout_core.specs.Words.{words_in}
-use Rattle.aout_core.specs.Blocks.{Awaited, Takes}
+use Rattle.aout_core.specs.steps.Blocks.{Awaited, Takes}
 
 -- so many items, each of so many bytes
 abbrev pub row_in : {A : Type 0} → (List ℕ → A) → ℕ → ℕ → List ℕ → List A

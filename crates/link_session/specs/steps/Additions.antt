@@ -26,19 +26,9 @@ use Rattle.link_session.specs.declared.entry.AddFault.{AddFault}
 use Rattle.link_session.specs.declared.entry.AddFault.TheVariants.{TextFull, DataFull, BssFull, NamesFull}
 use Rattle.link_session.specs.Mentions.{Mention, place_of, new_names}
 use Rattle.link_session.specs.Cells.{segment_target, name_target, name_in, offset_in, if_pc}
-use Rattle.link_session.specs.Image.{Image}
-use Rattle.link_session.specs.Updates.{updated, clashes}
-
-abbrev pub Named : Type 0
-Named = List (List ℕ × State)
-
--- the state at a place; behind the last name a name is wanted at no size
-abbrev pub state_in : Option (List ℕ × State) → State
-state_in None = Wanted 0
-state_in (Some e) = e.1
-
-abbrev pub state_at : Named → ℕ → State
-state_at es i = state_in (slice_get es i)
+use Rattle.link_session.specs.Starts.{shift_by}
+use Rattle.link_session.specs.Image.{Image, Named, state_at}
+use Rattle.link_session.specs.steps.Updates.{updated, clashes}
 
 abbrev pub place_in : Named → List ℕ → ℕ
 place_in es name = place_of name (keys_of es)
@@ -103,12 +93,6 @@ abbrev pub place_at : Segment → ℕ → Place
 place_at segments.DataSeg i = InData i
 place_at _ i = InText i
 
-abbrev pub shift_by : Shifts → Segment → ℕ
-shift_by s segments.TextSeg = s.text
-shift_by s segments.DataSeg = s.data
-shift_by s segments.BssSeg = s.bss
-shift_by s _ = 0
-
 abbrev pub definition_by_shift : Shifts → Segment → ℕ → State
 definition_by_shift shifts segment value = Defined segment (plus value (shift_by shifts segment))
 
@@ -168,11 +152,11 @@ joined_image m o = record {
   multiples = m.multiples ++ all_clashes m.externals (next_mentions m o);
 }
 
--- the names of the external entries
+-- the names of the external symbols
 abbrev pub external_names : List Symbol → List (List ℕ)
 external_names symbols = map (λ (s : Symbol). s.name) (filter is_external symbols)
 
--- how many names the entries add to these
+-- how many names the symbols add to these
 abbrev pub new_count : List (List ℕ) → List Symbol → ℕ
 new_count seen symbols = length (new_names seen (external_names symbols))
 

@@ -1,0 +1,175 @@
+#!/usr/bin/env python3
+"""Lists the files that a reader has to trust, and fails where a promise leads to another.
+
+A promise is the contract of a public function, what contracts see of a public type, or the contract of one of the functions
+in ALSO, which docs/PROOFS.md names though their crate keeps them to itself. From the definitions that it cites this follows
+the imports. Each file that they lead to has to stand in specs/ of its crate, not in a folder of STEPS there, and in the table
+"What a reader has to trust" of docs/PROOFS.md, and that table has no other. Nothing in src/ or specs/ of a crate may import the
+steps of another.
+
+The lines that are counted are those of definitions: imports, comments and empty lines are left out.
+"""
+import glob
+import os
+import re
+import sys
+
+ALSO = {
+    "v7tools": ["link_files", "list_files", "size_files", "strip_files", "command_of"],
+}
+
+# v7tools has a file Steps, of the steps of a session, so those of its code have another folder
+STEPS = ["steps", "parts"]
+
+# definitions name no constants of the code, but for the ids by which `command_words` knows its options
+IDS = ["command_words"]
+
+os.chdir(os.path.join(os.path.dirname(os.path.abspath(__file__)), ".."))
+LIBRARIES = ["aout_core", "link_session", "link_out", "symtools", "command_words", "v7tools"]
+IMPORT = re.compile(
+    r"^ *(?:pub )?(?:ghost )?use Rattle\.(\w+)\.(specs|proofs)\.([\w.]+?)(?:\.\{([^}]*)\}|(?: as (\w+))?);?$"
+)
+faults = []
+
+
+def read(path):
+    with open(path, encoding="utf-8") as file:
+        return file.read()
+
+
+def imports(text):
+    """Each name that is brought in, with the crate, the folder and the module that it is from."""
+    for line in text.split("\n"):
+        found = IMPORT.match(line)
+        if found and found[1] in LIBRARIES:
+            crate, folder, module, names, alias = found.groups()
+            for name in (names or alias or module.split(".")[-1]).split(","):
+                yield name.split(" as ")[-1].strip(), (crate, folder, module)
+
+
+def exported(crate):
+    """The modules of a crate that are public, and the names that its root gives out of others."""
+    text = read(f"crates/{crate}/src/lib.rt")
+    modules = set(re.findall(r"^pub mod (\w+);", text, re.M))
+    names = {}
+    for module, group, one in re.findall(r"^pub use (\w+)::(?:\{([^}]*)\}|(\w+));", text, re.M):
+        names.setdefault(module, set()).update(name.strip() for name in (group or one).split(","))
+    return modules, names
+
+
+def pieces(text):
+    """The top-level items of a source file, its tests left out."""
+    text = re.sub(r"#\[cfg\(test\)\].*", "", text, flags=re.S)
+    item = []
+    for line in text.split("\n"):
+        item.append(line)
+        if line in ("}", "{}") or (line.endswith(";") and not line.startswith(" ")):
+            yield "\n".join(item)
+            item = []
+
+
+def clauses(item, wanted):
+    """The contracts of the functions of an item that are wanted, and what contracts see of a type."""
+    found = []
+    for match in re.finditer(r"^ *(pub(?:\(crate\))? )?fn (\w+).*?\{\}?$", item, re.M | re.S):
+        if wanted(match[1] == "pub ", match[2]):
+            found.append(match[0])
+    for match in re.finditer(r"^ *ghost (\w+) = (.*);$", item, re.M):
+        if match[1] not in ("invariant", "inverse", "inverse_ok"):
+            found.append(match[2])
+    return "\n".join(found)
+
+
+def promises(crate):
+    """The names that the promises of a crate cite, each with where it is from and which file cites it."""
+    modules, names = exported(crate)
+    also = ALSO.get(crate, [])
+    for path in sorted(glob.glob(f"crates/{crate}/src/*.rt")):
+        module = os.path.basename(path)[:-3]
+        given = names.get(module, set())
+        text = read(path)
+        outer = [line for line in text.split("\n") if line.startswith("ghost use")]
+        for item in pieces(text):
+            head = re.search(r"^impl(?:<.*?>)? (?:(.*) for )?(\w+)", item, re.M)
+            if head:
+                is_given = module in modules or head[2] in given
+                cited = clauses(item, lambda public, name: is_given and (public or head[1])) if is_given else ""
+            else:
+                cited = clauses(item, lambda public, name: (public and (module in modules or name in given)) or name in also)
+            words = set(re.findall(r"\w+", cited))
+            scope = dict(imports("\n".join(outer)))
+            if head:
+                scope.update(imports(item))
+            for word in sorted(words & set(scope)):
+                yield word, scope[word], path
+
+
+def trusted():
+    """The files that the promises lead to."""
+    reached, waiting = set(), []
+    for crate in LIBRARIES:
+        for word, place, path in promises(crate):
+            waiting.append((place, f"{path} cites {word}"))
+    while waiting:
+        (crate, folder, module), why = waiting.pop()
+        if module.startswith("declared"):
+            if module.endswith("TheConstants") and "/specs/" in why and crate not in IDS:
+                faults.append(f"{why}, a constant of the code")
+            continue
+        if folder == "proofs" or module.split(".")[0] in STEPS:
+            faults.append(f"{why}, of {crate}/{folder}/{module.replace('.', '/')}")
+            continue
+        path = f"crates/{crate}/specs/{module}.antt"
+        if path in reached:
+            continue
+        reached.add(path)
+        for name, place in imports(read(path)):
+            waiting.append((place, f"{path} imports {name}"))
+    return reached
+
+
+def other_steps():
+    """Imports of the steps of another crate."""
+    for path in glob.glob("crates/*/src/**/*.rt", recursive=True) + glob.glob("crates/*/specs/**/*.antt", recursive=True):
+        for name, (crate, folder, module) in imports(read(path)):
+            if module.split(".")[0] in STEPS and path.split("/")[1] != crate:
+                faults.append(f"{path} imports {name}, of the steps of {crate}")
+
+
+def count(path):
+    """How many lines of definitions a file has."""
+    return sum(1 for line in read(path).split("\n") if line.strip() and not re.match(r"(?:pub )?use |--", line))
+
+
+def listed():
+    """The files that the table of docs/PROOFS.md names."""
+    text = read("docs/PROOFS.md").split("## What a reader has to trust")[1].split("\n## ")[0]
+    found = set()
+    for crate, row in re.findall(r"^\| `(\w+)` \|(.*)$", text, re.M):
+        found.update(f"crates/{crate}/specs/{name}.antt" for name in re.findall(r"\b([A-Z]\w+)", row))
+    return found
+
+
+def main():
+    reached = trusted()
+    other_steps()
+    total = 0
+    for crate in LIBRARIES:
+        files = sorted(path for path in reached if path.startswith(f"crates/{crate}/"))
+        lines = sum(count(path) for path in files)
+        total += lines
+        print(f"{crate}: {lines} lines in {len(files)} files")
+        for path in files:
+            print(f"  {count(path):4} {path}")
+    print(f"{total} lines in {len(reached)} files")
+    known = listed()
+    for path in sorted(reached - known):
+        faults.append(f"{path} is not in the table of docs/PROOFS.md")
+    for path in sorted(known - reached):
+        faults.append(f"{path} is in the table of docs/PROOFS.md, and no promise leads to it")
+    for fault in faults:
+        print(f"fault: {fault}")
+    sys.exit(1 if faults else 0)
+
+
+main()
