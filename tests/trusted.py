@@ -1,9 +1,8 @@
 #!/usr/bin/env python3
 """Lists the files that a reader has to trust, and fails where a promise leads to another.
 
-A promise is the contract of a public function, what contracts see of a public type, or the contract of one of the functions
-in ALSO, which docs/PROOFS.md names though their crate keeps them to itself. From the definitions that it cites this follows
-the imports. Each file that they lead to has to stand in specs/ of its crate, not in a folder of STEPS there, and in the table
+A promise is the contract of a public function, or what contracts see of a public type. From the definitions that it cites
+this follows the imports. Each file that they lead to has to stand in specs/ of its crate, not in a folder of STEPS there, and in the table
 "What a reader has to trust" of docs/PROOFS.md, and that table has no other. Nothing in src/ or specs/ of a crate may import the
 steps of another.
 
@@ -13,10 +12,6 @@ import glob
 import os
 import re
 import sys
-
-ALSO = {
-    "v7tools": ["link_files", "list_files", "size_files", "strip_files", "command_of"],
-}
 
 # v7tools has a file Steps, of the steps of a session, so those of its code have another folder
 STEPS = ["steps", "parts"]
@@ -83,7 +78,6 @@ def clauses(item, wanted):
 def promises(crate):
     """The names that the promises of a crate cite, each with where it is from and which file cites it."""
     modules, names = exported(crate)
-    also = ALSO.get(crate, [])
     for path in sorted(glob.glob(f"crates/{crate}/src/*.rt")):
         module = os.path.basename(path)[:-3]
         given = names.get(module, set())
@@ -95,7 +89,7 @@ def promises(crate):
                 is_given = module in modules or head[2] in given
                 cited = clauses(item, lambda public, name: is_given and (public or head[1])) if is_given else ""
             else:
-                cited = clauses(item, lambda public, name: (public and (module in modules or name in given)) or name in also)
+                cited = clauses(item, lambda public, name: public and (module in modules or name in given))
             words = set(re.findall(r"\w+", cited))
             scope = dict(imports("\n".join(outer)))
             if head:

@@ -1,4 +1,7 @@
--- What the program does with its words: which call it runs, what it tells of a fault, and its status.
+-- What the program does with its words: which call it runs, what it tells of a fault, and its status. (own choice)
+--
+-- Words either ask for a call, and then it is run, or they are refused and nothing is asked of the office. Without a fault the
+-- status is that of the call, and standard error is left alone; with one it is 2, and the line of the fault goes there.
 use Rattle.std.specs.Prelude.{◌≡◌, ◌⊎◌, ℕ, List, [], map, Option, Result, Ok, Err, string_bytes}
 use Rattle.aout_core.specs.Wires.{Latched}
 use Rattle.symtools.specs.NmLists.{nm_text}

@@ -1,10 +1,14 @@
--- What a session does with the lines of a script: what it opens, stores and answers, and its status.
-use Rattle.std.specs.Prelude.{◌≡◌, ◌↔◌, ◌⊎◌, ℕ, max, false, List, [], ◌∷◌, ◌++◌, map, Option, Some, None, Result, Ok, Err, IfErr, IfOk, IfSome, IsErr, IsTrue}
+-- What a session does with the lines of a script: what it opens, stores and answers, and its status. (own choice)
+--
+-- Each line is run on what the line before it left. It opens at most the file that it names, stores at most the link that it asks
+-- for, and has an answer and a status. A session asks and answers all that its lines do, one behind another, and its status is the
+-- largest of theirs. It ends behind the last line, at a fault of the script, or where an answer can't be written.
+use Rattle.std.specs.Prelude.{◌≡◌, ◌⊎◌, ℕ, max, List, [], ◌∷◌, ◌++◌, map, Option, Some, None, Result, Ok, Err, IfSome, IsTrue}
 use Rattle.std.specs.List.{flat_map}
 use Rattle.std.specs.Io.KnownBytes.{Appends}
 use Rattle.aout_core.specs.Reading.{HasHeader}
-use Rattle.aout_core.specs.Wires.{Latched, Puts}
-use Rattle.link_session.specs.Labelled.{Labelled, objects}
+use Rattle.aout_core.specs.Wires.{Latched}
+use Rattle.link_session.specs.Labelled.{objects}
 use Rattle.link_session.specs.Sessions.{nothing_kept}
 use Rattle.link_session.specs.Undo.{Kept}
 use Rattle.link_out.specs.Choices.{Choices}
@@ -14,9 +18,7 @@ use Rattle.v7tools.specs.Deeds.{Deed, History, Extends, opened, stored}
 use Rattle.v7tools.specs.LinkRuns.{Refuses}
 use Rattle.v7tools.specs.Scripts.{Asked, to_add, to_withdraw, for_externals, for_undefined, to_link, for_nothing, lines_in, Given, ScriptFault, long_line, many_lines, given_behind}
 use Rattle.v7tools.specs.ScriptAnswers.{NamesPath}
-use Rattle.v7tools.specs.Steps.{AddsIf, Changes, IsAddOn, IsLinkBy, IsStepOn, WithdrawsIf, without_memory}
-use Rattle.v7tools.specs.declared.commands.Command.{Command}
-use Rattle.v7tools.specs.declared.commands.Command.TheVariants.{Link}
+use Rattle.v7tools.specs.Steps.{AddsIf, IsAddOn, IsLinkBy, WithdrawsIf, without_memory}
 use Rattle.v7tools.specs.declared.fault.CliFault.{CliFault}
 use Rattle.v7tools.specs.declared.fault.CliFault.TheVariants as faults
 use Rattle.v7tools.specs.declared.link_answers.Stored.{Stored}
@@ -103,42 +105,6 @@ IsLineOf o old r for_nothing = OnlyTells (step old.forced o old.entries anything
 
 abbrev pub IsLineRun : Choices → Kept → LineRun → Type 0
 IsLineRun o old r = IsLineOf o old r r.line
-
--- ---- how a line is answered
-
--- the file at a path was opened, on a wire that has not failed, or could not be
-abbrev pub IsOpenedAt : {R : Type 0} → (R → Option (List ℕ)) → History → History → List ℕ → Option (Latched R) → Type 0
-IsOpenedAt remaining old new path None = Extends old new (opened path None ∷ [])
-IsOpenedAt remaining old new path (Some wire) = (wire.has_failed ≡ false) × Extends old new (opened path (Some (remaining wire.device)) ∷ [])
-
-abbrev pub IsNoLink : {R : Type 0} → Command R → Type 0
-IsNoLink Link = ⊥
-IsNoLink _ = Unit {0}
-
--- the status of a step is told, and its answer went out, or on a fault a front of it
-pub record TellsStep {W : Type 0} (contents : W → Option (List ℕ)) (did : Stepped) (left : Kept) (result : Result ℕ CliFault) (before after : Latched W) : Type 0 where
-  pub entries : left.entries ≡ did.kept
-  pub status : IfOk result (λ status. status ≡ status_after did.verdict)
-  pub write_failed : IfErr result (λ fault. fault ≡ faults.WriteFailed)
-  pub fault : IsErr result ↔ IsTrue after.has_failed
-  pub bytes : Puts result (contents before.device) (contents after.device) did.answer
-
--- a step on a command that is no link was taken
-abbrev pub TakesPlainStep : {R W : Type 0} → (R → Option (List ℕ)) → (W → Option (List ℕ)) → Choices → Command R → Kept → Kept → Result ℕ CliFault → Latched W → Latched W → Type 0
-TakesPlainStep remaining contents o command old new result before after =
-    (did : Stepped) × IsStepOn remaining old o command did × Changes command did.verdict old new × TellsStep contents did new result before after
-
--- a line was run; its answer went out, or on a fault a front of it
-pub record AnswersLine {W : Type 0} (contents : W → Option (List ℕ)) (o : Choices) (asks : Asked) (kept left : Kept) (old new : History) (result : Result ℕ CliFault) (before after : Latched W) : Type 0 where
-  pub run : LineRun
-  pub line : run.line ≡ asks
-  pub leaves : run.kept ≡ left
-  pub is_run : IsLineRun o kept run
-  pub asked : Extends old new run.deeds
-  pub status : IfOk result (λ status. status ≡ run.status)
-  pub write_failed : IfErr result (λ fault. fault ≡ faults.WriteFailed)
-  pub fault : IsErr result ↔ IsTrue after.has_failed
-  pub bytes : Puts result (contents before.device) (contents after.device) run.answer
 
 -- ---- the lines of a script
 

@@ -3,3 +3,4 @@ pub mod StepParts
 pub mod LineParts
 pub mod InputParts
 pub mod Openings
+pub mod SessionParts

@@ -2,7 +2,8 @@
 ghost use Rattle.std.specs.Prelude.{◌≤◌, string_bytes, IfOk};
 ghost use Rattle.v7tools.specs.Scripts.{to_add, to_link};
 ghost use Rattle.v7tools.specs.ScriptAnswers.{asked_by};
-ghost use Rattle.v7tools.specs.SessionRuns.{AnswersLine, IsNoLink, IsOpenedAt, IsSessionRun, TakesPlainStep};
+ghost use Rattle.v7tools.specs.SessionRuns.{IsSessionRun};
+ghost use Rattle.v7tools.specs.parts.SessionParts.{AnswersLine, IsNoLink, IsOpenedAt, TakesPlainStep};
 
 use crate::commands::{Command, Step};
 use crate::fault::CliFault;
