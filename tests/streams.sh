@@ -77,7 +77,9 @@ same out whole
 expect 'ld with a report, all closed' 2 ''
 same out reported
 
-# a file that is opened first has the lowest descriptor that is free: it is none of those three, which are held
+# a file that is opened first has the lowest descriptor that is free: it is none of those three, which are held. To ask for
+# a descriptor by a path the system has to have /dev/fd
+[ -d /dev/fd ] || exit $failed
 rm out
 "$v7" ld -o out main.o /dev/fd/0 <&- >answers 2>fault; status=$?
 expect 'descriptor 0' 2 'v7: /dev/fd/0: read error'
