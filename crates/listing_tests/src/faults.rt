@@ -14,7 +14,7 @@ fn failing_behind(alloc: Global, before: usize, failure: Failing) -> Wire<TestWr
     Wire::new(TestWriter::new(Vec::new(alloc), usize::MAX, before, failure))
 }
 
-/// Whether nm answers a fault of the device, now and for no files, and has written a front of the list.
+/// Whether nm answers a fault of the device, now and for no files, and has written a prefix of the list.
 fn fails_to_list(alloc: Global, files: &[(String, File)], before: usize, failure: Failing) -> bool {
     let mut out = failing_behind(alloc, before, failure);
     let is_told = nm(alloc, files, plain(), &mut out) == Err(ToolFault::Device)
@@ -26,7 +26,7 @@ fn fails_to_list(alloc: Global, files: &[(String, File)], before: usize, failure
 /// The line of the sizes of `s.o`.
 const SIZE_LINE: &str = "4+0+0 = 4b = 04b\n";
 
-/// Whether size answers a fault of the device, now and for no files, and has written a front of the line.
+/// Whether size answers a fault of the device, now and for no files, and has written a prefix of the line.
 fn fails_to_size(alloc: Global, files: &[(String, File)], before: usize, failure: Failing) -> bool {
     let mut out = failing_behind(alloc, before, failure);
     let is_told = size(files, &mut out) == Err(ToolFault::Device)

@@ -91,7 +91,7 @@ const BY_NAME: &[u8] = b"000002 t L1\n       U _f\n000000 T _m\n000004 C _x\n";
 /// nm's list of `s.o`, by value.
 const BY_VALUE: &[u8] = b"       U _f\n000000 T _m\n000002 t L1\n000004 C _x\n";
 
-/// A file is listed; refused memory, a front of the list was written.
+/// A file is listed; refused memory, a prefix of the list was written.
 fn list(alloc: Global, by_value: bool, lines: &[u8]) -> Outcome {
     let (Some(files), Ok(taken)) = (s_o(alloc), Vec::with_capacity(alloc, 64)) else {
         return Outcome::Unready;

@@ -32,7 +32,7 @@ pub record IsLinkOfFiles (forced : List (List ℕ)) (o : Choices) (files : List 
   pub all : paths_of found ≡ files
   pub link : IfSome (all_told found) (λ inputs. IsLinkOf forced o inputs answer)
 
--- the report went out, or on a fault a front of it
+-- the report went out, or on a fault a prefix of it
 pub record Reports {W : Type 0} (contents : W → Option (List ℕ)) (f : Findings) (result : Result ℕ CliFault) (before after : Latched W) : Type 0 where
   pub status : IfOk result (λ status. status ≡ status_of f)
   pub write_failed : IfErr result (λ fault. fault ≡ faults.WriteFailed)

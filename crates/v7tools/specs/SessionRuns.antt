@@ -171,7 +171,7 @@ pub record RunsUpTo {W : Type 0} (contents : W → Option (List ℕ)) (forced : 
   pub stops : StopsBehind script (lines_asked runs) fault
   pub refusal : result ≡ Err fault
 
--- one more line was run behind those, and of its answer a front went out
+-- one more line was run behind those, and of its answer a prefix went out
 pub record BreaksOff {W : Type 0} (contents : W → Option (List ℕ)) (forced : List (List ℕ)) (o : Choices) (script : Option (List ℕ)) (old new : History) (result : Result ℕ CliFault) (before after : Latched W) : Type 0 where
   pub runs : List LineRun
   pub kept : Kept

@@ -79,7 +79,7 @@ Changes (Add path wire) verdict old new = AddsIf verdict old new
 Changes Withdraw verdict old new = WithdrawsIf verdict old new
 Changes _ verdict old new = new ≡ old
 
--- the answer went out, or on a fault a front of it; of a link that is to be stored nothing is written
+-- the answer went out, or on a fault a prefix of it; of a link that is to be stored nothing is written
 abbrev pub GoesOut : {W : Type 0} → (W → Option (List ℕ)) → Verdict → List ℕ → Result Step CliFault → Latched W → Latched W → Type 0
 GoesOut contents (to_store x) answer result old new = IsOk result × (new ≡ old)
 GoesOut contents _ answer result old new = (IsErr result ↔ IsTrue new.has_failed) × Puts result (contents old.device) (contents new.device) answer

@@ -133,10 +133,10 @@ fn make_link<W: Write>(
 /// Does what a command asks for, and writes the answer: `added PATH` or the text of the fault; `withdrew LABEL` or
 /// `nothing to withdraw`; the nm lines of the externals; the undefined names; the text of the fault that refuses a
 /// link; or `bad command`. Of a link that is made nothing is written; with relocation its file is an object. A step that
-/// is `Refused` leaves the session as it was, also for want of memory, which answers `no memory`. Memory is taken to add
-/// and to link alone. (own choice)
+/// is `Refused` leaves the session as it was, also where there is no memory, which answers `no memory`. Memory is taken
+/// to add and to link alone. (own choice)
 ///
-/// Errors: `WriteFailed`, 8, where the answers' wire failed, now or before: a front of the answer went out, and the
+/// Errors: `WriteFailed`, 8, where the answers' wire failed, now or before: a prefix of the answer went out, and the
 /// session is as after the command.
 pub fn step<R: Read + Drop, W: Write>(
     alloc: Global,

@@ -23,7 +23,7 @@ abbrev pub IsNoLink : {R : Type 0} → Command R → Type 0
 IsNoLink Link = ⊥
 IsNoLink _ = Unit {0}
 
--- the status of a step is told, and its answer went out, or on a fault a front of it
+-- the status of a step is told, and its answer went out, or on a fault a prefix of it
 pub record TellsStep {W : Type 0} (contents : W → Option (List ℕ)) (did : Stepped) (left : Kept) (result : Result ℕ CliFault) (before after : Latched W) : Type 0 where
   pub entries : left.entries ≡ did.kept
   pub status : IfOk result (λ status. status ≡ status_after did.verdict)
@@ -36,7 +36,7 @@ abbrev pub TakesPlainStep : {R W : Type 0} → (R → Option (List ℕ)) → (W 
 TakesPlainStep remaining contents o command old new result before after =
     (did : Stepped) × IsStepOn remaining old o command did × Changes command did.verdict old new × TellsStep contents did new result before after
 
--- a line was run; its answer went out, or on a fault a front of it
+-- a line was run; its answer went out, or on a fault a prefix of it
 pub record AnswersLine {W : Type 0} (contents : W → Option (List ℕ)) (o : Choices) (asks : Asked) (kept left : Kept) (old new : History) (result : Result ℕ CliFault) (before after : Latched W) : Type 0 where
   pub run : LineRun
   pub line : run.line ≡ asks
