@@ -128,7 +128,9 @@ const TEXTS: [&str; 14] = [
 #[test]
 fn fault_lines(rt: HostRuntime) -> Result<(), Fail> {
     let alloc = rt.alloc();
-    for (fault, text) in all_faults(alloc)?.into_iter().zip(TEXTS) {
+    let faults = all_faults(alloc)?;
+    assert!(rt; faults.len() == TEXTS.len());
+    for (fault, text) in faults.into_iter().zip(TEXTS) {
         let line = format!(in alloc; "v7: {text}\n")?;
         assert!(rt; writes(alloc, &fault, line.as_str()), "{text}");
         assert!(rt; is_told(fault, text), "{text}");
