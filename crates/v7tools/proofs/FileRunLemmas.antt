@@ -1,18 +1,15 @@
 -- Files that are read and stored one after another, and lists of them, from their parts.
 use Rattle.std.specs.declared.alloc.Global.{Global}
-use Rattle.std.proofs.Common.{◌≡◌, ◌≢◌, ℕ, List, [], ◌∷◌, ◌++◌, map, Option, Some, None, Result, Ok, Err, refl, sym, ap, ◌∙◌, subst, inl, inr}
-use Rattle.std.proofs.lemmas.List.{append-nil}
+use Rattle.std.proofs.Common.{◌≡◌, ℕ, List, [], ◌∷◌, ◌++◌, map, Option, Some, None, Result, Ok, Err, refl, sym, ap, ◌∙◌, subst, inr}
 use Rattle.std.specs.Prelude.{String, string_bytes, IfSome}
-use Rattle.aout_core.specs.declared.file.ReadFault.TheVariants as reads
 use Rattle.aout_core.specs.Contents.{Contents}
 use Rattle.aout_core.specs.Front.{front}
-use Rattle.aout_core.specs.Reading.{HasHeader, IsReadOf, LeavesAfter}
+use Rattle.aout_core.specs.Reading.{IsReadOf, LeavesAfter}
 use Rattle.aout_core.specs.Strip.{stripped}
-use Rattle.v7tools.specs.Deeds.{Deed, History, Extends, Opened, opened, opens, stored}
+use Rattle.v7tools.specs.Deeds.{Deed, History, Extends, Opened, opened, stored}
 use Rattle.v7tools.specs.FileRuns.{AreRead, IsKept, IsLoadAt, IsStripping, Loaded, Reads, ReadsNotAll, strips}
-use Rattle.v7tools.specs.Loads.{read_of, IsAtPath}
+use Rattle.v7tools.specs.Loads.{read_of}
 use Rattle.v7tools.specs.declared.fault.CliFault.{CliFault}
-use Rattle.v7tools.specs.declared.fault.CliFault.TheVariants as faults
 use Rattle.v7tools.specs.declared.link_answers.Stored.{Stored}
 use Rattle.v7tools.specs.declared.link_answers.Stored.TheVariants.{Kept, NotCreated, Failed}
 use Rattle.v7tools.proofs.DeedLemmas.{asked_behind, map-append, nothing_asked, one_more}
@@ -24,22 +21,6 @@ Told known left r = IfSome known (λ bytes. IsReadOf (read_of r) bytes × Leaves
 told_alone : (P Q : List ℕ → Type 0) (known : Option (List ℕ)) → IfSome known (λ bytes. P bytes × Q bytes) → IfSome known P
 told_alone P Q None h = tt
 told_alone P Q (Some bytes) h = h.0
-
--- the file that was opened at a path was read, or why it was not
-pub loaded_at : (old new : History) (path : String Global) (known left : Option (List ℕ)) (r : Result Loaded CliFault) → Extends old new (opened (string_bytes path) (Some known) ∷ []) → IsAtPath path r → Told known left r → IsLoadAt old new path r
-loaded_at old new path known left (Ok l) asked at h = (at, (known, asked, told_alone _ _ known h))
-loaded_at old new path known left (Err (faults.BadFile p fault)) asked at h = (at.0, at.1, (known, asked, told_alone _ _ known h))
-loaded_at old new path known left (Err faults.Memory) asked at h = (known, asked, told_alone _ _ known h)
-loaded_at old new path known left (Err faults.Usage) asked at h = absurd at
-loaded_at old new path known left (Err (faults.CannotOpen p)) asked at h = absurd at
-loaded_at old new path known left (Err (faults.BadObject p fault)) asked at h = absurd at
-loaded_at old new path known left (Err (faults.NotAdded p fault)) asked at h = absurd at
-loaded_at old new path known left (Err (faults.NotLinked fault)) asked at h = absurd at
-loaded_at old new path known left (Err (faults.CannotCreate p)) asked at h = absurd at
-loaded_at old new path known left (Err faults.WriteFailed) asked at h = absurd at
-loaded_at old new path known left (Err faults.LongLine) asked at h = absurd at
-loaded_at old new path known left (Err faults.ManyLines) asked at h = absurd at
-loaded_at old new path known left (Err faults.ScriptFailed) asked at h = absurd at
 
 read_behind : (found : List Opened) (loaded : List Loaded) (known : Option (List ℕ)) (l : Loaded) → AreRead found loaded → IfSome known (λ bytes. front bytes ≡ Ok l.1) → AreRead (found ++ (string_bytes l.0, known) ∷ []) (loaded ++ l ∷ [])
 read_behind [] [] known l h k = ((refl, k), tt)
@@ -77,10 +58,6 @@ stops_reading a b c files left later loaded path fault h order e k = inr (record
   before = h;
   last = k;
 })
-
--- none is left
-pub all_read : (files left : List (String Global)) (loaded : List Loaded) → files ≡ map (λ f. f.0) loaded ++ left → left ≡ [] → files ≡ map (λ f. f.0) loaded
-all_read files left loaded h e = h ∙ ap (λ (l : List (String Global)). map (λ f. f.0) loaded ++ l) e ∙ append-nil _
 
 -- ---- strip
 

@@ -1,11 +1,9 @@
 -- A line of a script, from the step or the link that answers it.
-use Rattle.std.proofs.Common.{◌≡◌, ℕ, max, List, [], ◌∷◌, ◌++◌, map, Option, Some, None, Result, Ok, Err, refl, sym, ap, ◌∙◌, subst, inl, inr, append_assoc, append-nil}
+use Rattle.std.proofs.Common.{◌≡◌, ℕ, List, [], ◌∷◌, Option, Some, None, Result, Ok, Err, refl, sym, ap, subst, inl, inr, append-nil}
 use Rattle.std.specs.declared.alloc.Global.{Global}
-use Rattle.std.specs.Prelude.{IfErr, IfOk, IfSome, IsErr, IsTrue, ◌↔◌, ◌⊎◌, String, string_bytes}
-use Rattle.std.specs.List.{flat_map}
+use Rattle.std.specs.Prelude.{IfErr, IfOk, IsErr, IsTrue, ◌↔◌, String, string_bytes}
 use Rattle.std.specs.Io.KnownBytes.{Appends, Keeps}
 use Rattle.std.proofs.KnownBytes.{Appends-kept}
-use Rattle.aout_core.specs.Reading.{HasHeader}
 use Rattle.aout_core.specs.Wires.{AppendsFront, Latched, Puts}
 use Rattle.link_session.specs.Edits.{last_of}
 use Rattle.link_session.specs.Labelled.{Labelled, objects}
@@ -16,18 +14,16 @@ use Rattle.link_out.specs.declared.linked.LinkFault.{LinkFault}
 use Rattle.link_out.specs.Link.{Outcome, link}
 use Rattle.link_out.specs.Outcomes.{findings_of, IsLinkOf, outcome_of}
 use Rattle.link_out.specs.Reports.{line}
-use Rattle.v7tools.specs.Answers.{adding, absent, withdrawing, listing_externals, listing_undefined, anything_else, Verdict, done, refused, to_store, Stepped, add_step, input_from, failing, giving, step, withdraw_step, link_answer_text, link_status}
+use Rattle.v7tools.specs.Answers.{absent, Verdict, done, refused, to_store, Stepped, add_step, input_from, failing, giving, withdraw_step, link_answer_text, link_status}
 use Rattle.v7tools.specs.Deeds.{Deed, History, Extends, opened, stored}
 use Rattle.v7tools.specs.FaultTexts.{cli_text, fault_of_link}
 use Rattle.v7tools.specs.Inputs.{Cause, kept_with}
 use Rattle.v7tools.specs.Scripts.{Asked, to_add, to_withdraw, for_externals, for_undefined, to_link, for_nothing}
-use Rattle.v7tools.specs.SessionRuns.{DoesStep, IsAddOf, IsLineOf, IsLineRun, LineRun, OnlyTells, OpensNone, OpensOne, TakesLast, status_after}
+use Rattle.v7tools.specs.SessionRuns.{DoesStep, IsAddOf, IsLineOf, LineRun, OnlyTells, TakesLast, status_after}
 use Rattle.v7tools.specs.parts.SessionParts.{AnswersLine, IsNoLink, IsOpenedAt, TakesPlainStep, TellsStep}
-use Rattle.v7tools.specs.Steps.{AddsIf, Changes, Does, GoesOut, IsAddBy, IsAddOn, IsStepOn, TakesStep, WithdrawsIf, without_memory}
+use Rattle.v7tools.specs.Steps.{AddsIf, Does, GoesOut, IsAddBy, IsAddOn, IsStepOn}
 use Rattle.v7tools.specs.declared.commands.Command.{Command}
 use Rattle.v7tools.specs.declared.commands.Command.TheVariants.{Add, Withdraw, Externals, Undefined, Link, Bad}
-use Rattle.v7tools.specs.declared.commands.Step.{Step}
-use Rattle.v7tools.specs.declared.commands.Step.TheVariants.{Done, Refused, ToStore}
 use Rattle.v7tools.specs.declared.fault.CliFault.{CliFault}
 use Rattle.v7tools.specs.declared.fault.CliFault.TheVariants as faults
 use Rattle.v7tools.specs.declared.link_answers.Stored.{Stored}

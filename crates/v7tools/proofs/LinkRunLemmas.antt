@@ -1,16 +1,15 @@
 -- A link over an office, from its parts.
 use Rattle.std.specs.declared.alloc.Global.{Global}
-use Rattle.std.proofs.Common.{◌≡◌, ℕ, List, [], ◌∷◌, ◌++◌, map, Option, Some, None, Result, Ok, Err, refl, sym, ap, ◌∙◌, subst, inl, inr}
+use Rattle.std.proofs.Common.{◌≡◌, ℕ, List, [], ◌∷◌, map, Option, Result, Ok, Err, refl, sym, ap, ◌∙◌, subst, inl, inr}
 use Rattle.std.specs.Prelude.{String, string_bytes, IfSome}
-use Rattle.std.specs.List.{AllByRecursion}
 use Rattle.aout_core.specs.Wires.{Latched}
 use Rattle.link_out.specs.declared.linked.Linked.{Linked}
 use Rattle.link_out.specs.Choices.{Choices}
 use Rattle.link_out.specs.Outcomes.{findings_of}
-use Rattle.v7tools.specs.Deeds.{Deed, History, Extends, Opened, opened, opens, paths_of, stored}
-use Rattle.v7tools.specs.LinkAnswers.{and_told, IsLinkOf, IsPossible, IsWorking, said_by, told}
+use Rattle.v7tools.specs.Deeds.{History, Extends, stored}
+use Rattle.v7tools.specs.LinkAnswers.{and_told, IsLinkOf, IsPossible, said_by, told}
 use Rattle.v7tools.specs.parts.Openings.{sources, IsOpening, OpensAll}
-use Rattle.v7tools.specs.LinkRuns.{all_told, IsLinkOfFiles, IsLinkRun, Refuses, ReportsIf}
+use Rattle.v7tools.specs.LinkRuns.{all_told, IsLinkOfFiles, IsLinkRun, ReportsIf}
 use Rattle.v7tools.specs.declared.fault.CliFault.{CliFault}
 use Rattle.v7tools.specs.declared.fault.CliFault.TheVariants as faults
 use Rattle.v7tools.specs.declared.link_answers.Stored.{Stored}

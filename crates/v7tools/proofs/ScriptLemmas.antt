@@ -121,11 +121,6 @@ last_told n (Some bytes) (Some left) line few short some none taken end =
       (λ _. subst HasNone (sym whole) none, λ _. refl),
     )
 
-pub failed_told : (n : ℕ) (old new : Option (List ℕ)) (front : List ℕ) → length front ≤ 4096 → HasNone front → Consumes old new front → IfTold old new (λ bytes left. IsStopOf n bytes left stops.ReadFailed)
-failed_told n None new front short none taken = tt
-failed_told n (Some bytes) None front short none taken = absurd taken
-failed_told n (Some bytes) (Some left) front short none taken = (front, none, short, taken)
-
 -- ---- the answers
 
 pub line_answered : (n : ℕ) (settled : Option Answer) (line : List ℕ) (is_last : Bool) (it : Line) (bytes left : List ℕ) → asked_by it ≡ asked line → (IsSome settled ↔ is_last ≡ true) →

@@ -1,18 +1,18 @@
 -- The lines of a script, run one after another on a session.
-use Rattle.std.proofs.Common.{◌≡◌, ℕ, ◌+◌, ◌≤◌, max, List, [], ◌∷◌, ◌++◌, map, Option, Some, None, Result, Ok, Err, refl, sym, ap, ◌∙◌, subst, inl, inr, append_assoc, append-nil, arith}
-use Rattle.std.specs.Prelude.{IfErr, IfOk, IfSome, IsErr, IsSome, IsTrue, ◌⊎◌}
+use Rattle.std.proofs.Common.{◌≡◌, ℕ, ◌+◌, ◌≤◌, max, List, [], ◌∷◌, ◌++◌, Option, Some, None, Result, Ok, Err, refl, sym, ap, ◌∙◌, subst, inl, inr, append_assoc, append-nil, arith}
+use Rattle.std.specs.Prelude.{IfSome, IsSome, ◌⊎◌}
 use Rattle.std.specs.List.{flat_map}
 use Rattle.std.specs.Io.KnownBytes.{Appends, prepend_known}
 use Rattle.std.proofs.KnownBytes.{Appends-nil, Appends-trans}
 use Rattle.std.proofs.lemmas.Grind.{flat_map-append}
-use Rattle.aout_core.specs.Wires.{AppendsFront, Latched}
+use Rattle.aout_core.specs.Wires.{Latched}
 use Rattle.link_session.specs.Sessions.{nothing_kept}
 use Rattle.link_session.specs.Undo.{Kept}
 use Rattle.link_out.specs.Choices.{Choices}
-use Rattle.v7tools.specs.Deeds.{Deed, History, Extends}
-use Rattle.v7tools.specs.Scripts.{Asked, lines_in, Given, ScriptFault, long_line, many_lines, and_given, ends_with_fault, given_behind}
+use Rattle.v7tools.specs.Deeds.{History, Extends}
+use Rattle.v7tools.specs.Scripts.{Asked, lines_in, Given, ScriptFault, long_line, many_lines, and_given, given_behind}
 use Rattle.v7tools.specs.ScriptAnswers.{Answer, IfTold, IsNextOf, NamesPath, Progress, Settles, asked_by, lines_of}
-use Rattle.v7tools.specs.SessionRuns.{AreFirst, AreLines, BreaksOff, Chains, IsLineRun, IsSessionRun, LineRun, Ran, RunsAll, RunsUpTo, StopsBehind, answers_of, deeds_of, given, lines_asked, worst}
+use Rattle.v7tools.specs.SessionRuns.{AreFirst, AreLines, Chains, IsLineRun, IsSessionRun, LineRun, Ran, StopsBehind, answers_of, deeds_of, given, lines_asked, worst}
 use Rattle.v7tools.specs.parts.SessionParts.{AnswersLine}
 use Rattle.v7tools.specs.declared.fault.CliFault.{CliFault}
 use Rattle.v7tools.specs.declared.fault.CliFault.TheVariants as faults
@@ -132,6 +132,13 @@ module _ (first mid now : Option (List ℕ)) (n : ℕ) (settled later : Option A
                 (λ a b c first_given is. is.0.0 ∙ behind_last_line b (is.1.0 (subst (λ (o : Option Answer). IsSome o) (sym e) refl)))
                 h.told next_told,
           )
+
+  -- the same of what a call gave, once it is known to be a line
+  pub reads_given : (line : Option Line) (it : Line) (m : ℕ) → line ≡ Some it → Stays settled (Ok line) → Settles (Ok line) later → Next mid now n settled later (Ok line) → m ≡ n + lines_of (Ok line) →
+      Reading first now m later (lines ++ asked_by it ∷ [])
+  reads_given line it m is stays settles next count =
+      reads_line it m (subst (λ (x : Option Line). Stays settled (Ok x)) is stays) (subst (λ (x : Option Line). Settles (Ok x) later) is settles)
+      (subst (λ (x : Option Line). Next mid now n settled later (Ok x)) is next) (subst (λ (x : Option Line). m ≡ n + lines_of (Ok x)) is count)
 
   -- no line more
   pub reads_end : Stays settled (Ok None) → Next mid now n settled later (Ok None) → AreLines first lines None

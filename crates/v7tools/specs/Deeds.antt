@@ -2,7 +2,7 @@
 --
 -- No contract can say what a disk holds. It can say what was asked of it: a file was opened, and what its bytes were, or a file was
 -- to be stored, and whether it was. The list of these deeds, in order, is what a command did.
-use Rattle.std.specs.Prelude.{◌≡◌, ℕ, List, [], ◌∷◌, ◌++◌, map, Option, Some, None, ⊤}
+use Rattle.std.specs.Prelude.{◌≡◌, ℕ, List, ◌++◌, map, Option, Some, None, ⊤}
 use Rattle.aout_core.specs.Contents.{Contents}
 use Rattle.v7tools.specs.declared.link_answers.Stored.{Stored}
 

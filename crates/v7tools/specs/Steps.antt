@@ -4,7 +4,6 @@
 -- the session: whether a device failed, and whether there was memory. Here is what each may change, and what goes out.
 use Rattle.std.specs.Prelude.{◌≡◌, ◌↔◌, ◌⊎◌, ℕ, false, List, Option, Some, None, Result, IfOk, IfSome, IsOk, IsErr, IsTrue, string_bytes}
 use Rattle.aout_core.specs.Contents.{Contents}
-use Rattle.aout_core.specs.Front.{front}
 use Rattle.aout_core.specs.Reading.{HasHeader}
 use Rattle.aout_core.specs.WellFormed.{IsWellFormed}
 use Rattle.aout_core.specs.Wires.{Latched, Puts}

@@ -3,7 +3,7 @@ use Rattle.std.specs.declared.alloc.Global.{Global}
 use Rattle.std.specs.Prelude.{◌≡◌, ℕ, List, [], map, Option, Result, Ok, Err, String, string_bytes, Vec}
 use Rattle.std.specs.List.{AllByRecursion}
 use Rattle.aout_core.specs.Wires.{Latched}
-use Rattle.v7tools.specs.Deeds.{History, Extends, Opened, opened, opens}
+use Rattle.v7tools.specs.Deeds.{History, Extends, Opened, opens}
 use Rattle.v7tools.specs.LinkAnswers.{IsWorking}
 use Rattle.v7tools.specs.declared.fault.CliFault.{CliFault}
 use Rattle.v7tools.specs.declared.fault.CliFault.TheVariants as faults

@@ -3,8 +3,7 @@ use Rattle.std.specs.Prelude.{◌≡◌, ◌↔◌, ℕ, false, List, [], ◌∷
 use Rattle.aout_core.specs.Wires.{Latched, Puts}
 use Rattle.link_session.specs.Undo.{Kept}
 use Rattle.link_out.specs.Choices.{Choices}
-use Rattle.link_out.specs.Link.{link}
-use Rattle.v7tools.specs.Answers.{Stepped, step}
+use Rattle.v7tools.specs.Answers.{Stepped}
 use Rattle.v7tools.specs.Deeds.{History, Extends, opened}
 use Rattle.v7tools.specs.Scripts.{Asked}
 use Rattle.v7tools.specs.Steps.{Changes, IsStepOn}

@@ -12,7 +12,7 @@ use Rattle.link_session.specs.Sessions.{Adds}
 use Rattle.link_session.specs.Undo.{Kept}
 use Rattle.link_out.specs.declared.linked.LinkFault.{LinkFault}
 use Rattle.link_out.specs.Reports.{is_missing}
-use Rattle.link_out.specs.Link.{Outcome, link}
+use Rattle.link_out.specs.Link.{Outcome}
 use Rattle.link_out.specs.Reports.{line}
 use Rattle.v7tools.specs.declared.fault.CliFault.{CliFault}
 use Rattle.v7tools.specs.declared.fault.CliFault.TheVariants as faults

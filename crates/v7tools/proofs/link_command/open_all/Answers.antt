@@ -1,7 +1,6 @@
-use Rattle.std.proofs.Common.{rules, ◌≡◌, ◌+◌, ◌≤◌, [], ◌∷◌, ◌++◌, map, length, Some, None, refl, sym, ap, ◌∙◌, subst, arith, string_bytes}
-use Rattle.std.specs.Prelude.{vec_len, vec_capacity}
+use Rattle.std.proofs.Common.{rules, ◌≡◌, [], ◌∷◌, ◌++◌, map, length, Some, None, refl, sym, ap, ◌∙◌, subst, string_bytes}
 use Rattle.std.specs.List.{AllByRecursion}
-use Rattle.v7tools.specs.Deeds.{Extends, opened, opens}
+use Rattle.v7tools.specs.Deeds.{Extends, opens}
 use Rattle.v7tools.specs.LinkAnswers.{IsWorking}
 use Rattle.v7tools.specs.parts.Openings.{sources}
 use Rattle.v7tools.proofs.DeedLemmas.{all_behind, nothing_asked, one_more, opened_at, opens_more, map-append, stops_at}

@@ -1,10 +1,9 @@
-use Rattle.std.proofs.Common.{rules, ◌≡◌, ◌++◌, ◌+◌, ◌≤◌, [], ◌∷◌, List, Option, Some, None, Ok, Err, arith, ap, subst, sym, refl, ◌∙◌}
-use Rattle.v7tools.specs.Scripts.{Asked}
-use Rattle.v7tools.specs.ScriptAnswers.{IsNextOf, IfTold, Settles, asked_by, lines_of}
+use Rattle.std.proofs.Common.{rules, ◌≡◌, ◌+◌, Option, Some, None, Ok, Err, ap, subst, refl, ◌∙◌}
+use Rattle.v7tools.specs.ScriptAnswers.{IsNextOf, IfTold, lines_of}
 use Rattle.v7tools.specs.SessionRuns.{lines_asked}
 use Rattle.v7tools.specs.declared.lines.Line.{Line}
 use Rattle.v7tools.proofs.DeedLemmas.{passed_on}
-use Rattle.v7tools.proofs.SessionRunLemmas.{Stays, Reading, all_run, broke_off, larger_small, left_of, no_memory, reads_end, reads_fault, reads_line, run_up_to, runs_more, runs_none, stays_alone}
+use Rattle.v7tools.proofs.SessionRunLemmas.{Stays, all_run, broke_off, larger_small, left_of, no_memory, reads_end, reads_fault, reads_given, run_up_to, runs_more, runs_none, stays_alone}
 use Rattle.v7tools.proofs.session_command.answer_script.Goals as goal
 
 pub loop-init : goal.loop-init
@@ -67,11 +66,8 @@ returns-in_err-answered-clause-run g c =
     let r = c.from_residual-in_err-answered.result in
     broke_off remaining g.W.Write.contents c.args.options.now c.in_ok-session.session c.loop.session begun script (g.O.Office.history c.args.office.now) (g.O.Office.history c.loop.office) c.args.answers.now c.loop.answers c.loop.status running
     c.args.forced.now c.args.script c.in_ok-session.ensures fresh.1 fresh.0 r next it c.pass_answer.new.session (g.O.Office.history c.pass_answer.new.office) c.pass_answer.new.answers fault
-    (reads_line (left_of remaining begun) (left_of remaining script) (left_of remaining next) script.line_count script.settled next.settled (lines_asked running.runs) running.reading it next.line_count
-    (subst (λ (x : Option Line). Stays script.settled (Ok x)) is (stays_alone script.settled (Ok c.in_ok-line.field-0) (next ≡ script) told.stays))
-    (subst (λ (x : Option Line). Settles (Ok x) next.settled) is told.settles)
-    (λ e. subst (λ (x : Option Line). IfTold (left_of remaining script) (left_of remaining next) (λ bytes left. IsNextOf script.line_count bytes left next.settled (Ok x))) is (told.next e))
-    (subst (λ (x : Option Line). next.line_count ≡ script.line_count + lines_of (Ok x)) is told.count))
+    (reads_given (left_of remaining begun) (left_of remaining script) (left_of remaining next) script.line_count script.settled next.settled (lines_asked running.runs) running.reading c.in_ok-line.field-0 it next.line_count
+    is (stays_alone script.settled (Ok c.in_ok-line.field-0) (next ≡ script) told.stays) told.settles told.next told.count)
     c.in_err-answered.ensures.run (passed_on r fault c.from_residual-in_err-answered.ensures.1)
 
 pub loop-preserved : goal.loop-preserved
@@ -88,11 +84,8 @@ loop-preserved g c =
     let count = subst (λ (x : Option Line). next.line_count ≡ script.line_count + lines_of (Ok x)) is told.count in
     let after = runs_more remaining g.W.Write.contents c.args.options.now c.in_ok-session.session c.loop.session begun script (g.O.Office.history c.args.office.now) (g.O.Office.history c.loop.office) c.args.answers.now c.loop.answers c.loop.status running
     next it c.pass_answer.new.session (g.O.Office.history c.pass_answer.new.office) c.pass_answer.new.answers answered
-    (reads_line (left_of remaining begun) (left_of remaining script) (left_of remaining next) script.line_count script.settled next.settled (lines_asked running.runs) running.reading it next.line_count
-    (subst (λ (x : Option Line). Stays script.settled (Ok x)) is (stays_alone script.settled (Ok c.in_ok-line.field-0) (next ≡ script) told.stays))
-    (subst (λ (x : Option Line). Settles (Ok x) next.settled) is told.settles)
-    (λ e. subst (λ (x : Option Line). IfTold (left_of remaining script) (left_of remaining next) (λ bytes left. IsNextOf script.line_count bytes left next.settled (Ok x))) is (told.next e))
-    count)
+    (reads_given (left_of remaining begun) (left_of remaining script) (left_of remaining next) script.line_count script.settled next.settled (lines_asked running.runs) running.reading c.in_ok-line.field-0 it next.line_count
+    is (stays_alone script.settled (Ok c.in_ok-line.field-0) (next ≡ script) told.stays) told.settles told.next told.count)
     c.in_ok-answered.ensures.run in
     record {
       small = rw c.max-status.ensures (larger_small c.loop.status answered c.loop.invariant.small c.in_ok-answered.ensures.small);
