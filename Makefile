@@ -1,7 +1,7 @@
 # v7: see README.md. The command `rt` of the Rattle kit has to be on the PATH.
 PREFIX ?= /usr/local
 
-.PHONY: all demo test memory bench instructions simulate lesson check-manual check-examples check-streams install clean
+.PHONY: all demo test wrong-bodies memory bench instructions simulate lesson check-manual check-examples check-streams install clean
 
 all: build/v7
 
@@ -28,7 +28,12 @@ demo: build/v7
 # the gate: what has to be trusted, every proof from nothing, the edits that must fail, the tests, the program's stored run
 test:
 	python3 tests/trusted.py
+	python3 tests/edits.py
 	rt ci
+
+# further wrong bodies, which the prover has to refuse as well; NAMES are the crates whose are tried
+wrong-bodies:
+	sh tests/wrong_bodies.sh $(NAMES)
 
 # the calls of crates/memory, with the first, the second, .. request for memory refused
 memory:
