@@ -1,10 +1,11 @@
 //! The options that ld and session share.
-ghost use Rattle.std.specs.Prelude.{◌≡◌, false, IfOk, option_map};
+ghost use Rattle.std.specs.Prelude.{◌≡◌, false, IfOk, map, option_map};
 ghost use Rattle.clap.specs.Walk.{first_of, rows_of, rule_of};
 ghost use Rattle.clap.specs.Matches.{found_of};
 ghost use Rattle.clap.specs.Simple.{app_of};
 ghost use Rattle.clap.specs.declared.builder.action.ArgAction.TheVariants.{Count};
 ghost use Rattle.command_words.specs.Tools.{letter_rule, link_rules, with_rules};
+ghost use Rattle.command_words.specs.steps.FlagRules.{flag_rule};
 ghost use Rattle.command_words.specs.LinkWords.{forced_asked, is_given, keep_asked, layout_asked, name_in, options_asked};
 
 use crate::fault::WordsFault;
@@ -33,8 +34,19 @@ const FORCED: &str = "forced";
 /// The option that names the entry point.
 const ENTRY: &str = "entry";
 
+/// The flags of a link, each with its letter.
+const LINK_FLAGS: [(&str, char); 7] = [
+    (RELOCATABLE, 'r'),
+    (STRIP, 's'),
+    (EXTERNALS, 'x'),
+    (NOT_L, 'X'),
+    (PURE, 'n'),
+    (SPLIT, 'i'),
+    (COMMONS, 'd'),
+];
+
 /// A flag, which may be repeated.
-pub(crate) fn flag<'a>(alloc: Global, id: &'a str, short: char) -> Arg<'a>
+fn flag<'a>(alloc: Global, id: &'a str, short: char) -> Arg<'a>
     ensures rule { rule_of result ≡ letter_rule id.entry.now short Count }
     ensures local { result.global ≡ false }
 {
@@ -49,6 +61,20 @@ pub(crate) fn valued<'a>(alloc: Global, id: &'a str, short: char, action: ArgAct
     Arg::new(alloc, id).short(short).action(action)
 }
 
+/// A command with further flags, each an id and its letter.
+pub(crate) fn with_flags<'a>(
+    alloc: Global,
+    mut command: Command<'a>,
+    flags: &[(&'a str, char)],
+) -> Result<Command<'a>, AllocError>
+    ensures { IfOk result (λ r. app_of r ≡ with_rules (app_of command.entry) (map flag_rule flags.now)) }
+{
+    for (id, short) in flags {
+        command = command.arg(flag(alloc, id, *short))?;
+    }
+    Ok(command)
+}
+
 /// A command with the options of a link.
 pub(crate) fn with_link_options<'a>(
     alloc: Global,
@@ -56,14 +82,7 @@ pub(crate) fn with_link_options<'a>(
 ) -> Result<Command<'a>, AllocError>
     ensures { IfOk result (λ r. app_of r ≡ with_rules (app_of command.entry) link_rules) }
 {
-    command
-        .arg(flag(alloc, RELOCATABLE, 'r'))?
-        .arg(flag(alloc, STRIP, 's'))?
-        .arg(flag(alloc, EXTERNALS, 'x'))?
-        .arg(flag(alloc, NOT_L, 'X'))?
-        .arg(flag(alloc, PURE, 'n'))?
-        .arg(flag(alloc, SPLIT, 'i'))?
-        .arg(flag(alloc, COMMONS, 'd'))?
+    with_flags(alloc, command, &LINK_FLAGS)?
         .arg(valued(alloc, FORCED, 'u', ArgAction::Append))?
         .arg(valued(alloc, ENTRY, 'e', ArgAction::Set))
 }

@@ -10,7 +10,9 @@ ghost use Rattle.command_words.specs.LinkWords.{values_of};
 ghost use Rattle.command_words.specs.Tools.{bare, files_rule, ld_app, nm_app, v7_alone, v7_app};
 
 use crate::fault::WordsFault;
-use crate::link_words::{flag, forced_names, is_set, link_options, valued, with_link_options};
+use crate::link_words::{
+    forced_names, is_set, link_options, valued, with_flags, with_link_options,
+};
 use clap::{Arg, ArgAction, ArgMatches, Command};
 use link_out::Options;
 use link_session::Forced;
@@ -76,6 +78,16 @@ const FILE: &str = "file";
 /// The file that ld writes, and nm and size look into, where none is named.
 const PROGRAM: &str = "a.out";
 
+/// The flags of nm, each with its letter.
+const NM_FLAGS: [(&str, char); 6] = [
+    (EXTERNAL, 'g'),
+    (BY_VALUE, 'n'),
+    (EACH_LINE, 'o'),
+    (TABLE_ORDER, 'p'),
+    (REVERSE, 'r'),
+    (UNDEFINED, 'u'),
+];
+
 /// A command without help and version.
 fn tool<'a>(alloc: Global, name: &'a str) -> Command<'a>
     ensures { app_of result ≡ bare name.entry.now }
@@ -107,14 +119,7 @@ fn ld_tool<'a>(alloc: Global) -> Result<Command<'a>, AllocError>
 fn nm_tool<'a>(alloc: Global) -> Result<Command<'a>, AllocError>
     ensures { IfOk result (λ r. app_of r ≡ nm_app) }
 {
-    tool(alloc, "nm")
-        .arg(flag(alloc, EXTERNAL, 'g'))?
-        .arg(flag(alloc, BY_VALUE, 'n'))?
-        .arg(flag(alloc, EACH_LINE, 'o'))?
-        .arg(flag(alloc, TABLE_ORDER, 'p'))?
-        .arg(flag(alloc, REVERSE, 'r'))?
-        .arg(flag(alloc, UNDEFINED, 'u'))?
-        .arg(files(alloc))
+    with_flags(alloc, tool(alloc, "nm"), &NM_FLAGS)?.arg(files(alloc))
 }
 
 /// The program, whose words begin with the name of a tool.

@@ -1,16 +1,8 @@
-use Rattle.std.proofs.Common.{refl}
 use Rattle.std.proofs.lemmas.Result.{IfOk-weaker}
 use Rattle.command_words.proofs.ToolLemmas.{adds_rule}
 use Rattle.command_words.proofs.link_words.with_link_options.Goals as goal
 
 pub returns : goal.returns
 returns c =
-    let rules1 = adds_rule _ _ _ _ _ c.in_ok-arg.ensures refl c.flag.ensures.rule c.flag.ensures.local in
-    let rules2 = adds_rule _ _ _ _ _ c.in_ok-arg-2.ensures rules1 c.flag-2.ensures.rule c.flag-2.ensures.local in
-    let rules3 = adds_rule _ _ _ _ _ c.in_ok-arg-3.ensures rules2 c.flag-3.ensures.rule c.flag-3.ensures.local in
-    let rules4 = adds_rule _ _ _ _ _ c.in_ok-arg-4.ensures rules3 c.flag-4.ensures.rule c.flag-4.ensures.local in
-    let rules5 = adds_rule _ _ _ _ _ c.in_ok-arg-5.ensures rules4 c.flag-5.ensures.rule c.flag-5.ensures.local in
-    let rules6 = adds_rule _ _ _ _ _ c.in_ok-arg-6.ensures rules5 c.flag-6.ensures.rule c.flag-6.ensures.local in
-    let rules7 = adds_rule _ _ _ _ _ c.in_ok-arg-7.ensures rules6 c.flag-7.ensures.rule c.flag-7.ensures.local in
-    let rules8 = adds_rule _ _ _ _ _ c.in_ok-arg-8.ensures rules7 c.valued.ensures.rule c.valued.ensures.local in
-    IfOk-weaker c.arg-9.result _ _ (λ r h. adds_rule _ _ _ _ _ h rules8 c.valued-2.ensures.rule c.valued-2.ensures.local) c.arg-9.ensures
+    let forced = adds_rule _ _ _ _ _ c.in_ok-arg.ensures c.in_ok-with_flags.ensures c.valued.ensures.rule c.valued.ensures.local in
+    IfOk-weaker c.arg-2.result _ _ (λ r h. adds_rule _ _ _ _ _ h forced c.valued-2.ensures.rule c.valued-2.ensures.local) c.arg-2.ensures
