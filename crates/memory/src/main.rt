@@ -3,16 +3,10 @@
 //! those that the calls make is refused. See tests/memory.sh.
 #![tactic(auto)]
 
-mod commands;
-mod files;
-mod links;
-mod outcome;
-mod scripts;
-mod sessions;
 #[cfg(test)]
 mod tests;
 
-use crate::outcome::Outcome;
+use memory_calls::{Outcome, commands, files, links, scripts, sessions};
 use std::alloc::Global;
 use std::io;
 

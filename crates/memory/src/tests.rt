@@ -1,6 +1,5 @@
 //! The calls while none is refused memory.
-use crate::outcome::Outcome;
-use crate::{commands, files, links, scripts, sessions};
+use memory_calls::{Outcome, commands, files, links, scripts, sessions};
 
 #[test]
 fn memory_refused_reading(rt: HostRuntime) {
