@@ -38,7 +38,7 @@ impl<W: Write> BlockWriter<W> {
         }
     }
 
-    /// Writes to the device once, and answers how many of the waiting bytes it took.
+    /// Writes to the device once, and returns how many of the waiting bytes it took.
     fn send(&mut self) -> io::Result<usize>
         ensures bound { IfOk result (λ n. n ≤ length self.old.waiting) }
         ensures left { IfOk result (λ n. self.new.waiting ≡ drop n self.old.waiting) }

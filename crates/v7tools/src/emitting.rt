@@ -11,7 +11,7 @@ use aout_core::{Wire, write_file};
 use link_out::Linked;
 use std::io::Write;
 
-/// Writes the whole file to the first wire and then the report to the second, and answers the report's status. It
+/// Writes the whole file to the first wire and then the report to the second, and returns the report's status. It
 /// takes no memory. (own choice)
 ///
 /// Errors: `WriteFailed`, 8, where one of the wires failed, now or before: a prefix of its bytes then went out, and

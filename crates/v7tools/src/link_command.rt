@@ -32,7 +32,7 @@ fn open_all<O: Office>(
     Ok(inputs)
 }
 
-/// Writes a report to its end, and answers its status.
+/// Writes a report to its end, and returns its status.
 fn put_report<W: Write>(report: &Report, output: &mut Wire<W>) -> Result<u8, CliFault>
     ensures small { IfOk result (λ status. status ≤ 1) }
     ensures run { Reports W.contents (findings_of report.now) result output.old output.new }

@@ -18,7 +18,7 @@ pub trait Office {
     fn open(&mut self, path: &str) -> Option<Self::Source>
         ensures { Extends (history self.old) (history self.new) (opened path.now (option_map Self.Source.remaining result) ∷ []) };
 
-    /// Makes a file at a path, or empties the one that is there, and writes it; answers what became of it.
+    /// Makes a file at a path, or empties the one that is there, and writes it; returns what became of it.
     fn store(&mut self, path: &str, file: &File) -> Stored
         ensures { Extends (history self.old) (history self.new) (stored path.now file.now result ∷ []) };
 }

@@ -61,7 +61,7 @@ fn run_words<O: Office, R: Read + Drop, W: Write>(
 }
 
 /// Does what the words ask for, which are those after the program's name, over any office and any streams: a session's
-/// script, standard output and standard error. It answers the status of the program: 0, or 1 where there was something
+/// script, standard output and standard error. It returns the status of the program: 0, or 1 where there was something
 /// to report, or 2 for a fault, whose line goes to standard error; without a fault nothing goes there. (own choice)
 pub fn perform<O: Office, R: Read + Drop, W: Write, E: Write>(
     alloc: Global,
@@ -83,7 +83,7 @@ pub fn perform<O: Office, R: Read + Drop, W: Write, E: Write>(
     }
 }
 
-/// Does what the words ask for, which are those after the program's name, and answers the status of the program: 0, or
+/// Does what the words ask for, which are those after the program's name, and returns the status of the program: 0, or
 /// 1 where there was something to report, or 2 for a fault, whose line goes to standard error. With 2 no output was
 /// opened, or a device failed while it was written, or a script could not be answered to its end; what its links stored
 /// before then stays. (own choice)

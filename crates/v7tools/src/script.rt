@@ -40,7 +40,7 @@ enum Stop {
 }
 
 impl Stop {
-    /// What a call of a script that gives no further line answers.
+    /// What a call of a script that gives no further line returns.
     fn answer(self) -> Result<Option<Line>, CliFault>
         ensures { result ≡ answer_of self }
     {
@@ -85,7 +85,7 @@ fn read_line<R: Read>(reader: &mut BlockReader<R>, line: &mut Vec<u8>) -> Ending
     }
 }
 
-/// Asks whether there is a line behind the last one that a script may have, and answers why there is none to give.
+/// Asks whether there is a line behind the last one that a script may have, and returns why there is none to give.
 fn stop_at_limit<R: Read>(reader: &mut BlockReader<R>) -> Stop
     ensures failed { (result ≡ Stop.ReadFailed) ↔ IsTrue reader.new.wire.has_failed }
     ensures latched { IsTrue reader.old.wire.has_failed → (reader.new ≡ reader.old) }
@@ -99,7 +99,7 @@ fn stop_at_limit<R: Read>(reader: &mut BlockReader<R>) -> Stop
     }
 }
 
-/// Takes the line behind `line_count` others, and answers whether the script ended with it.
+/// Takes the line behind `line_count` others, and returns whether the script ended with it.
 fn take_line<R: Read>(
     reader: &mut BlockReader<R>,
     line: &mut Vec<u8>,
@@ -176,7 +176,7 @@ impl<R: Read + Drop> Script<R> {
     ///
     /// Errors: `LongLine`, 11, for more than 4,096 bytes before a newline; `ManyLines`, 12, where there is anything
     /// behind 1,000,000 lines; `ScriptFailed`, 13, where the device failed; `Memory`, 9, where there is no room for a
-    /// path. Every later call answers the fault again.
+    /// path. Every later call returns the fault again.
     pub fn next_line(&mut self) -> Result<Option<Line>, CliFault>
         ensures stays { IfSome self.old.settled (λ answer. (result ≡ answer) × (self.new ≡ self.old)) }
         ensures settles { Settles result self.new.settled }

@@ -26,7 +26,7 @@ fn open_wire<O: Office>(office: &mut O, path: &str) -> Option<Wire<O::Source>>
     Some(Wire::new(source))
 }
 
-/// Takes a step that is no link, and answers its status.
+/// Takes a step that is no link, and returns its status.
 fn take_step<R: Read + Drop, W: Write>(
     alloc: Global,
     session: &mut Session,
@@ -85,7 +85,7 @@ fn answer_link<O: Office, W: Write>(
     }
 }
 
-/// Does what a line asks for and answers it, and gives the status of that: 0, or 1 where it was refused or its link had
+/// Does what a line asks for and answers it, and returns the status of that: 0, or 1 where it was refused or its link had
 /// something to report.
 fn answer_line<O: Office, W: Write>(
     alloc: Global,
