@@ -15,8 +15,8 @@ use Rattle.link_session.specs.steps.Settled.{settled_over, places_of, IsCovered}
 use Rattle.link_session.specs.steps.Threads.{Threads, IsThreaded, cut_heads, bound_heads, next_threads, undo_threads}
 use Rattle.link_session.specs.steps.Restores.{Restores, LeavesMarks, TakesBack}
 use Rattle.link_session.specs.steps.Counts.{NotesBound}
-use Rattle.link_session.specs.Undo.{put_all_back, undo}
-use Rattle.link_session.specs.steps.Fields.{sizes_of, cut_by, with_cells, with_heads, with_own_cells, with_own_threads, threads_by, with_heads_back}
+use Rattle.link_session.specs.Undo.{undo}
+use Rattle.link_session.specs.steps.Fields.{sizes_of, with_cells, with_heads, with_own_cells, with_own_threads, threads_by, with_heads_back}
 use Rattle.link_session.specs.Image.{Named}
 use Rattle.link_session.specs.steps.Additions.{all_mentioned, all_clashes, mention_by, mentions_by, state_marks, settled, new_count, next_limit, next_shifts, next_mentions, next_named, entered, joined_image}
 use Rattle.link_session.proofs.MentionedLemmas.{length-all_mentioned}
@@ -102,7 +102,7 @@ module _ (m n : Image) (o : Contents) (symbols : List Symbol) (made : n ≡ ente
 module _ (m n b : Image) (o : Contents) (t u v : Threads) (h : IsThreaded m t) (old new : List Mark) where
   pub undone : n ≡ entered m o → u ≡ t → b ≡ with_cells b.text_cells b.data_cells n → v ≡ with_heads v.heads u → length b.text_cells ≡ length m.text_cells → length b.data_cells ≡ length m.data_cells →
       old ≡ state_marks (length m.externals) m.externals (next_mentions m o) → LeavesMarks n.text_cells n.data_cells u.heads b.text_cells b.data_cells v.heads old new →
-      (put_all_back new (cut_by (sizes_of m) b) ≡ m) × (with_heads_back new (threads_by (sizes_of m) b v) ≡ t)
+      (undo new b m ≡ m) × (with_heads_back new (threads_by (sizes_of m) b v) ≡ t)
   undone made same others heads tl dl states back = (
     (λ i. undo (marks i) (image i) m)
         ∙ bound_alone m o t.heads v.heads b.text_cells b.data_cells back.marks restores tl dl,

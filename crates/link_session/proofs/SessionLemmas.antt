@@ -14,9 +14,9 @@ use Rattle.link_session.specs.Mentions.{Mention, forced_mention, mentions, exter
 use Rattle.link_session.specs.States.{state, multiple_names, differs, first_definition}
 use Rattle.link_session.specs.Image.{Image, image, named_states}
 use Rattle.link_session.specs.Edits.{limit_passed, refusal}
-use Rattle.link_session.specs.Undo.{put_all_back, undo, UndoesImage, IsJournal}
+use Rattle.link_session.specs.Undo.{undo, UndoesImage, IsJournal}
 use Rattle.link_session.specs.Sessions.{newest, Adds, IsObject}
-use Rattle.link_session.specs.steps.Fields.{sizes_of, cut_by, sizes_in, sizes_before, threads_by, with_heads_back, IsBehind, IsSmall, IsSession}
+use Rattle.link_session.specs.steps.Fields.{sizes_of, sizes_in, sizes_before, threads_by, with_heads_back, IsBehind, IsSmall, IsSession}
 use Rattle.link_session.specs.Undo.{marks_in}
 use Rattle.link_session.specs.steps.Additions.{all_mentioned, settled, next_limit, next_named, joined_image}
 use Rattle.link_session.specs.steps.Settled.{IsCovered}
@@ -121,7 +121,7 @@ module _ (forced : List (List ℕ)) (es : List Labelled) (steps : List Step) (m 
   earlier_good : AllByRecursion IsObject (objects es)
   earlier_good = (all_split IsObject (objects es) (e.object ∷ []) (subst (λ (xs : List Contents). AllByRecursion IsObject xs) one_less s.good)).0
 
-  kept_sizes : (map sizes_in steps ≡ sizes_before forced (objects es)) × (step.sizes ≡ sizes_of (image forced (objects es)))
+  pub kept_sizes : (map sizes_in steps ≡ sizes_before forced (objects es)) × (step.sizes ≡ sizes_of (image forced (objects es)))
   kept_sizes =
       last_same (map sizes_in steps) (sizes_before forced (objects es)) step.sizes (sizes_of (image forced (objects es)))
       (sym (map-append sizes_in steps (step ∷ [])) ∙ s.sizes ∙ ap (λ (xs : List Contents). sizes_before forced xs) one_less ∙ sizes_push forced (objects es) e.object)
@@ -147,7 +147,7 @@ module _ (forced : List (List ℕ)) (es : List Labelled) (steps : List Step) (m 
       joined = now ∙ sym (joined_image-is forced (objects es) e.object earlier_good)
 
   -- the fields after a withdrawal
-  pub withdrawn_session : IsSession forced es steps (put_all_back step.marks.items (cut_by step.sizes m)) (with_heads_back step.marks.items (threads_by step.sizes m t))
+  pub withdrawn_session : IsSession forced es steps (undo step.marks.items m (image forced (objects es))) (with_heads_back step.marks.items (threads_by step.sizes m t))
   withdrawn_session = record {
     image = before;
     threads = kept;
@@ -165,8 +165,8 @@ module _ (forced : List (List ℕ)) (es : List Labelled) (steps : List Step) (m 
           journal_pop (UndoesImage forced) (objects es) e.object (map marks_in steps) step.marks.items
           (subst (λ (P : Type 0). P) (λ i. IsJournal forced (one_less i) (map-append marks_in steps (step ∷ []) i)) s.journal)
 
-      before : put_all_back step.marks.items (cut_by step.sizes m) ≡ image forced (objects es)
-      before = (λ i. put_all_back step.marks.items (cut_by (kept_sizes.1 i) (now i))) ∙ pop.1
+      before : undo step.marks.items m (image forced (objects es)) ≡ image forced (objects es)
+      before = ap (λ (n : Image). undo step.marks.items n (image forced (objects es))) now ∙ pop.1
 
       kept : KeepsThreads forced (objects es) (map marks_in steps) (with_heads_back step.marks.items (threads_by step.sizes m t))
       kept =

@@ -74,9 +74,9 @@ fn bind(
     head: Link,
     definition: Definition,
 )
-    requires { EndsWithin links.now.text.now links.now.data.now head (length text_cells.old) (length data_cells.old) }
-    ensures texts { BindsText links.now.text.now links.now.data.now head definition.segment definition.offset text_cells.old text_cells.new }
-    ensures datas { BindsData links.now.text.now links.now.data.now head definition.segment definition.offset data_cells.old data_cells.new }
+    requires { EndsWithin links.now.text.now links.now.«data».now head (length text_cells.old) (length data_cells.old) }
+    ensures texts { BindsText links.now.text.now links.now.«data».now head definition.segment definition.offset text_cells.old text_cells.new }
+    ensures datas { BindsData links.now.text.now links.now.«data».now head definition.segment definition.offset data_cells.old data_cells.new }
 {
     let Definition { segment, offset } = definition;
     let mut next = head;
@@ -108,8 +108,8 @@ fn note_chain(
     head: Link,
     marks: &mut Vec<Mark>,
 ) -> Result<(), AllocError>
-    requires { EndsWithin links.now.text.now links.now.data.now head (length text_cells.now) (length data_cells.now) }
-    ensures ok { OnOk result (NotesChain links.now.text.now links.now.data.now head text_cells.now data_cells.now marks.old.items marks.new.items) }
+    requires { EndsWithin links.now.text.now links.now.«data».now head (length text_cells.now) (length data_cells.now) }
+    ensures ok { OnOk result (NotesChain links.now.text.now links.now.«data».now head text_cells.now data_cells.now marks.old.items marks.new.items) }
     ensures front { take (length marks.old.items) marks.new.items ≡ marks.old.items }
 {
     let mut next = head;

@@ -1,7 +1,8 @@
 //! The merged image, and how an addition is taken back.
-ghost use Rattle.std.specs.Prelude.{◌≡◌, ◌*◌, ◌+◌, ◌-◌, ◌<◌, ◌≤◌, ◌∷◌, ◌++◌, [], length, take, slice_set};
-ghost use Rattle.link_session.specs.steps.Fields.{image_in, threads_in, no_threads, sizes_of, cut_by, IsBehind, unthreaded_behind, threads_by, with_heads_back};
-ghost use Rattle.link_session.specs.Undo.{put_back, put_all_back, with_state};
+ghost use Rattle.std.specs.Prelude.{◌≡◌, ◌*◌, ◌+◌, ◌-◌, ◌<◌, ◌≤◌, ◌∷◌, ◌++◌, [], length, slice_set};
+ghost use Rattle.link_session.specs.Image.{Image};
+ghost use Rattle.link_session.specs.steps.Fields.{image_in, threads_in, no_threads, sizes_of, IsBehind, unthreaded_behind, threads_by, with_heads_back};
+ghost use Rattle.link_session.specs.Undo.{put_back, with_state, cut_to, undo};
 
 use crate::cell::Cell;
 use crate::chain::{Link, set_head, unthread};
@@ -96,7 +97,7 @@ fn unthread_behind(image: &mut Merged, sizes: &Sizes)
 /// Cuts the image to its earlier sizes. What is cut leaves its chains.
 fn cut(image: &mut Merged, sizes: &Sizes)
     requires within { IsBehind sizes.now (image_in image.old) (threads_in image.old) }
-    ensures image { image_in image.new ≡ cut_by sizes.now (image_in image.old) }
+    ensures image { (before : Image) → sizes.now ≡ sizes_of before → image_in image.new ≡ cut_to before (image_in image.old) }
     ensures threads { threads_in image.new ≡ threads_by sizes.now (image_in image.old) (threads_in image.old) }
 {
     unthread_behind(image, sizes);
@@ -149,7 +150,7 @@ fn put_state(externals: &mut Externals, index: u16, state: State)
 /// mark first. It is handed no object, and takes no memory.
 pub(crate) fn undo(image: &mut Merged, marks: &[Mark], sizes: &Sizes)
     requires within { IsBehind sizes.now (image_in image.old) (threads_in image.old) }
-    ensures image { image_in image.new ≡ put_all_back marks.now (cut_by sizes.now (image_in image.old)) }
+    ensures image { (before : Image) → sizes.now ≡ sizes_of before → image_in image.new ≡ undo marks.now (image_in image.old) before }
     ensures threads { threads_in image.new ≡ with_heads_back marks.now (threads_by sizes.now (image_in image.old) (threads_in image.old)) }
 {
     cut(image, sizes);

@@ -1,5 +1,5 @@
 -- The fields of a session, and what they are worth.
-use Rattle.std.specs.Prelude.{◌≡◌, ℕ, ◌+◌, ◌*◌, ◌≤◌, List, [], ◌++◌, map, take, drop, length, None, vec_capacity}
+use Rattle.std.specs.Prelude.{◌≡◌, ℕ, ◌+◌, ◌*◌, ◌≤◌, List, [], ◌++◌, map, drop, length, None, vec_capacity}
 use Rattle.std.specs.List.{AllByRecursion}
 use Rattle.aout_core.specs.Contents.{Contents}
 use Rattle.link_session.specs.declared.cell.Cell.{Cell}
@@ -41,16 +41,6 @@ sizes_of m = record {
   bss_total = m.bss_total;
   externals = length m.externals;
   multiples = length m.multiples;
-}
-
--- the image cut to these sizes
-abbrev pub cut_by : Sizes → Image → Image
-cut_by s m = record {
-  text_cells = take s.text_cells m.text_cells;
-  data_cells = take s.data_cells m.data_cells;
-  bss_total = s.bss_total;
-  externals = take s.externals m.externals;
-  multiples = take s.multiples m.multiples;
 }
 
 -- so many cells are there, and one link for each

@@ -4,11 +4,11 @@ use Rattle.aout_core.specs.declared.symbol.Symbol.{Symbol}
 use Rattle.aout_core.specs.Contents.{Contents}
 use Rattle.aout_core.specs.WellFormed.{is_external}
 use Rattle.link_session.specs.declared.merged.Sizes.{Sizes}
-use Rattle.link_session.specs.Undo.{put_all_back}
+use Rattle.link_session.specs.Undo.{undo}
 use Rattle.link_session.specs.Image.{Image}
 use Rattle.link_session.specs.steps.Threads.{Threads}
 use Rattle.link_session.specs.steps.Chains.{AreChained}
-use Rattle.link_session.specs.steps.Fields.{image_in, threads_in, cut_by, sizes_of, threads_by, with_heads_back, IsBehind}
+use Rattle.link_session.specs.steps.Fields.{image_in, threads_in, sizes_of, threads_by, with_heads_back, IsBehind}
 use Rattle.link_session.specs.steps.Additions.{next_mentions, state_marks}
 use Rattle.link_session.proofs.JoinLemmas.{entered-is, few_named, few_new, bound-is, heads-are, marks-are, undone, joined-is, joined_threads}
 use Rattle.link_session.proofs.join.join.Goals as goal
@@ -55,7 +55,7 @@ returns-in-Err-clause-err c =
     let datas : length b.data_cells ≡ length m.data_cells = search rules in
     let left : c.deref.result.now ≡ c.bind_waiting.new.marks.items = c.deref.ensures.value in
     let back = undone m n b o t u v c.requires.threaded c.enter_all.new.marks.items c.bind_waiting.new.marks.items e c.make_room.ensures.threads c.bind_waiting.ensures.else_same c.bind_waiting.ensures.links texts datas states c.bind_waiting.ensures.back in (
-      c.undo.ensures.image ∙ (λ i. put_all_back (left i) (cut_by (c.sizes-sizes.ensures i) b)) ∙ back.0,
+      c.undo.ensures.image m c.sizes-sizes.ensures ∙ ap (λ ks. undo ks b m) left ∙ back.0,
       c.undo.ensures.threads ∙ (λ i. with_heads_back (left i) (threads_by (c.sizes-sizes.ensures i) b v)) ∙ back.1,
     )
 

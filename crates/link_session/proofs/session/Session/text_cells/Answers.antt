@@ -6,4 +6,4 @@ use Rattle.link_session.proofs.session.Session.text_cells.Goals as goal
 pub returns-clause-short : goal.returns-clause-short
 returns-clause-short c =
     let s : IsSmall (image_in c.self.inside.image) = small c.self.inside.forced c.self.inside.entries.items c.self.inside.steps.items (image_in c.self.inside.image) (threads_in c.self.inside.image) c.self.invariant in
-    omega (arith, c.deref.ensures.len, c.deref.ensures.value)
+    omega (arith, c.deref.ensures.len)

@@ -1,7 +1,9 @@
 use Rattle.std.proofs.Common.{◌≡◌, ◌++◌, ◌∷◌, [], ◌∙◌, ap, sym, subst, rules}
-use Rattle.link_session.specs.Undo.{put_all_back}
-use Rattle.link_session.specs.steps.Fields.{image_in, threads_in, cut_by, threads_by, with_heads_back, IsSession}
-use Rattle.link_session.proofs.SessionLemmas.{behind, withdrawn_session}
+use Rattle.link_session.specs.Labelled.{objects}
+use Rattle.link_session.specs.Image.{image}
+use Rattle.link_session.specs.Undo.{undo}
+use Rattle.link_session.specs.steps.Fields.{image_in, threads_in, threads_by, with_heads_back, IsSession}
+use Rattle.link_session.proofs.SessionLemmas.{behind, kept_sizes, withdrawn_session}
 use Rattle.link_session.proofs.session.Session.withdraw.Goals as goal
 
 pub undo-requires : goal.undo-requires
@@ -21,8 +23,10 @@ invariant_of-self-2 c =
     let step = c.unwrap-step.result in
     let entries : c.self.inside.entries.items ≡ c.pop.new.self.items ++ c.in_ok-entry.entry ∷ [] = search rules in
     let steps : c.self.inside.steps.items ≡ c.pop-2.new.self.items ++ c.unwrap-step.result ∷ [] = search rules in
-    let image : image_in c.undo.new.image ≡ put_all_back step.marks.items (cut_by step.sizes m) = c.undo.ensures.image ∙ ap (λ ks. put_all_back ks (cut_by step.sizes m)) c.deref.ensures.value in
+    let earlier = image c.self.inside.forced (objects c.pop.new.self.items) in
+    let session = subst (λ (P : Type 0). P) (λ i. IsSession c.self.inside.forced (entries i) (steps i) m t) c.self.invariant in
+    let sizes = (kept_sizes c.self.inside.forced c.pop.new.self.items c.pop-2.new.self.items m t c.in_ok-entry.entry step session).1 in
+    let image_then : image_in c.undo.new.image ≡ undo step.marks.items m earlier = c.undo.ensures.image earlier sizes ∙ ap (λ ks. undo ks m earlier) c.deref.ensures.value in
     let threads : threads_in c.undo.new.image ≡ with_heads_back step.marks.items (threads_by step.sizes m t) = c.undo.ensures.threads ∙ ap (λ ks. with_heads_back ks (threads_by step.sizes m t)) c.deref.ensures.value in
-    subst (λ (P : Type 0). P) (λ i. IsSession c.self.inside.forced c.pop.new.self.items c.pop-2.new.self.items (sym image i) (sym threads i))
-    (withdrawn_session c.self.inside.forced c.pop.new.self.items c.pop-2.new.self.items m t c.in_ok-entry.entry step
-    (subst (λ (P : Type 0). P) (λ i. IsSession c.self.inside.forced (entries i) (steps i) m t) c.self.invariant))
+    subst (λ (P : Type 0). P) (λ i. IsSession c.self.inside.forced c.pop.new.self.items c.pop-2.new.self.items (sym image_then i) (sym threads i))
+    (withdrawn_session c.self.inside.forced c.pop.new.self.items c.pop-2.new.self.items m t c.in_ok-entry.entry step session)
