@@ -22,7 +22,8 @@ use Rattle.link_out.specs.NameStates.{IsFirst, IsWanted}
 use Rattle.link_out.specs.Results.{Outcome}
 use Rattle.link_out.specs.Link.{link}
 use Rattle.link_out.specs.Relocated.{segment_words, segment_relocs}
-use Rattle.link_out.specs.Meaning.{IsSaid, HasTwoDefinitions, MultiplesDiffer, DifferInPlace, LayoutsDiffer}
+use Rattle.link_out.specs.Meaning.{IsSaid, HasTwoDefinitions, MultiplesDiffer}
+use Rattle.link_out.specs.Places.{DifferInPlace, LayoutsDiffer}
 use Rattle.link_out.specs.Refusals.{CommonsTake, EndsAt, kept_locals, entry_count, HasFarWord, RefusedExactly}
 use Rattle.conformance.specs.Samples.{sym as entry_of, object, _f, _x, L1, a_o, c_o, d_o, i_o, plain, relocatable, with_layout}
 use Rattle.conformance.proofs.LawExamples.{outcome_of}

@@ -18,7 +18,8 @@ use Rattle.link_out.specs.Results.{Outcome}
 use Rattle.link_out.specs.Link.{link}
 use Rattle.link_out.specs.Partials.{KeepsNoMore, IsPartialLink, without_multiples}
 use Rattle.link_out.specs.Relocated.{entry_of, segment_words, segment_relocs, IsRelocated, HoldsObjects, IsEntry}
-use Rattle.link_out.specs.Meaning.{IsDefined, IsCommon, HasRoom}
+use Rattle.link_out.specs.Meaning.{IsDefined}
+use Rattle.link_out.specs.Places.{IsCommon, HasRoom}
 use Rattle.conformance.specs.Samples.{sym as entry, sized, _f, _x, _z, c_o, d_o, d2_o, x4_o, plain, plain_s, relocatable, with_keep, with_entry}
 use Rattle.conformance.proofs.LawExamples.{outcome_of}
 use Rattle.conformance.proofs.ClauseLemmas.{as_object, only_wanted}

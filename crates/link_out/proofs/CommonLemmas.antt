@@ -20,7 +20,7 @@ use Rattle.link_out.specs.Plans.{Plan, plan, commons_laid, common_offset, common
 use Rattle.link_out.specs.Finals.{Final, final, final_by, type_of, bound_at, waiting, undefined_name}
 use Rattle.link_out.specs.Tables.{external_row}
 use Rattle.link_out.specs.Link.{Outcome, linked_file, link}
-use Rattle.link_out.specs.Meaning.{IsCommon, HasRoom}
+use Rattle.link_out.specs.Places.{IsCommon, HasRoom}
 use Rattle.link_out.specs.Relocated.{data_begins, entry_of}
 use Rattle.link_out.proofs.HasStateLemmas.{state_is}
 use Rattle.link_out.proofs.OutcomeLemmas.{made_file, made_fits}

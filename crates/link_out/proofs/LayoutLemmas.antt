@@ -30,7 +30,7 @@ use Rattle.link_out.specs.Reports.{entry_word, entry_found_bad, findings}
 use Rattle.link_out.specs.Results.{Outcome}
 use Rattle.link_out.specs.Link.{linked_header, linked_file, link}
 use Rattle.link_out.specs.Relocated.{data_begins, begins}
-use Rattle.link_out.specs.Meaning.{IsShifted, AreShifted, DifferInPlace}
+use Rattle.link_out.specs.Places.{IsShifted, AreShifted, DifferInPlace}
 use Rattle.link_out.proofs.PartialLemmas.{IsProper, state_is_proper}
 use Rattle.link_out.proofs.CarriedLemmas.{data_begun, rest_back}
 use Rattle.link_out.proofs.OutcomeLemmas.{made}

@@ -17,6 +17,7 @@ pub mod Partials
 pub mod Runs
 pub mod Laws
 pub mod Meaning
+pub mod Places
 pub mod Beyond
 pub mod LinkedTable
 pub mod LinkedWords

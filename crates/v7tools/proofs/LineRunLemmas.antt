@@ -19,7 +19,7 @@ use Rattle.v7tools.specs.Deeds.{Deed, History, Extends, opened, stored}
 use Rattle.v7tools.specs.FaultTexts.{cli_text, fault_of_link}
 use Rattle.v7tools.specs.Inputs.{Cause, kept_with}
 use Rattle.v7tools.specs.Scripts.{Asked, to_add, to_withdraw, for_externals, for_undefined, to_link, for_nothing}
-use Rattle.v7tools.specs.SessionRuns.{DoesStep, IsAddOf, IsLineOf, LineRun, OnlyTells, TakesLast, status_after}
+use Rattle.v7tools.specs.LineRuns.{DoesStep, IsAddOf, IsLineOf, LineRun, OnlyTells, TakesLast, status_after}
 use Rattle.v7tools.specs.parts.SessionParts.{AnswersLine, IsNoLink, IsOpenedAt, TakesPlainStep, TellsStep}
 use Rattle.v7tools.specs.Steps.{AddsIf, Does, GoesOut, IsAddBy, IsAddOn, IsStepOn}
 use Rattle.v7tools.specs.declared.commands.Command.{Command}

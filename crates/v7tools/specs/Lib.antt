@@ -12,6 +12,7 @@ pub mod Blocks
 pub mod Deeds
 pub mod LinkRuns
 pub mod FileRuns
+pub mod LineRuns
 pub mod SessionRuns
 pub mod CommandRuns
 pub mod parts

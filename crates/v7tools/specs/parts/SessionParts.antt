@@ -11,7 +11,7 @@ use Rattle.v7tools.specs.declared.commands.Command.{Command}
 use Rattle.v7tools.specs.declared.commands.Command.TheVariants.{Link}
 use Rattle.v7tools.specs.declared.fault.CliFault.{CliFault}
 use Rattle.v7tools.specs.declared.fault.CliFault.TheVariants as faults
-use Rattle.v7tools.specs.SessionRuns.{LineRun, IsLineRun, status_after}
+use Rattle.v7tools.specs.LineRuns.{LineRun, IsLineRun, status_after}
 
 -- the file at a path was opened, on a wire that has not failed, or could not be
 abbrev pub IsOpenedAt : {R : Type 0} → (R → Option (List ℕ)) → History → History → List ℕ → Option (Latched R) → Type 0

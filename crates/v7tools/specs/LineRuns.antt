@@ -1,0 +1,98 @@
+-- What a session does with one line of a script: what it opens, stores and answers, its status, and what it leaves. (own choice)
+--
+-- A line opens at most the file that it names, stores at most the link that it asks for, and has an answer and a status: 0, or 1
+-- where it was refused or its link had something to report.
+use Rattle.std.specs.Prelude.{◌≡◌, ◌⊎◌, ℕ, List, [], ◌∷◌, Option, Some, None, Ok, IfSome}
+use Rattle.aout_core.specs.Reading.{HasHeader}
+use Rattle.link_session.specs.Labelled.{objects}
+use Rattle.link_session.specs.Undo.{Kept}
+use Rattle.link_out.specs.Choices.{Choices}
+use Rattle.link_out.specs.Link.{Outcome, link}
+use Rattle.v7tools.specs.Answers.{absent, failing, adding, withdrawing, listing_externals, listing_undefined, anything_else, Verdict, done, refused, Stepped, add_step, input_from, step, link_answer_text, link_status}
+use Rattle.v7tools.specs.Deeds.{Deed, opened, stored}
+use Rattle.v7tools.specs.Scripts.{Asked, to_add, to_withdraw, for_externals, for_undefined, to_link, for_nothing}
+use Rattle.v7tools.specs.Steps.{AddsIf, IsAddOn, IsLinkBy, WithdrawsIf, without_memory}
+use Rattle.v7tools.specs.declared.link_answers.Stored.{Stored}
+
+-- a line: what it asked for, what it asked of the office, its answer, its status, and what is kept behind it
+pub record LineRun : Type 0 where
+  pub line : Asked
+  pub deeds : List Deed
+  pub answer : List ℕ
+  pub status : ℕ
+  pub kept : Kept
+
+-- the status of a step that is no link
+abbrev pub status_after : Verdict → ℕ
+status_after done = 0
+status_after _ = 1
+
+-- the line did what this step does
+pub record DoesStep (did : Stepped) (r : LineRun) : Type 0 where
+  pub answer : r.answer ≡ did.answer
+  pub status : r.status ≡ status_after did.verdict
+  pub entries : r.kept.entries ≡ did.kept
+
+-- the file that was opened is added on its bytes, where they are known; its device may fail, and behind a header of a
+-- file memory may be wanted
+abbrev pub IsAddOf : Option (List ℕ) → Kept → List ℕ → Stepped → Type 0
+IsAddOf known old path did =
+    (did ≡ add_step old.entries path (input_from old.forced old.entries path failing))
+    ⊎ (((did ≡ without_memory old.entries) × IfSome known HasHeader)
+    ⊎ IsAddOn known old.forced old.entries path did)
+
+-- the file at the path that is named can't be opened
+pub record OpensNone (o : Choices) (old : Kept) (path : List ℕ) (r : LineRun) : Type 0 where
+  pub deeds : r.deeds ≡ opened path None ∷ []
+  pub does : DoesStep (step old.forced o old.entries (adding path absent)) r
+  pub same : r.kept ≡ old
+
+-- the file at the path that is named was opened
+pub record OpensOne (old : Kept) (path : List ℕ) (r : LineRun) : Type 0 where
+  pub known : Option (List ℕ)
+  pub deeds : r.deeds ≡ opened path (Some known) ∷ []
+  pub did : Stepped
+  pub is_add : IsAddOf known old path did
+  pub does : DoesStep did r
+  pub changes : AddsIf did.verdict old r.kept
+
+-- nothing was opened or stored, and nothing is changed
+pub record OnlyTells (did : Stepped) (old : Kept) (r : LineRun) : Type 0 where
+  pub deeds : r.deeds ≡ []
+  pub does : DoesStep did r
+  pub same : r.kept ≡ old
+
+-- the last object is taken away, if there is one
+pub record TakesLast (did : Stepped) (old : Kept) (r : LineRun) : Type 0 where
+  pub deeds : r.deeds ≡ []
+  pub does : DoesStep did r
+  pub changes : WithdrawsIf did.verdict old r.kept
+
+-- there is no link: nothing is stored
+pub record LinksNone (o : Choices) (old : Kept) (r : LineRun) : Type 0 where
+  pub did : Stepped
+  pub is_link : IsLinkBy old.entries (link old.forced (objects old.entries) o) did
+  pub refuses : did.verdict ≡ refused
+  pub tells : OnlyTells did old r
+
+-- the file of the link was to be stored at the path that is named, and the answer says what became of it
+pub record LinksInto (o : Choices) (old : Kept) (path : List ℕ) (r : LineRun) : Type 0 where
+  pub made : Outcome
+  pub is_link : link old.forced (objects old.entries) o ≡ Ok made
+  pub what : Stored
+  pub deeds : r.deeds ≡ stored path made.file what ∷ []
+  pub answer : r.answer ≡ link_answer_text made.report path what
+  pub status : r.status ≡ link_status made.report what
+  pub same : r.kept ≡ old
+
+-- a line that asks for this was run on a session
+abbrev pub IsLineOf : Choices → Kept → LineRun → Asked → Type 0
+IsLineOf o old r (to_add path) = OpensNone o old path r ⊎ OpensOne old path r
+IsLineOf o old r to_withdraw = TakesLast (step old.forced o old.entries withdrawing) old r
+IsLineOf o old r for_externals = OnlyTells (step old.forced o old.entries listing_externals) old r
+IsLineOf o old r for_undefined = OnlyTells (step old.forced o old.entries listing_undefined) old r
+IsLineOf o old r (to_link path) = LinksNone o old r ⊎ LinksInto o old path r
+IsLineOf o old r for_nothing = OnlyTells (step old.forced o old.entries anything_else) old r
+
+abbrev pub IsLineRun : Choices → Kept → LineRun → Type 0
+IsLineRun o old r = IsLineOf o old r r.line
