@@ -1,6 +1,6 @@
 //! The steps of a session, and their answers.
 ghost use Rattle.std.specs.Prelude.{◌≡◌, ◌↔◌, ◌++◌, true, IfErr, IfOk, IsErr, IsTrue};
-ghost use Rattle.aout_core.specs.Wires.{Puts};
+ghost use Rattle.aout_core.specs.Wires.{Puts, Writes};
 ghost use Rattle.link_session.specs.Edits.{last_of};
 ghost use Rattle.link_session.specs.Labelled.{objects};
 ghost use Rattle.link_out.specs.Link.{link};
@@ -24,9 +24,7 @@ use std::io::{Read, Write};
 
 /// Writes two texts on one line.
 fn put_line<W: Write>(first: &[u8], second: &[u8], answers: &mut Wire<W>) -> Result<(), DeviceFault>
-    ensures fault { IsErr result ↔ IsTrue answers.new.has_failed }
-    ensures latched { IsTrue answers.old.has_failed → (answers.new ≡ answers.old) }
-    ensures bytes { Puts result (W.contents answers.old.device) (W.contents answers.new.device) (line (first.now ++ second.now)) }
+    ensures { Writes W.contents result answers.old answers.new (line (first.now ++ second.now)) }
 {
     answers.put_both(first, second)?;
     answers.put(b"\n")
