@@ -2,7 +2,7 @@
 --
 -- A wire is a reader or a writer with a latch that goes on when the device fails, and stays on. What a writer holds is a list of
 -- bytes where it is known (`Some`), and writing appends to it: all of a text, or on a fault a prefix of it.
-use Rattle.std.specs.Prelude.{◌≡◌, ℕ, List, ◌++◌, Bool, Option, Result, MatchResult}
+use Rattle.std.specs.Prelude.{◌≡◌, ℕ, List, ◌++◌, ◌↔◌, Bool, Option, Result, IsErr, IsTrue, MatchResult}
 use Rattle.std.specs.Io.KnownBytes.{Appends}
 
 -- a device, and whether it has failed
@@ -17,3 +17,10 @@ AppendsFront old new bytes = (front : List ℕ) × (rest : List ℕ) × (bytes �
 -- all the bytes went out, or on a fault a prefix of them
 abbrev pub Puts : {T E : Type 0} → Result T E → Option (List ℕ) → Option (List ℕ) → List ℕ → Type 0
 Puts result old new bytes = MatchResult result (λ _. Appends old new bytes) (λ _. AppendsFront old new bytes)
+
+-- a write of a text to a wire: all of it goes out, or on a fault a prefix of it; the fault comes exactly with the latch on, and a
+-- wire whose latch is on is not touched
+pub record Writes {W T E : Type 0} (contents : W → Option (List ℕ)) (result : Result T E) (old new : Latched W) (text : List ℕ) : Type 0 where
+  pub fault : IsErr result ↔ IsTrue new.has_failed
+  pub latched : IsTrue old.has_failed → (new ≡ old)
+  pub bytes : Puts result (contents old.device) (contents new.device) text

@@ -47,7 +47,7 @@ fn bring_front(bytes: &mut [u8; BLOCK_SIZE], start: usize, end: usize) -> usize
 impl Block {
     ghost use Rattle.std.specs.Prelude.{◌≡◌, ◌↔◌, ◌≤◌, ◌<◌, ◌-◌, ◌++◌, [], true, min, length, take, drop, IfOk, IfErr, IsErr, IsTrue};
     ghost use Rattle.std.specs.Io.KnownBytes.{Consumes, IsAtEnd, Keeps};
-    ghost use Rattle.aout_core.specs.Wires.{Puts};
+    ghost use Rattle.aout_core.specs.Wires.{Writes};
     ghost use Rattle.aout_core.specs.declared.block.TheConstants.{BLOCK_SIZE};
 
     /// A block in which nothing waits. (own choice)
@@ -149,9 +149,7 @@ impl Block {
     /// Sends what waits, so that nothing does. On a fault a prefix of it went out, and all of it still waits. (own
     /// choice)
     pub fn send<W: Write>(&mut self, wire: &mut Wire<W>) -> Result<(), DeviceFault>
-        ensures fault { IsErr result ↔ IsTrue wire.new.has_failed }
-        ensures latched { IsTrue wire.old.has_failed → (wire.new ≡ wire.old) }
-        ensures bytes { Puts result (W.contents wire.old.device) (W.contents wire.new.device) self.old }
+        ensures written { Writes W.contents result wire.old wire.new self.old }
         ensures empty { IfOk result (λ _. self.new ≡ []) }
         ensures kept { IfErr result (λ _. self.new ≡ self.old) }
     {

@@ -28,7 +28,7 @@ impl Model for Outgoing {
 impl Outgoing {
     ghost use Rattle.std.specs.Prelude.{◌≡◌, ◌↔◌, ◌≤◌, ◌++◌, [], false, length, IsErr, IsTrue, OnOk};
     ghost use Rattle.aout_core.specs.declared.block.TheConstants.{BLOCK_SIZE};
-    ghost use Rattle.aout_core.specs.Wires.{Puts};
+    ghost use Rattle.aout_core.specs.Wires.{Writes};
     ghost use Rattle.aout_core.specs.steps.Blocks.{PutsBut};
 
     /// Nothing waits.
@@ -43,8 +43,7 @@ impl Outgoing {
     /// Sends a block that is full.
     fn send<W: Write>(&mut self, wire: &mut Wire<W>) -> Result<(), DeviceFault>
         requires { length self.old ≡ BLOCK_SIZE }
-        ensures fault { IsErr result ↔ IsTrue wire.new.has_failed }
-        ensures bytes { Puts result (W.contents wire.old.device) (W.contents wire.new.device) self.old }
+        ensures written { Writes W.contents result wire.old wire.new self.old }
         ensures empty { OnOk result (self.new ≡ []) }
     {
         self.block.send(wire)
@@ -52,8 +51,7 @@ impl Outgoing {
 
     /// Sends what still waits.
     pub(crate) fn finish<W: Write>(self, wire: &mut Wire<W>) -> Result<(), DeviceFault>
-        ensures fault { IsErr result ↔ IsTrue wire.new.has_failed }
-        ensures bytes { Puts result (W.contents wire.old.device) (W.contents wire.new.device) self }
+        ensures { Writes W.contents result wire.old wire.new self }
     {
         let Outgoing { mut block } = self;
         block.send(wire)

@@ -2,7 +2,7 @@
 ghost use Rattle.std.specs.Prelude.{◌≡◌, ◌↔◌, ◌≤◌, ◌<◌, ◌++◌, length, take, false, IfOk, IsErr, IsTrue};
 ghost use Rattle.std.specs.Io.{ReadsAtMost};
 ghost use Rattle.std.specs.Io.KnownBytes.{Consumes, IsAtEnd, Keeps, ReadConsumes};
-ghost use Rattle.aout_core.specs.Wires.{Puts};
+ghost use Rattle.aout_core.specs.Wires.{Writes};
 
 use std::io::{Read, Write};
 use std::marker::Model;
@@ -113,9 +113,7 @@ impl<R: Read> Wire<R> {
 impl<W: Write> Wire<W> {
     /// Writes all the bytes, or on a fault a prefix of them. Writing no bytes is a use of the wire too. (own choice)
     pub fn put(&mut self, bytes: &[u8]) -> Result<(), DeviceFault>
-        ensures fault { IsErr result ↔ IsTrue self.new.has_failed }
-        ensures latched { IsTrue self.old.has_failed → (self.new ≡ self.old) }
-        ensures bytes { Puts result (W.contents self.old.device) (W.contents self.new.device) bytes.now }
+        ensures { Writes W.contents result self.old self.new bytes.now }
     {
         if self.has_failed {
             return Err(DeviceFault);
@@ -135,9 +133,7 @@ impl<W: Write> Wire<W> {
 
     /// Writes one text and then another, or on a fault a prefix of both. (own choice)
     pub fn put_both(&mut self, first: &[u8], second: &[u8]) -> Result<(), DeviceFault>
-        ensures fault { IsErr result ↔ IsTrue self.new.has_failed }
-        ensures latched { IsTrue self.old.has_failed → (self.new ≡ self.old) }
-        ensures bytes { Puts result (W.contents self.old.device) (W.contents self.new.device) (first.now ++ second.now) }
+        ensures { Writes W.contents result self.old self.new (first.now ++ second.now) }
     {
         self.put(first)?;
         self.put(second)

@@ -1,7 +1,6 @@
 //! Writing a file.
-ghost use Rattle.std.specs.Prelude.{◌≡◌, ◌↔◌, IsErr, IsTrue};
 ghost use Rattle.aout_core.specs.Spelling.{spelling};
-ghost use Rattle.aout_core.specs.Wires.{Puts};
+ghost use Rattle.aout_core.specs.Wires.{Writes};
 
 use crate::file::File;
 use crate::item::{put_both, put_items};
@@ -12,9 +11,7 @@ use std::io::Write;
 /// Writes the file: header, text, data, relocation and symbols, in that order, names padded with NULs. On a fault a
 /// prefix of the file went out. (a.out(5))
 pub fn write_file<W: Write>(file: &File, wire: &mut Wire<W>) -> Result<(), DeviceFault>
-    ensures fault { IsErr result ↔ IsTrue wire.new.has_failed }
-    ensures latched { IsTrue wire.old.has_failed → (wire.new ≡ wire.old) }
-    ensures bytes { Puts result (W.contents wire.old.device) (W.contents wire.new.device) (spelling file.now) }
+    ensures { Writes W.contents result wire.old wire.new (spelling file.now) }
 {
     if wire.failed() {
         return Err(DeviceFault);

@@ -1,7 +1,7 @@
 //! What a link gives.
-ghost use Rattle.std.specs.Prelude.{◌≡◌, ◌↔◌, ◌++◌, IsErr, IsTrue};
+ghost use Rattle.std.specs.Prelude.{◌≡◌, ◌++◌};
 ghost use Rattle.std.specs.List.{flat_map};
-ghost use Rattle.aout_core.specs.Wires.{Puts};
+ghost use Rattle.aout_core.specs.Wires.{Writes};
 ghost use Rattle.link_out.specs.Reports.{report_text, status_of, entry_lines, undefined_lines};
 ghost use Rattle.link_out.specs.Outcomes.{findings_of};
 ghost use Rattle.link_out.specs.steps.ReportParts.{is_silent, multiple_lines};
@@ -61,9 +61,7 @@ impl From<AllocError> for LinkFault {
 
 /// Writes a line for each name: the name, then `text`, which ends the line.
 fn put_names<W: Write>(names: &[Name], text: &[u8], out: &mut Wire<W>) -> Result<(), DeviceFault>
-    ensures fault { IsErr result ↔ IsTrue out.new.has_failed }
-    ensures latched { IsTrue out.old.has_failed → (out.new ≡ out.old) }
-    ensures bytes { Puts result (W.contents out.old.device) (W.contents out.new.device) (flat_map (λ n. n ++ text.now) names.now) }
+    ensures { Writes W.contents result out.old out.new (flat_map (λ n. n ++ text.now) names.now) }
 {
     if out.failed() {
         return Err(DeviceFault);
@@ -96,9 +94,7 @@ impl Report {
     /// `NAME: Entry point not in text`, and the line `Undefined:` with the undefined names below it, one a line.
     /// On a fault a prefix of this went out. (own choice)
     pub fn write<W: Write>(&self, out: &mut Wire<W>) -> Result<(), DeviceFault>
-        ensures fault { IsErr result ↔ IsTrue out.new.has_failed }
-        ensures latched { IsTrue out.old.has_failed → (out.new ≡ out.old) }
-        ensures bytes { Puts result (W.contents out.old.device) (W.contents out.new.device) (report_text (findings_of self.now)) }
+        ensures { Writes W.contents result out.old out.new (report_text (findings_of self.now)) }
     {
         self.write_multiples(out)?;
         self.write_missing(out)
@@ -106,9 +102,7 @@ impl Report {
 
     /// Writes a line for each name with more than one definition.
     fn write_multiples<W: Write>(&self, out: &mut Wire<W>) -> Result<(), DeviceFault>
-        ensures fault { IsErr result ↔ IsTrue out.new.has_failed }
-        ensures latched { IsTrue out.old.has_failed → (out.new ≡ out.old) }
-        ensures bytes { Puts result (W.contents out.old.device) (W.contents out.new.device) (multiple_lines (self.now.multiples.items ++ self.now.reserved.items)) }
+        ensures { Writes W.contents result out.old out.new (multiple_lines (self.now.multiples.items ++ self.now.reserved.items)) }
     {
         put_names(&self.multiples, b": Multiply defined\n", out)?;
         put_names(&self.reserved, b": Multiply defined\n", out)
@@ -116,9 +110,7 @@ impl Report {
 
     /// Writes the line of the entry point and the undefined names.
     fn write_missing<W: Write>(&self, out: &mut Wire<W>) -> Result<(), DeviceFault>
-        ensures fault { IsErr result ↔ IsTrue out.new.has_failed }
-        ensures latched { IsTrue out.old.has_failed → (out.new ≡ out.old) }
-        ensures bytes { Puts result (W.contents out.old.device) (W.contents out.new.device) (entry_lines self.now.entry_bad ++ undefined_lines self.now.undefined.items) }
+        ensures { Writes W.contents result out.old out.new (entry_lines self.now.entry_bad ++ undefined_lines self.now.undefined.items) }
     {
         self.write_entry(out)?;
         self.write_undefined(out)
@@ -126,9 +118,7 @@ impl Report {
 
     /// Writes the line of the entry point, if there is one.
     fn write_entry<W: Write>(&self, out: &mut Wire<W>) -> Result<(), DeviceFault>
-        ensures fault { IsErr result ↔ IsTrue out.new.has_failed }
-        ensures latched { IsTrue out.old.has_failed → (out.new ≡ out.old) }
-        ensures bytes { Puts result (W.contents out.old.device) (W.contents out.new.device) (entry_lines self.now.entry_bad) }
+        ensures { Writes W.contents result out.old out.new (entry_lines self.now.entry_bad) }
     {
         let Some(name) = self.entry_bad else {
             return out.put(b"");
@@ -138,9 +128,7 @@ impl Report {
 
     /// Writes the undefined names, if there are any.
     fn write_undefined<W: Write>(&self, out: &mut Wire<W>) -> Result<(), DeviceFault>
-        ensures fault { IsErr result ↔ IsTrue out.new.has_failed }
-        ensures latched { IsTrue out.old.has_failed → (out.new ≡ out.old) }
-        ensures bytes { Puts result (W.contents out.old.device) (W.contents out.new.device) (undefined_lines self.now.undefined.items) }
+        ensures { Writes W.contents result out.old out.new (undefined_lines self.now.undefined.items) }
     {
         let names = self.undefined.as_slice();
         if names.is_empty() {

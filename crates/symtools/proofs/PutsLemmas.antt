@@ -1,16 +1,10 @@
 -- What a call on a wire leaves, by its answer, and a row of texts of which one more went out.
-use Rattle.std.proofs.Common.{◌≡◌, ℕ, ◌+◌, ◌<◌, List, [], ◌∷◌, ◌++◌, length, take, slice_index_or, Option, Result, Ok, Err, IsErr, IsTrue, is_ok, Bool, true, false, true≢false, refl, sym, ap, ◌∙◌, subst, append-nil}
+use Rattle.std.proofs.Common.{◌≡◌, ℕ, ◌+◌, ◌<◌, List, [], ◌∷◌, ◌++◌, length, take, slice_index_or, Option, Ok, Err, IsTrue, is_ok, Bool, true, false, true≢false, refl, sym, ap, ◌∙◌, subst, append-nil}
 use Rattle.std.specs.List.{flat_map}
 use Rattle.std.specs.Io.KnownBytes.{Appends}
 use Rattle.std.proofs.KnownBytes.{Appends-trans}
 use Rattle.std.proofs.lemmas.Grind.{flat_map-append}
 use Rattle.std.proofs.lemmas.List.{take_more}
-use Rattle.aout_core.specs.Wires.{AppendsFront, Puts}
-
--- what a fault leaves
-pub puts_err : {T E : Type 0} (r : Result T E) (a b : Option (List ℕ)) (bytes : List ℕ) → IsErr r → AppendsFront a b bytes → Puts r a b bytes
-puts_err (Ok x) a b bytes err out = absurd (true≢false (sym err))
-puts_err (Err e) a b bytes err out = out
 
 -- a call that answers a fault wherever the latch is on leaves it off on success
 pub not_failed : {T E : Type 0} (x : T) (e : E) (latch : Bool) → (IsTrue latch → Ok x ≡ Err e) → latch ≡ false

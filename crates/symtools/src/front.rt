@@ -1,6 +1,6 @@
 //! What stands in front of lines.
-ghost use Rattle.std.specs.Prelude.{◌≡◌, ◌↔◌, ◌++◌, [], false, if◌then◌else◌, IsErr, IsTrue};
-ghost use Rattle.aout_core.specs.Wires.{Puts};
+ghost use Rattle.std.specs.Prelude.{◌≡◌, ◌++◌, [], false, if◌then◌else◌};
+ghost use Rattle.aout_core.specs.Wires.{Writes};
 
 use aout_core::{DeviceFault, Wire};
 use std::io::Write;
@@ -13,8 +13,7 @@ pub(crate) fn put_front<W: Write>(
     out: &mut Wire<W>,
 ) -> Result<(), DeviceFault>
     requires { out.old.has_failed ≡ false }
-    ensures fault { IsErr result ↔ IsTrue out.new.has_failed }
-    ensures bytes { Puts result (W.contents out.old.device) (W.contents out.new.device) (if is_wanted then path.now ++ mark.now else []) }
+    ensures { Writes W.contents result out.old out.new (if is_wanted then path.now ++ mark.now else []) }
 {
     if !is_wanted {
         return Ok(());

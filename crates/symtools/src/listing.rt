@@ -1,7 +1,7 @@
 //! The list of nm.
-ghost use Rattle.std.specs.Prelude.{◌≡◌, ◌↔◌, ◌++◌, ◌∷◌, [], false, if◌then◌else◌, IfErr, IfOk, OnOk, IsErr, IsTrue, Err, filter};
+ghost use Rattle.std.specs.Prelude.{◌≡◌, ◌↔◌, ◌++◌, ◌∷◌, [], false, if◌then◌else◌, IfErr, IfOk, OnOk, IsTrue, Err, filter};
 ghost use Rattle.std.specs.List.{flat_map};
-ghost use Rattle.aout_core.specs.Wires.{Puts};
+ghost use Rattle.aout_core.specs.Wires.{Puts, Writes};
 ghost use Rattle.symtools.specs.Files.{by_bytes};
 ghost use Rattle.symtools.specs.SymbolLines.{symbol_line};
 ghost use Rattle.symtools.specs.NmLists.{is_shown, name_before, value_before, in_order, arranged, nm_text};
@@ -69,8 +69,7 @@ fn put_lines<W: Write>(
     out: &mut Wire<W>,
 ) -> Result<(), DeviceFault>
     requires { out.old.has_failed ≡ false }
-    ensures fault { IsErr result ↔ IsTrue out.new.has_failed }
-    ensures bytes { Puts result (W.contents out.old.device) (W.contents out.new.device)
+    ensures { Writes W.contents result out.old out.new
         (flat_map (λ s. (if each_line then path.now ++ 58 ∷ [] else []) ++ symbol_line s) symbols.now) }
 {
     for symbol in symbols {

@@ -1,6 +1,6 @@
 //! The lines of size.
-ghost use Rattle.std.specs.Prelude.{◌≡◌, ◌↔◌, ◌++◌, ◌∷◌, [], false, if◌then◌else◌, codes, IfErr, IsErr, IsTrue};
-ghost use Rattle.aout_core.specs.Wires.{Puts};
+ghost use Rattle.std.specs.Prelude.{◌≡◌, ◌++◌, ◌∷◌, [], false, if◌then◌else◌, codes, IfErr};
+ghost use Rattle.aout_core.specs.Wires.{Writes};
 ghost use Rattle.symtools.specs.Files.{by_bytes};
 ghost use Rattle.symtools.specs.SizeLines.{size_line, size_text};
 ghost use Rattle.symtools.specs.declared.fault.ToolFault.TheVariants.{Device};
@@ -16,10 +16,8 @@ use std::io::Write;
 ///
 /// It takes no memory. Its only error is `Device`, 2: the device failed, in this call or before it.
 pub fn size<W: Write>(files: &[(String, File)], out: &mut Wire<W>) -> Result<(), ToolFault>
-    ensures fault { IsErr result ↔ IsTrue out.new.has_failed }
+    ensures written { Writes W.contents result out.old out.new (size_text (by_bytes files.now)) }
     ensures device { IfErr result (λ e. e ≡ Device) }
-    ensures latched { IsTrue out.old.has_failed → (out.new ≡ out.old) }
-    ensures bytes { Puts result (W.contents out.old.device) (W.contents out.new.device) (size_text (by_bytes files.now)) }
 {
     if out.failed() {
         return Err(ToolFault::Device);
@@ -38,8 +36,7 @@ fn put_size<W: Write>(
     out: &mut Wire<W>,
 ) -> Result<(), DeviceFault>
     requires { out.old.has_failed ≡ false }
-    ensures fault { IsErr result ↔ IsTrue out.new.has_failed }
-    ensures bytes { Puts result (W.contents out.old.device) (W.contents out.new.device)
+    ensures { Writes W.contents result out.old out.new
         ((if is_named then path.now ++ codes ": " else []) ++ size_line header.now ++ 10 ∷ []) }
 {
     put_front(is_named, path, b": ", out)?;

@@ -1,6 +1,6 @@
 //! The nm line of one symbol.
-ghost use Rattle.std.specs.Prelude.{◌≡◌, ◌↔◌, ◌≤◌, ◌+◌, ◌/◌, ◌%◌, IsErr, IsTrue};
-ghost use Rattle.aout_core.specs.Wires.{Puts};
+ghost use Rattle.std.specs.Prelude.{◌≡◌, ◌≤◌, ◌+◌, ◌/◌, ◌%◌};
+ghost use Rattle.aout_core.specs.Wires.{Writes};
 ghost use Rattle.aout_core.specs.WellFormed.{masked_type};
 ghost use Rattle.symtools.specs.SymbolLines.{octal_word, small_letter, letter, is_shown_undefined, value_column, symbol_line};
 
@@ -14,9 +14,7 @@ use std::io::Write;
 /// The letter is by the type word masked with 037: 0 with value 0 is `u` and with another value `c`, 1 is `a`, 2 `t`,
 /// 3 `d`, 4 `b`, 024 `r`, 037 `f`, any other `a`. It is upper case for an external symbol.
 pub fn line<W: Write>(symbol: &Symbol, out: &mut Wire<W>) -> Result<(), DeviceFault>
-    ensures fault { IsErr result ↔ IsTrue out.new.has_failed }
-    ensures latched { IsTrue out.old.has_failed → (out.new ≡ out.old) }
-    ensures bytes { Puts result (W.contents out.old.device) (W.contents out.new.device) (symbol_line symbol.now) }
+    ensures { Writes W.contents result out.old out.new (symbol_line symbol.now) }
 {
     let text = line_text(symbol);
     out.put(text.as_bytes())

@@ -1,6 +1,6 @@
 //! The faults of the program, and their lines.
-ghost use Rattle.std.specs.Prelude.{◌≡◌, ◌↔◌, ◌++◌, decimal, codes, string_bytes, IsErr, IsTrue};
-ghost use Rattle.aout_core.specs.Wires.{Puts};
+ghost use Rattle.std.specs.Prelude.{◌≡◌, ◌++◌, decimal, codes, string_bytes};
+ghost use Rattle.aout_core.specs.Wires.{Writes};
 ghost use Rattle.v7tools.specs.Calls.{fault_of_words};
 ghost use Rattle.v7tools.specs.declared.fault.CliFault.TheVariants.{Memory, WriteFailed};
 ghost use Rattle.v7tools.specs.FaultTexts.{add_text, at_file, cli_text, fault_line, fault_of_addition, fault_of_link, fault_of_tool, link_text, object_text, read_text};
@@ -142,9 +142,7 @@ pub(crate) fn put_at_file<W: Write>(
     text: &[u8],
     out: &mut Wire<W>,
 ) -> Result<(), DeviceFault>
-    ensures fault { IsErr result ↔ IsTrue out.new.has_failed }
-    ensures latched { IsTrue out.old.has_failed → (out.new ≡ out.old) }
-    ensures bytes { Puts result (W.contents out.old.device) (W.contents out.new.device) (at_file path.now text.now) }
+    ensures { Writes W.contents result out.old out.new (at_file path.now text.now) }
 {
     out.put_both(path.as_bytes(), b": ")?;
     out.put(text)
@@ -157,9 +155,7 @@ fn put_at_word<W: Write>(
     index: u16,
     out: &mut Wire<W>,
 ) -> Result<(), DeviceFault>
-    ensures fault { IsErr result ↔ IsTrue out.new.has_failed }
-    ensures latched { IsTrue out.old.has_failed → (out.new ≡ out.old) }
-    ensures bytes { Puts result (W.contents out.old.device) (W.contents out.new.device) (at_file path.now (text.now ++ decimal index)) }
+    ensures { Writes W.contents result out.old out.new (at_file path.now (text.now ++ decimal index)) }
 {
     out.put_both(path.as_bytes(), b": ")?;
     out.put_both(text, Buffer::new().format(index).as_bytes())
@@ -171,9 +167,7 @@ fn put_read_fault<W: Write>(
     fault: ReadFault,
     out: &mut Wire<W>,
 ) -> Result<(), DeviceFault>
-    ensures fault { IsErr result ↔ IsTrue out.new.has_failed }
-    ensures latched { IsTrue out.old.has_failed → (out.new ≡ out.old) }
-    ensures bytes { Puts result (W.contents out.old.device) (W.contents out.new.device) (read_text path.now fault) }
+    ensures { Writes W.contents result out.old out.new (read_text path.now fault) }
 {
     match fault {
         ReadFault::ShortHeader => put_at_file(path, b"short header", out),
@@ -191,9 +185,7 @@ fn put_object_fault<W: Write>(
     fault: ObjectFault,
     out: &mut Wire<W>,
 ) -> Result<(), DeviceFault>
-    ensures fault { IsErr result ↔ IsTrue out.new.has_failed }
-    ensures latched { IsTrue out.old.has_failed → (out.new ≡ out.old) }
-    ensures bytes { Puts result (W.contents out.old.device) (W.contents out.new.device) (at_file path.now (object_text fault)) }
+    ensures { Writes W.contents result out.old out.new (at_file path.now (object_text fault)) }
 {
     match fault {
         ObjectFault::NotAnObject => put_at_file(path, b"not an object", out),
@@ -213,9 +205,7 @@ fn put_add_fault<W: Write>(
     fault: AddFault,
     out: &mut Wire<W>,
 ) -> Result<(), DeviceFault>
-    ensures fault { IsErr result ↔ IsTrue out.new.has_failed }
-    ensures latched { IsTrue out.old.has_failed → (out.new ≡ out.old) }
-    ensures bytes { Puts result (W.contents out.old.device) (W.contents out.new.device) (add_text path.now fault) }
+    ensures { Writes W.contents result out.old out.new (add_text path.now fault) }
 {
     match fault {
         AddFault::TextFull => put_at_file(path, b"text full", out),
@@ -228,9 +218,7 @@ fn put_add_fault<W: Write>(
 
 /// Writes why there is no link.
 fn put_link_fault<W: Write>(fault: LinkFault, out: &mut Wire<W>) -> Result<(), DeviceFault>
-    ensures fault { IsErr result ↔ IsTrue out.new.has_failed }
-    ensures latched { IsTrue out.old.has_failed → (out.new ≡ out.old) }
-    ensures bytes { Puts result (W.contents out.old.device) (W.contents out.new.device) (link_text fault) }
+    ensures { Writes W.contents result out.old out.new (link_text fault) }
 {
     match fault {
         LinkFault::DoesNotFit => out.put(b"does not fit"),
@@ -244,9 +232,7 @@ impl CliFault {
     /// Writes the fault's line: `v7: `, the text of the fault, and a newline. It takes no memory. On a fault of the
     /// device a prefix of the line went out. (own choice)
     pub fn write<W: Write>(&self, out: &mut Wire<W>) -> Result<(), DeviceFault>
-        ensures fault { IsErr result ↔ IsTrue out.new.has_failed }
-        ensures latched { IsTrue out.old.has_failed → (out.new ≡ out.old) }
-        ensures bytes { Puts result (W.contents out.old.device) (W.contents out.new.device) (fault_line self.now) }
+        ensures { Writes W.contents result out.old out.new (fault_line self.now) }
     {
         self.write_named(out)?;
         out.put(b"\n")
@@ -254,9 +240,7 @@ impl CliFault {
 
     /// Writes the program's name and the text of the fault.
     fn write_named<W: Write>(&self, out: &mut Wire<W>) -> Result<(), DeviceFault>
-        ensures fault { IsErr result ↔ IsTrue out.new.has_failed }
-        ensures latched { IsTrue out.old.has_failed → (out.new ≡ out.old) }
-        ensures bytes { Puts result (W.contents out.old.device) (W.contents out.new.device) (codes "v7: " ++ cli_text self.now) }
+        ensures { Writes W.contents result out.old out.new (codes "v7: " ++ cli_text self.now) }
     {
         out.put(b"v7: ")?;
         self.write_text(out)
@@ -264,9 +248,7 @@ impl CliFault {
 
     /// Writes the text of the fault.
     pub(crate) fn write_text<W: Write>(&self, out: &mut Wire<W>) -> Result<(), DeviceFault>
-        ensures fault { IsErr result ↔ IsTrue out.new.has_failed }
-        ensures latched { IsTrue out.old.has_failed → (out.new ≡ out.old) }
-        ensures bytes { Puts result (W.contents out.old.device) (W.contents out.new.device) (cli_text self.now) }
+        ensures { Writes W.contents result out.old out.new (cli_text self.now) }
     {
         match self {
             CliFault::Usage => out.put(b"usage"),

@@ -1,6 +1,6 @@
 //! The answer to a link.
-ghost use Rattle.std.specs.Prelude.{◌≡◌, ◌↔◌, ◌++◌, codes, decimal, IfErr, IfOk, IsErr, IsTrue};
-ghost use Rattle.aout_core.specs.Wires.{Puts};
+ghost use Rattle.std.specs.Prelude.{◌≡◌, ◌++◌, codes, decimal, IfErr, IfOk};
+ghost use Rattle.aout_core.specs.Wires.{Writes};
 ghost use Rattle.link_out.specs.Outcomes.{findings_of};
 ghost use Rattle.link_out.specs.Reports.{line};
 ghost use Rattle.v7tools.specs.declared.fault.CliFault.TheVariants.{WriteFailed};
@@ -30,9 +30,7 @@ fn put_path_line<W: Write>(
     text: &[u8],
     answers: &mut Wire<W>,
 ) -> Result<(), DeviceFault>
-    ensures fault { IsErr result ↔ IsTrue answers.new.has_failed }
-    ensures latched { IsTrue answers.old.has_failed → (answers.new ≡ answers.old) }
-    ensures bytes { Puts result (W.contents answers.old.device) (W.contents answers.new.device) (line (at_file path.now text.now)) }
+    ensures { Writes W.contents result answers.old answers.new (line (at_file path.now text.now)) }
 {
     put_at_file(path, text, answers)?;
     answers.put(b"\n")
@@ -40,9 +38,7 @@ fn put_path_line<W: Write>(
 
 /// Writes `linked`, the path and the status, without a newline.
 fn put_linked<W: Write>(path: &str, status: u8, answers: &mut Wire<W>) -> Result<(), DeviceFault>
-    ensures fault { IsErr result ↔ IsTrue answers.new.has_failed }
-    ensures latched { IsTrue answers.old.has_failed → (answers.new ≡ answers.old) }
-    ensures bytes { Puts result (W.contents answers.old.device) (W.contents answers.new.device) (codes "linked " ++ path.now ++ codes " " ++ decimal status) }
+    ensures { Writes W.contents result answers.old answers.new (codes "linked " ++ path.now ++ codes " " ++ decimal status) }
 {
     answers.put_both(b"linked ", path.as_bytes())?;
     answers.put_both(b" ", Buffer::new().format(status).as_bytes())
@@ -54,9 +50,7 @@ fn put_linked_line<W: Write>(
     status: u8,
     answers: &mut Wire<W>,
 ) -> Result<(), DeviceFault>
-    ensures fault { IsErr result ↔ IsTrue answers.new.has_failed }
-    ensures latched { IsTrue answers.old.has_failed → (answers.new ≡ answers.old) }
-    ensures bytes { Puts result (W.contents answers.old.device) (W.contents answers.new.device) (line (codes "linked " ++ path.now ++ codes " " ++ decimal status)) }
+    ensures { Writes W.contents result answers.old answers.new (line (codes "linked " ++ path.now ++ codes " " ++ decimal status)) }
 {
     put_linked(path, status, answers)?;
     answers.put(b"\n")
@@ -69,9 +63,7 @@ fn put_link_answer<W: Write>(
     stored: Stored,
     answers: &mut Wire<W>,
 ) -> Result<(), DeviceFault>
-    ensures fault { IsErr result ↔ IsTrue answers.new.has_failed }
-    ensures latched { IsTrue answers.old.has_failed → (answers.new ≡ answers.old) }
-    ensures bytes { Puts result (W.contents answers.old.device) (W.contents answers.new.device) (link_answer_text (findings_of linked.now.report) path.now stored) }
+    ensures { Writes W.contents result answers.old answers.new (link_answer_text (findings_of linked.now.report) path.now stored) }
 {
     match stored {
         Stored::Kept => {
@@ -94,10 +86,8 @@ pub fn link_answer<W: Write>(
     stored: Stored,
     answers: &mut Wire<W>,
 ) -> Result<u8, CliFault>
-    ensures fault { IsErr result ↔ IsTrue answers.new.has_failed }
+    ensures written { Writes W.contents result answers.old answers.new (link_answer_text (findings_of linked.now.report) path.now stored) }
     ensures write_failed { IfErr result (λ fault. fault ≡ WriteFailed) }
-    ensures latched { IsTrue answers.old.has_failed → (answers.new ≡ answers.old) }
-    ensures bytes { Puts result (W.contents answers.old.device) (W.contents answers.new.device) (link_answer_text (findings_of linked.now.report) path.now stored) }
     ensures status { IfOk result (λ status. status ≡ link_status (findings_of linked.now.report) stored) }
 {
     put_link_answer(linked, path, stored, answers)?;

@@ -1,6 +1,6 @@
 //! The lists of a session's external names.
-ghost use Rattle.std.specs.Prelude.{◌≡◌, ◌↔◌, ◌≤◌, IsErr, IsTrue};
-ghost use Rattle.aout_core.specs.Wires.{Puts};
+ghost use Rattle.std.specs.Prelude.{◌≡◌, ◌≤◌};
+ghost use Rattle.aout_core.specs.Wires.{Writes};
 ghost use Rattle.link_session.specs.States.{segment_number};
 ghost use Rattle.v7tools.specs.Answers.{entry_of, externals_text, undefined_text};
 ghost use Rattle.v7tools.specs.parts.StepParts.{missing_line};
@@ -50,9 +50,7 @@ pub(crate) fn put_externals<W: Write>(
     session: &Session,
     answers: &mut Wire<W>,
 ) -> Result<(), DeviceFault>
-    ensures fault { IsErr result ↔ IsTrue answers.new.has_failed }
-    ensures latched { IsTrue answers.old.has_failed → (answers.new ≡ answers.old) }
-    ensures bytes { Puts result (W.contents answers.old.device) (W.contents answers.new.device) (externals_text session.now.forced session.now.entries) }
+    ensures { Writes W.contents result answers.old answers.new (externals_text session.now.forced session.now.entries) }
 {
     if answers.failed() {
         return Err(DeviceFault);
@@ -70,9 +68,7 @@ fn put_if_missing<W: Write>(
     state: State,
     answers: &mut Wire<W>,
 ) -> Result<(), DeviceFault>
-    ensures fault { IsErr result ↔ IsTrue answers.new.has_failed }
-    ensures latched { IsTrue answers.old.has_failed → (answers.new ≡ answers.old) }
-    ensures bytes { Puts result (W.contents answers.old.device) (W.contents answers.new.device) (missing_line (name.now, state)) }
+    ensures { Writes W.contents result answers.old answers.new (missing_line (name.now, state)) }
 {
     if is_missing(name, state) {
         answers.put_both(name.as_bytes(), b"\n")
@@ -86,9 +82,7 @@ pub(crate) fn put_undefined<W: Write>(
     session: &Session,
     answers: &mut Wire<W>,
 ) -> Result<(), DeviceFault>
-    ensures fault { IsErr result ↔ IsTrue answers.new.has_failed }
-    ensures latched { IsTrue answers.old.has_failed → (answers.new ≡ answers.old) }
-    ensures bytes { Puts result (W.contents answers.old.device) (W.contents answers.new.device) (undefined_text session.now.forced session.now.entries) }
+    ensures { Writes W.contents result answers.old answers.new (undefined_text session.now.forced session.now.entries) }
 {
     if answers.failed() {
         return Err(DeviceFault);

@@ -1,6 +1,6 @@
 //! The steps of a session, and their answers.
-ghost use Rattle.std.specs.Prelude.{◌≡◌, ◌↔◌, ◌++◌, true, IfErr, IfOk, IsErr, IsTrue};
-ghost use Rattle.aout_core.specs.Wires.{Puts};
+ghost use Rattle.std.specs.Prelude.{◌≡◌, ◌++◌, true, IfErr, IfOk, IsTrue};
+ghost use Rattle.aout_core.specs.Wires.{Writes};
 ghost use Rattle.link_session.specs.Edits.{last_of};
 ghost use Rattle.link_session.specs.Labelled.{objects};
 ghost use Rattle.link_out.specs.Link.{link};
@@ -24,9 +24,7 @@ use std::io::{Read, Write};
 
 /// Writes two texts on one line.
 fn put_line<W: Write>(first: &[u8], second: &[u8], answers: &mut Wire<W>) -> Result<(), DeviceFault>
-    ensures fault { IsErr result ↔ IsTrue answers.new.has_failed }
-    ensures latched { IsTrue answers.old.has_failed → (answers.new ≡ answers.old) }
-    ensures bytes { Puts result (W.contents answers.old.device) (W.contents answers.new.device) (line (first.now ++ second.now)) }
+    ensures { Writes W.contents result answers.old answers.new (line (first.now ++ second.now)) }
 {
     answers.put_both(first, second)?;
     answers.put(b"\n")
@@ -37,9 +35,7 @@ pub(crate) fn put_fault<W: Write>(
     fault: &CliFault,
     answers: &mut Wire<W>,
 ) -> Result<(), DeviceFault>
-    ensures fault { IsErr result ↔ IsTrue answers.new.has_failed }
-    ensures latched { IsTrue answers.old.has_failed → (answers.new ≡ answers.old) }
-    ensures bytes { Puts result (W.contents answers.old.device) (W.contents answers.new.device) (line (cli_text fault.now)) }
+    ensures { Writes W.contents result answers.old answers.new (line (cli_text fault.now)) }
 {
     fault.write_text(answers)?;
     answers.put(b"\n")
@@ -47,10 +43,8 @@ pub(crate) fn put_fault<W: Write>(
 
 /// Answers with the text of a fault.
 fn refuse<W: Write>(fault: &CliFault, answers: &mut Wire<W>) -> Result<Step, CliFault>
-    ensures fault { IsErr result ↔ IsTrue answers.new.has_failed }
+    ensures written { Writes W.contents result answers.old answers.new (line (cli_text fault.now)) }
     ensures write_failed { IfErr result (λ fault. fault ≡ WriteFailed) }
-    ensures latched { IsTrue answers.old.has_failed → (answers.new ≡ answers.old) }
-    ensures bytes { Puts result (W.contents answers.old.device) (W.contents answers.new.device) (line (cli_text fault.now)) }
     ensures step { IfOk result (λ step. step ≡ Refused) }
 {
     put_fault(fault, answers)?;
@@ -91,10 +85,8 @@ fn add<R: Read, W: Write>(
 
 /// Takes the last object away, and answers with its label.
 fn withdraw<W: Write>(session: &mut Session, answers: &mut Wire<W>) -> Result<Step, CliFault>
-    ensures fault { IsErr result ↔ IsTrue answers.new.has_failed }
+    ensures written { Writes W.contents result answers.old answers.new (withdraw_step session.old.entries (last_of session.old.entries)).answer }
     ensures write_failed { IfErr result (λ fault. fault ≡ WriteFailed) }
-    ensures latched { IsTrue answers.old.has_failed → (answers.new ≡ answers.old) }
-    ensures bytes { Puts result (W.contents answers.old.device) (W.contents answers.new.device) (withdraw_step session.old.entries (last_of session.old.entries)).answer }
     ensures step { IfOk result (λ step. verdict_of step ≡ (withdraw_step session.old.entries (last_of session.old.entries)).verdict) }
     ensures kept { session.new.entries ≡ (withdraw_step session.old.entries (last_of session.old.entries)).kept }
     ensures object { IfOk result StoresObject }

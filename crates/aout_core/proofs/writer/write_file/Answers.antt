@@ -1,24 +1,25 @@
-use Rattle.std.proofs.Common.{◌≡◌, ◌++◌, ◌∙◌, ap, subst}
+use Rattle.std.proofs.Common.{◌≡◌, ◌++◌, ◌∙◌, ap, subst, rules}
 use Rattle.std.specs.List.{flat_map}
 use Rattle.aout_core.specs.Words.{all_word_bytes}
 use Rattle.aout_core.specs.Spelling.{header_spelling, reloc_spelling, symbol_spelling, spelling}
 use Rattle.aout_core.specs.Wires.{AppendsFront}
 use Rattle.aout_core.specs.steps.Blocks.{AppendsBut}
-use Rattle.aout_core.proofs.PutsLemmas.{put_broke_off}
+use Rattle.aout_core.proofs.PutsLemmas.{writes_in_part}
 use Rattle.aout_core.proofs.OutgoingLemmas.{put_at_last}
 use Rattle.aout_core.proofs.FilePutLemmas.{segments, relocation, broke_in_header, broke_in_segments, broke_in_relocation, broke_in_table, sent_segments, sent_relocation, sent_symbols}
 use Rattle.aout_core.proofs.writer.write_file.Goals as goal
 
-pub returns-in_err-put-clause-bytes : goal.returns-in_err-put-clause-bytes
-returns-in_err-put-clause-bytes g c =
+pub returns-in_err-put : goal.returns-in_err-put
+returns-in_err-put g c =
     let f = c.args.file.now in
     let a = g.W.Write.contents c.args.wire.now.device in
     let b = g.W.Write.contents c.put.new.wire.device in
     let header : c.new-outgoing.result ++ c.to_bytes.result ≡ header_spelling f.header = ap (λ l. l ++ c.to_bytes.result) c.new-outgoing.ensures ∙ c.to_bytes.ensures ∙ ap header_spelling c.header.ensures.value in
-    put_broke_off c.from_residual.result a b (spelling f) c.from_residual.ensures.0 (broke_in_header f a b (subst (AppendsFront a b) header c.in_err-put.ensures.bytes))
+    writes_in_part c.from_residual.ensures.0 (search rules) (search rules)
+    (broke_in_header f a b (subst (AppendsFront a b) header c.in_err-put.ensures.bytes))
 
-pub returns-in_err-put_both-clause-bytes : goal.returns-in_err-put_both-clause-bytes
-returns-in_err-put_both-clause-bytes g c =
+pub returns-in_err-put_both : goal.returns-in_err-put_both
+returns-in_err-put_both g c =
     let f = c.args.file.now in
     let a = g.W.Write.contents c.args.wire.now.device in
     let b = g.W.Write.contents c.put.new.wire.device in
@@ -27,11 +28,11 @@ returns-in_err-put_both-clause-bytes g c =
     let d = g.W.Write.contents c.put_both.new.wire.device in
     let words : all_word_bytes c.text_words.result.now ++ all_word_bytes c.data_words.result.now ≡ segments f =
     ap (λ ws. all_word_bytes ws ++ all_word_bytes c.data_words.result.now) c.text_words.ensures.value ∙ ap (λ ws. all_word_bytes f.text_words ++ all_word_bytes ws) c.data_words.ensures.value in
-    put_broke_off c.from_residual-in_err-put_both.result a d (spelling f) c.from_residual-in_err-put_both.ensures.0
+    writes_in_part c.from_residual-in_err-put_both.ensures.0 (search rules) (search rules)
     (broke_in_segments f a b d c.put.new.self sent_header (subst (λ l. AppendsFront b d (c.put.new.self ++ l)) words c.in_err-put_both.ensures.bytes))
 
-pub returns-in_err-put_both-2-clause-bytes : goal.returns-in_err-put_both-2-clause-bytes
-returns-in_err-put_both-2-clause-bytes g c =
+pub returns-in_err-put_both-2 : goal.returns-in_err-put_both-2
+returns-in_err-put_both-2 g c =
     let f = c.args.file.now in
     let a = g.W.Write.contents c.args.wire.now.device in
     let b = g.W.Write.contents c.put.new.wire.device in
@@ -44,11 +45,11 @@ returns-in_err-put_both-2-clause-bytes g c =
     let e = g.W.Write.contents c.put_both-2.new.wire.device in
     let relocs : reloc_spelling c.text_reloc.result.now ++ reloc_spelling c.data_reloc.result.now ≡ relocation f =
     ap (λ rs. reloc_spelling rs ++ reloc_spelling c.data_reloc.result.now) c.text_reloc.ensures.value ∙ ap (λ rs. reloc_spelling f.text_reloc ++ reloc_spelling rs) c.data_reloc.ensures.value in
-    put_broke_off c.from_residual-in_err-put_both-2.result a e (spelling f) c.from_residual-in_err-put_both-2.ensures.0
+    writes_in_part c.from_residual-in_err-put_both-2.ensures.0 (search rules) (search rules)
     (broke_in_relocation f a d e c.put_both.new.outgoing sent_words (subst (λ l. AppendsFront d e (c.put_both.new.outgoing ++ l)) relocs c.in_err-put_both-2.ensures.bytes))
 
-pub returns-in_err-put_items-clause-bytes : goal.returns-in_err-put_items-clause-bytes
-returns-in_err-put_items-clause-bytes g c =
+pub returns-in_err-put_items : goal.returns-in_err-put_items
+returns-in_err-put_items g c =
     let f = c.args.file.now in
     let a = g.W.Write.contents c.args.wire.now.device in
     let b = g.W.Write.contents c.put.new.wire.device in
@@ -64,11 +65,11 @@ returns-in_err-put_items-clause-bytes g c =
     let sent_relocs = sent_relocation f a d e c.put_both.new.outgoing c.put_both-2.new.outgoing sent_words (subst (λ l. AppendsBut d e c.put_both-2.new.outgoing (c.put_both.new.outgoing ++ l)) relocs c.in_ok-put_both-2.ensures.bytes) in
     let h = g.W.Write.contents c.put_items.new.wire.device in
     let table : flat_map symbol_spelling c.symbols.result.now ≡ flat_map symbol_spelling f.symbols = ap (flat_map symbol_spelling) c.symbols.ensures.value in
-    put_broke_off c.from_residual-in_err-put_items.result a h (spelling f) c.from_residual-in_err-put_items.ensures.0
+    writes_in_part c.from_residual-in_err-put_items.ensures.0 (search rules) (search rules)
     (broke_in_table f a e h c.put_both-2.new.outgoing sent_relocs (subst (λ l. AppendsFront e h (c.put_both-2.new.outgoing ++ l)) table c.in_err-put_items.ensures.bytes))
 
-pub returns-clause-bytes : goal.returns-clause-bytes
-returns-clause-bytes g c =
+pub returns : goal.returns
+returns g c =
     let f = c.args.file.now in
     let a = g.W.Write.contents c.args.wire.now.device in
     let b = g.W.Write.contents c.put.new.wire.device in
@@ -85,4 +86,4 @@ returns-clause-bytes g c =
     let h = g.W.Write.contents c.put_items.new.wire.device in
     let table : flat_map symbol_spelling c.symbols.result.now ≡ flat_map symbol_spelling f.symbols = ap (flat_map symbol_spelling) c.symbols.ensures.value in
     let sent_table = sent_symbols f a e h c.put_both-2.new.outgoing c.put_items.new.outgoing sent_relocs (subst (λ l. AppendsBut e h c.put_items.new.outgoing (c.put_both-2.new.outgoing ++ l)) table c.in_ok-put_items.ensures.bytes) in
-    put_at_last c.finish.result a h (g.W.Write.contents c.finish.new.wire.device) c.put_items.new.outgoing (spelling f) sent_table c.finish.ensures.bytes
+    record { fault = search rules; latched = search rules; bytes = put_at_last c.finish.result a h (g.W.Write.contents c.finish.new.wire.device) c.put_items.new.outgoing (spelling f) sent_table c.finish.ensures.bytes }

@@ -1,17 +1,15 @@
-use Rattle.std.proofs.Common.{ℕ, ◌++◌, List, get_or, ap, sym, ◌∙◌}
-use Rattle.std.specs.List.{flat_map}
-use Rattle.aout_core.proofs.PutsLemmas.{front_of_row, put_broke_off}
+use Rattle.std.proofs.Common.{rules, ℕ, ◌++◌, List, get_or, ap, sym, ◌∙◌}
+use Rattle.aout_core.proofs.PutsLemmas.{front_of_row, writes_in_part}
 use Rattle.link_out.proofs.linked.put_names.Goals as goal
 
-pub returns-in_err-put_both-clause-bytes : goal.returns-in_err-put_both-clause-bytes
-returns-in_err-put_both-clause-bytes g c =
-    let text = c.args.text.now in
-    let f = λ (n : List ℕ). n ++ text in
+pub returns-in_err-put_both : goal.returns-in_err-put_both
+returns-in_err-put_both g c =
+    let f = λ (n : List ℕ). n ++ c.args.text.now in
     let i = c.loop-name.name-index in
     let names = c.args.names.now in
     let old = g.W.Write.contents c.args.out.now.device in
     let new = g.W.Write.contents c.put_both.new.self.device in
     let name = c.as_bytes.result.now in
     let is = c.as_bytes.ensures.value ∙ c.name-item.is ∙ ap (λ (d : List ℕ). get_or names i d) (sym c.as_bytes.ensures.value) in
-    put_broke_off c.from_residual.result old new (flat_map f names) c.from_residual.ensures.0
+    writes_in_part c.from_residual.ensures.0 (search rules) (search rules)
     (front_of_row f names i name old (g.W.Write.contents c.loop-name.out.device) new c.loop-name-test.true is c.loop-name.invariant.gone c.in_err-put_both.ensures.bytes)

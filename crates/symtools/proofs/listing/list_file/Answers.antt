@@ -5,19 +5,18 @@ use Rattle.std.proofs.KnownBytes.{Appends-trans}
 use Rattle.aout_core.specs.Wires.{AppendsFront}
 use Rattle.aout_core.specs.declared.symbol.Symbol.{Symbol}
 use Rattle.symtools.specs.SymbolLines.{symbol_line}
-use Rattle.aout_core.proofs.PutsLemmas.{front_before, front_behind}
-use Rattle.symtools.proofs.PutsLemmas.{puts_err}
+use Rattle.aout_core.proofs.PutsLemmas.{front_before, front_behind, put_broke_off}
 use Rattle.symtools.proofs.listing.list_file.Goals as goal
 
 pub returns-in_err-put_front-clause-bytes : goal.returns-in_err-put_front-clause-bytes
 returns-in_err-put_front-clause-bytes g c =
-    puts_err c.from_residual-in_err-put_front.result _ _ _ c.from_residual-in_err-put_front.ensures.0 (front_before _ _ _ _ c.in_err-put_front.ensures.bytes)
+    put_broke_off c.from_residual-in_err-put_front.result _ _ _ c.from_residual-in_err-put_front.ensures.0 (front_before _ _ _ _ c.in_err-put_front.ensures.bytes)
 
 pub returns-in_err-put_lines-clause-bytes : goal.returns-in_err-put_lines-clause-bytes
 returns-in_err-put_lines-clause-bytes g c =
     let text = λ (s : Symbol). (if c.args.options.each_line then c.args.path.now ++ 58 ∷ [] else []) ++ symbol_line s in
     let lines = subst (AppendsFront _ _) (ap (flat_map text) (c.deref.ensures.value ∙ c.in_ok-symbols.ensures.ok)) c.in_err-put_lines.ensures.bytes in
-    puts_err c.from_residual-in_err-put_lines.result _ _ _ c.from_residual-in_err-put_lines.ensures.0 (front_behind _ _ _ _ _ c.in_ok-put_front.ensures.bytes lines)
+    put_broke_off c.from_residual-in_err-put_lines.result _ _ _ c.from_residual-in_err-put_lines.ensures.0 (front_behind _ _ _ _ _ c.in_ok-put_front.ensures.bytes lines)
 
 pub returns-clause-bytes : goal.returns-clause-bytes
 returns-clause-bytes g c =

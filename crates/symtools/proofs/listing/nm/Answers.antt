@@ -4,8 +4,8 @@ use Rattle.std.specs.Io.KnownBytes.{Appends}
 use Rattle.aout_core.specs.Wires.{AppendsFront}
 use Rattle.symtools.specs.SymbolLines.{symbol_line}
 use Rattle.symtools.specs.NmLists.{is_shown, arranged}
-use Rattle.aout_core.proofs.PutsLemmas.{front_of_row}
-use Rattle.symtools.proofs.PutsLemmas.{not_failed, puts_err, row_more}
+use Rattle.aout_core.proofs.PutsLemmas.{front_of_row, put_broke_off}
+use Rattle.symtools.proofs.PutsLemmas.{not_failed, row_more}
 use Rattle.symtools.proofs.TextLemmas.{listed, nm_text-listed}
 use Rattle.symtools.proofs.listing.nm.Goals as goal
 
@@ -20,7 +20,7 @@ returns-in_err-list_file-clause-bytes g c =
     (λ i. (if headed i then path i ++ 58 ∷ 10 ∷ [] else [])
     ++ flat_map (λ s. (if o.each_line then path i ++ 58 ∷ [] else []) ++ symbol_line s) (arranged o (filter (is_shown o) (table i))))
     c.in_err-list_file.ensures.bytes in
-    puts_err c.from_residual.result _ _ _ c.from_residual.ensures.0
+    put_broke_off c.from_residual.result _ _ _ c.from_residual.ensures.0
     (subst (AppendsFront _ _) (nm_text-listed o files)
     (front_of_row (listed o (length files)) files c.loop-path.path-index c.loop-path-item.result _ _ _ c.loop-path-test.true c.loop-path-item.is c.loop-path.invariant.2 entry))
 

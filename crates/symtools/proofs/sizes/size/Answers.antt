@@ -3,18 +3,18 @@ use Rattle.std.specs.List.{flat_map}
 use Rattle.std.specs.Io.KnownBytes.{Appends}
 use Rattle.aout_core.specs.Wires.{AppendsFront}
 use Rattle.symtools.specs.SizeLines.{size_line}
-use Rattle.aout_core.proofs.PutsLemmas.{front_of_row}
-use Rattle.symtools.proofs.PutsLemmas.{puts_err, row_more}
+use Rattle.aout_core.proofs.PutsLemmas.{front_of_row, writes_in_part}
+use Rattle.symtools.proofs.PutsLemmas.{row_more}
 use Rattle.symtools.proofs.TextLemmas.{sized, size_text-sized}
 use Rattle.symtools.proofs.sizes.size.Goals as goal
 
-pub returns-in_err-put_size-clause-bytes : goal.returns-in_err-put_size-clause-bytes
-returns-in_err-put_size-clause-bytes g c =
+pub returns-in_err-put_size-clause-written : goal.returns-in_err-put_size-clause-written
+returns-in_err-put_size-clause-written g c =
     let files = c.args.files.now in
     let path = c.deref.ensures in
     let header = c.header.ensures.value in
     let entry = subst (AppendsFront _ _) (λ i. (if nat_lt 1 (length files) then path i ++ 58 ∷ 32 ∷ [] else []) ++ size_line (header i) ++ 10 ∷ []) c.in_err-put_size.ensures.bytes in
-    puts_err c.from_residual.result _ _ _ c.from_residual.ensures.0
+    writes_in_part c.from_residual.ensures.0 (search rules) (search rules)
     (subst (AppendsFront _ _) (size_text-sized files)
     (front_of_row (sized (length files)) files c.loop-path.path-index c.loop-path-item.result _ _ _ c.loop-path-test.true c.loop-path-item.is c.loop-path.invariant.1 entry))
 
@@ -26,8 +26,12 @@ loop-path-preserved g c =
     let entry = subst (Appends _ _) (λ i. (if nat_lt 1 (length files) then path i ++ 58 ∷ 32 ∷ [] else []) ++ size_line (header i) ++ 10 ∷ []) c.in_ok-put_size.ensures.bytes in
     (search rules, row_more (sized (length files)) files c.loop-path.path-index c.loop-path-item.result _ _ _ c.loop-path-test.true c.loop-path-item.is c.loop-path.invariant.1 entry)
 
-pub returns-clause-bytes : goal.returns-clause-bytes
-returns-clause-bytes g c =
+pub returns-clause-written : goal.returns-clause-written
+returns-clause-written g c =
     let files = c.args.files.now in
     let all = take_all c.loop-path.path-index files c.loop-path-test.false in
-    subst (Appends _ _) (ap (flat_map (sized (length files))) all ∙ size_text-sized files) c.loop-path.invariant.1
+    record {
+      fault = search rules;
+      latched = search rules;
+      bytes = subst (Appends _ _) (ap (flat_map (sized (length files))) all ∙ size_text-sized files) c.loop-path.invariant.1;
+    }

@@ -1,12 +1,8 @@
-use Rattle.std.proofs.Common.{◌++◌}
-use Rattle.std.specs.Prelude.{codes}
-use Rattle.aout_core.proofs.PutsLemmas.{puts_behind, put_stops}
+use Rattle.aout_core.proofs.PutsLemmas.{writes_both, writes_no_more}
 use Rattle.v7tools.proofs.fault.put_at_file.Goals as goal
 
-pub returns-in_err-put_both-clause-bytes : goal.returns-in_err-put_both-clause-bytes
-returns-in_err-put_both-clause-bytes g c =
-    put_stops c.from_residual.result (g.W.Write.contents c.args.out.now.device) (g.W.Write.contents c.put_both.new.self.device) (c.args.path.now ++ codes ": ") c.args.text.now c.from_residual.ensures.0 (rw c.as_bytes.ensures.value at c.in_err-put_both.ensures.bytes)
+pub returns-in_err-put_both : goal.returns-in_err-put_both
+returns-in_err-put_both g c = writes_no_more c.args.text.now c.from_residual.ensures.0 (rw c.as_bytes.ensures.value at c.in_err-put_both.ensures)
 
-pub returns-clause-bytes : goal.returns-clause-bytes
-returns-clause-bytes g c =
-    puts_behind c.put.result (g.W.Write.contents c.args.out.now.device) (g.W.Write.contents c.put_both.new.self.device) (g.W.Write.contents c.put.new.self.device) (c.args.path.now ++ codes ": ") c.args.text.now (rw c.as_bytes.ensures.value at c.in_ok-put_both.ensures.bytes) c.put.ensures.bytes
+pub returns : goal.returns
+returns g c = writes_both (rw c.as_bytes.ensures.value at c.in_ok-put_both.ensures) c.put.ensures

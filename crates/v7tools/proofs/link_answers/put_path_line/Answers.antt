@@ -1,12 +1,9 @@
 use Rattle.std.proofs.Common.{[], ◌∷◌}
-use Rattle.aout_core.proofs.PutsLemmas.{puts_behind, put_stops}
-use Rattle.v7tools.specs.FaultTexts.{at_file}
+use Rattle.aout_core.proofs.PutsLemmas.{writes_both, writes_no_more}
 use Rattle.v7tools.proofs.link_answers.put_path_line.Goals as goal
 
-pub returns-in_err-put_at_file-clause-bytes : goal.returns-in_err-put_at_file-clause-bytes
-returns-in_err-put_at_file-clause-bytes g c =
-    put_stops c.from_residual.result (g.W.Write.contents c.args.answers.now.device) (g.W.Write.contents c.put_at_file.new.out.device) (at_file c.args.path.now c.args.text.now) (10 ∷ []) c.from_residual.ensures.0 c.in_err-put_at_file.ensures.bytes
+pub returns-in_err-put_at_file : goal.returns-in_err-put_at_file
+returns-in_err-put_at_file g c = writes_no_more (10 ∷ []) c.from_residual.ensures.0 c.in_err-put_at_file.ensures
 
-pub returns-clause-bytes : goal.returns-clause-bytes
-returns-clause-bytes g c =
-    puts_behind c.put.result (g.W.Write.contents c.args.answers.now.device) (g.W.Write.contents c.put_at_file.new.out.device) (g.W.Write.contents c.put.new.self.device) (at_file c.args.path.now c.args.text.now) (10 ∷ []) c.in_ok-put_at_file.ensures.bytes c.put.ensures.bytes
+pub returns : goal.returns
+returns g c = writes_both c.in_ok-put_at_file.ensures c.put.ensures

@@ -2,22 +2,22 @@ use Rattle.std.proofs.Common.{ℕ, List, ◌∙◌, sym, subst, arith, rules}
 use Rattle.std.specs.Io.KnownBytes.{Appends}
 use Rattle.aout_core.specs.declared.symbol.Symbol.{Symbol}
 use Rattle.aout_core.specs.Wires.{AppendsFront}
-use Rattle.aout_core.proofs.PutsLemmas.{put_broke_off}
+use Rattle.aout_core.proofs.PutsLemmas.{writes_in_part}
 use Rattle.link_session.specs.declared.state.State.{State}
 use Rattle.link_session.specs.Undo.{image_of}
 use Rattle.symtools.specs.SymbolLines.{symbol_line}
-use Rattle.v7tools.specs.Answers.{entry_of, externals_text}
+use Rattle.v7tools.specs.Answers.{entry_of}
 use Rattle.v7tools.proofs.ListingLemmas.{sent_next, stops_next, sent_all}
 use Rattle.v7tools.proofs.listings.put_externals.Goals as goal
 
-pub returns-in_err-line-clause-bytes : goal.returns-in_err-line-clause-bytes
-returns-in_err-line-clause-bytes g c =
+pub returns-in_err-line : goal.returns-in_err-line
+returns-in_err-line g c =
     let spelling = λ (e : List ℕ × State). symbol_line (entry_of e.0 e.1) in
     let old = g.W.Write.contents c.args.answers.now.device in
     let mid = g.W.Write.contents c.loop-index.answers.device in
     let new = g.W.Write.contents c.line.new.out.device in
     let entry = c.unwrap-name.result in
-    put_broke_off c.from_residual.result old new (externals_text c.args.session.now.forced c.args.session.now.entries) c.from_residual.ensures.0
+    writes_in_part c.from_residual.ensures.0 (search rules) (search rules)
     (stops_next spelling (image_of c.args.session.now).externals c.loop-index.index (entry.0, entry.1) old mid new (sym c.external.ensures ∙ c.unwrap-name.ensures) c.loop-index.invariant.gone
     (subst (λ (s : Symbol). AppendsFront mid new (symbol_line s)) c.entry_of.ensures c.in_err-line.ensures.bytes))
 
@@ -34,8 +34,12 @@ loop-index-preserved g c =
           (subst (λ (s : Symbol). Appends mid new (symbol_line s)) c.entry_of.ensures c.in_ok-line.ensures.bytes);
     }
 
-pub returns-clause-bytes : goal.returns-clause-bytes
-returns-clause-bytes g c =
+pub returns : goal.returns
+returns g c =
     let old = g.W.Write.contents c.args.answers.now.device in
     let now = g.W.Write.contents c.loop-index.answers.device in
-    sent_all (λ (e : List ℕ × State). symbol_line (entry_of e.0 e.1)) (image_of c.args.session.now).externals c.loop-index.index old now (omega arith) c.loop-index.invariant.gone
+    record {
+      fault = search rules;
+      latched = search rules;
+      bytes = sent_all (λ (e : List ℕ × State). symbol_line (entry_of e.0 e.1)) (image_of c.args.session.now).externals c.loop-index.index old now (omega arith) c.loop-index.invariant.gone;
+    }

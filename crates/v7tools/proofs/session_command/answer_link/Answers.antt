@@ -10,7 +10,7 @@ use Rattle.v7tools.proofs.session_command.answer_link.Goals as goal
 pub returns-in-Ok-clause-run : goal.returns-in-Ok-clause-run
 returns-in-Ok-clause-run g c =
     stored_link g.W.Write.contents c.args.options.now c.args.path.now c.args.session.now c.link_answer.result c.args.answers.now c.link_answer.new.answers (g.O.Office.history c.args.office.now) (g.O.Office.history c.store-stored.new.self)
-    c.in-Ok.linked c.store-stored.result c.in-Ok.ensures.value c.store-stored.ensures c.link_answer.ensures.status c.link_answer.ensures.write_failed c.link_answer.ensures.fault c.link_answer.ensures.bytes
+    c.in-Ok.linked c.store-stored.result c.in-Ok.ensures.value c.store-stored.ensures c.link_answer.ensures.status c.link_answer.ensures.write_failed c.link_answer.ensures.written.fault c.link_answer.ensures.written.bytes
 
 pub returns-in_err-put_fault-in-Err-clause-run : goal.returns-in_err-put_fault-in-Err-clause-run
 returns-in_err-put_fault-in-Err-clause-run g c =

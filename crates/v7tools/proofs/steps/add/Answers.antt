@@ -1,9 +1,6 @@
-use Rattle.std.proofs.Common.{ℕ, List, Ok, ◌++◌, ◌∙◌, subst, ap, refl}
-use Rattle.std.specs.Prelude.{codes, string_bytes}
-use Rattle.std.specs.Io.KnownBytes.{Appends}
-use Rattle.aout_core.specs.Wires.{AppendsFront}
+use Rattle.std.proofs.Common.{Ok, ◌∙◌, ap, refl}
+use Rattle.std.specs.Prelude.{string_bytes}
 use Rattle.link_session.specs.Undo.{Kept}
-use Rattle.link_out.specs.Reports.{line}
 use Rattle.v7tools.specs.Answers.{add_step}
 use Rattle.v7tools.specs.FaultTexts.{cli_text}
 use Rattle.v7tools.proofs.StepLemmas.{added_by, not_added_by, refused_as, no_verdict, told_in_part, refused_verdict, label_is, worked_before, worked_after}
@@ -17,17 +14,15 @@ returns-in_err-put_line-in-Ok-clause-step g c =
     let (object, accepted) = c.in-Ok.ensures.value in
     let working = worked_before c.args.wire.now c.add_file.new.wire c.args.path c.in-Ok.ensures.latched c.in-Ok.ensures.device in
     let r = c.from_residual.result in
-    let before = g.W.Write.contents c.args.answers.now.device in
-    let after = g.W.Write.contents c.put_line.new.answers.device in
     let label = c.as_bytes.ensures.value ∙ c.last_label.ensures ∙ label_is old new _ accepted.adds in
-    let sent = subst (λ (l : List ℕ). AppendsFront before after (line (codes "added " ++ l))) label c.in_err-put_line-in-Ok.ensures.bytes in (
+    let told = told_in_part r c.from_residual.ensures.0 (rw label at c.in_err-put_line-in-Ok.ensures) in (
       add_step old.entries path (Ok new.entries),
       added_by g.R.Read.remaining c.args.wire.now c.add_file.new.wire old new path object working (worked_after c.add_file.new.wire c.args.path c.in-Ok.ensures.device) accepted,
       (_, accepted.adds),
       record {
         kept = refl;
         verdict = no_verdict r _ c.from_residual.ensures.0;
-        answer = told_in_part r c.put_line.new.answers.has_failed before after (line (codes "added " ++ path)) c.from_residual.ensures.0 (c.in_err-put_line-in-Ok.ensures.fault.0 refl) sent;
+        answer = told;
       },
     )
 
@@ -38,14 +33,12 @@ returns-in_ok-put_line-in-Ok-clause-step g c =
     let path = string_bytes c.args.path in
     let (object, accepted) = c.in-Ok.ensures.value in
     let working = worked_before c.args.wire.now c.add_file.new.wire c.args.path c.in-Ok.ensures.latched c.in-Ok.ensures.device in
-    let before = g.W.Write.contents c.args.answers.now.device in
-    let after = g.W.Write.contents c.put_line.new.answers.device in
     let label = c.as_bytes.ensures.value ∙ c.last_label.ensures ∙ label_is old new _ accepted.adds in
-    let sent = subst (λ (l : List ℕ). Appends before after (line (codes "added " ++ l))) label c.in_ok-put_line-in-Ok.ensures.bytes in (
+    let told = rw label at c.in_ok-put_line-in-Ok.ensures in (
       add_step old.entries path (Ok new.entries),
       added_by g.R.Read.remaining c.args.wire.now c.add_file.new.wire old new path object working (worked_after c.add_file.new.wire c.args.path c.in-Ok.ensures.device) accepted,
       (_, accepted.adds),
-      record { kept = refl; verdict = refl; answer = (c.in_ok-put_line-in-Ok.ensures.fault, sent) },
+      record { kept = refl; verdict = refl; answer = (told.fault, told.bytes) },
     )
 
 pub returns-in-Err-clause-step : goal.returns-in-Err-clause-step
@@ -60,6 +53,6 @@ returns-in-Err-clause-step g c =
       record {
         kept = ap (λ (k : Kept). k.entries) unchanged;
         verdict = refused_verdict c.refuse.result c.refuse.ensures.step;
-        answer = (c.refuse.ensures.fault, c.refuse.ensures.bytes);
+        answer = (c.refuse.ensures.written.fault, c.refuse.ensures.written.bytes);
       },
     )

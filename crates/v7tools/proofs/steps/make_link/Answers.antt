@@ -29,6 +29,6 @@ returns-in-Err-clause-step g c =
       record {
         kept = refl;
         verdict = refused_verdict c.refuse.result c.refuse.ensures.step;
-        answer = (c.refuse.ensures.fault, subst (λ (f : CliFault). Puts c.refuse.result before after (line (cli_text f))) c.from.ensures c.refuse.ensures.bytes);
+        answer = (c.refuse.ensures.written.fault, subst (λ (f : CliFault). Puts c.refuse.result before after (line (cli_text f))) c.from.ensures c.refuse.ensures.written.bytes);
       },
     )

@@ -9,9 +9,7 @@ returns-in_err-put_externals-in-Externals-clause-step g c =
     let s = c.args.session.now in
     let did = step s.forced c.args.options.now s.entries listing_externals in
     let r = c.from_residual.result in
-    let before = g.W.Write.contents c.args.answers.now.device in
-    let after = g.W.Write.contents c.put_externals.new.answers.device in
-    let told = told_in_part r c.put_externals.new.answers.has_failed before after did.answer c.from_residual.ensures.0 (c.in_err-put_externals-in-Externals.ensures.fault.0 refl) c.in_err-put_externals-in-Externals.ensures.bytes in
+    let told = told_in_part r c.from_residual.ensures.0 c.in_err-put_externals-in-Externals.ensures in
     rw c.in-Externals.is (did, refl, refl, record { kept = refl; verdict = no_verdict r _ c.from_residual.ensures.0; answer = told })
 
 pub returns-in_ok-put_externals-in-Externals-clause-step : goal.returns-in_ok-put_externals-in-Externals-clause-step
@@ -25,9 +23,7 @@ returns-in_err-put_undefined-in-Undefined-clause-step g c =
     let s = c.args.session.now in
     let did = step s.forced c.args.options.now s.entries listing_undefined in
     let r = c.from_residual-in_err-put_undefined-in-Undefined.result in
-    let before = g.W.Write.contents c.args.answers.now.device in
-    let after = g.W.Write.contents c.put_undefined.new.answers.device in
-    let told = told_in_part r c.put_undefined.new.answers.has_failed before after did.answer c.from_residual-in_err-put_undefined-in-Undefined.ensures.0 (c.in_err-put_undefined-in-Undefined.ensures.fault.0 refl) c.in_err-put_undefined-in-Undefined.ensures.bytes in
+    let told = told_in_part r c.from_residual-in_err-put_undefined-in-Undefined.ensures.0 c.in_err-put_undefined-in-Undefined.ensures in
     rw c.in-Undefined.is (did, refl, refl, record { kept = refl; verdict = no_verdict r _ c.from_residual-in_err-put_undefined-in-Undefined.ensures.0; answer = told })
 
 pub returns-in_ok-put_undefined-in-Undefined-clause-step : goal.returns-in_ok-put_undefined-in-Undefined-clause-step
@@ -41,9 +37,7 @@ returns-in_err-put_line-in-Bad-clause-step g c =
     let s = c.args.session.now in
     let did = step s.forced c.args.options.now s.entries anything_else in
     let r = c.from_residual-in_err-put_line-in-Bad.result in
-    let before = g.W.Write.contents c.args.answers.now.device in
-    let after = g.W.Write.contents c.put_line.new.answers.device in
-    let told = told_in_part r c.put_line.new.answers.has_failed before after did.answer c.from_residual-in_err-put_line-in-Bad.ensures.0 (c.in_err-put_line-in-Bad.ensures.fault.0 refl) c.in_err-put_line-in-Bad.ensures.bytes in
+    let told = told_in_part r c.from_residual-in_err-put_line-in-Bad.ensures.0 c.in_err-put_line-in-Bad.ensures in
     rw c.in-Bad.is (did, refl, refl, record { kept = refl; verdict = no_verdict r _ c.from_residual-in_err-put_line-in-Bad.ensures.0; answer = told })
 
 pub returns-in_ok-put_line-in-Bad-clause-step : goal.returns-in_ok-put_line-in-Bad-clause-step
@@ -62,4 +56,4 @@ pub returns-in-None-clause-step : goal.returns-in-None-clause-step
 returns-in-None-clause-step g c =
     let s = c.args.session.now in
     let told = c.refuse.ensures in
-    rw (c.in-Add.is, c.in-None.is) (step s.forced c.args.options.now s.entries (adding (string_bytes c.in-Add.path) absent), refl, refl, record { kept = refl; verdict = refused_verdict c.refuse.result told.step; answer = (told.fault, told.bytes) })
+    rw (c.in-Add.is, c.in-None.is) (step s.forced c.args.options.now s.entries (adding (string_bytes c.in-Add.path) absent), refl, refl, record { kept = refl; verdict = refused_verdict c.refuse.result told.step; answer = (told.written.fault, told.written.bytes) })

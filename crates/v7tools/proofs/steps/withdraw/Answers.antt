@@ -1,22 +1,17 @@
-use Rattle.std.proofs.Common.{◌≡◌, ℕ, List, [], ◌++◌, sym, subst, ap, rules}
-use Rattle.std.specs.Prelude.{codes, string_bytes}
-use Rattle.std.specs.Io.KnownBytes.{Appends}
-use Rattle.aout_core.specs.Wires.{AppendsFront, Puts}
-use Rattle.aout_core.proofs.PutsLemmas.{put_broke_off}
-use Rattle.link_out.specs.Reports.{line}
+use Rattle.std.proofs.Common.{◌≡◌, [], sym, subst, ap, rules}
+use Rattle.aout_core.specs.Wires.{Writes}
+use Rattle.aout_core.proofs.PutsLemmas.{writes_broke_off}
+use Rattle.v7tools.specs.declared.commands.Step.TheVariants.{Done, Refused}
 use Rattle.v7tools.specs.Answers.{Stepped}
 use Rattle.v7tools.specs.Steps.{WithdrawsIf}
-use Rattle.v7tools.proofs.StepLemmas.{withdrawn_last, withdrawn_none}
+use Rattle.v7tools.proofs.StepLemmas.{stepped, told_whole, withdrawn_last, withdrawn_none}
 use Rattle.v7tools.proofs.steps.withdraw.Goals as goal
 
-pub returns-in_err-put_line-in-Some-clause-bytes : goal.returns-in_err-put_line-in-Some-clause-bytes
-returns-in_err-put_line-in-Some-clause-bytes g c =
+pub returns-in_err-put_line-in-Some-clause-written : goal.returns-in_err-put_line-in-Some-clause-written
+returns-in_err-put_line-in-Some-clause-written g c =
     let is = withdrawn_last c.args.session.now c.withdraw.new.self _ c.in-Some.ensures.last in
-    let before = g.W.Write.contents c.args.answers.now.device in
-    let after = g.W.Write.contents c.put_line.new.answers.device in
-    let sent = subst (λ (l : List ℕ). AppendsFront before after (line (codes "withdrew " ++ l))) c.as_bytes.ensures.value c.in_err-put_line-in-Some.ensures.bytes in
-    subst (λ (s : Stepped). Puts c.from_residual.result before after s.answer) (sym is)
-    (put_broke_off c.from_residual.result before after (line (codes "withdrew " ++ string_bytes c.in-Some.label)) c.from_residual.ensures.0 sent)
+    subst (λ (s : Stepped). Writes g.W.Write.contents c.from_residual.result c.args.answers.now c.put_line.new.answers s.answer) (sym is)
+    (writes_broke_off c.from_residual.ensures.0 (rw c.as_bytes.ensures.value at c.in_err-put_line-in-Some.ensures))
 
 pub returns-in_err-put_line-in-Some-clause-kept : goal.returns-in_err-put_line-in-Some-clause-kept
 returns-in_err-put_line-in-Some-clause-kept g c =
@@ -26,13 +21,11 @@ pub returns-in_err-put_line-in-Some-clause-changes : goal.returns-in_err-put_lin
 returns-in_err-put_line-in-Some-clause-changes g c =
     subst (λ (s : Stepped). WithdrawsIf s.verdict c.args.session.now c.withdraw.new.self) (sym (withdrawn_last c.args.session.now c.withdraw.new.self _ c.in-Some.ensures.last)) (_, c.in-Some.ensures.last)
 
-pub returns-in-Some-clause-bytes : goal.returns-in-Some-clause-bytes
-returns-in-Some-clause-bytes g c =
+pub returns-in-Some-clause-written : goal.returns-in-Some-clause-written
+returns-in-Some-clause-written g c =
     let is = withdrawn_last c.args.session.now c.withdraw.new.self _ c.in-Some.ensures.last in
-    let before = g.W.Write.contents c.args.answers.now.device in
-    let after = g.W.Write.contents c.put_line.new.answers.device in
-    subst (λ (s : Stepped). Appends before after s.answer) (sym is)
-    (subst (λ (l : List ℕ). Appends before after (line (codes "withdrew " ++ l))) c.as_bytes.ensures.value c.in_ok-put_line-in-Some.ensures.bytes)
+    subst (λ (s : Stepped). Writes g.W.Write.contents (stepped Done) c.args.answers.now c.put_line.new.answers s.answer) (sym is)
+    (told_whole Done (rw c.as_bytes.ensures.value at c.in_ok-put_line-in-Some.ensures))
 
 pub returns-in-Some-clause-step : goal.returns-in-Some-clause-step
 returns-in-Some-clause-step g c =
@@ -46,8 +39,8 @@ pub returns-in-Some-clause-changes : goal.returns-in-Some-clause-changes
 returns-in-Some-clause-changes g c =
     subst (λ (s : Stepped). WithdrawsIf s.verdict c.args.session.now c.withdraw.new.self) (sym (withdrawn_last c.args.session.now c.withdraw.new.self _ c.in-Some.ensures.last)) (_, c.in-Some.ensures.last)
 
-pub returns-clause-bytes : goal.returns-clause-bytes
-returns-clause-bytes g c =
+pub returns-clause-written : goal.returns-clause-written
+returns-clause-written g c =
     let none : c.args.session.now.entries ≡ [] = search rules in
-    subst (λ (s : Stepped). Appends (g.W.Write.contents c.args.answers.now.device) (g.W.Write.contents c.put_line-in-None.new.answers.device) s.answer) (sym (withdrawn_none c.args.session.now none))
-    c.in_ok-put_line-in-None.ensures.bytes
+    subst (λ (s : Stepped). Writes g.W.Write.contents (stepped Refused) c.args.answers.now c.put_line-in-None.new.answers s.answer) (sym (withdrawn_none c.args.session.now none))
+    (told_whole Refused c.in_ok-put_line-in-None.ensures)
