@@ -27,8 +27,8 @@ use Rattle.v7tools.specs.Inputs.{Cause, cannot_open, bad_file, bad_object, not_a
 use Rattle.v7tools.specs.FaultTexts.{cause_text, cli_text, fault_at, fault_of_link}
 use Rattle.v7tools.specs.Answers.{done, refused, Stepped, add_step, withdraw_step, link_step}
 use Rattle.v7tools.specs.parts.InputParts.{IsDeviceFault}
-use Rattle.v7tools.specs.parts.StepParts.{IsRefusal, IsAccepted, IsAddition, IsAddOver, IsAddWorking, label_of}
-use Rattle.v7tools.specs.Steps.{IsAddOn, IsAddBy, IsLinkBy, verdict_of}
+use Rattle.v7tools.specs.parts.StepParts.{IsRefusal, IsAccepted, IsAddition, IsAddOver, IsAddWorking, TakesWithdrawal, label_of}
+use Rattle.v7tools.specs.Steps.{Does, IsAddOn, IsAddBy, IsLinkBy, WithdrawsIf, verdict_of}
 
 -- ---- the last object
 
@@ -39,13 +39,22 @@ last_of-slice_get (d ∷ (c ∷ es)) e h =
     last_of-slice_get (c ∷ es) e (ap (λ (n : ℕ). slice_get (d ∷ (c ∷ es)) n) (let n : suc (length (c ∷ es) - 1) ≡ length (d ∷ (c ∷ es)) - 1 = omega arith in n) ∙ h)
 
 -- what a withdrawal does where there is an object, and where there is none
-pub withdrawn_last : (old new : Kept) (e : Labelled) → Withdraws old new e → withdraw_step old.entries (last_of old.entries) ≡ record { verdict = done; answer = line (codes "withdrew " ++ e.label); kept = new.entries }
+withdrawn_last : (old new : Kept) (e : Labelled) → Withdraws old new e → withdraw_step old.entries (last_of old.entries) ≡ record { verdict = done; answer = line (codes "withdrew " ++ e.label); kept = new.entries }
 withdrawn_last old new e h =
     ap (withdraw_step old.entries) (ap last_of h.entries ∙ last_of-put_last new.entries e)
     ∙ ap (λ (es : List Labelled). record { verdict = done; answer = line (codes "withdrew " ++ e.label); kept = es }) (ap without_last h.entries ∙ without_last-put_last new.entries e)
 
-pub withdrawn_none : (old : Kept) → old.entries ≡ [] → withdraw_step old.entries (last_of old.entries) ≡ record { verdict = refused; answer = line (codes "nothing to withdraw"); kept = old.entries }
+withdrawn_none : (old : Kept) → old.entries ≡ [] → withdraw_step old.entries (last_of old.entries) ≡ record { verdict = refused; answer = line (codes "nothing to withdraw"); kept = old.entries }
 withdrawn_none old none = ap (λ (es : List Labelled). withdraw_step old.entries (last_of es)) none
+
+module _ {W : Type 0} {contents : W → Option (List ℕ)} {result : Result Step CliFault} {before after : Latched W} where
+  pub takes_last : (old new : Kept) (e : Labelled) → Withdraws old new e → Does contents (record { verdict = done; answer = line (codes "withdrew " ++ e.label); kept = new.entries }) new result before after →
+      TakesWithdrawal contents old new result before after
+  takes_last old new e h does = subst (λ (did : Stepped). WithdrawsIf did.verdict old new × Does contents did new result before after) (sym (withdrawn_last old new e h)) ((e, h), does)
+
+  pub takes_none : (old new : Kept) → old.entries ≡ [] → new ≡ old → Does contents (record { verdict = refused; answer = line (codes "nothing to withdraw"); kept = old.entries }) new result before after →
+      TakesWithdrawal contents old new result before after
+  takes_none old new none same does = subst (λ (did : Stepped). WithdrawsIf did.verdict old new × Does contents did new result before after) (sym (withdrawn_none old none)) (same, does)
 
 -- ---- additions
 
@@ -146,13 +155,6 @@ link_refused_by kept answer links.SymbolNumber h = inl (ap (link_step kept) (sym
 pub no_verdict : (r : Result Step CliFault) (P : Step → Type 0) → IsErr r → IfOk r P
 no_verdict (Ok s) P h = absurd (cc)
 no_verdict (Err f) P h = tt
-
--- an answer that went out whole
-abbrev pub stepped : Step → Result Step CliFault
-stepped s = Ok s
-
-pub told_whole : {W U E : Type 0} {contents : W → Option (List ℕ)} {x : U} {a b : Latched W} {text : List ℕ} (s : Step) → Writes {T = U} {E = E} contents (Ok x) a b text → Writes contents (stepped s) a b text
-told_whole s p = record { fault = p.fault; latched = p.latched; bytes = p.bytes }
 
 -- an answer of which a front went out
 pub told_in_part : {W U E : Type 0} {contents : W → Option (List ℕ)} {e : E} {a b : Latched W} {text : List ℕ} (r : Result Step CliFault) → IsErr r → Writes {T = U} {E = E} contents (Err e) a b text →

@@ -7,10 +7,9 @@ ghost use Rattle.link_out.specs.Link.{link};
 ghost use Rattle.link_out.specs.Reports.{line};
 ghost use Rattle.v7tools.specs.declared.fault.CliFault.TheVariants.{WriteFailed};
 ghost use Rattle.v7tools.specs.declared.commands.Step.TheVariants.{Refused};
-ghost use Rattle.v7tools.specs.Answers.{withdraw_step};
 ghost use Rattle.v7tools.specs.FaultTexts.{cli_text};
-ghost use Rattle.v7tools.specs.parts.StepParts.{label_of, TakesAddStep, TakesLinkStep};
-ghost use Rattle.v7tools.specs.Steps.{StoresObject, TakesStep, verdict_of, WithdrawsIf};
+ghost use Rattle.v7tools.specs.parts.StepParts.{label_of, TakesAddStep, TakesLinkStep, TakesWithdrawal};
+ghost use Rattle.v7tools.specs.Steps.{StoresObject, TakesStep};
 
 use crate::additions::add_file;
 use crate::commands::{Command, Step};
@@ -85,12 +84,10 @@ fn add<R: Read, W: Write>(
 
 /// Takes the last object away, and answers with its label.
 fn withdraw<W: Write>(session: &mut Session, answers: &mut Wire<W>) -> Result<Step, CliFault>
-    ensures written { Writes W.contents result answers.old answers.new (withdraw_step session.old.entries (last_of session.old.entries)).answer }
     ensures write_failed { IfErr result (λ fault. fault ≡ WriteFailed) }
-    ensures step { IfOk result (λ step. verdict_of step ≡ (withdraw_step session.old.entries (last_of session.old.entries)).verdict) }
-    ensures kept { session.new.entries ≡ (withdraw_step session.old.entries (last_of session.old.entries)).kept }
+    ensures latched { IsTrue answers.old.has_failed → (answers.new ≡ answers.old) }
+    ensures step { TakesWithdrawal W.contents session.old session.new result answers.old answers.new }
     ensures object { IfOk result StoresObject }
-    ensures changes { WithdrawsIf (withdraw_step session.old.entries (last_of session.old.entries)).verdict session.old session.new }
 {
     match session.withdraw() {
         Some((label, _)) => {

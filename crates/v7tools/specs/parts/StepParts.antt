@@ -7,6 +7,7 @@ use Rattle.aout_core.specs.Front.{front}
 use Rattle.aout_core.specs.Reading.{HasHeader}
 use Rattle.aout_core.specs.Wires.{Latched}
 use Rattle.link_session.specs.declared.state.State.{State}
+use Rattle.link_session.specs.Edits.{last_of}
 use Rattle.link_session.specs.Labelled.{Labelled}
 use Rattle.link_session.specs.Sessions.{Adds}
 use Rattle.link_session.specs.Undo.{Kept}
@@ -19,8 +20,8 @@ use Rattle.v7tools.specs.declared.fault.CliFault.TheVariants as faults
 use Rattle.v7tools.specs.declared.commands.Step.{Step}
 use Rattle.v7tools.specs.Inputs.{Cause, bad_file, object_in, kept_with}
 use Rattle.v7tools.specs.FaultTexts.{fault_at}
-use Rattle.v7tools.specs.Answers.{failing, giving, Stepped, add_step, input_from}
-use Rattle.v7tools.specs.Steps.{without_memory, IsLinkBy, AddsIf, Does}
+use Rattle.v7tools.specs.Answers.{failing, giving, Stepped, add_step, withdraw_step, input_from}
+use Rattle.v7tools.specs.Steps.{without_memory, IsLinkBy, AddsIf, WithdrawsIf, Does}
 
 -- the label of an object, if there is one
 abbrev pub label_of : Option Labelled → List ℕ
@@ -69,6 +70,11 @@ IsAddOver remaining from to forced kept path did =
 abbrev pub TakesAddStep : {R W : Type 0} → (R → Option (List ℕ)) → (W → Option (List ℕ)) → String Global → Latched R → Latched R → Kept → Kept → Result Step CliFault → Latched W → Latched W → Type 0
 TakesAddStep remaining contents path from to old new result before after =
     (did : Stepped) × IsAddOver remaining from to old.forced old.entries (string_bytes path) did × AddsIf did.verdict old new × Does contents did new result before after
+
+-- the last object is taken away, or there is none
+abbrev pub TakesWithdrawal : {W : Type 0} → (W → Option (List ℕ)) → Kept → Kept → Result Step CliFault → Latched W → Latched W → Type 0
+TakesWithdrawal contents old new result before after =
+    WithdrawsIf (withdraw_step old.entries (last_of old.entries)).verdict old new × Does contents (withdraw_step old.entries (last_of old.entries)) new result before after
 
 -- a link is made, or the answer says why it is not
 abbrev pub TakesLinkStep : {W : Type 0} → (W → Option (List ℕ)) → Result Outcome LinkFault → Kept → Result Step CliFault → Latched W → Latched W → Type 0
