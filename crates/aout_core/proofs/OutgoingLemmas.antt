@@ -14,7 +14,7 @@ use Rattle.aout_core.proofs.PutsLemmas.{front_before, row_at}
 pub broke_before : (a b : Option (List ℕ)) (all first second : List ℕ) → all ≡ first ++ second → AppendsFront a b first → AppendsFront a b all
 broke_before a b all first second e broke = subst (AppendsFront a b) (sym e) (front_before a b first second broke)
 
--- a write that broke off leaves a front, whatever waits
+-- a write that broke off leaves a prefix, whatever waits
 pub broke_off : {T E : Type 0} (r : Result T E) (a b : Option (List ℕ)) (waiting bytes : List ℕ) → IsErr r → AppendsFront a b bytes → PutsBut r a b waiting bytes
 broke_off (Ok x) a b waiting bytes h p = absurd (cc)
 broke_off (Err e) a b waiting bytes h p = p
@@ -27,7 +27,7 @@ appends_but_more a b d waiting left text bytes (sent, split, first) (later, rest
   Appends-trans a b d sent later first second,
 )
 
--- a text went out but for what waits, and then a front of that and more
+-- a text went out but for what waits, and then a prefix of that and more
 pub broke_more : (a b d : Option (List ℕ)) (waiting text bytes : List ℕ) → AppendsBut a b waiting text → AppendsFront b d (waiting ++ bytes) → AppendsFront a d (text ++ bytes)
 broke_more a b d waiting text bytes (sent, split, first) (front, rest, cut, second) = (
   sent ++ front,

@@ -93,7 +93,7 @@ same_sym (InData i) (InData j) = by_order (cases_eq i j)
 same_sym (InText i) (InData j) = refl
 same_sym (InData i) (InText j) = refl
 
--- the place behind a front of a chain is not in that front
+-- the place behind a prefix of a chain is not in that prefix
 pub not_behind : (done rest : List Place) (p : Place) → AreApart (done ++ p ∷ rest) → is_on done p ≡ false
 not_behind [] rest p h = refl
 not_behind (q ∷ done) rest p h =

@@ -1,4 +1,4 @@
--- Marks put back in turn, the fronts of lists that grow, and what cells await.
+-- Marks put back in turn, the prefixes of lists that grow, and what cells await.
 use Rattle.std.proofs.Common.{◌≡◌, ℕ, zero, suc, ◌≤◌, List, [], ◌∷◌, ◌++◌, map, take, length, Option, None, refl, ap, arith}
 use Rattle.std.specs.Prelude.{slice_index_or}
 use Rattle.std.proofs.lemmas.List.{length-map, take_at}

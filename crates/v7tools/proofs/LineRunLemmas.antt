@@ -74,7 +74,7 @@ module _ {R : Type 0} (remaining : R → Option (List ℕ)) where
   plain_stores o old Bad did plain h s = refused_stores did (ap (λ (d : Stepped). d.verdict) h) s
 
 module _ {W : Type 0} (contents : W → Option (List ℕ)) where
-  -- an answer of which a front went out
+  -- an answer of which a prefix went out
   broke_off : (v : Verdict) (answer : List ℕ) (fault : CliFault) (before after : Latched W) → GoesOut contents v answer (Err fault) before after → IsTrue after.has_failed × AppendsFront (contents before.device) (contents after.device) answer
   broke_off done answer fault before after h = (h.0.0 refl, h.1)
   broke_off refused answer fault before after h = (h.0.0 refl, h.1)

@@ -32,7 +32,7 @@ sent_next spelling items i item a b c at sent next =
     ap (flat_map spelling) more ∙ flat_map-append spelling (take i items) (item ∷ []) ∙ ap (λ l. flat_map spelling (take i items) ++ l) (append-nil (spelling item)) in
     subst (Appends a c) (sym spelt) (Appends-trans a b c (flat_map spelling (take i items)) (spelling item) sent next)
 
--- of the next text a front went out
+-- of the next text a prefix went out
 pub stops_next : {A : Type 0} (spelling : A → List ℕ) (items : List A) (i : ℕ) (item : A) (a b c : Option (List ℕ)) → slice_get items i ≡ Some item →
     Appends a b (flat_map spelling (take i items)) → AppendsFront b c (spelling item) → AppendsFront a c (flat_map spelling items)
 stops_next spelling items i item a b c at sent next =

@@ -156,7 +156,7 @@ pub no_verdict : (r : Result Step CliFault) (P : Step → Type 0) → IsErr r �
 no_verdict (Ok s) P h = absurd (cc)
 no_verdict (Err f) P h = tt
 
--- an answer of which a front went out
+-- an answer of which a prefix went out
 pub told_in_part : {W U E : Type 0} {contents : W → Option (List ℕ)} {e : E} {a b : Latched W} {text : List ℕ} (r : Result Step CliFault) → IsErr r → Writes {T = U} {E = E} contents (Err e) a b text →
     (IsErr r ↔ IsTrue b.has_failed) × Puts r (contents a.device) (contents b.device) text
 told_in_part r err p = let w = writes_broke_off {r = r} err p in (w.fault, w.bytes)

@@ -56,7 +56,7 @@ AreLines known lines fault = IfSome known (λ bytes. given bytes ≡ record { li
 abbrev pub AreFirst : Option (List ℕ) → List Asked → Type 0
 AreFirst known lines = IfSome known (λ bytes. (more : List Asked) × ((given bytes).lines ≡ lines ++ more))
 
--- behind these lines the script gives no further one; its device may fail, and memory be wanted for a line that has a path
+-- behind these lines the script gives no further one; its device may fail, and memory run out for a line that has a path
 abbrev pub StopsBehind : Option (List ℕ) → List Asked → CliFault → Type 0
 StopsBehind known lines faults.LongLine = AreLines known lines (Some long_line)
 StopsBehind known lines faults.ManyLines = AreLines known lines (Some many_lines)
@@ -97,7 +97,7 @@ pub record BreaksOff {W : Type 0} (contents : W → Option (List ℕ)) (forced :
   pub failed : IsTrue after.has_failed
   pub refusal : result ≡ Err faults.WriteFailed
 
--- a session that begins with these forced names and no objects: memory is wanted before a line is read, all lines are
+-- a session that begins with these forced names and no objects: memory runs out before a line is read, all lines are
 -- run, those up to a fault of the script, or those up to one whose answer can't be written
 abbrev pub IsSessionRun : {W : Type 0} → (W → Option (List ℕ)) → List (List ℕ) → Choices → Option (List ℕ) → History → History → Result ℕ CliFault → Latched W → Latched W → Type 0
 IsSessionRun contents forced o script old new result before after =

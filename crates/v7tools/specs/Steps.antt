@@ -41,13 +41,13 @@ abbrev pub IsAddOn : Option (List ℕ) → List (List ℕ) → List Labelled →
 IsAddOn (Some bytes) forced kept path did = did ≡ add_step kept path (input_from forced kept path (giving bytes))
 IsAddOn None forced kept path did = (found : Result Contents Cause) × (did ≡ add_step kept path (kept_with forced kept path found))
 
--- a device may fail, and one that has failed does; before it fails memory may be wanted, behind a header of a file
+-- a device may fail, and one that has failed does; before it fails memory may run out, behind a header of a file
 abbrev pub IsAddBy : {R : Type 0} → (R → Option (List ℕ)) → Latched R → List (List ℕ) → List Labelled → List ℕ → Stepped → Type 0
 IsAddBy remaining wire forced kept path did =
     (did ≡ add_step kept path (input_from forced kept path failing))
     ⊎ ((wire.has_failed ≡ false) × (((did ≡ without_memory kept) × IfSome (remaining wire.device) HasHeader) ⊎ IsAddOn (remaining wire.device) forced kept path did))
 
--- memory may be wanted only where there is a link
+-- memory may run out only where there is a link
 abbrev pub IsLinkBy : List Labelled → Result Outcome LinkFault → Stepped → Type 0
 IsLinkBy kept answer did = (did ≡ link_step kept answer) ⊎ ((did ≡ without_memory kept) × IsOk answer)
 

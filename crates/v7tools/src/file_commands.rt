@@ -45,7 +45,7 @@ fn load_all<O: Office>(
     Ok(loaded)
 }
 
-/// Writes the names in the files. What is listed before memory is wanted goes out too.
+/// Writes the names in the files. What is listed before memory runs out is written too.
 fn put_names<W: Write>(
     alloc: Global,
     options: NmOptions,

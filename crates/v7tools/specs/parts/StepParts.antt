@@ -50,7 +50,7 @@ pub record IsAccepted (known : Option (List ℕ)) (old new : Kept) (path : List 
   pub is_found : IsFound known (Ok object)
   pub accepts : kept_with old.forced old.entries path (Ok object) ≡ Ok new.entries
 
--- the file at a path was added, or the fault says why it was not; memory is wanted only behind a header of a file
+-- the file at a path was added, or the fault says why it was not; memory runs out only behind a header of a file
 abbrev pub IsAddition : Option (List ℕ) → Kept → Kept → String Global → Result (Unit {0}) CliFault → Type 0
 IsAddition known old new path (Ok _) = (object : Contents) × IsAccepted known old new (string_bytes path) object
 IsAddition known old new path (Err fault) = (new ≡ old) × (((fault ≡ faults.Memory) × IfSome known HasHeader) ⊎ IsRefusal known old path fault)
