@@ -70,11 +70,13 @@ pub laid_out : (xs bytes : List ℕ) (end : ℕ) → end ≡ min (length (before
 laid_out xs bytes end e b =
     let name = before_nul xs in
     let within : length name ≤ length xs = length-before_nul-le xs in
+    let most : end ≤ 8 = omega (arith, e) in
+    let long : length (take 8 name) ≡ end = length-take 8 name ∙ omega (arith, e) in
     let short : take 8 name ≡ take end xs =
     sym (take_min 8 name) ∙ ap (λ n. take n name) (omega arith) ∙ ap (take end) (sym (take-before_nul xs)) ∙ take-take end (length name) xs (omega arith) in
     let pad : drop end (replicate 8 0) ≡ replicate (8 - end) 0 = drop-replicate end 8 0 in
-    let form : bytes ≡ take 8 name ++ replicate (8 - end) 0 = b ∙ ap (λ l. l ++ drop end (replicate 8 0)) (sym short) ∙ ap (λ l. take 8 name ++ l) pad in
+    let both : take end xs ++ drop end (replicate 8 0) ≡ take 8 name ++ replicate (8 - end) 0 = λ i. sym short i ++ pad i in
+    let form : bytes ≡ take 8 name ++ replicate (8 - end) 0 = b ∙ both in
     let view : before_nul bytes ≡ take 8 name = ap before_nul form ∙ before_nul-cut_and_padded xs 8 (8 - end) in
-    let long : length (take 8 name) ≡ end = length-take 8 name ∙ omega arith in
-    let pads : padded (take 8 name) ≡ take 8 name ++ replicate (8 - end) 0 = padded-short (take 8 name) end long (omega arith) in
+    let pads : padded (take 8 name) ≡ take 8 name ++ replicate (8 - end) 0 = padded-short (take 8 name) end long most in
     (view, ap padded view ∙ pads ∙ sym form)
