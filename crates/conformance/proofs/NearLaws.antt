@@ -1,30 +1,29 @@
 -- Statements near the laws of linking that do not hold: each has a link that shows it.
-use Rattle.std.proofs.Common.{◌≡◌, ◌≢◌, ◌↔◌, ℕ, ◌+◌, ◌%◌, ◌<◌, ◌≤◌, true, false, List, [], ◌∷◌, ◌++◌, Some, refl, sym, ◌∙◌, ap, arith, inl, inr, eq-eqb}
-use Rattle.std.specs.Prelude.{◌⊎◌, eqb, Ok, Err, length, replicate, slice_get, sum_by}
+use Rattle.std.proofs.Common.{◌≡◌, ◌≢◌, ◌↔◌, ℕ, ◌+◌, ◌%◌, ◌<◌, ◌≤◌, true, false, List, [], ◌∷◌, Some, refl, sym, ◌∙◌, ap, arith, inl, inr, eq-eqb}
+use Rattle.std.specs.Prelude.{eqb, Ok, Err, replicate, slice_get, sum_by}
 use Rattle.std.specs.List.{AllByRecursion}
 use Rattle.aout_core.specs.declared.symbol.Symbol.{Symbol}
 use Rattle.aout_core.specs.declared.symbol.Segment.{Segment}
 use Rattle.aout_core.specs.declared.symbol.Segment.TheVariants.{TextSeg}
 use Rattle.aout_core.specs.declared.reloc.Reloc.{Reloc}
-use Rattle.aout_core.specs.declared.reloc.Kind.TheVariants.{External}
 use Rattle.aout_core.specs.Contents.{Contents}
-use Rattle.aout_core.specs.WellFormed.{kind_of, symbol_number}
+use Rattle.aout_core.specs.WellFormed.{symbol_number}
 use Rattle.link_session.specs.declared.state.State.{State}
 use Rattle.link_session.specs.declared.state.State.TheVariants.{Defined, Wanted}
 use Rattle.link_session.specs.Sessions.{IsObject}
-use Rattle.link_session.specs.Mentions.{mentions, externals, is_among, place_of}
+use Rattle.link_session.specs.Mentions.{is_among, place_of}
 use Rattle.link_out.specs.declared.linked.LinkFault.{LinkFault}
 use Rattle.link_out.specs.declared.linked.LinkFault.TheVariants.{DoesNotFit, TooManySymbols, SymbolNumber, Memory}
 use Rattle.link_out.specs.declared.options.Layout.{Layout}
 use Rattle.link_out.specs.declared.options.Layout.TheVariants.{Split}
-use Rattle.link_out.specs.Choices.{Choices, lays_commons}
-use Rattle.link_out.specs.NameStates.{IsFirst, IsWanted}
+use Rattle.link_out.specs.Choices.{Choices}
+use Rattle.link_out.specs.NameStates.{IsFirst}
 use Rattle.link_out.specs.Results.{Outcome}
 use Rattle.link_out.specs.Link.{link}
 use Rattle.link_out.specs.Relocated.{segment_words, segment_relocs}
 use Rattle.link_out.specs.Meaning.{IsSaid, HasTwoDefinitions, MultiplesDiffer}
 use Rattle.link_out.specs.Places.{DifferInPlace, LayoutsDiffer}
-use Rattle.link_out.specs.Refusals.{CommonsTake, EndsAt, kept_locals, entry_count, HasFarWord, RefusedExactly}
+use Rattle.link_out.specs.Refusals.{CommonsTake, EndsAt, entry_count, HasFarWord, RefusedExactly}
 use Rattle.conformance.specs.Samples.{sym as entry_of, object, _f, _x, L1, a_o, c_o, d_o, i_o, plain, relocatable, with_layout}
 use Rattle.conformance.proofs.LawExamples.{outcome_of}
 use Rattle.conformance.proofs.ClauseLemmas.{only_object, only_word, no_word, as_object, at_most_so, less_so, only_wanted}
@@ -103,31 +102,11 @@ layouts_differ_in_words : LayoutsGive (λ os x y. x.file.text_words ≡ y.file.t
 layouts_differ_in_words law =
     different 5572 5568 refl (ap (λ ws. sum_by (λ (w : ℕ). w) ws) (law [] (a_o ∷ []) plain Split (plain_link (a_o ∷ [])) (split_link (a_o ∷ [])) refl refl))
 
--- a word refers to a name that is not bound with relocation, and whose number would be over this one
-record IsFarAbove (number : ℕ) (forced : List (List ℕ)) (os : List Contents) (o : Choices) : Type 0 where
-  before : List Contents
-  k : Contents
-  after : List Contents
-  all : os ≡ before ++ k ∷ after
-  segment : Segment
-  i : ℕ
-  w : ℕ
-  r : Reloc
-  word : slice_get (segment_words segment k) i ≡ Some w
-  reloc : slice_get (segment_relocs segment k) i ≡ Some r
-  kind : kind_of r ≡ Some External
-  symbol : Symbol
-  named : slice_get k.symbols (symbol_number r) ≡ Some symbol
-  size : ℕ
-  wanted : IsWanted (mentions forced os) symbol.name size
-  waits : (size ≡ 0) ⊎ (lays_commons o ≡ false)
-  far : number < length (kept_locals o os) + place_of symbol.name (externals forced os)
-
 -- a link is refused where it ends behind this address, has more than so many entries, or needs a number over this one
 abbrev IsRefusedAbove : ℕ → ℕ → ℕ → List (List ℕ) → List Contents → Choices → LinkFault → Type 0
 IsRefusedAbove last most number forced os o DoesNotFit = (end : ℕ) × EndsAt forced os o end × (last < end)
 IsRefusedAbove last most number forced os o TooManySymbols = (end : ℕ) × EndsAt forced os o end × (end ≤ last) × (most < entry_count forced os o)
-IsRefusedAbove last most number forced os o SymbolNumber = (end : ℕ) × EndsAt forced os o end × (end ≤ last) × (entry_count forced os o ≤ most) × (o.relocatable ≡ true) × IsFarAbove number forced os o
+IsRefusedAbove last most number forced os o SymbolNumber = (end : ℕ) × EndsAt forced os o end × (end ≤ last) × (entry_count forced os o ≤ most) × (o.relocatable ≡ true) × HasFarWord number forced os o
 IsRefusedAbove last most number forced os o Memory = ⊥
 
 abbrev RefusedAbove : ℕ → ℕ → ℕ → Type 0
@@ -136,52 +115,7 @@ RefusedAbove last most number = (forced : List (List ℕ)) (os : List Contents) 
 law_of_refusals : RefusedExactly → RefusedAbove 65535 5461 4095
 law_of_refusals law forced os o DoesNotFit good = law forced os o DoesNotFit good
 law_of_refusals law forced os o TooManySymbols good = law forced os o TooManySymbols good
-law_of_refusals law forced os o SymbolNumber good = (
-  (λ e. let h = (law forced os o SymbolNumber good).0 e in (h.0, h.1, h.2, h.3, h.4, there h.5)),
-  (λ h. (law forced os o SymbolNumber good).1 (h.0, h.1, h.2, h.3, h.4, back h.5)),
-)
-  where
-    there : HasFarWord forced os o → IsFarAbove 4095 forced os o
-    there h = record {
-      before = h.before;
-      k = h.k;
-      after = h.after;
-      all = h.all;
-      segment = h.segment;
-      i = h.i;
-      w = h.w;
-      r = h.r;
-      word = h.word;
-      reloc = h.reloc;
-      kind = h.kind;
-      symbol = h.symbol;
-      named = h.named;
-      size = h.size;
-      wanted = h.wanted;
-      waits = h.waits;
-      far = h.far;
-    }
-
-    back : IsFarAbove 4095 forced os o → HasFarWord forced os o
-    back h = record {
-      before = h.before;
-      k = h.k;
-      after = h.after;
-      all = h.all;
-      segment = h.segment;
-      i = h.i;
-      w = h.w;
-      r = h.r;
-      word = h.word;
-      reloc = h.reloc;
-      kind = h.kind;
-      symbol = h.symbol;
-      named = h.named;
-      size = h.size;
-      wanted = h.wanted;
-      waits = h.waits;
-      far = h.far;
-    }
+law_of_refusals law forced os o SymbolNumber good = law forced os o SymbolNumber good
 law_of_refusals law forced os o Memory good = law forced os o Memory good
 
 -- a common of so many bytes

@@ -216,7 +216,10 @@ module _ (forced : List (List ℕ)) (os : List Contents) (o : Choices) where
       by_kind (Some kinds.BssSeg) ke h f = absurd (cc)
       by_kind (Some kinds.External) ke h f = by_slot ke (slice_get k.symbols (symbol_number r)) refl h f
 
-  far_in : AllByRecursion IsObject os → o.relocatable ≡ true → (segment : Segment) → has_far_in p os segment ≡ true → HasFarWord forced os o
+  far_by : (name : List ℕ) → 4095 < row_of p os name → 4095 < length (kept_locals o os) + place_of name (externals forced os)
+  far_by name far = subst (λ (n : ℕ). 4095 < n) (number_same name) far
+
+  far_in : AllByRecursion IsObject os → o.relocatable ≡ true → (segment : Segment) → has_far_in p os segment ≡ true → HasFarWord 4095 forced os o
   far_in good rel segment h =
       let s = any_split (IsFarIn segment) os h in
       let k = s.1.0 in
@@ -242,17 +245,17 @@ module _ (forced : List (List ℕ)) (os : List Contents) (o : Choices) where
         size = st.0;
         wanted = st.1;
         waits = st.2;
-        far = subst (λ (n : ℕ). 4095 < n) (number_same f.symbol.name) st.3;
+        far = far_by f.symbol.name st.3;
       }
 
-  far_found : AllByRecursion IsObject os → o.relocatable ≡ true → has_far_word p os ≡ true → HasFarWord forced os o
+  far_found : AllByRecursion IsObject os → o.relocatable ≡ true → has_far_word p os ≡ true → HasFarWord 4095 forced os o
   far_found good rel h = by_text (has_far_in p os TextSeg) refl h
     where
-      by_text : (t : Bool) → has_far_in p os TextSeg ≡ t → (t || has_far_in p os DataSeg) ≡ true → HasFarWord forced os o
+      by_text : (t : Bool) → has_far_in p os TextSeg ≡ t → (t || has_far_in p os DataSeg) ≡ true → HasFarWord 4095 forced os o
       by_text true e h = far_in good rel TextSeg e
       by_text false e h = far_in good rel DataSeg h
 
-  far_back : AllByRecursion IsObject os → o.relocatable ≡ true → HasFarWord forced os o → has_far_word p os ≡ true
+  far_back : AllByRecursion IsObject os → o.relocatable ≡ true → HasFarWord 4095 forced os o → has_far_word p os ≡ true
   far_back good rel f = by_segment f.segment f.word here
     where
       reach : is_out_of_reach p os (referent f.k f.r) ≡ true

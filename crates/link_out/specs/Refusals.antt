@@ -49,8 +49,8 @@ entries _ count = count
 abbrev pub entry_count : List (List ℕ) → List Contents → Choices → ℕ
 entry_count forced os o = entries o.keep (length (kept_locals o os) + length (externals forced os))
 
--- a word refers to a name that is not bound with relocation, and whose number would be over 4,095
-pub record HasFarWord (forced : List (List ℕ)) (os : List Contents) (o : Choices) : Type 0 where
+-- a word refers to a name that is not bound with relocation, and whose number would be over this one
+pub record HasFarWord (number : ℕ) (forced : List (List ℕ)) (os : List Contents) (o : Choices) : Type 0 where
   pub before : List Contents
   pub k : Contents
   pub after : List Contents
@@ -67,13 +67,13 @@ pub record HasFarWord (forced : List (List ℕ)) (os : List Contents) (o : Choic
   pub size : ℕ
   pub wanted : IsWanted (mentions forced os) symbol.name size
   pub waits : (size ≡ 0) ⊎ (lays_commons o ≡ false)
-  pub far : 4095 < length (kept_locals o os) + place_of symbol.name (externals forced os)
+  pub far : number < length (kept_locals o os) + place_of symbol.name (externals forced os)
 
 -- the first of these that applies: the end is over 65,535; there are more than 5,461 symbols; a number is too large
 abbrev pub IsRefused : List (List ℕ) → List Contents → Choices → LinkFault → Type 0
 IsRefused forced os o DoesNotFit = (end : ℕ) × EndsAt forced os o end × (65535 < end)
 IsRefused forced os o TooManySymbols = (end : ℕ) × EndsAt forced os o end × (end ≤ 65535) × (5461 < entry_count forced os o)
-IsRefused forced os o SymbolNumber = (end : ℕ) × EndsAt forced os o end × (end ≤ 65535) × (entry_count forced os o ≤ 5461) × (o.relocatable ≡ true) × HasFarWord forced os o
+IsRefused forced os o SymbolNumber = (end : ℕ) × EndsAt forced os o end × (end ≤ 65535) × (entry_count forced os o ≤ 5461) × (o.relocatable ≡ true) × HasFarWord 4095 forced os o
 IsRefused forced os o Memory = ⊥
 
 abbrev pub RefusedExactly : Type 0
