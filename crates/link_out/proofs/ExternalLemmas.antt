@@ -51,11 +51,8 @@ pub entry_there : (p : Plan) (os : List Contents) (name : List ℕ) → p.choice
 entry_there p os name others known = entry_in_table p os name others ∙ ap (λ (t : Bool). let r : Option Symbol = cond t (Some (external_row p name)) None in r) known
 
 -- a row for this final name
-abbrev row_at : List ℕ → Final → Symbol
+abbrev pub row_at : List ℕ → Final → Symbol
 row_at name f = record { name = name; type_bits = type_of f.bound; value = f.written }
-
-row_waiting : (name : List ℕ) (n : ℕ) → address_in (row_at name (waiting n)) ≡ 0
-row_waiting name n = refl
 
 row_undefined : (b : Bases) (name : List ℕ) → address_in (row_at name (undefined_name b name)) ≡ (undefined_name b name).address
 row_undefined b name = by_tests (bytes_eq name etext) (bytes_eq name edata) (bytes_eq name end_name)

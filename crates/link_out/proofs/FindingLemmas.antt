@@ -1,11 +1,12 @@
 -- The names of a report, and the address of the entry point.
-use Rattle.std.proofs.Common.{◌≡◌, ℕ, ◌+◌, ◌<◌, ◌≤◌, ◌⊎◌, inl, inr, Bool, true, false, cond, ◌&&◌, ◌||◌, eqb, List, [], ◌∷◌, ◌++◌, drop, length, position, Some, None, refl, sym, ◌∙◌, ap, arith, append_assoc, nat_lt}
-use Rattle.std.specs.Prelude.{bytes_eq, slice_get}
+use Rattle.std.proofs.Common.{◌≡◌, ℕ, zero, suc, ◌+◌, ◌<◌, ◌≤◌, ◌⊎◌, inl, inr, Bool, true, false, cond, ◌&&◌, ◌||◌, eqb, List, [], ◌∷◌, ◌++◌, drop, length, position, Some, None, refl, sym, ◌∙◌, ap, arith, append_assoc, append-nil, drop_of_length-le, nat_lt}
+use Rattle.std.specs.Prelude.{bytes_eq, slice_get, filter}
+use Rattle.std.proofs.lemmas.List.{length-map}
 use Rattle.std.proofs.lemmas.List.Recursion.{is_position_or_len}
 use Rattle.std.proofs.lemmas.Bool.{le-ltb, lt-ltb, cases_lt}
 use Rattle.link_session.specs.declared.state.State.{State}
 use Rattle.link_session.specs.declared.state.State.TheVariants.{Wanted}
-use Rattle.link_session.specs.Image.{Named, state_at}
+use Rattle.link_session.specs.Image.{state_at}
 use Rattle.link_session.specs.Image.{named_states}
 use Rattle.link_session.specs.Mentions.{Mention, is_among, names_by_first_mention, place_of}
 use Rattle.link_session.specs.States.{state}
@@ -14,11 +15,10 @@ use Rattle.link_session.proofs.MentionedLemmas.{keys-named_states, state_for-nam
 use Rattle.link_out.specs.Plans.{Plan}
 use Rattle.link_out.specs.Finals.{final, type_of}
 use Rattle.link_out.specs.steps.FromCells.{finals}
-use Rattle.link_out.specs.Reports.{is_missing}
-use Rattle.link_out.specs.steps.InOrder.{missing_in}
-use Rattle.link_out.specs.steps.Entries.{text_address, text_address_at, address_in_text}
+use Rattle.link_out.specs.Reports.{is_missing, undefined_names, is_in_text, entry_word, entry_found_bad}
+use Rattle.link_out.specs.steps.Entries.{text_address, text_address_at}
 use Rattle.link_out.proofs.CellWordLemmas.{mapped_at_place}
-use Rattle.link_out.proofs.InOrderLemmas.{drop_next}
+use Rattle.link_out.proofs.InOrderLemmas.{drop_next, named_by}
 
 -- the state of a name that is found, and of one that is not
 pub found_known : (ms : List Mention) (name : List ℕ) (i : ℕ) → Some i ≡ position (bytes_eq name) (names_by_first_mention ms) → state_at (named_states ms) i ≡ state ms name
@@ -29,20 +29,39 @@ found_known ms name i h =
 pub missing_known : (ms : List Mention) (name : List ℕ) → None ≡ position (bytes_eq name) (names_by_first_mention ms) → Wanted 0 ≡ state ms name
 missing_known ms name h = missing_state (named_states ms) name (h ∙ ap (position (bytes_eq name)) (sym (keys-named_states ms))) ∙ state_for-named_states ms name
 
--- the next of the undefined names
-missing_front : (e : List ℕ × State) (es : Named) → missing_in (e ∷ es) ≡ missing_in (e ∷ []) ++ missing_in es
-missing_front e es = by_test (is_missing e.0 e.1)
-  where
-    by_test : (t : Bool) → cond t (e.0 ∷ missing_in es) (missing_in es) ≡ cond t (e.0 ∷ []) [] ++ missing_in es
-    by_test true = refl
-    by_test false = refl
+-- the names that are reported among those from this place on
+abbrev pub missing_behind : List Mention → ℕ → List (List ℕ)
+missing_behind ms i = filter (λ n. is_missing n (state ms n)) (drop i (names_by_first_mention ms))
 
-pub missing_more : (before : List (List ℕ)) (es : Named) (i : ℕ) (e : List ℕ × State) → slice_get es i ≡ Some e →
-    before ++ missing_in (drop i es) ≡ (before ++ missing_in (e ∷ [])) ++ missing_in (drop (i + 1) es)
-missing_more before es i e h =
-    ap (λ (rest : Named). before ++ missing_in rest) (drop_next es i e h)
-    ∙ ap (λ (rest : List (List ℕ)). before ++ rest) (missing_front e (drop (i + 1) es))
-    ∙ sym (append_assoc before (missing_in (e ∷ [])) (missing_in (drop (i + 1) es)))
+-- a name and its state
+pub name_read : (ms : List Mention) (names : List (List ℕ)) (i : ℕ) (name : List ℕ) (s : State) → slice_get (named_by ms names) i ≡ Some (name, s) → (slice_get names i ≡ Some name) × (s ≡ state ms name)
+name_read ms [] i name s h = absurd (cc)
+name_read ms (n ∷ ns) zero name s h =
+    let same : (n, state ms n) ≡ (name, s) = cc in
+    (ap (λ (e : List ℕ × State). Some e.0) same, sym (ap (λ (e : List ℕ × State). e.1) same) ∙ ap (λ (e : List ℕ × State). state ms e.0) same)
+name_read ms (n ∷ ns) (suc i) name s h = name_read ms ns i name s h
+
+-- the next of the names
+pub missing_more : (ms : List Mention) (before : List (List ℕ)) (i : ℕ) (name : List ℕ) (s : State) → slice_get (named_states ms) i ≡ Some (name, s) →
+    before ++ missing_behind ms i ≡ (before ++ cond (is_missing name s) (name ∷ []) []) ++ missing_behind ms (i + 1)
+missing_more ms before i name s h =
+    let read = name_read ms (names_by_first_mention ms) i name s h in
+    let rest = missing_behind ms (i + 1) in
+    ap (λ (names : List (List ℕ)). before ++ filter (λ n. is_missing n (state ms n)) names) (drop_next (names_by_first_mention ms) i name read.0)
+    ∙ ap (λ (names : List (List ℕ)). before ++ names) (by_test (is_missing name (state ms name)) rest ∙ ap (λ (t : State). cond (is_missing name t) (name ∷ []) [] ++ rest) (sym read.1))
+    ∙ sym (append_assoc before (cond (is_missing name s) (name ∷ []) []) rest)
+  where
+    by_test : (t : Bool) (rest : List (List ℕ)) → cond t (name ∷ rest) rest ≡ cond t (name ∷ []) [] ++ rest
+    by_test true rest = refl
+    by_test false rest = refl
+
+-- no name is left
+pub missing_all : (ms : List Mention) (names : List (List ℕ)) (i : ℕ) → length (named_states ms) ≤ i → undefined_names ms ≡ names ++ missing_behind ms i → names ≡ undefined_names ms
+missing_all ms names i behind so_far =
+    sym (append-nil names)
+    ∙ ap (λ (left : List (List ℕ)). names ++ filter (λ n. is_missing n (state ms n)) left)
+    (sym (drop_of_length-le (names_by_first_mention ms) (omega (arith, behind, length-map (names_by_first_mention ms) (λ (n : List ℕ). let e : List ℕ × State = (n, state ms n) in e)))))
+    ∙ sym so_far
 
 one_more : (a b : ℕ) → nat_lt (a + 1) (b + 1) ≡ nat_lt a b
 one_more a b = by_order (cases_lt a b)
@@ -67,7 +86,7 @@ position-place name names =
     ∙ ap (λ (t : Bool). cond t (Some (place_of name names)) None) (sym (among-place name names))
 
 -- the address of a name in text, from the final names
-pub address-found : (p : Plan) (name : List ℕ) → text_address_at (finals p) (position (bytes_eq name) (names_by_first_mention p.said)) ≡ address_in_text p name
+address-found : (p : Plan) (name : List ℕ) → text_address_at (finals p) (position (bytes_eq name) (names_by_first_mention p.said)) ≡ cond (is_in_text p name) (Some (final p name).address) None
 address-found p name =
     ap (text_address_at (finals p)) (position-place name (names_by_first_mention p.said)) ∙ by_test (is_among (names_by_first_mention p.said) name) refl
   where
@@ -75,3 +94,20 @@ address-found p name =
         text_address_at (finals p) (cond t (Some (place_of name (names_by_first_mention p.said))) None) ≡ cond (t && eqb (type_of (final p name).bound) 34) (Some (final p name).address) None
     by_test true h = ap text_address (mapped_at_place (final p) (names_by_first_mention p.said) name h)
     by_test false h = refl
+
+-- what is told of an entry point that has an address, and of one that has none
+pub entry_at : (p : Plan) (name : List ℕ) (address : ℕ) → Some address ≡ text_address_at (finals p) (position (bytes_eq name) (names_by_first_mention p.said)) →
+    (address ≡ entry_word p (Some name)) × (None ≡ entry_found_bad p (Some name))
+entry_at p name address h = by_test (is_in_text p name) (h ∙ address-found p name)
+  where
+    by_test : (t : Bool) → Some address ≡ cond t (Some (final p name).address) None → (address ≡ cond t (final p name).address 0) × (None ≡ cond t None (Some name))
+    by_test true e = (cc, refl)
+    by_test false e = absurd (cc)
+
+pub entry_nowhere : (p : Plan) (name : List ℕ) → None ≡ text_address_at (finals p) (position (bytes_eq name) (names_by_first_mention p.said)) →
+    (0 ≡ entry_word p (Some name)) × (Some name ≡ entry_found_bad p (Some name))
+entry_nowhere p name h = by_test (is_in_text p name) (h ∙ address-found p name)
+  where
+    by_test : (t : Bool) → None ≡ cond t (Some (final p name).address) None → (0 ≡ cond t (final p name).address 0) × (Some name ≡ cond t None (Some name))
+    by_test true e = absurd (cc)
+    by_test false e = (refl, refl)

@@ -1,13 +1,11 @@
 -- A link that no fault refuses.
-use Rattle.std.proofs.Common.{◌≡◌, ℕ, ◌+◌, ◌-◌, ◌*◌, true, false, cond, List, [], map, length, ◌∙◌, ap, arith}
+use Rattle.std.proofs.Common.{◌≡◌, ℕ, true, false, cond, List, [], map, ◌∙◌, ap}
 use Rattle.std.specs.List.{AllByRecursion, list_any}
 use Rattle.std.proofs.lemmas.Bool.{or_parts}
-use Rattle.aout_core.specs.declared.header.Header.{Header}
 use Rattle.aout_core.specs.Contents.{Contents}
 use Rattle.aout_core.specs.declared.symbol.Segment.{Segment}
-use Rattle.aout_core.specs.declared.symbol.Segment.TheVariants.{TextSeg, DataSeg, BssSeg}
+use Rattle.aout_core.specs.declared.symbol.Segment.TheVariants.{TextSeg, DataSeg}
 use Rattle.link_session.specs.declared.cell.Cell.{Cell}
-use Rattle.link_session.specs.Starts.{total}
 use Rattle.link_session.specs.Mentions.{mentions}
 use Rattle.link_session.specs.Image.{named_states}
 use Rattle.link_session.specs.Cells.{cells}
@@ -15,38 +13,18 @@ use Rattle.link_session.specs.Sessions.{IsObject}
 use Rattle.link_session.proofs.AdditionLemmas.{well_formed}
 use Rattle.link_session.proofs.WellFormedLemmas.{objects_refer}
 use Rattle.link_out.specs.Choices.{Choices}
-use Rattle.link_out.specs.Layouts.{Bases, data_base, magic_of}
-use Rattle.link_out.specs.Plans.{Plan, plan, commons_laid}
+use Rattle.link_out.specs.Layouts.{Bases}
+use Rattle.link_out.specs.Plans.{Plan, plan}
 use Rattle.link_out.specs.Words.{final_words}
 use Rattle.link_out.specs.Finals.{Final}
 use Rattle.link_out.specs.steps.FromCells.{finals, word_of_cell, reloc_of_cell, is_far}
 use Rattle.link_out.specs.steps.InOrder.{finals_from}
 use Rattle.link_out.specs.Tables.{table, final_relocs, has_far_in}
-use Rattle.link_out.specs.Reports.{entry_word}
 use Rattle.link_out.specs.Link.{linked_header, linked_file}
-use Rattle.link_out.specs.steps.Passes.{IsPassed, header_for}
+use Rattle.link_out.specs.steps.Passes.{IsPassed}
 use Rattle.link_out.proofs.InOrderLemmas.{finals-in_order}
 use Rattle.link_out.proofs.CellWordLemmas.{final_words-cells}
 use Rattle.link_out.proofs.CellRelocLemmas.{final_relocs-cells, has_far_in-cells}
-
--- the header, from the bounds of the segments
-header-linked : (forced : List (List ℕ)) (os : List Contents) (o : Choices) →
-    (let p = plan forced os o in header_for o p.at (length (table p os)) (entry_word p o.entry) ≡ linked_header p os)
-header-linked forced os o =
-    let p = plan forced os o in
-    let «data» : (data_base o.layout (total TextSeg os) + total DataSeg os) - data_base o.layout (total TextSeg os) ≡ total DataSeg os = omega arith in
-    let end = data_base o.layout (total TextSeg os) + total DataSeg os in
-    let bss : (end + commons_laid o p.said + total BssSeg os) - end ≡ commons_laid o p.said + total BssSeg os = omega arith in
-    λ i. let h : Header = record {
-      magic = magic_of o.layout;
-      text_size = total TextSeg os;
-      data_size = «data» i;
-      bss_size = bss i;
-      symbol_size = 12 * length (table p os);
-      entry_point = entry_word p o.entry;
-      unused = 0;
-      flag = cond o.relocatable 0 1;
-    } in h
 
 -- the parts of a file are those of the link
 pub linked_parts : (p : Plan) (os : List Contents) (c : Contents) → c.header ≡ linked_header p os → c.text_words ≡ final_words p TextSeg os → c.data_words ≡ final_words p DataSeg os →
@@ -94,6 +72,3 @@ module _ (forced : List (List ℕ)) (os : List Contents) (o : Choices) where
       list_any (λ (c : Cell). is_far names locals c.target) cs ≡ false
   near_data names locals cs h passed named image kept =
       far_planned DataSeg names locals cs h passed named image ∙ (or_parts (has_far_in planned os TextSeg) (has_far_in planned os DataSeg) (passed.near kept)).1
-
-  pub header_planned : (b : Bases) (rows entry : ℕ) → b ≡ planned.at → rows ≡ length (table planned os) → entry ≡ entry_word planned o.entry → header_for o b rows entry ≡ linked_header planned os
-  header_planned b rows entry at many word = (λ i. header_for o (at i) (many i) (word i)) ∙ header-linked forced os o

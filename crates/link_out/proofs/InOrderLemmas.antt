@@ -1,11 +1,10 @@
 -- Commons, final names and undefined names, name by name.
-use Rattle.std.proofs.Common.{◌≡◌, ℕ, zero, suc, ◌+◌, ◌≤◌, Bool, true, false, cond, not, ◌&&◌, ◌||◌, List, [], ◌∷◌, ◌++◌, map, take, drop, length, Some, None, refl, sym, ◌∙◌, ap, arith, append_assoc, add-one}
-use Rattle.std.specs.Prelude.{bytes_eq, slice_get, filter}
+use Rattle.std.proofs.Common.{◌≡◌, ℕ, zero, suc, ◌+◌, ◌≤◌, Bool, true, false, cond, ◌||◌, List, [], ◌∷◌, ◌++◌, map, take, drop, length, Some, None, refl, sym, ◌∙◌, ap, arith, append_assoc, add-one}
+use Rattle.std.specs.Prelude.{bytes_eq, slice_get}
 use Rattle.std.proofs.Math.Seq.{take-append_seam, drop-cons}
 use Rattle.std.proofs.lemmas.Option.{slice_get_within, get_or_from_slice_get}
 use Rattle.std.proofs.lemmas.List.Sums.{sum_by-append}
 use Rattle.link_session.specs.declared.state.State.{State}
-use Rattle.link_session.specs.declared.state.State.TheVariants.{Defined, Wanted}
 use Rattle.link_session.specs.Image.{Named}
 use Rattle.link_session.specs.Image.{named_states}
 use Rattle.link_session.specs.Mentions.{Mention, is_among, new_names, names_of, names_by_first_mention, place_of}
@@ -15,12 +14,10 @@ use Rattle.link_session.proofs.UpdateLemmas.{own_name}
 use Rattle.link_out.specs.Choices.{Choices}
 use Rattle.link_out.specs.Layouts.{Bases}
 use Rattle.link_out.specs.Plans.{Plan, common_size, room_of, commons_total, common_offset}
-use Rattle.link_out.specs.Finals.{Final, final, final_by}
+use Rattle.link_out.specs.Finals.{Final, final}
 use Rattle.link_out.specs.steps.FromCells.{finals}
-use Rattle.link_out.specs.Reports.{is_undefined, reserved_names, undefined_names}
 use Rattle.link_out.specs.Finals.{final_at}
-use Rattle.link_out.specs.steps.InOrder.{finals_from, room_in, missing_in}
-use Rattle.link_out.specs.Reports.{is_missing}
+use Rattle.link_out.specs.steps.InOrder.{finals_from, room_in}
 
 -- names with their states
 abbrev pub named_by : List Mention → List (List ℕ) → Named
@@ -119,11 +116,3 @@ finals_new p seen before (x ∷ xs) within all =
 -- what becomes of all names
 pub finals-in_order : (p : Plan) → finals_from p.choices p.at 0 (named_states p.said) ≡ finals p
 finals-in_order p = finals_new p [] [] (names_of p.said) (λ n h. h) refl
-
--- undefined names
-missing-named : (ms : List Mention) (names : List (List ℕ)) → missing_in (named_by ms names) ≡ filter (λ n. is_undefined (state ms n) && not (is_among reserved_names n)) names
-missing-named ms [] = refl
-missing-named ms (n ∷ ns) = ap (λ (rest : List (List ℕ)). cond (is_missing n (state ms n)) (n ∷ rest) rest) (missing-named ms ns)
-
-pub missing-undefined : (ms : List Mention) → missing_in (named_states ms) ≡ undefined_names ms
-missing-undefined ms = missing-named ms (names_by_first_mention ms)

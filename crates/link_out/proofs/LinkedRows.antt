@@ -12,16 +12,21 @@ use Rattle.link_session.specs.States.{state}
 use Rattle.link_out.specs.Choices.{Choices, lays_commons}
 use Rattle.link_out.specs.Layouts.{Bases}
 use Rattle.link_out.specs.Plans.{Plan, common_size}
-use Rattle.link_out.specs.Finals.{final, bound_at, waiting, undefined_name, etext, edata, end_name}
+use Rattle.link_out.specs.Finals.{Final, final, bound_at, waiting, undefined_name, etext, edata, end_name}
 use Rattle.link_out.specs.Tables.{external_row}
 use Rattle.link_out.specs.Finals.{final_at}
 use Rattle.link_out.specs.steps.InOrder.{finals_from, room_in}
-use Rattle.link_out.specs.steps.Rows as rows
 use Rattle.link_out.specs.Relocated.{data_begins}
 use Rattle.link_out.specs.LinkedTable.{undefined_row, row_for, room_for, AreRows}
 use Rattle.link_out.proofs.PartialLemmas.{IsProper}
+use Rattle.link_out.proofs.ExternalLemmas.{row_at}
 use Rattle.link_out.proofs.InOrderLemmas.{named_by}
 use Rattle.link_out.proofs.HasStateLemmas.{has_state, state_is}
+
+-- the rows of names, by what becomes of each
+abbrev pub rows_at : List (List ℕ) → List Final → List Symbol
+rows_at (n ∷ ns) (f ∷ fs) = row_at n f ∷ rows_at ns fs
+rows_at _ _ = []
 
 -- a header says where the segments lie
 pub record Tells (h : Header) (bss : ℕ) (b : Bases) : Type 0 where
@@ -32,13 +37,13 @@ pub record Tells (h : Header) (bss : ℕ) (b : Bases) : Type 0 where
   pub bss_end : data_begins h + h.data_size + h.bss_size ≡ b.bss_end
 
 module _ (h : Header) (bss : ℕ) (o : Choices) (b : Bases) (tells : Tells h bss b) where
-  undefined_same : (name : List ℕ) → undefined_row h o name ≡ rows.row_for name (cond o.relocatable (waiting 0) (undefined_name b name))
+  undefined_same : (name : List ℕ) → undefined_row h o name ≡ row_at name (cond o.relocatable (waiting 0) (undefined_name b name))
   undefined_same name = by_tests o.relocatable (bytes_eq name etext) (bytes_eq name edata) (bytes_eq name end_name)
     where
       by_tests : (r t d e : Bool) →
           (let s : Symbol = cond r (record { name = name; type_bits = 32; value = 0 }) (cond t (record { name = name; type_bits = 34; value = h.text_size }) (cond d (record { name = name; type_bits = 35; value = data_begins h + h.data_size })
           (cond e (record { name = name; type_bits = 36; value = data_begins h + h.data_size + h.bss_size }) (record { name = name; type_bits = 32; value = 0 })))) in s)
-          ≡ rows.row_for name (cond r (waiting 0) (cond t (bound_at TextSeg b.text_end) (cond d (bound_at DataSeg b.data_end) (cond e (bound_at BssSeg b.bss_end) (waiting 0)))))
+          ≡ row_at name (cond r (waiting 0) (cond t (bound_at TextSeg b.text_end) (cond d (bound_at DataSeg b.data_end) (cond e (bound_at BssSeg b.bss_end) (waiting 0)))))
       by_tests true t d e = refl
       by_tests false true d e = ap (λ (n : ℕ). let s : Symbol = record { name = name; type_bits = 34; value = n } in s) tells.text_end
       by_tests false false true e = ap (λ (n : ℕ). let s : Symbol = record { name = name; type_bits = 35; value = n } in s) tells.data_end
@@ -46,7 +51,7 @@ module _ (h : Header) (bss : ℕ) (o : Choices) (b : Bases) (tells : Tells h bss
       by_tests false false false false = refl
 
   -- the row of a name in a state is that of its final name
-  row_same : (at offset : ℕ) → (lays_commons o ≡ true → at ≡ plus b.data_end offset) → (name : List ℕ) (st : State) → IsProper st → row_for h bss o at name st ≡ rows.row_for name (final_at o b offset name st)
+  row_same : (at offset : ℕ) → (lays_commons o ≡ true → at ≡ plus b.data_end offset) → (name : List ℕ) (st : State) → IsProper st → row_for h bss o at name st ≡ row_at name (final_at o b offset name st)
   row_same at offset lies name (Defined Undefined n) p = absurd p
   row_same at offset lies name (Defined Other n) p = absurd p
   row_same at offset lies name (Defined Absolute n) p = refl
@@ -57,7 +62,7 @@ module _ (h : Header) (bss : ℕ) (o : Choices) (b : Bases) (tells : Tells h bss
     where
       by_tests : (z c : Bool) → (c ≡ true → at ≡ plus b.data_end offset) →
           (let s : Symbol = cond z (undefined_row h o name) (cond c (record { name = name; type_bits = 36; value = at }) (record { name = name; type_bits = 32; value = size })) in s)
-          ≡ rows.row_for name (cond z (cond o.relocatable (waiting 0) (undefined_name b name)) (cond c (bound_at BssSeg (plus b.data_end offset)) (waiting size)))
+          ≡ row_at name (cond z (cond o.relocatable (waiting 0) (undefined_name b name)) (cond c (bound_at BssSeg (plus b.data_end offset)) (waiting size)))
       by_tests true c lies = undefined_same name
       by_tests false true lies = ap (λ (n : ℕ). let s : Symbol = record { name = name; type_bits = 36; value = n } in s) (lies refl)
       by_tests false false lies = refl
@@ -103,7 +108,7 @@ lies_next o b at offset end rest st l = by_test (lays_commons o) refl (room_laid
 
 module _ (h : Header) (bss : ℕ) (o : Choices) (b : Bases) (tells : Tells h bss b) (ms : List Mention) (proper : (name : List ℕ) → IsProper (state ms name)) (end : ℕ) (short : end ≤ 65535) where
   -- the rows of names with these commons before them
-  pub are_rows : (names : List (List ℕ)) (at offset : ℕ) → Lies o b at offset end (room_in (named_by ms names)) → AreRows h bss o ms at (rows.rows_for names (finals_from o b offset (named_by ms names))) end
+  pub are_rows : (names : List (List ℕ)) (at offset : ℕ) → Lies o b at offset end (room_in (named_by ms names)) → AreRows h bss o ms at (rows_at names (finals_from o b offset (named_by ms names))) end
   are_rows [] at offset l = nothing at end (lays_commons o) l.ends
     where
       nothing : (a e : ℕ) (c : Bool) → a + cond c 0 0 ≡ e → a ≡ e
@@ -117,11 +122,11 @@ module _ (h : Header) (bss : ℕ) (o : Choices) (b : Bases) (tells : Tells h bss
   )
 
   -- and no others
-  pub rows_are : (rs : List Symbol) (at offset : ℕ) → Lies o b at offset end (room_in (named_by ms (map (λ s. s.name) rs))) → AreRows h bss o ms at rs end → rs ≡ rows.rows_for (map (λ s. s.name) rs) (finals_from o b offset (named_by ms (map (λ s. s.name) rs)))
+  pub rows_are : (rs : List Symbol) (at offset : ℕ) → Lies o b at offset end (room_in (named_by ms (map (λ s. s.name) rs))) → AreRows h bss o ms at rs end → rs ≡ rows_at (map (λ s. s.name) rs) (finals_from o b offset (named_by ms (map (λ s. s.name) rs)))
   rows_are [] at offset l are = refl
   rows_are (r ∷ rs) at offset l are =
       let st : state ms r.name ≡ are.0 = state_is ms r.name are.0 are.1 in
-      let here : r ≡ rows.row_for r.name (final_at o b offset r.name (state ms r.name)) =
+      let here : r ≡ row_at r.name (final_at o b offset r.name (state ms r.name)) =
       are.2 ∙ ap (λ (s : State). row_for h bss o at r.name s) (sym st) ∙ row_same h bss o b tells at offset (lies_at o b at offset end (room_in (named_by ms (map (λ s. s.name) (r ∷ rs)))) l short) r.name (state ms r.name) (proper r.name) in
       let rest : AreRows h bss o ms (at + room_for o (state ms r.name)) rs end = subst (λ (s : State). AreRows h bss o ms (at + room_for o s) rs end) (sym st) are.3 in
       let more = rows_are rs (at + room_for o (state ms r.name)) (offset + common_size (state ms r.name)) (lies_next o b at offset end (room_in (named_by ms (map (λ s. s.name) rs))) (state ms r.name) l) rest in
@@ -144,6 +149,6 @@ rows_end h bss o ms (r ∷ rs) at end are =
     both a r c x e false f g = omega arith
 
 -- the rows of the externals, by their final names
-pub rows_for_finals : (p : Plan) (names : List (List ℕ)) → rows.rows_for names (map (final p) names) ≡ map (external_row p) names
+pub rows_for_finals : (p : Plan) (names : List (List ℕ)) → rows_at names (map (final p) names) ≡ map (external_row p) names
 rows_for_finals p [] = refl
 rows_for_finals p (n ∷ ns) = ap (λ (rs : List Symbol). external_row p n ∷ rs) (rows_for_finals p ns)

@@ -20,7 +20,6 @@ use Rattle.link_out.specs.Tables.{local_rows, external_row, external_rows, rows_
 use Rattle.link_out.specs.Words.{final_words}
 use Rattle.link_out.specs.Reports.{findings, reserved_names, undefined_names, entry_word, entry_found_bad}
 use Rattle.link_out.specs.steps.InOrder.{finals_from, room_in}
-use Rattle.link_out.specs.steps.Rows as rows
 use Rattle.link_out.specs.Link.{Outcome, linked_header, linked_file, link}
 use Rattle.link_out.specs.Relocated.{data_begins, begins, IsEntry}
 use Rattle.link_out.specs.LinkedTable.{AreRows, carried_locals}
@@ -36,7 +35,7 @@ use Rattle.link_out.proofs.InOrderLemmas.{named_by, finals-in_order, room-common
 use Rattle.link_out.proofs.EntryPointLemmas.{entry_made, entry_once}
 use Rattle.link_out.proofs.SegmentLemmas.{made_length}
 use Rattle.link_out.proofs.RelocatedLemmas.{AreThere, relocated_at, relocated_whole, file_filled}
-use Rattle.link_out.proofs.LinkedRows.{Tells, Lies, are_rows, rows_are, rows_end, rows_for_finals}
+use Rattle.link_out.proofs.LinkedRows.{Tells, Lies, are_rows, rows_are, rows_end, rows_at, rows_for_finals}
 use Rattle.link_out.proofs.LinkedRelocs.{locals_same, kept_by, kept_whole}
 use Rattle.link_out.proofs.LinkedReports.{others_of, others_picked, others_are, reserved_picked, reserved_are, undefined_picked, undefined_are}
 
@@ -71,8 +70,8 @@ module _ (forced : List (List ℕ)) (os : List Contents) (o : Choices) where
       sums : (a b d c n : ℕ) → a ≡ b → a + d + (c + n) ≡ b + d + c + n
       sums a b d c n e = omega arith
 
-  rows_finals : rows.rows_for names (finals_from o p.at 0 (named_by ms names)) ≡ external_rows p
-  rows_finals = ap (λ fs. rows.rows_for names fs) (finals-in_order p) ∙ rows_for_finals p names
+  rows_finals : rows_at names (finals_from o p.at 0 (named_by ms names)) ≡ external_rows p
+  rows_finals = ap (λ fs. rows_at names fs) (finals-in_order p) ∙ rows_for_finals p names
 
   proper : (name : List ℕ) → IsProper (state ms name)
   proper name = state_is_proper forced os name
@@ -197,7 +196,7 @@ module _ (forced : List (List ℕ)) (os : List Contents) (o : Choices) where
     rows_same =
         rows_are g bss o p.at told_back ms proper (begins g bss BssSeg) (less (data_begins g + g.data_size) g.bss_size bss l.header.short) l.rows (data_begins g + g.data_size) 0
         (record { here = λ lays. told_back.data_end ∙ omega arith; ends = rows_end g bss o ms l.rows (data_begins g + g.data_size) (begins g bss BssSeg) l.are_rows }) l.are_rows
-        ∙ ap (λ (ns : List (List ℕ)). rows.rows_for ns (finals_from o p.at 0 (named_by ms ns))) l.names
+        ∙ ap (λ (ns : List (List ℕ)). rows_at ns (finals_from o p.at 0 (named_by ms ns))) l.names
         ∙ rows_finals
       where
         less : (a b n : ℕ) → a + b ≤ 65535 → a + (b - n) ≤ 65535

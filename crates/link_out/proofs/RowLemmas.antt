@@ -1,8 +1,7 @@
 -- The rows of the table, object by object and name by name, are those of the whole list.
-use Rattle.std.proofs.Common.{◌≡◌, ℕ, ◌+◌, ◌%◌, Bool, true, false, List, [], ◌∷◌, ◌++◌, map, length, drop, refl, sym, subst, ◌∙◌, ap, arith, append_assoc, length-append, append-nil, drop_of_length-le, ◌≤◌}
+use Rattle.std.proofs.Common.{◌≡◌, ℕ, zero, suc, ◌+◌, ◌%◌, Bool, true, false, List, [], ◌∷◌, ◌++◌, map, length, drop, refl, sym, subst, ◌∙◌, ap, arith, append_assoc, length-append, append-nil, drop_of_length-le, ◌≤◌}
 use Rattle.std.specs.Prelude.{filter, cond, nat_lt, slice_get, Option, Some, IsNone, IsTrue, IfSome, ◌↔◌}
 use Rattle.std.specs.List.{flat_map}
-use Rattle.std.specs.Map.{keys_of}
 use Rattle.std.proofs.lemmas.List.{length-map}
 use Rattle.aout_core.specs.declared.symbol.Symbol.{Symbol}
 use Rattle.aout_core.specs.declared.symbol.Segment.{Segment}
@@ -15,18 +14,21 @@ use Rattle.link_session.specs.Earlier.{with_earlier}
 use Rattle.link_session.specs.Labelled.{Labelled, objects}
 use Rattle.link_session.specs.declared.relocate.Starts.{Starts}
 use Rattle.link_session.specs.Starts.{total, no_starts, starts_behind, next_starts, shifts_at}
-use Rattle.link_session.specs.Mentions.{names_by_first_mention}
+use Rattle.link_session.specs.Mentions.{Mention, names_by_first_mention}
+use Rattle.link_session.specs.States.{state}
+use Rattle.link_session.specs.Image.{named_states}
 use Rattle.link_out.specs.declared.options.Keep.{Keep}
 use Rattle.link_out.specs.declared.options.Keep.TheVariants as keeps
 use Rattle.link_out.specs.declared.table.Moves.{Moves}
 use Rattle.link_out.specs.Layouts.{Bases}
-use Rattle.link_out.specs.Finals.{Final, final}
+use Rattle.link_out.specs.Finals.{Final, final, type_of}
 use Rattle.link_out.specs.steps.FromCells.{finals}
 use Rattle.link_out.specs.Plans.{Plan}
 use Rattle.link_out.specs.Tables.{is_kept_local, moved_value, moved_local, local_rows, external_row, external_rows, rows_kept, table}
-use Rattle.link_out.specs.steps.Rows.{moves_by, value_moved, symbol_moved, rows_in, rows_from, kept_count, row_for, rows_for}
+use Rattle.link_out.specs.steps.Rows.{moves_by, value_moved, symbol_moved, rows_in, rows_from, kept_count}
 use Rattle.link_session.proofs.StartLemmas.{next_starts-behind}
 use Rattle.link_out.proofs.InOrderLemmas.{drop_next}
+use Rattle.link_out.proofs.FindingLemmas.{name_read}
 
 -- a start modulo 65,536 moves as the start does
 moved_from : (v b t own : ℕ) → plus v (plus b (minus (t % 65536) own)) ≡ plus v (plus b (minus t own))
@@ -68,14 +70,7 @@ length-rows_from b keep s (o ∷ os) =
 length-local_rows : (p : Plan) (os : List Contents) → length (local_rows p os) ≡ kept_count p.choices.keep os
 length-local_rows p os = ap (λ (l : List Symbol). length l) (sym (rows_from-local_rows p os)) ∙ length-rows_from p.at p.choices.keep no_starts os
 
--- the externals, name by name
-rows_for-external_rows : (p : Plan) → rows_for (names_by_first_mention p.said) (finals p) ≡ external_rows p
-rows_for-external_rows p = by_names (names_by_first_mention p.said)
-  where
-    by_names : (names : List (List ℕ)) → rows_for names (map (final p) names) ≡ map (external_row p) names
-    by_names [] = refl
-    by_names (n ∷ ns) = ap (λ (l : List Symbol). external_row p n ∷ l) (by_names ns)
-
+-- nothing is kept
 nothing_kept : (symbols : List Symbol) → filter (is_kept_local keeps.Nothing) symbols ≡ []
 nothing_kept [] = refl
 nothing_kept (s ∷ ss) = by_test (is_kept_local keeps.Nothing s) (no_local s) (nothing_kept ss)
@@ -108,27 +103,54 @@ rows_all p b keep s rows es i same at «end» so_far =
     ∙ (λ j. rows_from (sym at j) (sym same j) no_starts (objects es))
     ∙ rows_from-local_rows p (objects es)
 
--- one more name
-rows_for-more : (es : List (List ℕ × State)) (fs : List Final) (i : ℕ) (e : List ℕ × State) (f : Final) → slice_get es i ≡ Some e → slice_get fs i ≡ Some f →
-    rows_for (keys_of (drop i es)) (drop i fs) ≡ row_for e.0 f ∷ rows_for (keys_of (drop (i + 1) es)) (drop (i + 1) fs)
-rows_for-more es fs i e f he hf = λ j. rows_for (keys_of (drop_next es i e he j)) (drop_next fs i f hf j)
+-- the rows of the externals from this place on
+abbrev pub externals_behind : Plan → ℕ → List Symbol
+externals_behind p i = map (external_row p) (drop i (names_by_first_mention p.said))
 
-pub row_put : (es : List (List ℕ × State)) (fs : List Final) (i : ℕ) (e : List ℕ × State) (f : Final) (all rows more : List Symbol) → slice_get es i ≡ Some e → slice_get fs i ≡ Some f →
-    all ≡ rows ++ rows_for (keys_of (drop i es)) (drop i fs) → more ≡ rows ++ row_for e.0 f ∷ [] → all ≡ more ++ rows_for (keys_of (drop (i + 1) es)) (drop (i + 1) fs)
-row_put es fs i e f all rows more he hf so_far put =
-    let rest = rows_for (keys_of (drop (i + 1) es)) (drop (i + 1) fs) in
+-- the name at a place, and what becomes of it
+pub row_read : (p : Plan) (ms : List Mention) (fs : List Final) (i : ℕ) (name : List ℕ) (s : State) (f : Final) → p.said ≡ ms → fs ≡ finals p → slice_get (named_states ms) i ≡ Some (name, s) → slice_get fs i ≡ Some f →
+    (slice_get (names_by_first_mention p.said) i ≡ Some name) × (f ≡ final p name)
+row_read p ms fs i name s f said last named at =
+    let read = name_read ms (names_by_first_mention ms) i name s named in
+    let found : slice_get (names_by_first_mention p.said) i ≡ Some name = ap (λ (l : List Mention). slice_get (names_by_first_mention l) i) said ∙ read.0 in
+    (found, by_place (names_by_first_mention p.said) i found (ap (λ (l : List Final). slice_get l i) (sym last) ∙ at))
+  where
+    by_place : (names : List (List ℕ)) (i : ℕ) → slice_get names i ≡ Some name → slice_get (map (final p) names) i ≡ Some f → f ≡ final p name
+    by_place [] i e h = absurd (cc)
+    by_place (n ∷ ns) zero e h = let same : n ≡ name = cc in let so : final p n ≡ f = cc in sym so ∙ ap (final p) same
+    by_place (n ∷ ns) (suc i) e h = by_place ns i e h
+
+-- a row with these fields
+pub row_is : (p : Plan) (name : List ℕ) (f : Final) (r : Symbol) → f ≡ final p name → r.name ≡ name → r.type_bits ≡ type_of f.bound → r.value ≡ f.written → r ≡ external_row p name
+row_is p name f r same named bits value = λ i. record {
+  name = named i;
+  type_bits = (bits ∙ ap (λ (g : Final). type_of g.bound) same) i;
+  value = (value ∙ ap (λ (g : Final). g.written) same) i;
+}
+
+-- one more name
+pub row_put : (p : Plan) (i : ℕ) (name : List ℕ) (all rows more : List Symbol) → slice_get (names_by_first_mention p.said) i ≡ Some name →
+    all ≡ rows ++ externals_behind p i → more ≡ rows ++ external_row p name ∷ [] → all ≡ more ++ externals_behind p (i + 1)
+row_put p i name all rows more found so_far put =
     so_far
-    ∙ ap (λ (l : List Symbol). rows ++ l) (rows_for-more es fs i e f he hf)
-    ∙ sym (append_assoc rows (row_for e.0 f ∷ []) rest)
-    ∙ ap (λ (l : List Symbol). l ++ rest) (sym put)
+    ∙ ap (λ (names : List (List ℕ)). rows ++ map (external_row p) names) (drop_next (names_by_first_mention p.said) i name found)
+    ∙ sym (append_assoc rows (external_row p name ∷ []) (externals_behind p (i + 1)))
+    ∙ ap (λ (l : List Symbol). l ++ externals_behind p (i + 1)) (sym put)
+
+-- no name is left
+pub rows_put : (p : Plan) (ms : List Mention) (i : ℕ) (all rows : List Symbol) → p.said ≡ ms → length (named_states ms) ≤ i → all ≡ rows ++ externals_behind p i → rows ≡ all
+rows_put p ms i all rows said behind so_far =
+    sym (append-nil rows)
+    ∙ ap (λ (names : List (List ℕ)). rows ++ map (external_row p) names) (sym (drop_of_length-le (names_by_first_mention p.said)
+    (omega (arith, behind, length-map (names_by_first_mention ms) (λ (n : List ℕ). let e : List ℕ × State = (n, state ms n) in e), ap (λ (l : List Mention). length (names_by_first_mention l)) said))))
+    ∙ sym so_far
 
 -- the whole table, of the locals and the externals
-pub table_whole : (p : Plan) (os : List Contents) (keep : Keep) (es : List (List ℕ × State)) (fs : List Final) (locals rows : List Symbol) → p.choices.keep ≡ keep → (keep ≡ keeps.Nothing → ⊥) →
-    locals ≡ local_rows p os → keys_of es ≡ names_by_first_mention p.said → fs ≡ finals p → rows ≡ locals ++ rows_for (keys_of es) fs → rows ≡ table p os
-table_whole p os keep es fs locals rows same others here names last put =
+pub table_whole : (p : Plan) (os : List Contents) (keep : Keep) (locals rows : List Symbol) → p.choices.keep ≡ keep → (keep ≡ keeps.Nothing → ⊥) →
+    locals ≡ local_rows p os → rows ≡ locals ++ external_rows p → rows ≡ table p os
+table_whole p os keep locals rows same others here put =
     put
-    ∙ (λ i. here i ++ rows_for (names i) (last i))
-    ∙ ap (λ (l : List Symbol). local_rows p os ++ l) (rows_for-external_rows p)
+    ∙ ap (λ (l : List Symbol). l ++ external_rows p) here
     ∙ sym (rows_kept-others p.choices.keep (local_rows p os ++ external_rows p) (λ e. others (sym same ∙ e)))
 
 -- how long the table is

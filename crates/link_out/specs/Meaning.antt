@@ -2,7 +2,7 @@
 --
 -- Each law is about one question: where is this word, this definition, this common now? Is this name reported, and rightly? They
 -- follow from the relation of LinkedFrom, and are here for who has one such question; nothing rests on them.
-use Rattle.std.specs.Prelude.{◌≡◌, ◌≢◌, ◌↔◌, ℕ, ◌+◌, true, false, eqb, List, [], ◌∷◌, ◌++◌, map, filter, Some, Ok, slice_get}
+use Rattle.std.specs.Prelude.{◌≡◌, ◌≢◌, ◌↔◌, ℕ, true, false, eqb, List, [], ◌∷◌, ◌++◌, map, filter, Some, Ok, slice_get}
 use Rattle.std.specs.List.{AllByRecursion}
 use Rattle.aout_core.specs.declared.symbol.Symbol.{Symbol}
 use Rattle.aout_core.specs.declared.symbol.Segment.{Segment}

@@ -1,15 +1,14 @@
 //! What is reported of a link.
-ghost use Rattle.std.specs.Prelude.{◌≡◌, ◌++◌, ◌∷◌, [], not, filter, bytes_eq, position, Some, IfOk, OnOk};
+ghost use Rattle.std.specs.Prelude.{◌≡◌, ◌++◌, ◌∷◌, [], not, cond, filter, bytes_eq, position, Some, IfOk, OnOk};
 ghost use Rattle.link_session.specs.Image.{state_at};
 ghost use Rattle.link_session.specs.Labelled.{objects};
 ghost use Rattle.link_session.specs.Mentions.{mentions, externals, is_among};
 ghost use Rattle.link_session.specs.States.{state};
 ghost use Rattle.link_session.specs.Undo.{image_of};
 ghost use Rattle.link_out.specs.steps.FromCells as from_cells;
-ghost use Rattle.link_out.specs.steps.Entries.{text_address, text_address_at, entry_found, unfound};
-ghost use Rattle.link_out.specs.Reports.{is_undefined, reserved_names, reserved_taken, findings};
-ghost use Rattle.link_out.specs.Reports.{is_missing};
-ghost use Rattle.link_out.specs.steps.InOrder.{missing_in, plan_of};
+ghost use Rattle.link_out.specs.steps.Entries.{text_address, text_address_at};
+ghost use Rattle.link_out.specs.Reports.{is_undefined, is_missing, reserved_names, reserved_taken, undefined_names, entry_word, entry_found_bad, findings};
+ghost use Rattle.link_out.specs.steps.InOrder.{plan_of};
 ghost use Rattle.link_out.specs.Outcomes.{findings_of};
 
 use crate::finals::{Final, is_named};
@@ -22,6 +21,15 @@ use std::alloc::{AllocError, Global};
 
 /// The type word of an external that is bound to text.
 const TEXT_EXTERNAL: u16 = 0o42;
+
+/// Where a program is entered.
+#[derive(Clone, Copy, Debug)]
+pub(crate) struct EntryPoint {
+    /// The address of the name that is asked for, if that is in text, and else 0.
+    pub(crate) address: u16,
+    /// The name, where it is none in text.
+    pub(crate) bad: Option<Name>,
+}
 
 /// Whether a name is neither defined nor a common.
 fn is_undefined(state: State) -> bool
@@ -91,7 +99,7 @@ pub fn is_missing(name: &Name, state: State) -> bool
 
 /// Appends a name if it is reported as undefined.
 fn put_if_missing(names: &mut Vec<Name>, name: Name, state: State) -> Result<(), AllocError>
-    ensures { OnOk result (names.new.items ≡ names.old.items ++ missing_in ((name, state) ∷ [])) }
+    ensures { OnOk result (names.new.items ≡ names.old.items ++ cond (is_missing name state) (name ∷ []) []) }
 {
     if is_missing(&name, state) {
         names.push(name)?;
@@ -101,7 +109,7 @@ fn put_if_missing(names: &mut Vec<Name>, name: Name, state: State) -> Result<(),
 
 /// The names that nothing defines, by first mention. An error: no room for them.
 fn missing(alloc: Global, session: &Session) -> Result<Vec<Name>, AllocError>
-    ensures { IfOk result (λ names. names.items ≡ missing_in (image_of session.now).externals) }
+    ensures { IfOk result (λ names. names.items ≡ undefined_names (mentions session.now.forced (objects session.now.entries))) }
 {
     let mut names = Vec::new(alloc);
     for index in 0..session.external_count() {
@@ -144,24 +152,24 @@ fn address_in_text(session: &Session, finals: &[Final], name: &Name) -> Option<u
     text_address(finals.get(index as usize)?)
 }
 
-/// The address of the entry point, 0 without one; `None` where its name is none in text.
-pub(crate) fn entry_address(session: &Session, options: &Options, finals: &[Final]) -> Option<u16>
+/// The entry point of a link.
+pub(crate) fn entry_point(session: &Session, options: &Options, finals: &[Final]) -> EntryPoint
     requires { finals.now ≡ from_cells.finals (plan_of session.now options.now) }
-    ensures { result ≡ entry_found (plan_of session.now options.now) options.now.entry }
+    ensures address { result.address ≡ entry_word (plan_of session.now options.now) options.now.entry }
+    ensures bad { result.bad ≡ entry_found_bad (plan_of session.now options.now) options.now.entry }
 {
-    match options.entry() {
-        Some(name) => address_in_text(session, finals, &name),
-        None => Some(0),
-    }
-}
-
-/// The name to report, where no address was found for it.
-fn unfound(entry: Option<Name>, address: Option<u16>) -> Option<Name>
-    ensures { result ≡ unfound entry address }
-{
-    match address {
-        Some(_) => None,
-        None => entry,
+    let Some(name) = options.entry() else {
+        return EntryPoint {
+            address: 0,
+            bad: None,
+        };
+    };
+    match address_in_text(session, finals, &name) {
+        Some(address) => EntryPoint { address, bad: None },
+        None => EntryPoint {
+            address: 0,
+            bad: Some(name),
+        },
     }
 }
 
@@ -174,20 +182,20 @@ fn copy_of(alloc: Global, names: &[Name]) -> Result<Vec<Name>, AllocError>
     Ok(copy)
 }
 
-/// The report of a link whose entry point was found at `address`. An error: no room for it.
+/// The report of a link, with the name of an entry point that is none in text. An error: no room for it.
 pub(crate) fn report_of(
     alloc: Global,
     session: &Session,
     options: &Options,
-    address: Option<u16>,
+    entry_bad: Option<Name>,
 ) -> Result<Report, AllocError>
-    requires { address ≡ entry_found (plan_of session.now options.now) options.now.entry }
+    requires { entry_bad ≡ entry_found_bad (plan_of session.now options.now) options.now.entry }
     ensures { IfOk result (λ report. findings_of report ≡ findings (plan_of session.now options.now)) }
 {
     Ok(Report {
         multiples: copy_of(alloc, session.multiples())?,
         reserved: reserved_taken(alloc, session)?,
-        entry_bad: unfound(options.entry(), address),
+        entry_bad,
         undefined: undefined_names(alloc, session, options)?,
     })
 }

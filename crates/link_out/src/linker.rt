@@ -1,7 +1,7 @@
 //! The link of what a session keeps.
-ghost use Rattle.std.specs.Prelude.{◌≡◌, ◌≤◌, true, false, cond, map, [], IfOk, IfErr, Err};
+ghost use Rattle.std.specs.Prelude.{◌≡◌, ℕ, ◌≤◌, true, false, cond, List, map, [], length, IfOk, IfErr, Err};
 ghost use Rattle.std.specs.List.{list_any, AllByRecursion};
-ghost use Rattle.aout_core.specs.Contents.{Fits};
+ghost use Rattle.aout_core.specs.Contents.{Contents, Fits};
 ghost use Rattle.aout_core.specs.WellFormed.{IsWellFormed};
 ghost use Rattle.aout_core.specs.Parts.{contents_of};
 ghost use Rattle.link_session.specs.Labelled.{objects};
@@ -9,13 +9,15 @@ ghost use Rattle.link_session.specs.Sessions.{IsObject};
 ghost use Rattle.link_out.specs.Layouts.{magic_of};
 ghost use Rattle.link_out.specs.steps.FromCells as from_cells;
 ghost use Rattle.link_out.specs.Reports.{entry_word};
-ghost use Rattle.link_out.specs.Link.{link, link_by, linked_file};
+ghost use Rattle.link_out.specs.Plans.{plan};
+ghost use Rattle.link_out.specs.Tables.{table};
+ghost use Rattle.link_out.specs.Link.{link, link_by, linked_header, linked_file};
 ghost use Rattle.link_out.specs.steps.InOrder.{plan_of};
-ghost use Rattle.link_out.specs.steps.Passes.{header_for, IsPassed};
+ghost use Rattle.link_out.specs.steps.Passes.{IsPassed};
 ghost use Rattle.link_out.specs.Outcomes.{IsLinkOf};
 
 use crate::finals::{Final, finals_of};
-use crate::findings::{entry_address, report_of};
+use crate::findings::{entry_point, report_of};
 use crate::layout::{Bases, link_bases};
 use crate::linked::{LinkFault, Linked};
 use crate::options::{Layout, Options};
@@ -41,6 +43,19 @@ fn magic_of(layout: Layout) -> u16
     }
 }
 
+/// What is known of a link before its words are written.
+#[derive(Clone, Copy)]
+struct Resolved<'a> {
+    /// Where the segments lie.
+    bases: &'a Bases,
+    /// What becomes of each external.
+    finals: &'a [Final],
+    /// How many locals stand before the externals in the table.
+    locals: u16,
+    /// The entry word.
+    entry: u16,
+}
+
 /// The header of a file with so many rows in its table.
 fn header_for(options: &Options, bases: &Bases, rows: usize, entry: u16) -> Header
     requires text { bases.now.text_end ≤ 65535 }
@@ -48,7 +63,7 @@ fn header_for(options: &Options, bases: &Bases, rows: usize, entry: u16) -> Head
     requires bss { bases.now.data_end ≤ bases.now.bss_end }
     requires short { bases.now.bss_end ≤ 65535 }
     requires rows { rows ≤ 5461 }
-    ensures { result ≡ header_for options.now bases.now rows entry }
+    ensures { (forced : List (List ℕ)) (os : List Contents) → bases.now ≡ (plan forced os options.now).at → rows ≡ length (table (plan forced os options.now) os) → entry ≡ entry_word (plan forced os options.now) options.now.entry → result ≡ linked_header (plan forced os options.now) os }
 {
     Header {
         magic: magic_of(options.layout()),
@@ -80,22 +95,18 @@ fn kept_relocs(
     }
 }
 
-/// The parts of the file of a link that no fault refuses; `locals` rows stand before the externals in its table. An
-/// error: no room for them.
+/// The parts of the file of a link that no fault refuses. An error: no room for them.
 fn parts_of(
     alloc: Global,
     session: &Session,
     options: &Options,
-    bases: &Bases,
-    finals: &[Final],
-    locals: u16,
-    entry: u16,
+    resolved: &Resolved<'_>,
 ) -> Result<Parts, AllocError>
-    requires passed { IsPassed (plan_of session.now options.now) (objects session.now.entries) locals }
-    requires bases { bases.now ≡ (plan_of session.now options.now).at }
-    requires text { bases.now.text_end ≤ 65535 }
-    requires finals { finals.now ≡ from_cells.finals (plan_of session.now options.now) }
-    requires entry { entry ≡ entry_word (plan_of session.now options.now) options.now.entry }
+    requires passed { IsPassed (plan_of session.now options.now) (objects session.now.entries) resolved.now.locals }
+    requires bases { resolved.now.bases.now ≡ (plan_of session.now options.now).at }
+    requires text { resolved.now.bases.now.text_end ≤ 65535 }
+    requires finals { resolved.now.finals.now ≡ from_cells.finals (plan_of session.now options.now) }
+    requires entry { resolved.now.entry ≡ entry_word (plan_of session.now options.now) options.now.entry }
     ensures value { IfOk result (λ parts. contents_of parts ≡ linked_file (plan_of session.now options.now) (objects session.now.entries)) }
     ensures fits { IfOk result (λ parts. Fits (contents_of parts)) }
     ensures object { options.now.relocatable ≡ true → IfOk result (λ parts. IsWellFormed (contents_of parts)) }
@@ -104,6 +115,12 @@ fn parts_of(
     let _objects = session.entries();
     let text_cells = session.text_cells();
     let data_cells = session.data_cells();
+    let Resolved {
+        bases,
+        finals,
+        locals,
+        entry,
+    } = *resolved;
     let symbols = table(alloc, session, options.keep(), bases, finals)?;
     Ok(Parts {
         header: header_for(options, bases, symbols.len(), entry),
@@ -146,10 +163,15 @@ pub fn finish(alloc: Global, session: &Session, options: &Options) -> Result<Lin
     let bases = link_bases(session, options);
     let locals = locals_passed(session, options, &bases)?;
     let finals = finals_of(alloc, session, options, &bases)?;
-    let address = entry_address(session, options, &finals);
-    let entry = address.unwrap_or(0);
-    let parts = parts_of(alloc, session, options, &bases, &finals, locals, entry)?;
-    let report = report_of(alloc, session, options, address)?;
+    let entry = entry_point(session, options, &finals);
+    let resolved = Resolved {
+        bases: &bases,
+        finals: &finals,
+        locals,
+        entry: entry.address,
+    };
+    let parts = parts_of(alloc, session, options, &resolved)?;
+    let report = report_of(alloc, session, options, entry.bad)?;
     let file = File::from_parts(parts);
     Ok(Linked { file, report })
 }

@@ -1,14 +1,13 @@
 //! The symbol table of a linked file.
 ghost use Rattle.std.specs.Prelude.{◌≡◌, ◌+◌, ◌++◌, ◌↔◌, length, nat_lt, IfSome, IfOk, OnOk, IsNone, IsTrue};
-ghost use Rattle.std.specs.Map.{keys_of};
 ghost use Rattle.link_session.specs.Labelled.{objects};
 ghost use Rattle.link_session.specs.Mentions.{mentions};
 ghost use Rattle.link_session.specs.Undo.{image_of};
 ghost use Rattle.link_out.specs.Finals.{type_of};
 ghost use Rattle.link_out.specs.steps.FromCells as from_cells;
 ghost use Rattle.link_out.specs.Plans.{Plan};
-ghost use Rattle.link_out.specs.Tables.{begins_with_l, keeps, is_kept_local, local_rows, table};
-ghost use Rattle.link_out.specs.steps.Rows.{moves_by, value_moved, symbol_moved, rows_in, count_in, kept_count, row_for, rows_for};
+ghost use Rattle.link_out.specs.Tables.{begins_with_l, keeps, is_kept_local, local_rows, external_rows, table};
+ghost use Rattle.link_out.specs.steps.Rows.{moves_by, value_moved, symbol_moved, rows_in, count_in, kept_count};
 
 use crate::finals::Final;
 use crate::layout::Bases;
@@ -187,7 +186,9 @@ pub(crate) fn type_of(bound: Option<Segment>) -> u16
 
 /// The row of an external.
 fn row_for(name: Name, last: &Final) -> Symbol
-    ensures { result ≡ row_for name last.now }
+    ensures name { result.name ≡ name }
+    ensures type_bits { result.type_bits ≡ type_of last.now.bound }
+    ensures value { result.value ≡ last.now.written }
 {
     Symbol {
         name,
@@ -203,7 +204,7 @@ fn put_externals(
     finals: &[Final],
 ) -> Result<(), AllocError>
     requires { length finals.now ≡ length (image_of session.now).externals }
-    ensures { OnOk result (rows.new.items ≡ rows.old.items ++ rows_for (keys_of (image_of session.now).externals) finals.now) }
+    ensures { (p : Plan) → p.said ≡ mentions session.now.forced (objects session.now.entries) → finals.now ≡ from_cells.finals p → OnOk result (rows.new.items ≡ rows.old.items ++ external_rows p) }
 {
     for index in 0..session.external_count() {
         if let Some((name, _)) = session.external(index) {

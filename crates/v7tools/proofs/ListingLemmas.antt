@@ -1,6 +1,6 @@
 -- Lists that go out entry by entry, and the lines of undefined names.
 use Rattle.std.proofs.Common.{◌≡◌, ℕ, ◌+◌, ◌≤◌, Bool, true, false, cond, List, [], ◌∷◌, ◌++◌, length, take, slice_index_or, Option, Some, refl, sym, ◌∙◌, ap, subst, append-nil}
-use Rattle.std.specs.Prelude.{slice_get}
+use Rattle.std.specs.Prelude.{slice_get, filter}
 use Rattle.std.specs.List.{flat_map}
 use Rattle.std.specs.Io.KnownBytes.{Appends}
 use Rattle.std.proofs.KnownBytes.{Appends-trans}
@@ -9,14 +9,13 @@ use Rattle.std.proofs.lemmas.List.{take_more, take_all}
 use Rattle.std.proofs.lemmas.Option.{slice_get_within, get_or_from_slice_get}
 use Rattle.aout_core.specs.Wires.{AppendsFront}
 use Rattle.aout_core.proofs.PutsLemmas.{front_of_row}
-use Rattle.link_session.specs.Image.{Named}
 use Rattle.link_session.specs.Image.{named_states}
 use Rattle.link_session.specs.Labelled.{Labelled, objects}
-use Rattle.link_session.specs.Mentions.{mentions}
+use Rattle.link_session.specs.Mentions.{Mention, mentions, names_by_first_mention}
+use Rattle.link_session.specs.States.{state}
 use Rattle.link_out.specs.Reports.{is_missing}
-use Rattle.link_out.specs.steps.InOrder.{missing_in}
 use Rattle.link_out.specs.Reports.{line}
-use Rattle.link_out.proofs.InOrderLemmas.{missing-undefined}
+use Rattle.link_out.proofs.InOrderLemmas.{named_by}
 use Rattle.v7tools.specs.Answers.{undefined_text}
 use Rattle.v7tools.specs.parts.StepParts.{missing_line}
 
@@ -43,15 +42,15 @@ pub sent_all : {A : Type 0} (spelling : A → List ℕ) (items : List A) (n : �
     Appends a b (flat_map spelling (take n items)) → Appends a b (flat_map spelling items)
 sent_all spelling items n a b end sent = subst (λ l. Appends a b (flat_map spelling l)) (take_all n items end) sent
 
-missing_lines : (es : Named) → flat_map missing_line es ≡ flat_map line (missing_in es)
-missing_lines [] = refl
-missing_lines (e ∷ es) = by_test (is_missing e.0 e.1) (missing_lines es)
+missing_lines : (ms : List Mention) (names : List (List ℕ)) → flat_map missing_line (named_by ms names) ≡ flat_map line (filter (λ n. is_missing n (state ms n)) names)
+missing_lines ms [] = refl
+missing_lines ms (n ∷ ns) = by_test (is_missing n (state ms n)) (filter (λ n. is_missing n (state ms n)) ns) (missing_lines ms ns)
   where
-    by_test : (t : Bool) → flat_map missing_line es ≡ flat_map line (missing_in es) →
-        cond t (line e.0) [] ++ flat_map missing_line es ≡ flat_map line (cond t (e.0 ∷ missing_in es) (missing_in es))
-    by_test true h = ap (λ l. line e.0 ++ l) h
-    by_test false h = h
+    by_test : (t : Bool) (rest : List (List ℕ)) → flat_map missing_line (named_by ms ns) ≡ flat_map line rest →
+        cond t (line n) [] ++ flat_map missing_line (named_by ms ns) ≡ flat_map line (cond t (n ∷ rest) rest)
+    by_test true rest h = ap (λ l. line n ++ l) h
+    by_test false rest h = h
 
 -- the lines of all undefined names
 pub missing-text : (forced : List (List ℕ)) (kept : List Labelled) → flat_map missing_line (named_states (mentions forced (objects kept))) ≡ undefined_text forced kept
-missing-text forced kept = missing_lines (named_states (mentions forced (objects kept))) ∙ ap (flat_map line) (missing-undefined (mentions forced (objects kept)))
+missing-text forced kept = missing_lines (mentions forced (objects kept)) (names_by_first_mention (mentions forced (objects kept)))

@@ -1,5 +1,5 @@
--- Commons, final names and undefined names as they follow from the names in order.
-use Rattle.std.specs.Prelude.{ℕ, ◌+◌, cond, List, [], ◌∷◌}
+-- Commons and final names as they follow from the names in order.
+use Rattle.std.specs.Prelude.{ℕ, ◌+◌, List, [], ◌∷◌}
 use Rattle.link_session.specs.Labelled.{objects}
 use Rattle.link_session.specs.Image.{Named}
 use Rattle.link_session.specs.Undo.{Kept}
@@ -7,7 +7,6 @@ use Rattle.link_out.specs.Choices.{Choices}
 use Rattle.link_out.specs.Layouts.{Bases}
 use Rattle.link_out.specs.Plans.{Plan, plan, common_size}
 use Rattle.link_out.specs.Finals.{Final, final_at}
-use Rattle.link_out.specs.Reports.{is_missing}
 
 -- what a link of what a session keeps is computed from
 abbrev pub plan_of : Kept → Choices → Plan
@@ -22,7 +21,3 @@ finals_from o b offset (e ∷ es) = final_at o b offset e.0 e.1 ∷ finals_from 
 abbrev pub room_in : Named → ℕ
 room_in [] = 0
 room_in (e ∷ es) = common_size e.1 + room_in es
-
-abbrev pub missing_in : Named → List (List ℕ)
-missing_in [] = []
-missing_in (e ∷ es) = cond (is_missing e.0 e.1) (e.0 ∷ missing_in es) (missing_in es)

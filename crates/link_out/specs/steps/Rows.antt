@@ -1,4 +1,4 @@
--- The rows of the symbol table as they follow from the objects' sizes and the final names in order.
+-- The kept locals as they follow from the objects' sizes.
 use Rattle.std.specs.Prelude.{ℕ, ◌+◌, List, [], ◌∷◌, ◌++◌, map, filter, length}
 use Rattle.aout_core.specs.declared.symbol.Symbol.{Symbol}
 use Rattle.aout_core.specs.declared.symbol.Segment.{Segment}
@@ -13,7 +13,6 @@ use Rattle.link_session.specs.Starts.{shift_by}
 use Rattle.link_out.specs.declared.options.Keep.{Keep}
 use Rattle.link_out.specs.declared.table.Moves.{Moves}
 use Rattle.link_out.specs.Layouts.{Bases, base}
-use Rattle.link_out.specs.Finals.{Final, type_of}
 use Rattle.link_out.specs.Tables.{is_kept_local}
 
 -- how far the segments of an object move
@@ -49,11 +48,3 @@ count_in keep symbols = length (filter (is_kept_local keep) symbols)
 abbrev pub kept_count : Keep → List Contents → ℕ
 kept_count keep [] = 0
 kept_count keep (o ∷ os) = count_in keep o.symbols + kept_count keep os
-
--- the row of a name, and those of names
-abbrev pub row_for : List ℕ → Final → Symbol
-row_for name f = record { name = name; type_bits = type_of f.bound; value = f.written }
-
-abbrev pub rows_for : List (List ℕ) → List Final → List Symbol
-rows_for (n ∷ ns) (f ∷ fs) = row_for n f ∷ rows_for ns fs
-rows_for _ _ = []

@@ -1,14 +1,21 @@
-use Rattle.std.proofs.Common.{◌+◌, ◌++◌, ◌∙◌, drop, sym, ap}
-use Rattle.link_session.specs.Undo.{image_of}
-use Rattle.link_out.specs.steps.InOrder.{missing_in}
-use Rattle.link_out.proofs.FindingLemmas.{missing_more}
+use Rattle.std.proofs.Common.{◌≤◌, ◌+◌, ◌++◌, ◌∙◌, length, sym, ap, rules}
+use Rattle.link_session.specs.Labelled.{objects}
+use Rattle.link_session.specs.Mentions.{mentions}
+use Rattle.link_session.specs.Image.{named_states}
+use Rattle.link_out.proofs.FindingLemmas.{missing_behind, missing_more, missing_all}
 use Rattle.link_out.proofs.findings.missing.Goals as goal
 
 pub loop-index-preserved : goal.loop-index-preserved
 loop-index-preserved c =
-    let es = (image_of c.args.session.now).externals in
+    let ms = mentions c.args.session.now.forced (objects c.args.session.now.entries) in
     let i = c.loop-index.index in
     let entry = c.unwrap-name.result in
     c.loop-index.invariant
-    ∙ missing_more c.loop-index.names.items es i (entry.0, entry.1) (sym c.external.ensures ∙ c.unwrap-name.ensures)
-    ∙ ap (λ before. before ++ missing_in (drop (i + 1) es)) (sym c.in_ok-put_if_missing.ensures)
+    ∙ missing_more ms c.loop-index.names.items i entry.0 entry.1 (sym c.external.ensures ∙ c.unwrap-name.ensures)
+    ∙ ap (λ before. before ++ missing_behind ms (i + 1)) (sym c.in_ok-put_if_missing.ensures)
+
+pub returns : goal.returns
+returns c =
+    let ms = mentions c.args.session.now.forced (objects c.args.session.now.entries) in
+    let behind : length (named_states ms) ≤ c.loop-index.index = search rules in
+    missing_all ms c.loop-index.names.items c.loop-index.index behind c.loop-index.invariant

@@ -3,8 +3,8 @@ use Rattle.link_session.specs.Labelled.{objects}
 use Rattle.link_out.proofs.FinishLemmas.{names_planned}
 use Rattle.link_out.proofs.linker.finish.Goals as goal
 
-pub entry_address-address-requires : goal.entry_address-address-requires
-entry_address-address-requires c =
+pub entry_point-entry-requires : goal.entry_point-entry-requires
+entry_point-entry-requires c =
     let s = c.args.session.now in
     c.deref.ensures.value
     ∙ c.in_ok-finals.ensures

@@ -1,9 +1,13 @@
-use Rattle.std.proofs.Common.{◌≡◌, ◌++◌, drop}
-use Rattle.std.specs.Map.{keys_of}
-use Rattle.link_session.specs.Undo.{image_of}
-use Rattle.link_out.specs.steps.Rows.{rows_for}
+use Rattle.std.proofs.Common.{◌≡◌, ◌++◌}
+use Rattle.link_session.specs.Labelled.{objects}
+use Rattle.link_session.specs.Mentions.{mentions}
+use Rattle.link_out.specs.Plans.{Plan}
+use Rattle.link_out.specs.steps.FromCells.{finals}
+use Rattle.link_out.specs.Tables.{external_rows}
+use Rattle.link_out.proofs.RowLemmas.{externals_behind}
 use Rattle.link_out.proofs.table.put_externals.Given as goal
 
 -- the rows so far, and those of the names that are left
 abbrev pub invariant-loop-index : goal.invariant-loop-index
-invariant-loop-index l = l.initial.rows.items ++ rows_for (keys_of (image_of l.session).externals) l.finals ≡ l.rows.items ++ rows_for (keys_of (drop l.index (image_of l.session).externals)) (drop l.index l.finals)
+invariant-loop-index l =
+    (p : Plan) → p.said ≡ mentions l.session.forced (objects l.session.entries) → l.finals ≡ finals p → l.initial.rows.items ++ external_rows p ≡ l.rows.items ++ externals_behind p l.index
