@@ -76,8 +76,8 @@ module _ {R : Type 0} (remaining : R → Option (List ℕ)) where
 module _ {W : Type 0} (contents : W → Option (List ℕ)) where
   -- an answer of which a prefix went out
   broke_off : (v : Verdict) (answer : List ℕ) (fault : CliFault) (before after : Latched W) → GoesOut contents v answer (Err fault) before after → IsTrue after.has_failed × AppendsFront (contents before.device) (contents after.device) answer
-  broke_off done answer fault before after h = (h.0.0 refl, h.1)
-  broke_off refused answer fault before after h = (h.0.0 refl, h.1)
+  broke_off done answer fault before after h = (h.fault.0 refl, h.bytes)
+  broke_off refused answer fault before after h = (h.fault.0 refl, h.bytes)
   broke_off (to_store x) answer fault before after h = absurd (cc)
 
   pub tells_fault : (did : Stepped) (left : Kept) (fault : CliFault) (result : Result ℕ CliFault) (before after : Latched W) → Does contents did left (Err fault) before after → fault ≡ faults.WriteFailed → result ≡ Err fault →

@@ -7,8 +7,7 @@ use Rattle.aout_core.specs.declared.file.ReadFault.TheVariants as reads
 use Rattle.aout_core.specs.Contents.{Contents}
 use Rattle.aout_core.specs.Front.{front}
 use Rattle.aout_core.specs.Reading.{HasHeader}
-use Rattle.aout_core.specs.Wires.{Latched, Puts, Writes}
-use Rattle.aout_core.proofs.PutsLemmas.{writes_broke_off}
+use Rattle.aout_core.specs.Wires.{Latched, Writes}
 use Rattle.link_session.specs.Edits.{last_of, without_last}
 use Rattle.link_session.specs.Labelled.{Labelled}
 use Rattle.link_session.specs.Sessions.{Adds, Withdraws}
@@ -156,10 +155,12 @@ pub no_verdict : (r : Result Step CliFault) (P : Step → Type 0) → IsErr r �
 no_verdict (Ok s) P h = absurd (cc)
 no_verdict (Err f) P h = tt
 
--- an answer of which a prefix went out
-pub told_in_part : {W U E : Type 0} {contents : W → Option (List ℕ)} {e : E} {a b : Latched W} {text : List ℕ} (r : Result Step CliFault) → IsErr r → Writes {T = U} {E = E} contents (Err e) a b text →
-    (IsErr r ↔ IsTrue b.has_failed) × Puts r (contents a.device) (contents b.device) text
-told_in_part r err p = let w = writes_broke_off {r = r} err p in (w.fault, w.bytes)
+-- an answer that went out whole
+abbrev pub stepped : Step → Result Step CliFault
+stepped step = Ok step
+
+pub told_whole : {W T E : Type 0} {contents : W → Option (List ℕ)} {x : T} {a b : Latched W} {text : List ℕ} (step : Step) → Writes {T = T} {E = E} contents (Ok x) a b text → Writes contents (stepped step) a b text
+told_whole step p = record { fault = p.fault; latched = p.latched; bytes = p.bytes }
 
 pub refused_verdict : (r : Result Step CliFault) → IfOk r (λ s. s ≡ Refused) → IfOk r (λ s. verdict_of s ≡ refused)
 refused_verdict (Ok s) h = ap verdict_of h

@@ -2,11 +2,11 @@
 --
 -- A step does what the definition `step` says of the command, by what its path leads to. Two things are not told by the command and
 -- the session: whether a device failed, and whether there was memory. Here is what each may change, and what goes out.
-use Rattle.std.specs.Prelude.{◌≡◌, ◌↔◌, ◌⊎◌, ℕ, false, List, Option, Some, None, Result, IfOk, IfSome, IsOk, IsErr, IsTrue, string_bytes}
+use Rattle.std.specs.Prelude.{◌≡◌, ◌⊎◌, ℕ, false, List, Option, Some, None, Result, IfOk, IfSome, IsOk, string_bytes}
 use Rattle.aout_core.specs.Contents.{Contents}
 use Rattle.aout_core.specs.Reading.{HasHeader}
 use Rattle.aout_core.specs.WellFormed.{IsWellFormed}
-use Rattle.aout_core.specs.Wires.{Latched, Puts}
+use Rattle.aout_core.specs.Wires.{Latched, Writes}
 use Rattle.link_session.specs.Labelled.{Labelled, objects}
 use Rattle.link_session.specs.Sessions.{Adds, Withdraws}
 use Rattle.link_session.specs.Undo.{Kept}
@@ -81,7 +81,7 @@ Changes _ verdict old new = new ≡ old
 -- the answer went out, or on a fault a prefix of it; of a link that is to be stored nothing is written
 abbrev pub GoesOut : {W : Type 0} → (W → Option (List ℕ)) → Verdict → List ℕ → Result Step CliFault → Latched W → Latched W → Type 0
 GoesOut contents (to_store x) answer result old new = IsOk result × (new ≡ old)
-GoesOut contents _ answer result old new = (IsErr result ↔ IsTrue new.has_failed) × Puts result (contents old.device) (contents new.device) answer
+GoesOut contents _ answer result old new = Writes contents result old new answer
 
 -- a step did this
 pub record Does {W : Type 0} (contents : W → Option (List ℕ)) (did : Stepped) (new : Kept) (result : Result Step CliFault) (before after : Latched W) : Type 0 where

@@ -4,3 +4,4 @@ pub mod LineParts
 pub mod InputParts
 pub mod Openings
 pub mod SessionParts
+pub mod FaultParts

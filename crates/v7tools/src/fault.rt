@@ -1,58 +1,49 @@
 //! The faults of the program, and their lines.
-ghost use Rattle.std.specs.Prelude.{◌≡◌, ◌++◌, decimal, codes, string_bytes};
+ghost use Rattle.std.specs.Prelude.{◌≡◌, ◌++◌, codes, Some};
 ghost use Rattle.aout_core.specs.Wires.{Writes};
 ghost use Rattle.v7tools.specs.Calls.{fault_of_words};
 ghost use Rattle.v7tools.specs.declared.fault.CliFault.TheVariants.{Memory, WriteFailed};
-ghost use Rattle.v7tools.specs.FaultTexts.{add_text, at_file, cli_text, fault_line, fault_of_addition, fault_of_link, fault_of_tool, link_text, object_text, read_text};
+ghost use Rattle.v7tools.specs.FaultTexts.{cli_text, fault_line, fault_of_addition, fault_of_link, fault_of_tool};
+ghost use Rattle.v7tools.specs.parts.FaultParts.{spelt};
 
+use crate::fault_text::{FaultText, add_text, link_text, object_text, read_text, says, says_of};
 use aout_core::{DeviceFault, ObjectFault, ReadFault, Wire};
 use command_words::WordsFault;
-use itoa::Buffer;
 use link_out::LinkFault;
 use link_session::{AddFault, AddRefused};
 use std::alloc::{AllocError, AllocFailed};
+use std::error::Error;
+use std::fmt;
+use std::fmt::{Display, Formatter};
 use std::io::Write;
 use symtools::ToolFault;
-use thiserror::Error;
 
 /// Why a command came to no end. Want of memory is `Memory` alone, whatever was being done. (own choice)
-#[derive(Debug, Drop, Error)]
+#[derive(Debug, Drop)]
 pub enum CliFault {
     /// 1: the words ask for nothing that there is.
-    #[error("usage")]
     Usage,
     /// 2: there is no file at this path, or it may not be read.
-    #[error("{0}: cannot open")]
     CannotOpen(String),
     /// 3: what stands at this path is no file of the format.
-    #[error("{0}: {1}")]
     BadFile(String, ReadFault),
     /// 4: the file at this path is no object.
-    #[error("{0}: {1}")]
     BadObject(String, ObjectFault),
     /// 5: the object at this path has no room behind those before it.
-    #[error("{0}: {1}")]
     NotAdded(String, AddFault),
     /// 6: the objects give no file.
-    #[error("{0}")]
     NotLinked(LinkFault),
     /// 7: no file can be made at this path.
-    #[error("{0}: cannot create")]
     CannotCreate(String),
     /// 8: a device failed while it was written.
-    #[error("write error")]
     WriteFailed,
     /// 9: no memory.
-    #[error("no memory")]
     Memory,
     /// 11: a line of a script has more than 4,096 bytes.
-    #[error("line too long")]
     LongLine,
     /// 12: a script has more than 1,000,000 lines.
-    #[error("too many lines")]
     ManyLines,
     /// 13: a script cannot be read on.
-    #[error("script read error")]
     ScriptFailed,
 }
 
@@ -136,98 +127,6 @@ impl From<LinkFault> for CliFault {
     }
 }
 
-/// Writes a path, and what is said of it.
-pub(crate) fn put_at_file<W: Write>(
-    path: &str,
-    text: &[u8],
-    out: &mut Wire<W>,
-) -> Result<(), DeviceFault>
-    ensures { Writes W.contents result out.old out.new (at_file path.now text.now) }
-{
-    out.put_both(path.as_bytes(), b": ")?;
-    out.put(text)
-}
-
-/// Writes a path, a text, and the index of a word in decimal.
-fn put_at_word<W: Write>(
-    path: &str,
-    text: &[u8],
-    index: u16,
-    out: &mut Wire<W>,
-) -> Result<(), DeviceFault>
-    ensures { Writes W.contents result out.old out.new (at_file path.now (text.now ++ decimal index)) }
-{
-    out.put_both(path.as_bytes(), b": ")?;
-    out.put_both(text, Buffer::new().format(index).as_bytes())
-}
-
-/// Writes what is wrong with a file.
-fn put_read_fault<W: Write>(
-    path: &str,
-    fault: ReadFault,
-    out: &mut Wire<W>,
-) -> Result<(), DeviceFault>
-    ensures { Writes W.contents result out.old out.new (read_text path.now fault) }
-{
-    match fault {
-        ReadFault::ShortHeader => put_at_file(path, b"short header", out),
-        ReadFault::BadMagic => put_at_file(path, b"bad magic number", out),
-        ReadFault::OddSize => put_at_file(path, b"odd size", out),
-        ReadFault::Truncated => put_at_file(path, b"truncated", out),
-        ReadFault::Device => put_at_file(path, b"read error", out),
-        ReadFault::Memory => out.put(b"no memory"),
-    }
-}
-
-/// Writes why a file is no object.
-fn put_object_fault<W: Write>(
-    path: &str,
-    fault: ObjectFault,
-    out: &mut Wire<W>,
-) -> Result<(), DeviceFault>
-    ensures { Writes W.contents result out.old out.new (at_file path.now (object_text fault)) }
-{
-    match fault {
-        ObjectFault::NotAnObject => put_at_file(path, b"not an object", out),
-        ObjectFault::NoRelocation => put_at_file(path, b"no relocation", out),
-        ObjectFault::BadRelocation(index) => {
-            put_at_word(path, b"bad relocation at word ", index, out)
-        }
-        ObjectFault::BadSymbolNumber(index) => {
-            put_at_word(path, b"bad symbol number at word ", index, out)
-        }
-    }
-}
-
-/// Writes why an object was not added.
-fn put_add_fault<W: Write>(
-    path: &str,
-    fault: AddFault,
-    out: &mut Wire<W>,
-) -> Result<(), DeviceFault>
-    ensures { Writes W.contents result out.old out.new (add_text path.now fault) }
-{
-    match fault {
-        AddFault::TextFull => put_at_file(path, b"text full", out),
-        AddFault::DataFull => put_at_file(path, b"data full", out),
-        AddFault::BssFull => put_at_file(path, b"bss full", out),
-        AddFault::NamesFull => put_at_file(path, b"names full", out),
-        AddFault::Memory => out.put(b"no memory"),
-    }
-}
-
-/// Writes why there is no link.
-fn put_link_fault<W: Write>(fault: LinkFault, out: &mut Wire<W>) -> Result<(), DeviceFault>
-    ensures { Writes W.contents result out.old out.new (link_text fault) }
-{
-    match fault {
-        LinkFault::DoesNotFit => out.put(b"does not fit"),
-        LinkFault::TooManySymbols => out.put(b"too many symbols"),
-        LinkFault::SymbolNumber => out.put(b"symbol number too large"),
-        LinkFault::Memory => out.put(b"no memory"),
-    }
-}
-
 impl CliFault {
     /// Writes the fault's line: `v7: `, the text of the fault, and a newline. It takes no memory. On a fault of the
     /// device a prefix of the line went out. (own choice)
@@ -250,19 +149,44 @@ impl CliFault {
     pub(crate) fn write_text<W: Write>(&self, out: &mut Wire<W>) -> Result<(), DeviceFault>
         ensures { Writes W.contents result out.old out.new (cli_text self.now) }
     {
+        self.text().write(out)
+    }
+
+    /// The text of the fault.
+    fn text(&self) -> FaultText<'_>
+        ensures { spelt result ≡ cli_text self.now }
+    {
         match self {
-            CliFault::Usage => out.put(b"usage"),
-            CliFault::CannotOpen(path) => put_at_file(path.as_str(), b"cannot open", out),
-            CliFault::BadFile(path, fault) => put_read_fault(path.as_str(), *fault, out),
-            CliFault::BadObject(path, fault) => put_object_fault(path.as_str(), *fault, out),
-            CliFault::NotAdded(path, fault) => put_add_fault(path.as_str(), *fault, out),
-            CliFault::NotLinked(fault) => put_link_fault(*fault, out),
-            CliFault::CannotCreate(path) => put_at_file(path.as_str(), b"cannot create", out),
-            CliFault::WriteFailed => out.put(b"write error"),
-            CliFault::Memory => out.put(b"no memory"),
-            CliFault::LongLine => out.put(b"line too long"),
-            CliFault::ManyLines => out.put(b"too many lines"),
-            CliFault::ScriptFailed => out.put(b"script read error"),
+            CliFault::Usage => says("usage"),
+            CliFault::CannotOpen(path) => says_of(path.as_str(), "cannot open"),
+            CliFault::BadFile(path, fault) => read_text(path.as_str(), *fault),
+            CliFault::BadObject(path, fault) => object_text(path.as_str(), *fault),
+            CliFault::NotAdded(path, fault) => add_text(path.as_str(), *fault),
+            CliFault::NotLinked(fault) => link_text(*fault),
+            CliFault::CannotCreate(path) => says_of(path.as_str(), "cannot create"),
+            CliFault::WriteFailed => says("write error"),
+            CliFault::Memory => says("no memory"),
+            CliFault::LongLine => says("line too long"),
+            CliFault::ManyLines => says("too many lines"),
+            CliFault::ScriptFailed => says("script read error"),
         }
     }
 }
+
+impl Display for CliFault {
+    ghost output = { λ fault. Some (cli_text fault) };
+
+    fn fmt<W: fmt::Write>(&self, f: &mut Formatter<W>) -> fmt::Result {
+        let text = self.text();
+        if let Some(path) = text.path {
+            write!(f, "{path}: ")?;
+        }
+        f.write_str(text.words)?;
+        if let Some(index) = text.index {
+            write!(f, "{index}")?;
+        }
+        Ok(())
+    }
+}
+
+impl Error for CliFault {}

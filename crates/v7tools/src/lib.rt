@@ -8,6 +8,7 @@ mod commands;
 mod disk;
 mod emitting;
 mod fault;
+mod fault_text;
 mod file_commands;
 mod lines;
 mod link_answers;

@@ -7,7 +7,8 @@ ghost use Rattle.v7tools.specs.declared.fault.CliFault.TheVariants.{WriteFailed}
 ghost use Rattle.v7tools.specs.Answers.{link_answer_text, link_status};
 ghost use Rattle.v7tools.specs.FaultTexts.{at_file};
 
-use crate::fault::{CliFault, put_at_file};
+use crate::fault::CliFault;
+use crate::fault_text::says_of;
 use aout_core::{DeviceFault, Wire};
 use itoa::Buffer;
 use link_out::Linked;
@@ -25,14 +26,10 @@ pub enum Stored {
 }
 
 /// Writes a path, what is said of it, and a newline.
-fn put_path_line<W: Write>(
-    path: &str,
-    text: &[u8],
-    answers: &mut Wire<W>,
-) -> Result<(), DeviceFault>
+fn put_path_line<W: Write>(path: &str, text: &str, answers: &mut Wire<W>) -> Result<(), DeviceFault>
     ensures { Writes W.contents result answers.old answers.new (line (at_file path.now text.now)) }
 {
-    put_at_file(path, text, answers)?;
+    says_of(path, text).write(answers)?;
     answers.put(b"\n")
 }
 
@@ -70,8 +67,8 @@ fn put_link_answer<W: Write>(
             linked.report.write(answers)?;
             put_linked_line(path, linked.report.status(), answers)
         }
-        Stored::NotCreated => put_path_line(path, b"cannot create", answers),
-        Stored::Failed => put_path_line(path, b"write error", answers),
+        Stored::NotCreated => put_path_line(path, "cannot create", answers),
+        Stored::Failed => put_path_line(path, "write error", answers),
     }
 }
 

@@ -1,9 +1,11 @@
 use Rattle.std.proofs.Common.{Ok, ◌∙◌, ap, refl}
 use Rattle.std.specs.Prelude.{string_bytes}
 use Rattle.link_session.specs.Undo.{Kept}
+use Rattle.v7tools.specs.declared.commands.Step.TheVariants.{Done}
 use Rattle.v7tools.specs.Answers.{add_step}
 use Rattle.v7tools.specs.FaultTexts.{cli_text}
-use Rattle.v7tools.proofs.StepLemmas.{added_by, not_added_by, refused_as, no_verdict, told_in_part, refused_verdict, label_is, worked_before, worked_after}
+use Rattle.aout_core.proofs.PutsLemmas.{writes_broke_off}
+use Rattle.v7tools.proofs.StepLemmas.{told_whole, added_by, not_added_by, refused_as, no_verdict, refused_verdict, label_is, worked_before, worked_after}
 use Rattle.v7tools.proofs.steps.add.Goals as goal
 
 pub returns-in_err-put_line-in-Ok-clause-step : goal.returns-in_err-put_line-in-Ok-clause-step
@@ -15,7 +17,7 @@ returns-in_err-put_line-in-Ok-clause-step g c =
     let working = worked_before c.args.wire.now c.add_file.new.wire c.args.path c.in-Ok.ensures.latched c.in-Ok.ensures.device in
     let r = c.from_residual.result in
     let label = c.as_bytes.ensures.value ∙ c.last_label.ensures ∙ label_is old new _ accepted.adds in
-    let told = told_in_part r c.from_residual.ensures.0 (rw label at c.in_err-put_line-in-Ok.ensures) in (
+    let told = writes_broke_off {r = r} c.from_residual.ensures.0 (rw label at c.in_err-put_line-in-Ok.ensures) in (
       add_step old.entries path (Ok new.entries),
       added_by g.R.Read.remaining c.args.wire.now c.add_file.new.wire old new path object working (worked_after c.add_file.new.wire c.args.path c.in-Ok.ensures.device) accepted,
       (_, accepted.adds),
@@ -38,7 +40,7 @@ returns-in_ok-put_line-in-Ok-clause-step g c =
       add_step old.entries path (Ok new.entries),
       added_by g.R.Read.remaining c.args.wire.now c.add_file.new.wire old new path object working (worked_after c.add_file.new.wire c.args.path c.in-Ok.ensures.device) accepted,
       (_, accepted.adds),
-      record { kept = refl; verdict = refl; answer = (told.fault, told.bytes) },
+      record { kept = refl; verdict = refl; answer = told_whole Done told },
     )
 
 pub returns-in-Err-clause-step : goal.returns-in-Err-clause-step
@@ -53,6 +55,6 @@ returns-in-Err-clause-step g c =
       record {
         kept = ap (λ (k : Kept). k.entries) unchanged;
         verdict = refused_verdict c.refuse.result c.refuse.ensures.step;
-        answer = (c.refuse.ensures.written.fault, c.refuse.ensures.written.bytes);
+        answer = c.refuse.ensures.written;
       },
     )

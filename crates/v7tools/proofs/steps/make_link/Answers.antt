@@ -1,5 +1,5 @@
 use Rattle.std.proofs.Common.{Ok, sym, subst, ap, refl, inl}
-use Rattle.aout_core.specs.Wires.{Puts}
+use Rattle.aout_core.specs.Wires.{Writes}
 use Rattle.link_session.specs.Labelled.{objects}
 use Rattle.link_out.specs.Link.{link}
 use Rattle.link_out.specs.Outcomes.{outcome_of}
@@ -21,14 +21,12 @@ returns-in-Ok-clause-step g c =
 pub returns-in-Err-clause-step : goal.returns-in-Err-clause-step
 returns-in-Err-clause-step g c =
     let s = c.args.session.now in
-    let fault = c.in-Err.fault in
-    let before = g.W.Write.contents c.args.answers.now.device in
-    let after = g.W.Write.contents c.refuse.new.answers.device in (
+    let fault = c.in-Err.fault in (
       refused_as s.entries (cli_text (fault_of_link fault)),
       link_refused_by s.entries (link s.forced (objects s.entries) c.args.options.now) fault c.in-Err.ensures.value,
       record {
         kept = refl;
         verdict = refused_verdict c.refuse.result c.refuse.ensures.step;
-        answer = (c.refuse.ensures.written.fault, subst (λ (f : CliFault). Puts c.refuse.result before after (line (cli_text f))) c.from.ensures c.refuse.ensures.written.bytes);
+        answer = subst (λ (f : CliFault). Writes g.W.Write.contents c.refuse.result c.args.answers.now c.refuse.new.answers (line (cli_text f))) c.from.ensures c.refuse.ensures.written;
       },
     )

@@ -1,7 +1,9 @@
 use Rattle.std.proofs.Common.{refl}
 use Rattle.std.specs.Prelude.{string_bytes}
+use Rattle.v7tools.specs.declared.commands.Step.TheVariants.{Done, Refused}
 use Rattle.v7tools.specs.Answers.{step, adding, absent, listing_externals, listing_undefined, anything_else}
-use Rattle.v7tools.proofs.StepLemmas.{no_verdict, told_in_part, refused_verdict, added_over}
+use Rattle.aout_core.proofs.PutsLemmas.{writes_broke_off}
+use Rattle.v7tools.proofs.StepLemmas.{told_whole, no_verdict, refused_verdict, added_over}
 use Rattle.v7tools.proofs.steps.step.Goals as goal
 
 pub returns-in_err-put_externals-in-Externals-clause-step : goal.returns-in_err-put_externals-in-Externals-clause-step
@@ -9,42 +11,42 @@ returns-in_err-put_externals-in-Externals-clause-step g c =
     let s = c.args.session.now in
     let did = step s.forced c.args.options.now s.entries listing_externals in
     let r = c.from_residual.result in
-    let told = told_in_part r c.from_residual.ensures.0 c.in_err-put_externals-in-Externals.ensures in
+    let told = writes_broke_off {r = r} c.from_residual.ensures.0 c.in_err-put_externals-in-Externals.ensures in
     rw c.in-Externals.is (did, refl, refl, record { kept = refl; verdict = no_verdict r _ c.from_residual.ensures.0; answer = told })
 
 pub returns-in_ok-put_externals-in-Externals-clause-step : goal.returns-in_ok-put_externals-in-Externals-clause-step
 returns-in_ok-put_externals-in-Externals-clause-step g c =
     let s = c.args.session.now in
     let told = c.in_ok-put_externals-in-Externals.ensures in
-    rw c.in-Externals.is (step s.forced c.args.options.now s.entries listing_externals, refl, refl, record { kept = refl; verdict = refl; answer = (told.fault, told.bytes) })
+    rw c.in-Externals.is (step s.forced c.args.options.now s.entries listing_externals, refl, refl, record { kept = refl; verdict = refl; answer = told_whole Done told })
 
 pub returns-in_err-put_undefined-in-Undefined-clause-step : goal.returns-in_err-put_undefined-in-Undefined-clause-step
 returns-in_err-put_undefined-in-Undefined-clause-step g c =
     let s = c.args.session.now in
     let did = step s.forced c.args.options.now s.entries listing_undefined in
     let r = c.from_residual-in_err-put_undefined-in-Undefined.result in
-    let told = told_in_part r c.from_residual-in_err-put_undefined-in-Undefined.ensures.0 c.in_err-put_undefined-in-Undefined.ensures in
+    let told = writes_broke_off {r = r} c.from_residual-in_err-put_undefined-in-Undefined.ensures.0 c.in_err-put_undefined-in-Undefined.ensures in
     rw c.in-Undefined.is (did, refl, refl, record { kept = refl; verdict = no_verdict r _ c.from_residual-in_err-put_undefined-in-Undefined.ensures.0; answer = told })
 
 pub returns-in_ok-put_undefined-in-Undefined-clause-step : goal.returns-in_ok-put_undefined-in-Undefined-clause-step
 returns-in_ok-put_undefined-in-Undefined-clause-step g c =
     let s = c.args.session.now in
     let told = c.in_ok-put_undefined-in-Undefined.ensures in
-    rw c.in-Undefined.is (step s.forced c.args.options.now s.entries listing_undefined, refl, refl, record { kept = refl; verdict = refl; answer = (told.fault, told.bytes) })
+    rw c.in-Undefined.is (step s.forced c.args.options.now s.entries listing_undefined, refl, refl, record { kept = refl; verdict = refl; answer = told_whole Done told })
 
 pub returns-in_err-put_line-in-Bad-clause-step : goal.returns-in_err-put_line-in-Bad-clause-step
 returns-in_err-put_line-in-Bad-clause-step g c =
     let s = c.args.session.now in
     let did = step s.forced c.args.options.now s.entries anything_else in
     let r = c.from_residual-in_err-put_line-in-Bad.result in
-    let told = told_in_part r c.from_residual-in_err-put_line-in-Bad.ensures.0 c.in_err-put_line-in-Bad.ensures in
+    let told = writes_broke_off {r = r} c.from_residual-in_err-put_line-in-Bad.ensures.0 c.in_err-put_line-in-Bad.ensures in
     rw c.in-Bad.is (did, refl, refl, record { kept = refl; verdict = no_verdict r _ c.from_residual-in_err-put_line-in-Bad.ensures.0; answer = told })
 
 pub returns-in_ok-put_line-in-Bad-clause-step : goal.returns-in_ok-put_line-in-Bad-clause-step
 returns-in_ok-put_line-in-Bad-clause-step g c =
     let s = c.args.session.now in
     let told = c.in_ok-put_line-in-Bad.ensures in
-    rw c.in-Bad.is (step s.forced c.args.options.now s.entries anything_else, refl, refl, record { kept = refl; verdict = refl; answer = (told.fault, told.bytes) })
+    rw c.in-Bad.is (step s.forced c.args.options.now s.entries anything_else, refl, refl, record { kept = refl; verdict = refl; answer = told_whole Refused told })
 
 pub returns-in-Some-clause-step : goal.returns-in-Some-clause-step
 returns-in-Some-clause-step g c =
@@ -56,4 +58,4 @@ pub returns-in-None-clause-step : goal.returns-in-None-clause-step
 returns-in-None-clause-step g c =
     let s = c.args.session.now in
     let told = c.refuse.ensures in
-    rw (c.in-Add.is, c.in-None.is) (step s.forced c.args.options.now s.entries (adding (string_bytes c.in-Add.path) absent), refl, refl, record { kept = refl; verdict = refused_verdict c.refuse.result told.step; answer = (told.written.fault, told.written.bytes) })
+    rw (c.in-Add.is, c.in-None.is) (step s.forced c.args.options.now s.entries (adding (string_bytes c.in-Add.path) absent), refl, refl, record { kept = refl; verdict = refused_verdict c.refuse.result told.step; answer = told.written })
