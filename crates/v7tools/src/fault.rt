@@ -18,7 +18,7 @@ use std::fmt::{Display, Formatter};
 use std::io::Write;
 use symtools::ToolFault;
 
-/// Why a command came to no end. Want of memory is `Memory` alone, whatever was being done. (own choice)
+/// Why a command came to no end. Out of memory is `Memory` alone, whatever was being done. (own choice)
 #[derive(Debug, Drop)]
 pub enum CliFault {
     /// 1: the words ask for nothing that there is.
