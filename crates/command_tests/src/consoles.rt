@@ -4,13 +4,17 @@ use crate::devices::{Device, ask};
 use std::alloc::Allocator;
 use std::env::FillError;
 use std::fmt::Display;
-use std::fs::{Metadata, OpenOptions};
+use std::fs::{Metadata, OpenOptions, Permissions};
 use std::io;
-use std::io::{BufRead, Lines, Write};
+use std::io::{BufRead, Lines, PipeReader, PipeWriter, Write};
+use std::os::fd::BorrowedFd;
+use std::os::unix::net::SocketAddr;
+use std::path::PathBuf;
 use std::rt::{Clock, Env, Files, Runtime};
 use std::time::Duration;
 
-/// Each request is listed, and the one whose line is `refused` fails. All but the standard streams is passed on.
+/// Each request is listed, and the one whose line is `refused` fails. All but the standard streams is passed on, also what
+/// no command asks for: what is passed on is proved sooner than what is left out.
 #[derive(Clone, Drop)]
 pub struct Console<'a, R> {
     rt: R,
@@ -160,5 +164,45 @@ impl<'a, R: Runtime + AllocGlobal> Files for Console<'a, R> {
 
     fn remove_dir_all<B: Allocator>(&self, alloc: B, path: &str) -> io::Result<()> {
         self.rt.remove_dir_all(alloc, path)
+    }
+
+    fn canonicalize<B: Allocator>(&self, alloc: B, path: &str) -> io::Result<PathBuf<B>> {
+        self.rt.canonicalize(alloc, path)
+    }
+
+    fn read_link<B: Allocator>(&self, alloc: B, path: &str) -> io::Result<PathBuf<B>> {
+        self.rt.read_link(alloc, path)
+    }
+
+    fn hard_link(&self, original: &str, link: &str) -> io::Result<()> {
+        self.rt.hard_link(original, link)
+    }
+
+    fn set_permissions(&self, path: &str, permissions: Permissions) -> io::Result<()> {
+        self.rt.set_permissions(path, permissions)
+    }
+
+    fn symlink(&self, original: &str, link: &str) -> io::Result<()> {
+        self.rt.symlink(original, link)
+    }
+
+    fn pipe(&self) -> io::Result<(PipeReader, PipeWriter)> {
+        self.rt.pipe()
+    }
+
+    fn chown(&self, path: &str, user: Option<u32>, group: Option<u32>) -> io::Result<()> {
+        self.rt.chown(path, user, group)
+    }
+
+    fn lchown(&self, path: &str, user: Option<u32>, group: Option<u32>) -> io::Result<()> {
+        self.rt.lchown(path, user, group)
+    }
+
+    fn create_dir_with_mode(&self, path: &str, mode: u32) -> io::Result<()> {
+        self.rt.create_dir_with_mode(path, mode)
+    }
+
+    fn bind_unix(&self, socket: BorrowedFd<'_>, address: &SocketAddr) -> io::Result<()> {
+        self.rt.bind_unix(socket, address)
     }
 }

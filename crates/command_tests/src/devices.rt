@@ -4,15 +4,22 @@ use std::io::{Error, ErrorKind, Read, Seek, SeekFrom, Write};
 use std::rt::{Files, Runtime};
 use std::{fs, io};
 
+/// Whether this is the last line of a text. Line and text end with a newline.
+fn is_last(text: &str, line: &str) -> bool {
+    match text.strip_suffix(line) {
+        Some(before) => before.is_empty() || before.ends_with('\n'),
+        None => false,
+    }
+}
+
 /// Lists a request, once for all that follow one another and are the same.
 fn list<R: Files + AllocGlobal>(rt: &R, line: &str) -> io::Result<()> {
-    let mut listed = fs::read_to_string(rt, "asked")?;
-    if listed.lines().last().is_some_and(|last| last == line) {
+    let listed = fs::read_to_string(rt, "asked")?;
+    if is_last(listed.as_str(), line) {
         return Ok(());
     }
-    listed.push_str(line)?;
-    listed.push('\n')?;
-    fs::write(rt, "asked", listed.as_str())
+    let more = format!(in rt.alloc(); "{listed}{line}")?;
+    fs::write(rt, "asked", more.as_str())
 }
 
 /// Lists a request, a word and a path, and fails where it is the one to refuse.
@@ -22,9 +29,9 @@ pub fn ask<R: Files + AllocGlobal>(
     word: &str,
     path: &str,
 ) -> io::Result<()> {
-    let line = format!(in rt.alloc(); "{word} {path}")?;
+    let line = format!(in rt.alloc(); "{word} {path}\n")?;
     list(rt, line.as_str())?;
-    if line.as_str() == refused {
+    if line.strip_suffix('\n') == Some(refused) {
         return Err(Error::from(ErrorKind::PermissionDenied));
     }
     Ok(())

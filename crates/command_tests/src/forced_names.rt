@@ -1,39 +1,64 @@
 //! Links with names that are entered before the objects.
 use crate::folders::enter_objects;
-use crate::outputs::{Spelt, assert_links, assert_links_bytes};
+use crate::outputs::{Link, Written, assert_links};
 use fixtures::CALL;
 use std::test::Fail;
+
+static FORCED_UNDEFINED: [Link<'static>; 2] = [
+    Link {
+        line: "ld -u _z -o out c.o d.o",
+        file: Written::Spelt(
+            [0o407, 8, 0, 0, 36, 0, 0, 1],
+            &[0o4767, 0o2, 0o240, 0o207],
+            &[("L1", 0o2, 0), ("_z", 0o40, 0), ("_f", 0o42, 6)],
+        ),
+        report: "Undefined:\n_z\n",
+        kept: None,
+    },
+    Link {
+        line: "ld -u _f -o out c.o d.o",
+        file: Written::Bytes(&CALL),
+        report: "",
+        kept: None,
+    },
+];
 
 #[test]
 fn forced_undefined(rt: HostRuntime) -> Result<(), Fail> {
     enter_objects(&rt, "forced_undefined")?;
-    let file = Spelt {
-        header: [0o407, 8, 0, 0, 36, 0, 0, 1],
-        words: &[0o4767, 0o2, 0o240, 0o207],
-        rows: &[("L1", 0o2, 0), ("_z", 0o40, 0), ("_f", 0o42, 6)],
-    };
-    assert_links(&rt, "ld -u _z -o out c.o d.o", file, "Undefined:\n_z\n")?;
-    assert_links_bytes(&rt, "ld -u _f -o out c.o d.o", &CALL, "")
+    assert_links(&rt, &FORCED_UNDEFINED)
 }
+
+static FORCED_THEN_MENTIONED: [Link<'static>; 1] = [Link {
+    line: "ld -u _f -o out c.o",
+    file: Written::Spelt(
+        [0o407, 4, 0, 0, 24, 0, 0, 1],
+        &[0o4767, 0o177774],
+        &[("L1", 0o2, 0), ("_f", 0o40, 0)],
+    ),
+    report: "Undefined:\n_f\n",
+    kept: None,
+}];
 
 #[test]
 fn forced_then_mentioned(rt: HostRuntime) -> Result<(), Fail> {
     enter_objects(&rt, "forced_then_mentioned")?;
-    let file = Spelt {
-        header: [0o407, 4, 0, 0, 24, 0, 0, 1],
-        words: &[0o4767, 0o177774],
-        rows: &[("L1", 0o2, 0), ("_f", 0o40, 0)],
-    };
-    assert_links(&rt, "ld -u _f -o out c.o", file, "Undefined:\n_f\n")
+    assert_links(&rt, &FORCED_THEN_MENTIONED)
 }
+
+static FORCED_END: [Link<'static>; 1] = [Link {
+    line: "ld -u _end -o out a.o",
+    file: Written::Spelt(
+        [0o407, 4, 2, 0, 12, 0, 0, 1],
+        &[0o12700, 0o4, 0o42],
+        &[("_end", 0o44, 6)],
+    ),
+    report: "",
+    kept: None,
+}];
 
 #[test]
 fn forced_end(rt: HostRuntime) -> Result<(), Fail> {
     enter_objects(&rt, "forced_end")?;
-    let file = Spelt {
-        header: [0o407, 4, 2, 0, 12, 0, 0, 1],
-        words: &[0o12700, 0o4, 0o42],
-        rows: &[("_end", 0o44, 6)],
-    };
-    assert_links(&rt, "ld -u _end -o out a.o", file, "")
+    assert_links(&rt, &FORCED_END)
 }

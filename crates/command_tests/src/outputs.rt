@@ -1,7 +1,10 @@
 //! Links of files, as commands and over memory, and what they write.
-use crate::folders::assert_runs;
+use crate::folders::{assert_file, assert_runs};
 use fixtures::{Row, file_of, wires, words_of};
 use link_fixtures::{Output, output_of};
+use link_out::Options;
+use link_session::Forced;
+use std::alloc::{AllocError, Global};
 use std::fs;
 use std::process::Abort;
 use std::rt::Runtime;
@@ -21,60 +24,108 @@ fn read_all<R: Runtime + AllocGlobal>(
     Ok(all)
 }
 
-/// What the link that a line asks for writes, over memory.
-fn linked_over_memory<R: Runtime + AllocGlobal>(rt: &R, line: &str) -> Result<Output, Fail> {
-    let alloc = rt.alloc();
+/// The options, forced names and files of the link that a line asks for.
+fn link_asked(alloc: Global, line: &str) -> Result<(Options, Forced, Vec<String>), Fail> {
     let call = parse(alloc, words_of(alloc, line)?)?;
-    let Call::Ld {
-        options,
-        forced,
-        out: _,
-        files,
-    } = call
-    else {
-        return Err(Fail::from("no link"));
-    };
-    let files = read_all(rt, &files)?;
+    match call {
+        Call::Ld {
+            options,
+            forced,
+            out: _,
+            files,
+        } => Ok((options, forced, files)),
+        _ => Err(Fail::from("no link")),
+    }
+}
+
+/// What the link of bytes in memory writes, each with its path.
+fn linked_bytes(
+    alloc: Global,
+    files: &[(String, Vec<u8>)],
+    forced: &Forced,
+    options: &Options,
+) -> Result<Output, Fail> {
     let mut inputs = Vec::new(alloc);
-    for (path, bytes) in &files {
+    for (path, bytes) in files {
         inputs.push((path.as_str(), bytes.as_slice()))?;
     }
-    let linked = ld(alloc, wires(alloc, &inputs)?, &forced, &options)?;
-    output_of(alloc, &linked)
+    let wires = wires(alloc, &inputs)?;
+    let linked = ld(alloc, wires, forced, options)?;
+    Ok(output_of(alloc, &linked)?)
 }
 
-/// A file: its header, its words of text, data and relocation, and its symbol table.
+/// What the link that a line asks for writes, over memory.
+fn linked_over_memory<R: Runtime + AllocGlobal>(rt: &R, line: &str) -> Result<Output, Fail> {
+    let (options, forced, paths) = link_asked(rt.alloc(), line)?;
+    let files = read_all(rt, &paths)?;
+    linked_bytes(rt.alloc(), &files, &forced, &options)
+}
+
+/// A file that a link writes.
 #[derive(Clone, Copy)]
-pub struct Spelt<'a> {
-    pub header: [u16; 8],
-    pub words: &'a [u16],
-    pub rows: &'a [Row<'a>],
+pub enum Written<'a> {
+    /// Its header, its words of text, data and relocation, and its symbol table.
+    Spelt([u16; 8], &'a [u16], &'a [Row<'a>]),
+    /// Its bytes.
+    Bytes(&'a [u8]),
 }
 
-/// The link of a line writes these bytes to `out`, and this report, as a command and over memory.
-pub fn assert_links_bytes<R: Runtime + AllocGlobal + Abort>(
+impl Written<'_> {
+    fn bytes(self, alloc: Global) -> Result<Vec<u8>, AllocError> {
+        match self {
+            Written::Spelt(header, words, rows) => file_of(alloc, header, words, rows),
+            Written::Bytes(bytes) => Vec::from_slice(alloc, bytes),
+        }
+    }
+}
+
+/// The line of a link into `out`, the file and the report that it writes, and the path where the file is then kept, if it
+/// is.
+#[derive(Clone, Copy)]
+pub struct Link<'a> {
+    pub line: &'a str,
+    pub file: Written<'a>,
+    pub report: &'a str,
+    pub kept: Option<&'a str>,
+}
+
+/// Whether a link writes these bytes and this report over memory.
+fn is_linked_over_memory<R: Runtime + AllocGlobal>(
     rt: &R,
     line: &str,
     file: &[u8],
     report: &str,
-) -> Result<(), Fail> {
-    let status = u8::from(!report.is_empty());
-    assert_runs(rt, line, "", (status, report, ""))?;
-    assert!(rt; fs::read(rt, "out")?.as_slice() == file, "{line}");
+) -> Result<bool, Fail> {
     let output = linked_over_memory(rt, line)?;
-    assert!(rt; output.file.as_slice() == file, "{line}");
-    assert!(rt; output.report.as_slice() == report.as_bytes(), "{line}");
-    assert!(rt; output.status == status, "{line}");
+    Ok(
+        output.file.as_slice() == file
+            && output.report.as_slice() == report.as_bytes()
+            && output.status == u8::from(!report.is_empty()),
+    )
+}
+
+/// The link writes its file and its report, as a command and over memory.
+fn assert_link<R: Runtime + AllocGlobal + Abort>(rt: &R, link: &Link<'_>) -> Result<(), Fail> {
+    let line = link.line;
+    let status = u8::from(!link.report.is_empty());
+    assert_runs(rt, line, "", (status, link.report, ""))?;
+    let bytes = link.file.bytes(rt.alloc())?;
+    assert_file(rt, "out", &bytes)?;
+    let is_same = is_linked_over_memory(rt, line, &bytes, link.report)?;
+    assert!(rt; is_same, "{line}");
     Ok(())
 }
 
-/// The link of a line writes this file to `out`, and this report, as a command and over memory.
+/// The links write their files and their reports, one after another.
 pub fn assert_links<R: Runtime + AllocGlobal + Abort>(
     rt: &R,
-    line: &str,
-    file: Spelt<'_>,
-    report: &str,
+    links: &[Link<'_>],
 ) -> Result<(), Fail> {
-    let bytes = file_of(rt.alloc(), file.header, file.words, file.rows)?;
-    assert_links_bytes(rt, line, &bytes, report)
+    for link in links {
+        assert_link(rt, link)?;
+        if let Some(path) = link.kept {
+            fs::rename(rt, "out", path)?;
+        }
+    }
+    Ok(())
 }

@@ -1,9 +1,9 @@
 //! Links at the limits of addresses, names and symbols.
-use crate::outputs::{link, link_behind, refusal, session_of};
+use crate::outputs::{links, links_behind, refusal};
 use aout_core::Reloc;
-use fixtures::{add, file_of, forced, names_of, sized, v_o};
-use link_fixtures::{laid_out, output_of, plain, relocatable, silent};
-use link_out::{Keep, Layout, LinkFault, finish};
+use fixtures::{adds_many_names, adds_names, file_of, forced, names_of, sized, v_o};
+use link_fixtures::{laid_out, linked_of, output_of, plain, relocatable};
+use link_out::{Keep, Layout, LinkFault, Linked, Options, finish};
 use link_session::Session;
 use std::alloc::Global;
 use std::test::Fail;
@@ -15,8 +15,7 @@ fn limits_of_a_session_linked(rt: HostRuntime) -> Result<(), Fail> {
     let words = vec![in alloc; 0; 32_767]?;
     let header = [0o407, 65_534, 0, 0, 12, 0, 0, 1];
     let file = file_of(alloc, header, &words, &[("_end", 0o44, 65_534)])?;
-    let output = link_behind(alloc, &forced("_end"), &[&text], &plain(Keep::All))?;
-    assert!(rt; output == silent(alloc, file));
+    assert!(rt; links_behind(alloc, &forced("_end"), &text, &plain(Keep::All), &file));
     Ok(())
 }
 
@@ -40,8 +39,7 @@ fn limits_of_a_session_with_commons(rt: HostRuntime) -> Result<(), Fail> {
     let longest = sized(alloc, 0, 0, 0, &[("_c", 0o40, 65_534)])?;
     let header = [0o407, 0, 0, 65_534, 12, 0, 0, 1];
     let file = file_of(alloc, header, &[], &[("_c", 0o44, 0)])?;
-    let output = link(alloc, &[&longest], &plain(Keep::All))?;
-    assert!(rt; output == silent(alloc, file));
+    assert!(rt; links(alloc, &[&longest], &plain(Keep::All), &file, ""));
     Ok(())
 }
 
@@ -53,40 +51,60 @@ fn limits_of_a_session_with_longer_commons(rt: HostRuntime) -> Result<(), Fail> 
     assert!(rt; unlinked == Some(LinkFault::DoesNotFit));
     let header = [0o407, 0, 0, 0, 12, 0, 0, 0];
     let file = file_of(alloc, header, &[], &[("_c", 0o40, 0o177777)])?;
-    let output = link(alloc, &[&longer], &relocatable(Keep::All)?)?;
-    assert!(rt; output == silent(alloc, file));
+    assert!(rt; links(alloc, &[&longer], &relocatable(Keep::All)?, &file, ""));
     Ok(())
 }
 
-/// A session of twelve objects of 5,461 names each, and one of three more.
-fn of_most_names(alloc: Global) -> Result<Session, Fail> {
-    let mut session = Session::new(alloc);
-    for letter in b'a'..=b'l' {
-        add(&mut session, alloc, "n.o", &names_of(alloc, letter, 5_461)?)?;
-    }
-    add(&mut session, alloc, "n.o", &names_of(alloc, b'z', 3)?)?;
-    Ok(session)
+/// Whether objects of 65,535 names in all are added.
+fn adds_most_names(session: &mut Session, alloc: Global) -> bool {
+    adds_many_names(session, alloc) && adds_names(session, alloc, b'z', 3)
+}
+
+/// Whether the link of the most names is refused for the number of its symbols.
+fn are_refused(alloc: Global, session: &mut Session) -> bool {
+    adds_most_names(session, alloc)
+        && finish(alloc, session, &plain(Keep::Externals)).err() == Some(LinkFault::TooManySymbols)
 }
 
 #[test]
-fn many_names_linked(rt: HostRuntime) -> Result<(), Fail> {
-    let alloc = rt.alloc();
-    let session = of_most_names(alloc)?;
-    let unlinked = finish(alloc, &session, &plain(Keep::Externals)).err();
-    assert!(rt; unlinked == Some(LinkFault::TooManySymbols));
-    Ok(())
+fn many_names_linked(rt: HostRuntime) {
+    assert!(rt; are_refused(rt.alloc(), &mut Session::new(rt.alloc())));
 }
 
-#[test]
-fn many_names_reported(rt: HostRuntime) -> Result<(), Fail> {
-    let alloc = rt.alloc();
-    let linked = finish(alloc, &of_most_names(alloc)?, &plain(Keep::Nothing))?;
-    let output = output_of(alloc, &linked)?;
-    assert_eq!(rt; (output.file.len(), output.status), (16, 1));
+/// Whether a link writes a header alone, with a report of a line for each of the most names behind one line.
+fn is_header_and_report(alloc: Global, linked: &Linked) -> bool {
+    let Ok(output) = output_of(alloc, linked) else {
+        return false;
+    };
     let lines = output.report.iter().filter(|byte| **byte == b'\n').count();
-    assert_eq!(rt; lines, 65_536);
-    assert_eq!(rt; linked.report.undefined.len(), 65_535);
-    Ok(())
+    output.file.len() == 16
+        && output.status == 1
+        && lines == 65_536
+        && linked.report.undefined.len() == 65_535
+}
+
+/// Whether the link of the most names without symbols reports them all.
+fn are_reported(alloc: Global, session: &mut Session) -> bool {
+    if !adds_most_names(session, alloc) {
+        return false;
+    }
+    match finish(alloc, session, &plain(Keep::Nothing)) {
+        Ok(linked) => is_header_and_report(alloc, &linked),
+        Err(_) => false,
+    }
+}
+
+#[test]
+fn many_names_reported(rt: HostRuntime) {
+    assert!(rt; are_reported(rt.alloc(), &mut Session::new(rt.alloc())));
+}
+
+/// The size of the symbol table that a link of these objects has.
+fn symbol_size(alloc: Global, objects: &[(&str, &[u8])], options: &Options) -> Option<u16> {
+    match linked_of(alloc, objects, options) {
+        Some(linked) => Some(linked.file.header().symbol_size),
+        None => None,
+    }
 }
 
 #[test]
@@ -95,26 +113,35 @@ fn most_symbols(rt: HostRuntime) -> Result<(), Fail> {
     let most = names_of(alloc, b'a', 5_461)?;
     let one = names_of(alloc, b'b', 1)?;
     let all = plain(Keep::All);
-    let linked = finish(alloc, &session_of(alloc, &[&most])?, &all)?;
-    assert_eq!(rt; linked.file.header().symbol_size, 65_532);
+    assert!(rt; symbol_size(alloc, &[("x.o", &most)], &all) == Some(65_532));
     let unlinked = refusal(alloc, &[&most, &one], &all)?;
     assert!(rt; unlinked == Some(LinkFault::TooManySymbols));
     assert!(rt; refusal(alloc, &[&most, &one], &plain(Keep::Nothing))?.is_none());
     Ok(())
 }
 
+/// Whether the link of an object that keeps relocation and these symbols has 4,096 names, and refers to the last of them.
+fn refers_to_the_last(alloc: Global, object: &[u8], keep: Keep) -> bool {
+    let Ok(options) = relocatable(keep) else {
+        return false;
+    };
+    match linked_of(alloc, &[("x.o", object)], &options) {
+        Some(linked) => {
+            linked.file.text_reloc() == [Reloc(0o177770)].as_slice()
+                && linked.file.header().symbol_size == 49_152
+        }
+        None => false,
+    }
+}
+
 #[test]
 fn symbol_number_too_large(rt: HostRuntime) -> Result<(), Fail> {
     let alloc = rt.alloc();
     let object = v_o(alloc)?;
-    assert_eq!(rt; object.len(), 49_184);
+    assert!(rt; object.len() == 49_184);
     let unlinked = refusal(alloc, &[&object], &relocatable(Keep::All)?)?;
     assert!(rt; unlinked == Some(LinkFault::SymbolNumber));
-    let session = session_of(alloc, &[&object])?;
-    for keep in [Keep::Externals, Keep::NotL] {
-        let linked = finish(alloc, &session, &relocatable(keep)?)?;
-        assert_eq!(rt; linked.file.text_reloc(), [Reloc(0o177770)].as_slice());
-        assert_eq!(rt; linked.file.header().symbol_size, 49_152);
-    }
+    assert!(rt; refers_to_the_last(alloc, &object, Keep::Externals));
+    assert!(rt; refers_to_the_last(alloc, &object, Keep::NotL));
     Ok(())
 }

@@ -1,27 +1,22 @@
 //! Links of sessions: what is written of them, and of those that are left by a withdrawal.
-use crate::outputs::{link, link_and_withdraw};
+use crate::outputs::{is_output, link_and_withdraw, links};
 use aout_core::samples::{C_O, D_O, D2_O, G_O, K_O, L_O};
 use fixtures::{UNDEFINED, file_of, sized};
-use link_fixtures::{laid_out, output_of, plain, reported, silent};
-use link_out::{Keep, Layout, finish};
-use link_session::Session;
+use link_fixtures::{laid_out, plain};
+use link_out::{Keep, Layout};
 use std::test::Fail;
 
 #[test]
-fn nothing_added_but_linked(rt: HostRuntime) -> Result<(), Fail> {
-    let alloc = rt.alloc();
-    let linked = finish(alloc, &Session::new(alloc), &plain(Keep::All))?;
-    let empty = [7, 1, 0, 0, 0, 0, 0, 0, 0, 0, 0, 0, 0, 0, 1, 0].to_vec(alloc)?;
-    assert!(rt; output_of(alloc, &linked)? == silent(alloc, empty));
-    Ok(())
+fn nothing_added_but_linked(rt: HostRuntime) {
+    let empty = [7, 1, 0, 0, 0, 0, 0, 0, 0, 0, 0, 0, 0, 0, 1, 0];
+    assert!(rt; links(rt.alloc(), &[], &plain(Keep::All), &empty, ""));
 }
 
 #[test]
 fn undefined_report_linked(rt: HostRuntime) -> Result<(), Fail> {
     let alloc = rt.alloc();
-    let want = reported(alloc, UNDEFINED.to_vec(alloc)?, "Undefined:\n_f\n_g\n")?;
     let (whole, rest) = link_and_withdraw(alloc, &[&C_O, &G_O], &plain(Keep::All))?;
-    assert!(rt; whole == want);
+    assert!(rt; is_output(&whole, &UNDEFINED, "Undefined:\n_f\n_g\n"));
     assert!(rt; rest.report.as_slice() == b"Undefined:\n_f\n".as_slice() && rest.status == 1);
     Ok(())
 }
@@ -31,9 +26,8 @@ fn multiply_defined_linked(rt: HostRuntime) -> Result<(), Fail> {
     let alloc = rt.alloc();
     let header = [0o407, 6, 0, 0, 12, 0, 0, 1];
     let file = file_of(alloc, header, &[0o240, 0o207, 0o207], &[("_f", 0o42, 2)])?;
-    let want = reported(alloc, file, "_f: Multiply defined\n")?;
     let (whole, rest) = link_and_withdraw(alloc, &[&D_O, &D2_O], &plain(Keep::All))?;
-    assert!(rt; whole == want);
+    assert!(rt; is_output(&whole, &file, "_f: Multiply defined\n"));
     assert!(rt; rest.report.is_empty() && rest.status == 0);
     Ok(())
 }
@@ -50,10 +44,9 @@ fn multiply_defined_absolute(rt: HostRuntime) -> Result<(), Fail> {
         &[],
         &[("_a", 0o41, 7)],
     )?;
-    let output = link(alloc, &[&seven, &seven], &options)?;
-    assert!(rt; output == silent(alloc, file.clone()?));
-    let output = link(alloc, &[&seven, &seven, &eight], &options)?;
-    assert!(rt; output == reported(alloc, file, "_a: Multiply defined\n")?);
+    assert!(rt; links(alloc, &[&seven, &seven], &options, &file, ""));
+    let report = "_a: Multiply defined\n";
+    assert!(rt; links(alloc, &[&seven, &seven, &eight], &options, &file, report));
     Ok(())
 }
 
@@ -68,8 +61,7 @@ fn reserved_defined(rt: HostRuntime) -> Result<(), Fail> {
         &[("_end", 0o41, 5), ("_etext", 0o44, 0)],
     )?;
     let report = "_etext: Multiply defined\n_end: Multiply defined\n";
-    let output = link(alloc, &[&object], &plain(Keep::All))?;
-    assert!(rt; output == reported(alloc, file, report)?);
+    assert!(rt; links(alloc, &[&object], &plain(Keep::All), &file, report));
     Ok(())
 }
 
@@ -82,20 +74,24 @@ fn pure_boundary(rt: HostRuntime) -> Result<(), Fail> {
         let words = vec![in alloc; 0; usize::from(text / 2) + 1]?;
         let header = [0o410, text, 2, 0, 12, 0, 0, 1];
         let file = file_of(alloc, header, &words, &[("_edata", 0o43, data_end)])?;
-        let output = link(alloc, &[&object], &options)?;
-        assert!(rt; output == silent(alloc, file), "{text}");
+        assert!(rt; links(alloc, &[&object], &options, &file, ""), "{text}");
     }
     Ok(())
+}
+
+/// Whether these bytes stand at a place of a file.
+fn has_bytes(file: &[u8], place: usize, bytes: &[u8]) -> bool {
+    match file.get(place..) {
+        Some(rest) => rest.starts_with(bytes),
+        None => false,
+    }
 }
 
 #[test]
 fn bind_and_unbind_linked(rt: HostRuntime) -> Result<(), Fail> {
     let (whole, rest) = link_and_withdraw(rt.alloc(), &[&K_O, &L_O], &plain(Keep::All))?;
-    let text = [0x08, 0x00, 0xfe, 0xff];
-    assert!(rt; whole.file.get(16..20) == Some(text.as_slice()));
-    let text = [0x06, 0x00, 0xfc, 0xff];
-    assert!(rt; rest.file.get(16..20) == Some(text.as_slice()));
-    let bss = [0x04, 0x00];
-    assert!(rt; rest.file.get(6..8) == Some(bss.as_slice()));
+    assert!(rt; has_bytes(&whole.file, 16, &[0x08, 0x00, 0xfe, 0xff]));
+    assert!(rt; has_bytes(&rest.file, 16, &[0x06, 0x00, 0xfc, 0xff]));
+    assert!(rt; has_bytes(&rest.file, 6, &[0x04, 0x00]));
     Ok(())
 }

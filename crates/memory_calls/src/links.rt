@@ -1,23 +1,18 @@
 //! Links of sessions, runs of edits, and what is written of them.
 use crate::outcome::Outcome;
-use aout_core::samples::{C_O, D_O, D2_O};
+use aout_core::samples::{D_O, D2_O};
 use aout_core::{Name, Segment, Wire};
-use fixtures::{object, try_add};
-use link_fixtures::plain;
-use link_out::{Edit, Keep, LinkFault, Linked, RunFault, finish, run};
+use fixtures::adds;
+use link_fixtures::{linked_of, plain, there_and_back};
+use link_out::{Keep, LinkFault, Linked, RunFault, finish, run};
 use link_session::{Forced, Session, State};
 use std::alloc::Global;
 use v7tools::{CliFault, emit};
 
-/// A session of two objects that define the same name.
-fn doubly_defined(alloc: Global) -> Option<Session> {
-    let mut session = Session::new(alloc);
-    try_add(&mut session, alloc, "d.o", &D_O)?;
-    try_add(&mut session, alloc, "d2.o", &D2_O)?;
-    Some(session)
-}
+/// Two objects that define the same name.
+const DOUBLY_DEFINED: [(&str, &[u8]); 2] = [("d.o", &D_O), ("d2.o", &D2_O)];
 
-/// Whether the session is as `doubly_defined` made it.
+/// Whether a session is that of the two objects.
 fn is_doubly_defined(session: &Session) -> bool {
     let name = Name::from_bytes(b"_f");
     let defined = State::Defined(Segment::TextSeg, 2);
@@ -28,37 +23,35 @@ fn is_doubly_defined(session: &Session) -> bool {
         && session.external(0) == Some((name, defined))
 }
 
-/// A session is linked, and stays as it was.
-pub fn linking(alloc: Global) -> Outcome {
-    let Some(session) = doubly_defined(alloc) else {
-        return Outcome::Unready;
-    };
-    let answer = finish(alloc, &session, &plain(Keep::All));
-    let is_kept = is_doubly_defined(&session);
-    match answer {
-        Ok(linked) => Outcome::done(
-            is_kept
-                && linked.file.text_words() == [0o240, 0o207, 0o207].as_slice()
-                && linked.report.multiples.len() == 1,
-        ),
-        Err(fault) => Outcome::refused(is_kept && fault == LinkFault::Memory),
+/// Whether a link is that of the two objects.
+fn is_doubly_linked(linked: &Linked) -> bool {
+    linked.file.text_words() == [0o240, 0o207, 0o207].as_slice()
+        && linked.report.multiples.len() == 1
+}
+
+fn link(alloc: Global, session: &Session) -> Outcome {
+    match finish(alloc, session, &plain(Keep::All)) {
+        Ok(linked) => Outcome::done(is_doubly_linked(&linked)),
+        Err(fault) => Outcome::refused(fault == LinkFault::Memory),
     }
 }
 
-/// The addition of the object that the bytes spell, where there is memory for it.
-fn addition(alloc: Global, label: &str, bytes: &[u8]) -> Option<Edit> {
-    let object = object(alloc, bytes)?;
-    Some(Edit::Add(String::from_str(alloc, label).ok()?, object))
+/// The two objects are added to a session, which is linked, and stays as it was.
+fn add_and_link(alloc: Global, session: &mut Session) -> Outcome {
+    if !adds(session, alloc, &DOUBLY_DEFINED) {
+        return Outcome::Unready;
+    }
+    let outcome = link(alloc, session);
+    if is_doubly_defined(session) {
+        outcome
+    } else {
+        Outcome::Wrong
+    }
 }
 
-/// `c.o` added and withdrawn, one withdrawal too many, and `d.o` added; where there is memory for it.
-fn there_and_back(alloc: Global) -> Option<Vec<Edit>> {
-    let mut edits = Vec::new(alloc);
-    edits.push(addition(alloc, "c.o", &C_O)?).ok()?;
-    edits.push(Edit::Withdraw).ok()?;
-    edits.push(Edit::Withdraw).ok()?;
-    edits.push(addition(alloc, "d.o", &D_O)?).ok()?;
-    Some(edits)
+/// A session is linked.
+pub fn linking(alloc: Global) -> Outcome {
+    add_and_link(alloc, &mut Session::new(alloc))
 }
 
 /// A list of edits is run.
@@ -72,9 +65,9 @@ pub fn running(alloc: Global) -> Outcome {
     }
 }
 
-/// The link of two files, where there is memory for it.
+/// The link of the two objects, where there is memory for it.
 fn two_linked(alloc: Global) -> Option<Linked> {
-    finish(alloc, &doubly_defined(alloc)?, &plain(Keep::All)).ok()
+    linked_of(alloc, &DOUBLY_DEFINED, &plain(Keep::All))
 }
 
 /// A report is written, which takes no memory.

@@ -2,22 +2,28 @@
 use crate::outcome::Outcome;
 use aout_core::Wire;
 use aout_core::samples::{C_O, D_O, TestReader, TestWriter};
-use fixtures::SCRIPT;
-use link_fixtures::plain;
-use link_out::{Keep, Linked, finish};
+use fixtures::{SCRIPT, adds};
+use link_fixtures::{linked_of, plain};
+use link_out::{Keep, Linked};
 use link_session::{Cell, Session};
 use std::alloc::Global;
 use v7tools::{CliFault, Command, Line, Script, Step, Stored, link_answer, step};
 
+/// What a line says.
+fn line_text(line: &Line) -> &str {
+    match line {
+        Line::Add(path) | Line::Link(path) => path.as_str(),
+        Line::Withdraw => "withdraw",
+        Line::Externals => "externals",
+        Line::Undefined => "undefined",
+        Line::Bad => "bad",
+    }
+}
+
 /// What an answer of the script says.
 fn told(answer: &Result<Option<Line>, CliFault>) -> &str {
     match answer {
-        Ok(Some(Line::Add(path))) => path.as_str(),
-        Ok(Some(Line::Withdraw)) => "withdraw",
-        Ok(Some(Line::Externals)) => "externals",
-        Ok(Some(Line::Undefined)) => "undefined",
-        Ok(Some(Line::Link(path))) => path.as_str(),
-        Ok(Some(Line::Bad)) => "bad",
+        Ok(Some(line)) => line_text(line),
         Ok(None) => "end",
         Err(CliFault::Memory) => "no memory",
         Err(_) => "another fault",
@@ -91,16 +97,30 @@ impl Shown {
     }
 }
 
+/// What a step needs beforehand.
+#[derive(Drop)]
+struct Ready {
+    out: Wire<TestWriter>,
+    shown: Shown,
+}
+
+impl Ready {
+    fn of(alloc: Global, session: &Session) -> Option<Ready> {
+        let out = answers(alloc)?;
+        let shown = Shown::of(alloc, session)?;
+        Some(Ready { out, shown })
+    }
+}
+
 /// A step is taken; refused memory, its answer says so and the session is as it was.
 fn stepping(
     alloc: Global,
     session: &mut Session,
     command: Command<TestReader<'_>>,
+    ready: Ready,
     line: &[u8],
 ) -> Outcome {
-    let (Some(mut out), Some(shown)) = (answers(alloc), Shown::of(alloc, session)) else {
-        return Outcome::Unready;
-    };
+    let Ready { mut out, shown } = ready;
     let answer = step(alloc, session, &plain(Keep::All), command, &mut out);
     let text = out.into_inner().into_taken();
     match answer {
@@ -112,73 +132,94 @@ fn stepping(
     }
 }
 
-/// The addition of these bytes at a path, where there is memory for it.
-fn addition<'a>(alloc: Global, path: &str, bytes: &'a [u8]) -> Option<Command<TestReader<'a>>> {
-    let path = String::from_str(alloc, path).ok()?;
-    Some(Command::Add(path, Some(Wire::new(TestReader::whole(bytes)))))
+/// The object that the bytes spell is added at a path by a step.
+fn adding(alloc: Global, session: &mut Session, path: &str, bytes: &[u8], line: &[u8]) -> Outcome {
+    let (Some(ready), Ok(path)) = (Ready::of(alloc, session), String::from_str(alloc, path)) else {
+        return Outcome::Unready;
+    };
+    let command = Command::Add(path, Some(Wire::new(TestReader::whole(bytes))));
+    stepping(alloc, session, command, ready, line)
 }
 
 /// An object is added by a step of a session.
 pub fn adding_by_a_step(alloc: Global) -> Outcome {
-    let Some(command) = addition(alloc, "c.o", &C_O) else {
-        return Outcome::Unready;
-    };
-    stepping(alloc, &mut Session::new(alloc), command, b"added c.o\n")
+    adding(alloc, &mut Session::new(alloc), "c.o", &C_O, b"added c.o\n")
 }
 
-/// A session of `c.o`, where there is memory for it.
-fn session_of_c_o(alloc: Global) -> Option<Session> {
-    let mut session = Session::new(alloc);
-    fixtures::try_add(&mut session, alloc, "c.o", &C_O)?;
-    Some(session)
+/// `c.o` in a session, and `d.o` behind it by a step.
+fn add_both(alloc: Global, session: &mut Session) -> Outcome {
+    if !adds(session, alloc, &[("c.o", &C_O)]) {
+        return Outcome::Unready;
+    }
+    adding(alloc, session, "d.o", &D_O, b"added d.o\n")
 }
 
 /// An object is added behind another by a step.
 pub fn adding_behind_by_a_step(alloc: Global) -> Outcome {
-    let (Some(mut session), Some(command)) = (session_of_c_o(alloc), addition(alloc, "d.o", &D_O))
-    else {
+    add_both(alloc, &mut Session::new(alloc))
+}
+
+/// `c.o` in a session, which is linked by a step.
+fn add_and_link(alloc: Global, session: &mut Session) -> Outcome {
+    if !adds(session, alloc, &[("c.o", &C_O)]) {
         return Outcome::Unready;
-    };
-    stepping(alloc, &mut session, command, b"added d.o\n")
+    }
+    match Ready::of(alloc, session) {
+        Some(ready) => stepping(alloc, session, Command::Link, ready, b""),
+        None => Outcome::Unready,
+    }
 }
 
 /// A session is linked by a step.
 pub fn linking_by_a_step(alloc: Global) -> Outcome {
-    let Some(mut session) = session_of_c_o(alloc) else {
-        return Outcome::Unready;
-    };
-    stepping(alloc, &mut session, Command::Link, b"")
-}
-
-/// The link of `c.o`, where there is memory for it.
-fn linked_c_o(alloc: Global, session: &Session) -> Option<Linked> {
-    finish(alloc, session, &plain(Keep::All)).ok()
+    add_and_link(alloc, &mut Session::new(alloc))
 }
 
 /// What the steps answer that take no memory.
 const ANSWERS: &[u8] =
     b"       U _f\n_f\nwithdrew c.o\nnothing to withdraw\nbad command\nUndefined:\n_f\nlinked out 1\n";
 
+/// Whether a step is taken or refused, and does not fail.
+fn is_taken(
+    alloc: Global,
+    session: &mut Session,
+    command: Command<TestReader<'static>>,
+    out: &mut Wire<TestWriter>,
+) -> bool {
+    step(alloc, session, &plain(Keep::All), command, out).is_ok()
+}
+
+/// Whether the steps are taken that take no memory.
+fn are_taken(alloc: Global, session: &mut Session, out: &mut Wire<TestWriter>) -> bool {
+    is_taken(alloc, session, Command::Externals, out)
+        && is_taken(alloc, session, Command::Undefined, out)
+        && is_taken(alloc, session, Command::Withdraw, out)
+        && is_taken(alloc, session, Command::Withdraw, out)
+        && is_taken(alloc, session, Command::Bad, out)
+}
+
+/// `c.o` is added to a session, and the steps and the answer to a link are written as they should be.
+fn step_through(
+    alloc: Global,
+    session: &mut Session,
+    linked: &Linked,
+    mut out: Wire<TestWriter>,
+) -> Outcome {
+    if !adds(session, alloc, &[("c.o", &C_O)]) {
+        return Outcome::Unready;
+    }
+    let is_answered = are_taken(alloc, session, &mut out)
+        && matches!(link_answer(linked, "out", Stored::Kept, &mut out), Ok(1));
+    Outcome::done(is_answered && out.into_inner().taken() == ANSWERS)
+}
+
 /// Steps that take no memory, and the answer to a link.
 pub fn other_steps(alloc: Global) -> Outcome {
-    let (Some(mut session), Some(mut out)) = (session_of_c_o(alloc), answers(alloc)) else {
+    let (Some(linked), Some(out)) = (
+        linked_of(alloc, &[("c.o", &C_O)], &plain(Keep::All)),
+        answers(alloc),
+    ) else {
         return Outcome::Unready;
     };
-    let Some(linked) = linked_c_o(alloc, &session) else {
-        return Outcome::Unready;
-    };
-    let commands: [Command<TestReader<'static>>; 5] = [
-        Command::Externals,
-        Command::Undefined,
-        Command::Withdraw,
-        Command::Withdraw,
-        Command::Bad,
-    ];
-    for command in commands {
-        if step(alloc, &mut session, &plain(Keep::All), command, &mut out).is_err() {
-            return Outcome::Wrong;
-        }
-    }
-    let is_answered = matches!(link_answer(&linked, "out", Stored::Kept, &mut out), Ok(1));
-    Outcome::done(is_answered && out.into_inner().taken() == ANSWERS)
+    step_through(alloc, &mut Session::new(alloc), &linked, out)
 }

@@ -2,7 +2,7 @@
 use crate::outcome::Outcome;
 use aout_core::Name;
 use aout_core::samples::{C_O, G_O, K_O, L_O};
-use fixtures::{forced, object, try_add};
+use fixtures::{adds, forced, object};
 use link_session::{AddFault, Cell, Forced, Session, State};
 use std::alloc::Global;
 
@@ -11,22 +11,6 @@ pub fn forcing(alloc: Global) -> Outcome {
     match Session::with_forced(alloc, &forced("_z")) {
         Ok(session) => Outcome::done(session.external_count() == 1),
         Err(_) => Outcome::refused(true),
-    }
-}
-
-/// A session with the object `first.o` added, where there is memory for it.
-fn with_first(mut session: Session, alloc: Global, bytes: &[u8]) -> Option<Session> {
-    match try_add(&mut session, alloc, "first.o", bytes) {
-        Some(()) => Some(session),
-        None => None,
-    }
-}
-
-/// A session of one object, where there is memory for it.
-fn one_added(alloc: Global, forced: &Forced, bytes: &[u8]) -> Option<Session> {
-    match Session::with_forced(alloc, forced) {
-        Ok(session) => with_first(session, alloc, bytes),
-        Err(_) => None,
     }
 }
 
@@ -67,16 +51,13 @@ fn is_withdrawn(session: &mut Session, label: &str) -> bool {
     }
 }
 
-/// An object is added behind another; refused memory, it comes back and the session is as it was.
-fn add_behind(alloc: Global, forced: &Forced, first: &[u8], second: &[u8]) -> Outcome {
-    let (Some(mut session), Some(second), Ok(label)) = (
-        one_added(alloc, forced, first),
-        object(alloc, second),
+/// Adds an object behind another; refused memory, it comes back and the session is as it was.
+fn add_second(alloc: Global, session: &mut Session, bytes: &[u8]) -> Outcome {
+    let (Some(shown), Some(second), Ok(label)) = (
+        Shown::of(alloc, session),
+        object(alloc, bytes),
         String::from_str(alloc, "second.o"),
     ) else {
-        return Outcome::Unready;
-    };
-    let Some(shown) = Shown::of(alloc, &session) else {
         return Outcome::Unready;
     };
     match session.add(label, second) {
@@ -84,9 +65,25 @@ fn add_behind(alloc: Global, forced: &Forced, first: &[u8], second: &[u8]) -> Ou
         Err(refused) => Outcome::refused(
             refused.cause == AddFault::Memory
                 && refused.label.as_str() == "second.o"
-                && shown.is_kept(&session)
-                && is_withdrawn(&mut session, "first.o"),
+                && shown.is_kept(session)
+                && is_withdrawn(session, "first.o"),
         ),
+    }
+}
+
+/// An object is added behind another in a session.
+fn add_both(alloc: Global, session: &mut Session, first: &[u8], second: &[u8]) -> Outcome {
+    if !adds(session, alloc, &[("first.o", first)]) {
+        return Outcome::Unready;
+    }
+    add_second(alloc, session, second)
+}
+
+/// An object is added behind another, which stands behind forced names.
+fn add_behind(alloc: Global, forced: &Forced, first: &[u8], second: &[u8]) -> Outcome {
+    match Session::with_forced(alloc, forced) {
+        Ok(mut session) => add_both(alloc, &mut session, first, second),
+        Err(_) => Outcome::Unready,
     }
 }
 
@@ -110,26 +107,34 @@ pub fn adding_a_name_behind_forced(alloc: Global) -> Outcome {
     add_behind(alloc, &forced("_z"), &C_O, &G_O)
 }
 
-/// Objects are taken out of a session and it is looked at, which takes no memory.
-pub fn withdrawing(alloc: Global) -> Outcome {
-    let Some(mut session) = one_added(alloc, &forced("_z"), &K_O) else {
-        return Outcome::Unready;
-    };
-    if try_add(&mut session, alloc, "l.o", &L_O).is_none() {
+/// Whether a session of `k.o` and `l.o` behind `_z` is looked at and emptied as it should be.
+fn is_emptied(session: &mut Session) -> bool {
+    let are_marks = session.last_marks().len() == 3;
+    let is_first = is_withdrawn(session, "l.o");
+    let is_found = session.find(&Name::from_bytes(b"_x")) == Some(1);
+    let is_second = is_withdrawn(session, "k.o");
+    let wanted = Some((Name::from_bytes(b"_z"), State::Wanted(0)));
+    are_marks
+        && is_first
+        && is_found
+        && is_second
+        && session.withdraw().is_none()
+        && session.external(0) == wanted
+        && session.forced_count() == 1
+}
+
+/// `k.o` and `l.o` are added to a session, which is looked at and emptied.
+fn fill_and_empty(alloc: Global, session: &mut Session) -> Outcome {
+    if !adds(session, alloc, &[("k.o", &K_O), ("l.o", &L_O)]) {
         return Outcome::Unready;
     }
-    let are_marks = session.last_marks().len() == 3;
-    let is_first = is_withdrawn(&mut session, "l.o");
-    let is_found = session.find(&Name::from_bytes(b"_x")) == Some(1);
-    let is_second = is_withdrawn(&mut session, "first.o");
-    let wanted = Some((Name::from_bytes(b"_z"), State::Wanted(0)));
-    Outcome::done(
-        are_marks
-            && is_first
-            && is_found
-            && is_second
-            && session.withdraw().is_none()
-            && session.external(0) == wanted
-            && session.forced_count() == 1,
-    )
+    Outcome::done(is_emptied(session))
+}
+
+/// Objects are taken out of a session and it is looked at, which takes no memory.
+pub fn withdrawing(alloc: Global) -> Outcome {
+    match Session::with_forced(alloc, &forced("_z")) {
+        Ok(mut session) => fill_and_empty(alloc, &mut session),
+        Err(_) => Outcome::Unready,
+    }
 }

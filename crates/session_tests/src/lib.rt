@@ -2,8 +2,8 @@
 #![tactic(auto)]
 
 #[cfg(test)]
-mod checks;
-#[cfg(test)]
 mod merged_image;
+#[cfg(test)]
+mod steps;
 #[cfg(test)]
 mod withdrawals;

@@ -1,11 +1,14 @@
 //! The merged image while objects are added and taken out.
-use crate::checks::{
-    Word, add, assert_external, assert_outcome, assert_text, session_of, withdraw,
+use crate::steps::Step::{Adds, HasNothing, Shows, Withdraws};
+use crate::steps::View::{
+    Data, External, Forced, Marks, MarksUpTo, Multiple, Names, Text, Unmentioned,
 };
+use crate::steps::{Step, Word, assert_steps, is_multiple, wrong_step};
 use aout_core::samples::{C_O, D_O, D2_O, G_O, K_O, L_O, X4_O, X10_O};
 use aout_core::{Name, Segment};
-use fixtures::{forced, sized};
-use link_session::{Forced, Mark, Session, State, Target};
+use fixtures::{adds, forced, sized};
+use link_session::{Mark, Session, State, Target};
+use std::alloc::Global;
 use std::test::Fail;
 
 /// Symbols `_y` 041 5.
@@ -24,20 +27,24 @@ const H_O: [u8; 56] = [
 
 #[test]
 fn add_always_memory(rt: HostRuntime) {
-    let session = session_of(&rt, &[("x4.o", &X4_O)]);
-    assert!(rt; session.external_count() == 1);
+    assert_steps(&rt, &[Adds("x4.o", &X4_O), Shows(Names(1))]);
 }
+
+static COMMON_GROWS: [Step<'static>; 9] = [
+    Adds("x4.o", &X4_O),
+    Shows(Names(1)),
+    Shows(External(0, "_x", State::Wanted(4))),
+    Adds("x10.o", &X10_O),
+    Shows(External(0, "_x", State::Wanted(10))),
+    Shows(Marks(&[Mark::StateWas(0, State::Wanted(4))])),
+    Withdraws("x10.o", &X10_O),
+    Shows(Names(1)),
+    Shows(External(0, "_x", State::Wanted(4))),
+];
 
 #[test]
 fn common_grows_and_shrinks(rt: HostRuntime) {
-    let mut session = session_of(&rt, &[("x4.o", &X4_O)]);
-    assert_external(&rt, &session, 1, 0, ("_x", State::Wanted(4)));
-    add(&rt, &mut session, "x10.o", &X10_O);
-    assert_external(&rt, &session, 1, 0, ("_x", State::Wanted(10)));
-    let mark = Mark::StateWas(0, State::Wanted(4));
-    assert!(rt; session.last_marks() == [mark].as_slice());
-    withdraw(&rt, &mut session, "x10.o", &X10_O);
-    assert_external(&rt, &session, 1, 0, ("_x", State::Wanted(4)));
+    assert_steps(&rt, &COMMON_GROWS);
 }
 
 /// The text of k.o while `_x` is not defined.
@@ -52,19 +59,23 @@ const BOUND: [Word; 2] = [
     (0o177772, Target::DataSeg, true),
 ];
 
+static BOUND_AND_UNBOUND: [Step<'static>; 11] = [
+    Adds("k.o", &K_O),
+    Shows(Text(&WAITING)),
+    Adds("l.o", &L_O),
+    Shows(Names(1)),
+    Shows(External(0, "_x", State::Defined(Segment::DataSeg, 2))),
+    Shows(Text(&BOUND)),
+    Shows(Data(2)),
+    Withdraws("l.o", &L_O),
+    Shows(External(0, "_x", State::Wanted(4))),
+    Shows(Text(&WAITING)),
+    Shows(Data(0)),
+];
+
 #[test]
 fn bind_and_unbind(rt: HostRuntime) {
-    let mut session = session_of(&rt, &[("k.o", &K_O)]);
-    assert_text(&rt, &session, &WAITING);
-    add(&rt, &mut session, "l.o", &L_O);
-    let defined = State::Defined(Segment::DataSeg, 2);
-    assert_external(&rt, &session, 1, 0, ("_x", defined));
-    assert_text(&rt, &session, &BOUND);
-    assert!(rt; session.data_cells().len() == 2);
-    withdraw(&rt, &mut session, "l.o", &L_O);
-    assert_external(&rt, &session, 1, 0, ("_x", State::Wanted(4)));
-    assert_text(&rt, &session, &WAITING);
-    assert!(rt; session.data_cells().is_empty());
+    assert_steps(&rt, &BOUND_AND_UNBOUND);
 }
 
 /// The text of c.o and d.o.
@@ -75,12 +86,17 @@ const CALL: [Word; 4] = [
     (0o207, Target::Absolute, false),
 ];
 
+static CALLED_FORWARD: [Step<'static>; 5] = [
+    Adds("c.o", &C_O),
+    Adds("d.o", &D_O),
+    Shows(Text(&CALL)),
+    Shows(Names(1)),
+    Shows(External(0, "_f", State::Defined(Segment::TextSeg, 6))),
+];
+
 #[test]
 fn call_forward(rt: HostRuntime) {
-    let session = session_of(&rt, &[("c.o", &C_O), ("d.o", &D_O)]);
-    assert_text(&rt, &session, &CALL);
-    let defined = State::Defined(Segment::TextSeg, 6);
-    assert_external(&rt, &session, 1, 0, ("_f", defined));
+    assert_steps(&rt, &CALLED_FORWARD);
 }
 
 /// The text of c.o behind a forced name.
@@ -89,62 +105,97 @@ const BEHIND_FORCED: [Word; 2] = [
     (0o177774, Target::External(1), true),
 ];
 
+static WITH_FORCED: [Step<'static>; 11] = [
+    Shows(Forced(1)),
+    Adds("c.o", &C_O),
+    Shows(Names(2)),
+    Shows(External(0, "_z", State::Wanted(0))),
+    Shows(External(1, "_f", State::Wanted(0))),
+    Shows(Text(&BEHIND_FORCED)),
+    Withdraws("c.o", &C_O),
+    Shows(Names(1)),
+    Shows(External(0, "_z", State::Wanted(0))),
+    HasNothing,
+    Shows(Forced(1)),
+];
+
+/// Whether the steps come out as they should in a session with these forced names.
+fn are_right_behind(alloc: Global, forced: &link_session::Forced, steps: &[Step<'_>]) -> bool {
+    match Session::with_forced(alloc, forced) {
+        Ok(mut session) => wrong_step(alloc, &mut session, steps).is_none(),
+        Err(_) => false,
+    }
+}
+
 #[test]
-fn forced_in_session(rt: HostRuntime) -> Result<(), Fail> {
-    let mut session = Session::with_forced(rt.alloc(), &forced("_z"))?;
-    assert!(rt; session.forced_count() == 1);
-    add(&rt, &mut session, "c.o", &C_O);
-    assert_external(&rt, &session, 2, 0, ("_z", State::Wanted(0)));
-    assert_external(&rt, &session, 2, 1, ("_f", State::Wanted(0)));
-    assert_text(&rt, &session, &BEHIND_FORCED);
-    withdraw(&rt, &mut session, "c.o", &C_O);
-    assert_external(&rt, &session, 1, 0, ("_z", State::Wanted(0)));
-    assert!(rt; session.withdraw().is_none());
-    assert!(rt; session.forced_count() == 1);
-    Ok(())
+fn forced_in_session(rt: HostRuntime) {
+    assert!(rt; are_right_behind(rt.alloc(), &forced("_z"), &WITH_FORCED));
+}
+
+/// So many different names, forced in order; whether each was taken.
+fn force_names(forced: &mut link_session::Forced, count: u8) -> bool {
+    let mut are_taken = true;
+    for digit in 0..count {
+        are_taken = are_taken && forced.push(Name::from_bytes(&[b'_', b'@' | digit]));
+    }
+    are_taken
 }
 
 #[test]
 fn forced_repeated(rt: HostRuntime) {
-    let mut forced = Forced::none();
-    for digit in 0..64 {
-        assert!(rt; forced.push(Name::from_bytes(&[b'_', b'@' | digit])));
-    }
-    assert!(rt; !forced.push(Name::from_bytes(b"_more")));
-    assert!(rt; forced.push(Name::from_bytes(b"_@")));
-    assert_eq!(rt; forced.names().len(), 64);
-    assert_eq!(rt; forced.names().first(), Some(&Name::from_bytes(b"_@")));
+    let mut forced = link_session::Forced::none();
+    assert!(rt; force_names(&mut forced, 64));
+    assert!(rt; !forced.push(Name::from_bytes(b"_more")) && forced.push(Name::from_bytes(b"_@")));
+    let first = Name::from_bytes(b"_@");
+    assert!(rt; forced.names().len() == 64 && forced.names().first() == Some(&first));
 }
+
+static UNDEFINED: [Step<'static>; 9] = [
+    Adds("c.o", &C_O),
+    Adds("g.o", &G_O),
+    Shows(Names(2)),
+    Shows(External(0, "_f", State::Wanted(0))),
+    Shows(External(1, "_g", State::Wanted(0))),
+    Withdraws("g.o", &G_O),
+    Shows(Names(1)),
+    Shows(External(0, "_f", State::Wanted(0))),
+    Shows(Unmentioned("_g")),
+];
 
 #[test]
 fn undefined_report(rt: HostRuntime) {
-    let mut session = session_of(&rt, &[("c.o", &C_O), ("g.o", &G_O)]);
-    assert_external(&rt, &session, 2, 0, ("_f", State::Wanted(0)));
-    assert_external(&rt, &session, 2, 1, ("_g", State::Wanted(0)));
-    withdraw(&rt, &mut session, "g.o", &G_O);
-    assert_external(&rt, &session, 1, 0, ("_f", State::Wanted(0)));
-    assert!(rt; session.find(&Name::from_bytes(b"_g")).is_none());
+    assert_steps(&rt, &UNDEFINED);
 }
+
+static DOUBLY_DEFINED: [Step<'static>; 7] = [
+    Adds("d.o", &D_O),
+    Adds("d2.o", &D2_O),
+    Shows(Multiple(Some("_f"))),
+    Shows(Names(1)),
+    Shows(External(0, "_f", State::Defined(Segment::TextSeg, 2))),
+    Withdraws("d2.o", &D2_O),
+    Shows(Multiple(None)),
+];
 
 #[test]
 fn multiply_defined(rt: HostRuntime) {
-    let f = Name::from_bytes(b"_f");
-    let mut session = session_of(&rt, &[("d.o", &D_O), ("d2.o", &D2_O)]);
-    assert!(rt; session.multiples() == [f].as_slice());
-    let defined = State::Defined(Segment::TextSeg, 2);
-    assert_external(&rt, &session, 1, 0, ("_f", defined));
-    withdraw(&rt, &mut session, "d2.o", &D2_O);
-    assert!(rt; session.multiples().is_empty());
+    assert_steps(&rt, &DOUBLY_DEFINED);
+}
+
+/// Whether a name that is defined twice alike is multiply defined by a third definition alone.
+fn differs_in_the_third(alloc: Global, session: &mut Session, one: &[u8], other: &[u8]) -> bool {
+    adds(session, alloc, &[("7.o", one), ("again.o", one)])
+        && is_multiple(session, None)
+        && adds(session, alloc, &[("8.o", other)])
+        && is_multiple(session, Some("_a"))
 }
 
 #[test]
 fn multiply_defined_absolute_names(rt: HostRuntime) -> Result<(), Fail> {
     let seven = sized(rt.alloc(), 0, 0, 0, &[("_a", 0o41, 7)])?;
     let eight = sized(rt.alloc(), 0, 0, 0, &[("_a", 0o41, 8)])?;
-    let mut session = session_of(&rt, &[("7.o", &seven), ("again.o", &seven)]);
-    assert!(rt; session.multiples().is_empty());
-    assert_outcome(&rt, &mut session, &eight, None);
-    assert!(rt; session.multiples() == [Name::from_bytes(b"_a")].as_slice());
+    let mut session = Session::new(rt.alloc());
+    assert!(rt; differs_in_the_third(rt.alloc(), &mut session, &seven, &eight));
     Ok(())
 }
 
@@ -172,32 +223,46 @@ const BOTH_BOUND: [Word; 4] = [
     (5, Target::Absolute, false),
 ];
 
+static CHAIN: [Step<'static>; 6] = [
+    Adds("h.o", &H_O),
+    Adds("j.o", &J_O),
+    Shows(Text(&ONE_BOUND)),
+    Shows(MarksUpTo(3)),
+    Withdraws("j.o", &J_O),
+    Shows(Text(&NONE_BOUND)),
+];
+
 #[test]
 fn chain_binds_one_name(rt: HostRuntime) {
-    let mut session = session_of(&rt, &[("h.o", &H_O), ("j.o", &J_O)]);
-    assert_text(&rt, &session, &ONE_BOUND);
-    assert!(rt; session.last_marks().len() <= 3);
-    withdraw(&rt, &mut session, "j.o", &J_O);
-    assert_text(&rt, &session, &NONE_BOUND);
+    assert_steps(&rt, &CHAIN);
 }
 
 #[test]
 fn chain_after_withdrawal(rt: HostRuntime) -> Result<(), Fail> {
     let both = sized(rt.alloc(), 0, 0, 0, &[("_x", 0o41, 7), ("_y", 0o41, 5)])?;
-    let mut session = session_of(&rt, &[("h.o", &H_O), ("j.o", &J_O)]);
-    withdraw(&rt, &mut session, "j.o", &J_O);
-    add(&rt, &mut session, "both.o", &both);
-    assert_text(&rt, &session, &BOTH_BOUND);
-    withdraw(&rt, &mut session, "both.o", &both);
-    add(&rt, &mut session, "j.o", &J_O);
-    assert_text(&rt, &session, &ONE_BOUND);
+    let steps = [
+        Adds("h.o", &H_O),
+        Adds("j.o", &J_O),
+        Withdraws("j.o", &J_O),
+        Adds("both.o", &both),
+        Shows(Text(&BOTH_BOUND)),
+        Withdraws("both.o", &both),
+        Adds("j.o", &J_O),
+        Shows(Text(&ONE_BOUND)),
+    ];
+    assert_steps(&rt, &steps);
     Ok(())
 }
 
+static TWO_CHAINS: [Step<'static>; 5] = [
+    Adds("h.o", &H_O),
+    Adds("again.o", &H_O),
+    Withdraws("again.o", &H_O),
+    Adds("j.o", &J_O),
+    Shows(Text(&ONE_BOUND)),
+];
+
 #[test]
 fn chain_of_two_objects(rt: HostRuntime) {
-    let mut session = session_of(&rt, &[("h.o", &H_O), ("again.o", &H_O)]);
-    withdraw(&rt, &mut session, "again.o", &H_O);
-    add(&rt, &mut session, "j.o", &J_O);
-    assert_text(&rt, &session, &ONE_BOUND);
+    assert_steps(&rt, &TWO_CHAINS);
 }

@@ -1,103 +1,141 @@
 //! Objects refused, and taken out again.
-use crate::checks::{add, assert_empty, assert_outcome, session_of, withdraw};
+use crate::steps::Step::{Adds, HasNothing, Refuses, Shows, Withdraws};
+use crate::steps::View::{Entries, Marks, Names, Nothing};
+use crate::steps::{Step, assert_steps, is_refused, wrong_step};
 use aout_core::samples::{E_O, K_O, L_O, X10_O};
-use fixtures::{names_of, sized};
-use link_session::{AddFault, Entry, Session};
-use std::process::Abort;
+use fixtures::{adds, adds_many_names, names_of, sized};
+use link_session::{AddFault, Mark, Session};
+use std::alloc::Global;
 use std::test::Fail;
+
+/// Whether objects are added, but one more is refused for this.
+fn are_added_but(
+    alloc: Global,
+    session: &mut Session,
+    objects: &[(&str, &[u8])],
+    more: &[u8],
+    cause: AddFault,
+) -> bool {
+    adds(session, alloc, objects)
+        && is_refused(alloc, session, more, cause)
+        && session.entries().len() == objects.len()
+}
 
 #[test]
 fn limits_of_a_session(rt: HostRuntime) -> Result<(), Fail> {
-    let text = sized(rt.alloc(), 65_534, 0, 0, &[])?;
-    let more_data = sized(rt.alloc(), 0, 2, 0, &[])?;
-    let more_text = sized(rt.alloc(), 2, 0, 0, &[])?;
-    let mut session = session_of(&rt, &[("text.o", &text), ("data.o", &more_data)]);
-    assert_outcome(&rt, &mut session, &more_text, Some(AddFault::TextFull));
-    assert!(rt; session.entries().len() == 2);
+    let alloc = rt.alloc();
+    let text = sized(alloc, 65_534, 0, 0, &[])?;
+    let data = sized(alloc, 0, 2, 0, &[])?;
+    let more = sized(alloc, 2, 0, 0, &[])?;
+    let mut session = Session::new(alloc);
+    let objects: [(&str, &[u8]); 2] = [("text.o", &text), ("data.o", &data)];
+    assert!(rt; are_added_but(alloc, &mut session, &objects, &more, AddFault::TextFull));
     Ok(())
 }
 
 #[test]
 fn limits_of_a_session_of_data_and_bss(rt: HostRuntime) -> Result<(), Fail> {
+    let alloc = rt.alloc();
     for (data, bss, more_data, more_bss, want) in [
         (65_534, 0, 2, 0, AddFault::DataFull),
         (0, 65_534, 0, 2, AddFault::BssFull),
     ] {
-        let first = sized(rt.alloc(), 0, data, bss, &[])?;
-        let more = sized(rt.alloc(), 0, more_data, more_bss, &[])?;
-        let mut session = session_of(&rt, &[("first.o", &first)]);
-        assert_outcome(&rt, &mut session, &more, Some(want));
-        assert!(rt; session.entries().len() == 1 && session.bss_total() == bss);
+        let first = sized(alloc, 0, data, bss, &[])?;
+        let more = sized(alloc, 0, more_data, more_bss, &[])?;
+        let mut session = Session::new(alloc);
+        let is_refused = are_added_but(alloc, &mut session, &[("first.o", &first)], &more, want);
+        assert!(rt; is_refused && session.bss_total() == bss);
     }
     Ok(())
 }
 
-/// A session of twelve objects with 5,461 names each.
-fn of_many_names(rt: &(impl Abort + AllocGlobal)) -> Session {
-    let mut session = Session::new(rt.alloc());
-    for letter in b'a'..=b'l' {
-        match names_of(rt.alloc(), letter, 5_461) {
-            Ok(bytes) => add(rt, &mut session, "n.o", &bytes),
-            Err(_) => assert!(rt; false, "no memory"),
-        }
-    }
-    assert!(rt; session.external_count() == 65_532);
-    session
+/// Whether four more names are refused behind twelve objects of 5,461 names each, and three are added.
+fn fills_up(alloc: Global, session: &mut Session, four: &[u8], three: &[u8]) -> bool {
+    adds_many_names(session, alloc)
+        && session.external_count() == 65_532
+        && is_refused(alloc, session, four, AddFault::NamesFull)
+        && session.external_count() == 65_532
+        && adds(session, alloc, &[("more.o", three)])
+        && session.external_count() == 65_535
 }
 
 #[test]
 fn many_names(rt: HostRuntime) -> Result<(), Fail> {
     let three = names_of(rt.alloc(), b'z', 3)?;
     let four = names_of(rt.alloc(), b'z', 4)?;
-    let mut session = of_many_names(&rt);
-    assert_outcome(&rt, &mut session, &four, Some(AddFault::NamesFull));
-    assert!(rt; session.external_count() == 65_532);
-    assert_outcome(&rt, &mut session, &three, None);
-    assert!(rt; session.external_count() == 65_535);
+    assert!(rt; fills_up(rt.alloc(), &mut Session::new(rt.alloc()), &four, &three));
     Ok(())
+}
+
+/// Whether the steps come out as they should behind twelve objects of 5,461 names each.
+fn are_right_behind_names(alloc: Global, steps: &[Step<'_>]) -> bool {
+    let mut session = Session::new(alloc);
+    adds_many_names(&mut session, alloc) && wrong_step(alloc, &mut session, steps).is_none()
 }
 
 #[test]
 fn withdraw_after_refusal(rt: HostRuntime) -> Result<(), Fail> {
     let four = names_of(rt.alloc(), b'z', 4)?;
-    let mut session = of_many_names(&rt);
-    add(&rt, &mut session, "k.o", &K_O);
-    assert_outcome(&rt, &mut session, &four, Some(AddFault::NamesFull));
-    withdraw(&rt, &mut session, "k.o", &K_O);
-    assert!(rt; session.external_count() == 65_532);
+    let steps = [
+        Adds("k.o", &K_O),
+        Refuses(&four, AddFault::NamesFull),
+        Withdraws("k.o", &K_O),
+        Shows(Names(65_532)),
+    ];
+    assert!(rt; are_right_behind_names(rt.alloc(), &steps));
     Ok(())
 }
 
+static NOTHING_ADDED: [Step<'static>; 5] = [
+    HasNothing,
+    Adds("e.o", &E_O),
+    Shows(Entries(1, "e.o")),
+    Withdraws("e.o", &E_O),
+    Shows(Nothing),
+];
+
 #[test]
 fn nothing_added(rt: HostRuntime) {
-    let mut session = Session::new(rt.alloc());
-    assert!(rt; session.withdraw().is_none());
-    add(&rt, &mut session, "e.o", &E_O);
-    assert!(rt; session.entries().first().map(Entry::label) == Some("e.o"));
-    withdraw(&rt, &mut session, "e.o", &E_O);
-    assert_empty(&rt, &session);
+    assert_steps(&rt, &NOTHING_ADDED);
+}
+
+/// Whether an object without symbols leaves no marks, and these are shown again once it is taken out.
+fn are_shown_again(alloc: Global, session: &mut Session, marks: &[Mark]) -> bool {
+    let steps = [
+        Adds("e.o", &E_O),
+        Shows(Marks(&[])),
+        Withdraws("e.o", &E_O),
+        Shows(Marks(marks)),
+    ];
+    marks.len() <= 3 && wrong_step(alloc, session, &steps).is_none()
+}
+
+/// Whether the marks of `l.o` behind `k.o` are few, and come back.
+fn marks_come_back(alloc: Global, session: &mut Session) -> bool {
+    let are_added = adds(session, alloc, &[("k.o", &K_O), ("l.o", &L_O)]);
+    match Vec::from_slice(alloc, session.last_marks()) {
+        Ok(marks) => are_added && are_shown_again(alloc, session, &marks),
+        Err(_) => false,
+    }
 }
 
 #[test]
 fn marks_bound(rt: HostRuntime) {
-    let mut session = session_of(&rt, &[("k.o", &K_O), ("l.o", &L_O)]);
-    let Ok(marks) = Vec::from_slice(rt.alloc(), session.last_marks()) else {
-        return assert!(rt; false, "no memory");
-    };
-    assert!(rt; marks.len() <= 3);
-    add(&rt, &mut session, "e.o", &E_O);
-    assert!(rt; session.last_marks().is_empty());
-    withdraw(&rt, &mut session, "e.o", &E_O);
-    assert!(rt; session.last_marks() == marks.as_slice());
+    assert!(rt; marks_come_back(rt.alloc(), &mut Session::new(rt.alloc())));
 }
+
+static ALL_WITHDRAWN: [Step<'static>; 8] = [
+    Adds("k.o", &K_O),
+    Adds("l.o", &L_O),
+    Adds("x10.o", &X10_O),
+    Withdraws("x10.o", &X10_O),
+    Withdraws("l.o", &L_O),
+    Withdraws("k.o", &K_O),
+    Shows(Nothing),
+    HasNothing,
+];
 
 #[test]
 fn withdraw_all(rt: HostRuntime) {
-    let objects: [(&str, &[u8]); 3] = [("k.o", &K_O), ("l.o", &L_O), ("x10.o", &X10_O)];
-    let mut session = session_of(&rt, &objects);
-    for (label, bytes) in objects.into_iter().rev() {
-        withdraw(&rt, &mut session, label, bytes);
-    }
-    assert_empty(&rt, &session);
-    assert!(rt; session.withdraw().is_none());
+    assert_steps(&rt, &ALL_WITHDRAWN);
 }
