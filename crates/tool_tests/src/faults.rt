@@ -1,6 +1,7 @@
 //! The faults: their lines and texts, and links and loads that meet them.
+use crate::failing_devices::{fails_to_write, in_memory};
 use aout_core::samples::{A_O, B_O, Failing, TestReader, TestWriter};
-use aout_core::{ObjectFault, ReadFault, Wire};
+use aout_core::{File, ObjectFault, ReadFault, Wire};
 use fixtures::{TWO_OBJECTS, is_told, sized, wires};
 use link_fixtures::plain;
 use link_out::{Keep, LinkFault, Linked};
@@ -48,67 +49,66 @@ fn failing_devices_writing(rt: HostRuntime) -> Result<(), Fail> {
         Failing::Fails(ErrorKind::Interrupted),
         Failing::TakesNothing,
     ] {
-        let writer = TestWriter::new(Vec::new(alloc), usize::MAX, 10, failing);
-        let mut file = Wire::new(writer);
-        let mut report = Wire::new(TestWriter::whole(Vec::new(alloc)));
-        assert!(rt;
-            matches!(
-                emit(&linked, &mut file, &mut report),
-                Err(CliFault::WriteFailed)
-            )
-        );
-        assert!(rt; file.failed() && !report.failed());
-        assert_eq!(rt; file.into_inner().taken(), &TWO_OBJECTS[..10]);
-        assert_eq!(rt; report.into_inner().calls(), 0);
+        assert!(rt; fails_to_write(alloc, &linked, 10, failing, &TWO_OBJECTS));
     }
     Ok(())
+}
+
+/// Whether this is the link of a.o and b.o.
+fn is_two_objects(linked: &Linked) -> bool {
+    linked.file.text_words() == [0o12700, 6, 0o207].as_slice()
+        && linked.file.data_words() == [0o42].as_slice()
+        && linked.report.status() == 0
 }
 
 #[test]
 fn read_always_memory(rt: HostRuntime) -> Result<(), Fail> {
     let linked = link_stripped(rt.alloc(), &[("a.o", &A_O), ("b.o", &B_O)])?;
-    assert_eq!(rt; linked.file.text_words(), [0o12700, 6, 0o207].as_slice());
-    assert_eq!(rt; linked.file.data_words(), [0o42].as_slice());
-    assert_eq!(rt; linked.report.status(), 0);
+    assert!(rt; is_two_objects(&linked));
     Ok(())
+}
+
+/// Whether a link without a report is written with no latch on.
+fn is_written(alloc: Global, linked: &Linked, bytes: &[u8]) -> bool {
+    let mut file = in_memory(alloc);
+    let mut report = in_memory(alloc);
+    let is_emitted = matches!(emit(linked, &mut file, &mut report), Ok(0));
+    let is_latched = file.failed() || report.failed();
+    is_emitted
+        && !is_latched
+        && file.into_inner().taken() == bytes
+        && report.into_inner().taken().is_empty()
 }
 
 #[test]
 fn latch_without_error(rt: HostRuntime) -> Result<(), Fail> {
-    let alloc = rt.alloc();
-    let linked = link_stripped(alloc, &[("a.o", &A_O), ("b.o", &B_O)])?;
-    let mut file = Wire::new(TestWriter::whole(Vec::new(alloc)));
-    let mut report = Wire::new(TestWriter::whole(Vec::new(alloc)));
-    assert!(rt; matches!(emit(&linked, &mut file, &mut report), Ok(0)));
-    assert!(rt; !file.failed() && !report.failed());
-    assert_eq!(rt; file.into_inner().taken(), TWO_OBJECTS.as_slice());
-    assert!(rt; report.into_inner().taken().is_empty());
+    let linked = link_stripped(rt.alloc(), &[("a.o", &A_O), ("b.o", &B_O)])?;
+    assert!(rt; is_written(rt.alloc(), &linked, &TWO_OBJECTS));
     Ok(())
 }
 
-/// A fault of each kind, those of files at `x.o`.
-fn all_faults(alloc: Global) -> Result<Vec<CliFault>, AllocError> {
-    let path = || String::from_str(alloc, "x.o");
-    Ok(vec![in alloc;
-        CliFault::Usage,
-        CliFault::CannotOpen(path()?),
-        CliFault::BadFile(path()?, ReadFault::Device),
-        CliFault::BadObject(path()?, ObjectFault::BadRelocation(65_535)),
-        CliFault::NotAdded(path()?, AddFault::BssFull),
-        CliFault::NotAdded(path()?, AddFault::NamesFull),
-        CliFault::NotLinked(LinkFault::TooManySymbols),
-        CliFault::NotLinked(LinkFault::SymbolNumber),
-        CliFault::CannotCreate(path()?),
-        CliFault::WriteFailed,
-        CliFault::Memory,
-        CliFault::LongLine,
-        CliFault::ManyLines,
-        CliFault::ScriptFailed,
-    ]?)
+/// A fault of each kind, by its place among the texts; those of files at this path.
+fn fault_at(place: usize, path: String) -> CliFault {
+    match place {
+        0 => CliFault::Usage,
+        1 => CliFault::CannotOpen(path),
+        2 => CliFault::BadFile(path, ReadFault::Device),
+        3 => CliFault::BadObject(path, ObjectFault::BadRelocation(65_535)),
+        4 => CliFault::NotAdded(path, AddFault::BssFull),
+        5 => CliFault::NotAdded(path, AddFault::NamesFull),
+        6 => CliFault::NotLinked(LinkFault::TooManySymbols),
+        7 => CliFault::NotLinked(LinkFault::SymbolNumber),
+        8 => CliFault::CannotCreate(path),
+        9 => CliFault::WriteFailed,
+        10 => CliFault::Memory,
+        11 => CliFault::LongLine,
+        12 => CliFault::ManyLines,
+        _ => CliFault::ScriptFailed,
+    }
 }
 
-/// Their texts, in the same order.
-const TEXTS: [&str; 14] = [
+/// Their texts.
+static TEXTS: [&str; 14] = [
     "usage",
     "x.o: cannot open",
     "x.o: read error",
@@ -125,45 +125,51 @@ const TEXTS: [&str; 14] = [
     "script read error",
 ];
 
+/// Whether this is the fault's text, and its line has it.
+fn tells(alloc: Global, fault: CliFault, text: &str) -> Result<bool, AllocError> {
+    let line = format!(in alloc; "v7: {text}\n")?;
+    Ok(writes(alloc, &fault, line.as_str()) && is_told(fault, text))
+}
+
 #[test]
 fn fault_lines(rt: HostRuntime) -> Result<(), Fail> {
-    let alloc = rt.alloc();
-    let faults = all_faults(alloc)?;
-    assert!(rt; faults.len() == TEXTS.len());
-    for (fault, text) in faults.into_iter().zip(TEXTS) {
-        let line = format!(in alloc; "v7: {text}\n")?;
-        assert!(rt; writes(alloc, &fault, line.as_str()), "{text}");
-        assert!(rt; is_told(fault, text), "{text}");
+    for (place, text) in TEXTS.iter().enumerate() {
+        let path = String::from_str(rt.alloc(), "x.o")?;
+        assert!(rt; tells(rt.alloc(), fault_at(place, path), text)?, "{text}");
     }
     Ok(())
+}
+
+/// Whether a fault writes the line of no memory.
+fn is_memory(alloc: Global, fault: CliFault) -> bool {
+    writes(alloc, &fault, "v7: no memory\n")
 }
 
 #[test]
 fn fault_lines_of_refused_growths(rt: HostRuntime) -> Result<(), Fail> {
     let alloc = rt.alloc();
     let path = String::from_str(alloc, "x.o")?;
-    let reading = CliFault::BadFile(path.clone()?, ReadFault::Memory);
-    let adding = CliFault::NotAdded(path, AddFault::Memory);
-    let linking = CliFault::NotLinked(LinkFault::Memory);
-    for fault in [reading, adding, linking] {
-        assert!(rt; writes(alloc, &fault, "v7: no memory\n"));
-    }
+    let again = path.clone()?;
+    assert!(rt; is_memory(alloc, CliFault::BadFile(again, ReadFault::Memory)));
+    assert!(rt; is_memory(alloc, CliFault::NotAdded(path, AddFault::Memory)));
+    assert!(rt; is_memory(alloc, CliFault::NotLinked(LinkFault::Memory)));
     Ok(())
+}
+
+/// The path and the file that are loaded from these bytes, or the fault.
+fn load_bytes(alloc: Global, path: String, bytes: &[u8]) -> Result<(String, File), CliFault> {
+    load(alloc, path, &mut Wire::new(TestReader::whole(bytes)))
 }
 
 #[test]
 fn failing_devices_loading(rt: HostRuntime) -> Result<(), Fail> {
     let alloc = rt.alloc();
-    let mut wire = Wire::new(TestReader::whole(&A_O));
-    let Ok((path, file)) = load(alloc, String::from_str(alloc, "a.o")?, &mut wire) else {
-        return Ok(assert!(rt; false));
+    let (path, file) = load_bytes(alloc, String::from_str(alloc, "a.o")?, &A_O)?;
+    assert!(rt; path.as_str() == "a.o" && file.data_words() == [0o42].as_slice());
+    let is_cut = match load_bytes(alloc, path, &A_O[..17]) {
+        Ok(_) => false,
+        Err(fault) => writes(alloc, &fault, "v7: a.o: truncated\n"),
     };
-    assert_eq!(rt; path.as_str(), "a.o");
-    assert_eq!(rt; file.data_words(), [0o42].as_slice());
-    let mut wire = Wire::new(TestReader::whole(&A_O[..17]));
-    let Err(fault) = load(alloc, path, &mut wire) else {
-        return Ok(assert!(rt; false));
-    };
-    assert!(rt; writes(alloc, &fault, "v7: a.o: truncated\n"));
+    assert!(rt; is_cut);
     Ok(())
 }

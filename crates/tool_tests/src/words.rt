@@ -1,128 +1,171 @@
 //! What the words of a command ask for.
 use aout_core::Name;
-use fixtures::words;
-use link_fixtures::{laid_out, plain};
+use fixtures::{words, words_of};
 use link_out::{Keep, Layout, Options};
 use link_session::Forced;
 use std::alloc::{AllocError, Global};
+use std::process::Abort;
 use std::test::Fail;
 use v7tools::{Call, CliFault, parse};
 
-/// What the words of `ld` ask for.
-#[derive(Debug, Drop)]
-struct Link {
-    options: Options,
-    forced: Forced,
-    out: String,
-    files: Vec<String>,
+/// The words of a link or a session, and what they ask for. A session has no output and no files.
+#[derive(Clone, Copy)]
+struct Asked<'a> {
+    line: &'a str,
+    layout: Layout,
+    relocatable: bool,
+    keep: Keep,
+    entry: Option<&'a str>,
+    force_commons: bool,
+    forced: &'a [&'a str],
+    out: &'a str,
+    files: &'a str,
 }
 
-fn link_of(alloc: Global, all: &[&str]) -> Result<Option<Link>, AllocError> {
-    let Ok(call) = parse(alloc, words(alloc, all)?) else {
-        return Ok(None);
-    };
-    let Call::Ld {
-        options,
-        forced,
-        out,
-        files,
-    } = call
-    else {
-        return Ok(None);
-    };
-    Ok(Some(Link {
-        options,
-        forced,
-        out,
-        files,
-    }))
-}
+/// A link of `a.o` without options.
+const PLAIN: Asked<'_> = Asked {
+    line: "ld a.o",
+    layout: Layout::Plain,
+    relocatable: false,
+    keep: Keep::All,
+    entry: None,
+    force_commons: false,
+    forced: &[],
+    out: "a.out",
+    files: "a.o",
+};
 
-/// Whether the words ask for a link of these files into this output.
-fn is_link(alloc: Global, all: &[&str], out: &str, files: &[&str]) -> Result<bool, AllocError> {
-    match link_of(alloc, all)? {
-        Some(link) => Ok(link.out.as_str() == out && link.files == words(alloc, files)?),
-        None => Ok(false),
+/// A session without options.
+const SESSION: Asked<'_> = Asked {
+    line: "session",
+    out: "",
+    files: "",
+    ..PLAIN
+};
+
+impl Asked<'_> {
+    fn entry(&self) -> Option<Name> {
+        match self.entry {
+            Some(name) => Some(Name::from_bytes(name.as_bytes())),
+            None => None,
+        }
+    }
+
+    fn are_options(&self, options: Options) -> bool {
+        match Options::new(self.layout, self.relocatable, self.keep, self.entry()) {
+            Ok(wanted) if self.force_commons => options == wanted.force_commons(),
+            Ok(wanted) => options == wanted,
+            Err(_) => false,
+        }
+    }
+
+    fn are_forced(&self, forced: &Forced) -> bool {
+        let mut is_same = forced.names().len() == self.forced.len();
+        for (name, wanted) in forced.names().iter().zip(self.forced) {
+            is_same = is_same && *name == Name::from_bytes(wanted.as_bytes());
+        }
+        is_same
+    }
+
+    fn are_files(&self, alloc: Global, files: &[String]) -> Result<bool, AllocError> {
+        Ok(files == words_of(alloc, self.files)?.as_slice())
+    }
+
+    /// Whether a call is this.
+    fn is_call(&self, alloc: Global, call: Call) -> Result<bool, AllocError> {
+        match call {
+            Call::Ld {
+                options,
+                forced,
+                out,
+                files,
+            } => Ok(
+                self.are_options(options)
+                    && self.are_forced(&forced)
+                    && out.as_str() == self.out
+                    && self.are_files(alloc, &files)?,
+            ),
+            Call::Session { options, forced } => {
+                Ok(self.are_options(options) && self.are_forced(&forced) && self.out.is_empty())
+            }
+            _ => Ok(false),
+        }
+    }
+
+    /// Whether the words ask for this.
+    fn is_asked(&self, alloc: Global) -> Result<bool, AllocError> {
+        let Ok(call) = parse(alloc, words_of(alloc, self.line)?) else {
+            return Ok(false);
+        };
+        self.is_call(alloc, call)
     }
 }
 
-/// Whether the words ask for a link with these options.
-fn has_options(alloc: Global, all: &[&str], options: Options) -> Result<bool, AllocError> {
-    match link_of(alloc, all)? {
-        Some(link) => Ok(link.options == options),
-        None => Ok(false),
+/// The words of each line ask for what they should.
+fn assert_asked(rt: &(impl Abort + AllocGlobal), all: &[Asked<'_>]) -> Result<(), Fail> {
+    for asked in all {
+        let is_asked = asked.is_asked(rt.alloc())?;
+        assert!(rt; is_asked, "{}", asked.line);
     }
+    Ok(())
 }
 
-/// Whether the words ask for a link with these forced names.
-fn has_forced(alloc: Global, all: &[&str], names: &[Name]) -> Result<bool, AllocError> {
-    match link_of(alloc, all)? {
-        Some(link) => Ok(link.forced.names() == names),
-        None => Ok(false),
+fn is_usage(alloc: Global, words: Vec<String>) -> bool {
+    matches!(parse(alloc, words), Err(CliFault::Usage))
+}
+
+/// The words of each line are refused.
+fn assert_usage(rt: &(impl Abort + AllocGlobal), lines: &[&str]) -> Result<(), Fail> {
+    for line in lines {
+        let words = words_of(rt.alloc(), line)?;
+        assert!(rt; is_usage(rt.alloc(), words), "{line}");
     }
+    Ok(())
 }
 
-fn is_usage(alloc: Global, all: &[&str]) -> Result<bool, AllocError> {
-    Ok(matches!(parse(alloc, words(alloc, all)?), Err(CliFault::Usage)))
-}
-
-/// Whether the words ask for a session with these options and forced names.
-fn is_session(
-    alloc: Global,
-    all: &[&str],
-    options: Options,
-    names: &[Name],
-) -> Result<bool, AllocError> {
-    let Ok(call) = parse(alloc, words(alloc, all)?) else {
-        return Ok(false);
-    };
-    let Call::Session {
-        options: given,
-        forced,
-    } = call
-    else {
-        return Ok(false);
-    };
-    Ok(given == options && forced.names() == names)
-}
+static STRIPPED: [Asked<'static>; 1] = [Asked {
+    line: "ld -sx -o out a.o",
+    keep: Keep::Nothing,
+    out: "out",
+    ..PLAIN
+}];
 
 #[test]
 fn entry_and_usage(rt: HostRuntime) -> Result<(), Fail> {
-    let alloc = rt.alloc();
-    let all = ["ld", "-sx", "-o", "out", "a.o"];
-    assert!(rt; has_options(alloc, &all, plain(Keep::Nothing))?);
-    assert!(rt; is_link(alloc, &all, "out", &["a.o"])?);
-    assert!(rt; is_usage(alloc, &["ld", "-r", "-s", "c.o"])?);
-    assert!(rt; is_usage(alloc, &["ld", "-n", "-i", "c.o"])?);
-    Ok(())
+    assert_asked(&rt, &STRIPPED)?;
+    assert_usage(&rt, &["ld -r -s c.o", "ld -n -i c.o"])
 }
+
+static FORCED_TWICE: [Asked<'static>; 1] = [Asked {
+    line: "ld -u _z -u _z -o out a.o",
+    forced: &["_z"],
+    out: "out",
+    ..PLAIN
+}];
 
 #[test]
 fn forced_repeated_in_words(rt: HostRuntime) -> Result<(), Fail> {
-    let alloc = rt.alloc();
-    let all = ["ld", "-u", "_z", "-u", "_z", "-o", "out", "a.o"];
-    assert!(rt; has_forced(alloc, &all, &[Name::from_bytes(b"_z")])?);
-    Ok(())
+    assert_asked(&rt, &FORCED_TWICE)
 }
+
+static FORCED: [Asked<'static>; 3] = [
+    PLAIN,
+    Asked {
+        line: "ld -u_z a.o -u _f",
+        forced: &["_z", "_f"],
+        ..PLAIN
+    },
+    Asked {
+        line: "ld -u _eightbytes -u _eightbyte a.o",
+        forced: &["_eightby"],
+        ..PLAIN
+    },
+];
 
 #[test]
 fn forced_names_of_a_link(rt: HostRuntime) -> Result<(), Fail> {
-    let alloc = rt.alloc();
-    let f = Name::from_bytes(b"_f");
-    let z = Name::from_bytes(b"_z");
-    let long = Name::from_bytes(b"_eightby");
-    assert!(rt; has_forced(alloc, &["ld", "a.o"], &[])?);
-    assert!(rt; has_forced(alloc, &["ld", "-u_z", "a.o", "-u", "_f"], &[z, f])?);
-    assert!(rt;
-        has_forced(
-            alloc,
-            &["ld", "-u", "_eightbytes", "-u", "_eightbyte", "a.o"],
-            &[long]
-        )?
-    );
-    assert!(rt; is_usage(alloc, &["ld", "a.o", "-u"])?);
-    assert!(rt; is_usage(alloc, &["ld", "-u", "-s", "a.o"])?);
-    Ok(())
+    assert_asked(&rt, &FORCED)?;
+    assert_usage(&rt, &["ld a.o -u", "ld -u -s a.o"])
 }
 
 /// The words of a link with `count` different forced names, and one of them once more.
@@ -134,196 +177,303 @@ fn with_many_names(alloc: Global, count: u8) -> Result<Vec<String>, AllocError> 
     Ok(all)
 }
 
+/// How many names the words of a link force.
+fn forced_count(alloc: Global, words: Vec<String>) -> Option<usize> {
+    let Ok(call) = parse(alloc, words) else {
+        return None;
+    };
+    let Call::Ld { forced, .. } = call else {
+        return None;
+    };
+    Some(forced.names().len())
+}
+
 #[test]
 fn too_many_forced_names(rt: HostRuntime) -> Result<(), Fail> {
     let alloc = rt.alloc();
-    let Ok(call) = parse(alloc, with_many_names(alloc, 64)?) else {
-        return Ok(assert!(rt; false));
-    };
-    let Call::Ld { forced, .. } = call else {
-        return Ok(assert!(rt; false));
-    };
-    assert_eq!(rt; forced.names().len(), 64);
-    assert!(rt;
-        matches!(
-            parse(alloc, with_many_names(alloc, 65)?),
-            Err(CliFault::Usage)
-        )
-    );
+    assert!(rt; forced_count(alloc, with_many_names(alloc, 64)?) == Some(64));
+    assert!(rt; is_usage(alloc, with_many_names(alloc, 65)?));
     Ok(())
 }
+
+static KEPT: [Asked<'static>; 8] = [
+    PLAIN,
+    Asked {
+        line: "ld -X a.o",
+        keep: Keep::NotL,
+        ..PLAIN
+    },
+    Asked {
+        line: "ld -x a.o",
+        keep: Keep::Externals,
+        ..PLAIN
+    },
+    Asked {
+        line: "ld -s a.o",
+        keep: Keep::Nothing,
+        ..PLAIN
+    },
+    Asked {
+        line: "ld -xX a.o",
+        keep: Keep::Externals,
+        ..PLAIN
+    },
+    Asked {
+        line: "ld -s -X a.o",
+        keep: Keep::Nothing,
+        ..PLAIN
+    },
+    Asked {
+        line: "ld -X -x -s a.o",
+        keep: Keep::Nothing,
+        ..PLAIN
+    },
+    Asked {
+        line: "ld -s -s -ss a.o",
+        keep: Keep::Nothing,
+        ..PLAIN
+    },
+];
 
 #[test]
 fn kept_symbols(rt: HostRuntime) -> Result<(), Fail> {
-    let alloc = rt.alloc();
-    assert!(rt; has_options(alloc, &["ld", "a.o"], plain(Keep::All))?);
-    assert!(rt; has_options(alloc, &["ld", "-X", "a.o"], plain(Keep::NotL))?);
-    assert!(rt; has_options(alloc, &["ld", "-x", "a.o"], plain(Keep::Externals))?);
-    assert!(rt; has_options(alloc, &["ld", "-s", "a.o"], plain(Keep::Nothing))?);
-    assert!(rt; has_options(alloc, &["ld", "-xX", "a.o"], plain(Keep::Externals))?);
-    assert!(rt; has_options(alloc, &["ld", "-s", "-X", "a.o"], plain(Keep::Nothing))?);
-    assert!(rt;
-        has_options(
-            alloc,
-            &["ld", "-X", "-x", "-s", "a.o"],
-            plain(Keep::Nothing)
-        )?
-    );
-    assert!(rt;
-        has_options(
-            alloc,
-            &["ld", "-s", "-s", "-ss", "a.o"],
-            plain(Keep::Nothing)
-        )?
-    );
-    Ok(())
+    assert_asked(&rt, &KEPT)
 }
+
+/// A link that keeps relocation and externals alone.
+const PARTIAL: Asked<'_> = Asked {
+    line: "ld -rx a.o",
+    relocatable: true,
+    keep: Keep::Externals,
+    ..PLAIN
+};
+
+static LAID_OUT: [Asked<'static>; 5] = [
+    Asked {
+        line: "ld -n a.o",
+        layout: Layout::Pure,
+        ..PLAIN
+    },
+    Asked {
+        line: "ld -i -X a.o",
+        layout: Layout::Split,
+        keep: Keep::NotL,
+        ..PLAIN
+    },
+    PARTIAL,
+    Asked {
+        line: "ld -rx -d a.o",
+        force_commons: true,
+        ..PARTIAL
+    },
+    Asked {
+        line: "ld -d a.o",
+        force_commons: true,
+        ..PLAIN
+    },
+];
 
 #[test]
 fn layouts_and_relocation(rt: HostRuntime) -> Result<(), Fail> {
-    let alloc = rt.alloc();
-    let pure = laid_out(Layout::Pure);
-    let split = Options::new(Layout::Split, false, Keep::NotL, None).unwrap();
-    let partial = Options::new(Layout::Plain, true, Keep::Externals, None).unwrap();
-    assert!(rt; has_options(alloc, &["ld", "-n", "a.o"], pure)?);
-    assert!(rt; has_options(alloc, &["ld", "-i", "-X", "a.o"], split)?);
-    assert!(rt; has_options(alloc, &["ld", "-rx", "a.o"], partial)?);
-    assert!(rt; has_options(alloc, &["ld", "-rx", "-d", "a.o"], partial.force_commons())?);
-    assert!(rt;
-        has_options(
-            alloc,
-            &["ld", "-d", "a.o"],
-            plain(Keep::All).force_commons()
-        )?
-    );
-    Ok(())
+    assert_asked(&rt, &LAID_OUT)
 }
 
 #[test]
 fn options_that_exclude_each_other(rt: HostRuntime) -> Result<(), Fail> {
-    let alloc = rt.alloc();
-    for tool in ["ld", "session"] {
-        for given in ["-rs", "-rsx", "-rn", "-ri", "-ni", "-rni"] {
-            assert!(rt; is_usage(alloc, &[tool, given])?);
-            assert!(rt; is_usage(alloc, &[tool, given, "a.o"])?);
+    for given in ["-rs", "-rsx", "-rn", "-ri", "-ni", "-rni"] {
+        for (tool, file) in [
+            ("ld", ""),
+            ("ld", "a.o"),
+            ("session", ""),
+            ("session", "a.o"),
+        ] {
+            let line = format!(in rt.alloc(); "{tool} {given} {file}")?;
+            assert_usage(&rt, &[line.as_str()])?;
         }
     }
     Ok(())
 }
 
+static ENTRIES: [Asked<'static>; 3] = [
+    Asked {
+        line: "ld -e _f c.o d.o",
+        entry: Some("_f"),
+        files: "c.o d.o",
+        ..PLAIN
+    },
+    Asked {
+        line: "ld c.o -e_f",
+        entry: Some("_f"),
+        files: "c.o",
+        ..PLAIN
+    },
+    Asked {
+        line: "ld -e _eightbytes c.o",
+        entry: Some("_eightby"),
+        files: "c.o",
+        ..PLAIN
+    },
+];
+
+static NO_ENTRIES: [&str; 5] = [
+    "ld -e _f -e _f c.o",
+    "ld c.o -e",
+    "ld -e -s c.o",
+    "ld -e - c.o",
+    "ld -e -- c.o",
+];
+
 #[test]
 fn entry_point(rt: HostRuntime) -> Result<(), Fail> {
-    let alloc = rt.alloc();
-    let f = Name::from_bytes(b"_f");
-    let long = Name::from_bytes(b"_eightby");
-    let at_f = Options::new(Layout::Plain, false, Keep::All, Some(f)).unwrap();
-    let at_long = Options::new(Layout::Plain, false, Keep::All, Some(long)).unwrap();
-    assert!(rt; has_options(alloc, &["ld", "-e", "_f", "c.o", "d.o"], at_f)?);
-    assert!(rt; has_options(alloc, &["ld", "c.o", "-e_f"], at_f)?);
-    assert!(rt; has_options(alloc, &["ld", "-e", "_eightbytes", "c.o"], at_long)?);
-    assert!(rt; is_usage(alloc, &["ld", "-e", "_f", "-e", "_f", "c.o"])?);
-    assert!(rt; is_usage(alloc, &["ld", "c.o", "-e"])?);
-    assert!(rt; is_usage(alloc, &["ld", "-e", "-s", "c.o"])?);
-    assert!(rt; is_usage(alloc, &["ld", "-e", "-", "c.o"])?);
-    assert!(rt; is_usage(alloc, &["ld", "-e", "--", "c.o"])?);
-    Ok(())
+    assert_asked(&rt, &ENTRIES)?;
+    assert_usage(&rt, &NO_ENTRIES)
 }
+
+static OUTPUTS: [Asked<'static>; 4] = [
+    PLAIN,
+    Asked {
+        line: "ld -oout a.o",
+        out: "out",
+        ..PLAIN
+    },
+    Asked {
+        line: "ld a.o -so out",
+        keep: Keep::Nothing,
+        out: "out",
+        ..PLAIN
+    },
+    Asked {
+        line: "ld -o- -",
+        out: "-",
+        files: "-",
+        ..PLAIN
+    },
+];
+
+static NO_OUTPUTS: [&str; 5] = [
+    "ld -o x -o y a.o",
+    "ld -o -s a.o",
+    "ld -o - a.o",
+    "ld - -o -",
+    "ld -s a.o -o",
+];
 
 #[test]
 fn output_of_a_link(rt: HostRuntime) -> Result<(), Fail> {
-    let alloc = rt.alloc();
-    assert!(rt; is_link(alloc, &["ld", "a.o"], "a.out", &["a.o"])?);
-    assert!(rt; is_link(alloc, &["ld", "-oout", "a.o"], "out", &["a.o"])?);
-    assert!(rt; is_link(alloc, &["ld", "a.o", "-so", "out"], "out", &["a.o"])?);
-    assert!(rt; is_link(alloc, &["ld", "-o-", "-"], "-", &["-"])?);
-    assert!(rt; is_usage(alloc, &["ld", "-o", "x", "-o", "y", "a.o"])?);
-    assert!(rt; is_usage(alloc, &["ld", "-o", "-s", "a.o"])?);
-    assert!(rt; is_usage(alloc, &["ld", "-o", "-", "a.o"])?);
-    assert!(rt; is_usage(alloc, &["ld", "-", "-o", "-"])?);
-    assert!(rt; is_usage(alloc, &["ld", "-s", "a.o", "-o"])?);
-    Ok(())
+    assert_asked(&rt, &OUTPUTS)?;
+    assert_usage(&rt, &NO_OUTPUTS)
 }
+
+static FILES: [Asked<'static>; 4] = [
+    Asked {
+        line: "ld b.o -s a.o",
+        keep: Keep::Nothing,
+        files: "b.o a.o",
+        ..PLAIN
+    },
+    Asked {
+        line: "ld -s -- -s -o",
+        keep: Keep::Nothing,
+        files: "-s -o",
+        ..PLAIN
+    },
+    Asked {
+        line: "ld - a.o -",
+        files: "- a.o -",
+        ..PLAIN
+    },
+    Asked {
+        line: "ld a.o -- -s",
+        files: "a.o -s",
+        ..PLAIN
+    },
+];
 
 #[test]
 fn files_of_a_link(rt: HostRuntime) -> Result<(), Fail> {
-    let alloc = rt.alloc();
-    assert!(rt; is_link(alloc, &["ld", "b.o", "-s", "a.o"], "a.out", &["b.o", "a.o"])?);
-    assert!(rt;
-        is_link(
-            alloc,
-            &["ld", "-s", "--", "-s", "-o"],
-            "a.out",
-            &["-s", "-o"]
-        )?
-    );
-    assert!(rt; is_link(alloc, &["ld", "-", "a.o", "-"], "a.out", &["-", "a.o", "-"])?);
-    assert!(rt; has_options(alloc, &["ld", "a.o", "--", "-s"], plain(Keep::All))?);
-    assert!(rt; is_usage(alloc, &["ld"])?);
-    assert!(rt; is_usage(alloc, &["ld", "-s", "-o", "out"])?);
-    assert!(rt; is_usage(alloc, &["ld", "--"])?);
-    Ok(())
+    assert_asked(&rt, &FILES)?;
+    assert_usage(&rt, &["ld", "ld -s -o out", "ld --"])
 }
+
+static NO_COMMANDS: [&str; 7] = [
+    "",
+    "ar c.o",
+    "help",
+    "--help",
+    "--version",
+    "-s ld c.o",
+    "strip",
+];
 
 #[test]
 fn words_of_no_command(rt: HostRuntime) -> Result<(), Fail> {
-    let alloc = rt.alloc();
-    assert!(rt; is_usage(alloc, &[])?);
-    assert!(rt; is_usage(alloc, &["ar", "c.o"])?);
-    assert!(rt; is_usage(alloc, &["help"])?);
-    assert!(rt; is_usage(alloc, &["--help"])?);
-    assert!(rt; is_usage(alloc, &["--version"])?);
-    assert!(rt; is_usage(alloc, &["-s", "ld", "c.o"])?);
-    assert!(rt; is_usage(alloc, &["strip"])?);
+    assert_usage(&rt, &NO_COMMANDS)?;
     for tool in ["ld", "nm", "size", "strip", "session"] {
-        assert!(rt; is_usage(alloc, &[tool, "-h", "c.o"])?);
-        assert!(rt; is_usage(alloc, &[tool, "--help"])?);
-        assert!(rt; is_usage(alloc, &[tool, "-z", "c.o"])?);
+        for words in ["-h c.o", "--help", "-z c.o"] {
+            let line = format!(in rt.alloc(); "{tool} {words}")?;
+            assert_usage(&rt, &[line.as_str()])?;
+        }
     }
     Ok(())
 }
 
+static SESSIONS: [Asked<'static>; 4] = [
+    SESSION,
+    Asked {
+        line: "session -u _z",
+        forced: &["_z"],
+        ..SESSION
+    },
+    Asked {
+        line: "session -rX -d -u_z -e _f -u _f",
+        relocatable: true,
+        keep: Keep::NotL,
+        entry: Some("_f"),
+        force_commons: true,
+        forced: &["_z", "_f"],
+        ..SESSION
+    },
+    Asked {
+        line: "session -x -si",
+        layout: Layout::Split,
+        keep: Keep::Nothing,
+        ..SESSION
+    },
+];
+
+static NO_SESSIONS: [&str; 6] = [
+    "session a.o",
+    "session -- a.o",
+    "session -",
+    "session -u -",
+    "session -o out",
+    "session -e _f -e _z",
+];
+
 #[test]
 fn words_of_a_session(rt: HostRuntime) -> Result<(), Fail> {
-    let alloc = rt.alloc();
-    let f = Name::from_bytes(b"_f");
-    let z = Name::from_bytes(b"_z");
-    let partial = Options::new(Layout::Plain, true, Keep::NotL, Some(f)).unwrap();
-    let split = Options::new(Layout::Split, false, Keep::Nothing, None).unwrap();
-    assert!(rt; is_session(alloc, &["session"], plain(Keep::All), &[])?);
-    assert!(rt; is_session(alloc, &["session", "-u", "_z"], plain(Keep::All), &[z])?);
-    assert!(rt;
-        is_session(
-            alloc,
-            &["session", "-rX", "-d", "-u_z", "-e", "_f", "-u", "_f"],
-            partial.force_commons(),
-            &[z, f]
-        )?
-    );
-    assert!(rt; is_session(alloc, &["session", "-x", "-si"], split, &[])?);
-    assert!(rt; is_usage(alloc, &["session", "a.o"])?);
-    assert!(rt; is_usage(alloc, &["session", "--", "a.o"])?);
-    assert!(rt; is_usage(alloc, &["session", "-"])?);
-    assert!(rt; is_usage(alloc, &["session", "-u", "-"])?);
-    assert!(rt; is_usage(alloc, &["session", "-o", "out"])?);
-    assert!(rt; is_usage(alloc, &["session", "-e", "_f", "-e", "_z"])?);
-    Ok(())
+    assert_asked(&rt, &SESSIONS)?;
+    assert_usage(&rt, &NO_SESSIONS)
+}
+
+/// Whether the words of a line ask for a list of the file at this path, with all or none of the options that say which
+/// symbols it has, and all or none of those that say in which order.
+fn is_list(alloc: Global, line: &str, which: bool, order: bool, path: &str) -> Result<bool, Fail> {
+    let Ok(Call::Nm { options, files }) = parse(alloc, words_of(alloc, line)?) else {
+        return Ok(false);
+    };
+    let is_which = options.external == which
+        && options.undefined == which
+        && options.each_line == which;
+    let is_order = options.by_value == order
+        && options.table_order == order
+        && options.reverse == order;
+    Ok(is_which && is_order && files == words_of(alloc, path)?)
 }
 
 #[test]
 fn words_of_the_lists(rt: HostRuntime) -> Result<(), Fail> {
-    let alloc = rt.alloc();
-    let Ok(Call::Nm { options, files }) = parse(alloc, words(alloc, &["nm", "-gu", "-o"])?) else {
-        return Ok(assert!(rt; false));
-    };
-    assert!(rt; options.external && options.undefined && options.each_line);
-    assert!(rt; !options.by_value && !options.table_order && !options.reverse);
-    assert_eq!(rt; files.len(), 1);
-    assert_eq!(rt; files[0].as_str(), "a.out");
-    let Ok(Call::Nm { options, files: _ }) = parse(alloc, words(alloc, &["nm", "-npr", "s.o"])?)
-    else {
-        return Ok(assert!(rt; false));
-    };
-    assert!(rt; !options.external && !options.undefined && !options.each_line);
-    assert!(rt; options.by_value && options.table_order && options.reverse);
+    assert!(rt; is_list(rt.alloc(), "nm -gu -o", true, false, "a.out")?);
+    assert!(rt; is_list(rt.alloc(), "nm -npr s.o", false, true, "s.o")?);
     Ok(())
 }
