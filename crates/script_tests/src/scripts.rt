@@ -10,7 +10,7 @@ use std::test::Fail;
 use v7tools::{CliFault, Line, Script};
 
 /// What the lines of the script ask for.
-const ASKED: [(&str, &str); 9] = [
+static ASKED: [(&str, &str); 9] = [
     ("add", "c.o"),
     ("add", "d.o"),
     ("externals", ""),
@@ -22,21 +22,34 @@ const ASKED: [(&str, &str); 9] = [
     ("bad", ""),
 ];
 
+/// What a line asks for: the command and its path.
+fn asked(line: &Line) -> (&str, &str) {
+    match line {
+        Line::Add(path) => ("add", path.as_str()),
+        Line::Withdraw => ("withdraw", ""),
+        Line::Externals => ("externals", ""),
+        Line::Undefined => ("undefined", ""),
+        Line::Link(path) => ("link", path.as_str()),
+        Line::Bad => ("bad", ""),
+    }
+}
+
+fn fault_text(fault: &CliFault) -> &str {
+    match fault {
+        CliFault::Memory => "no memory",
+        CliFault::LongLine => "line too long",
+        CliFault::ManyLines => "too many lines",
+        CliFault::ScriptFailed => "script read error",
+        _ => "another fault",
+    }
+}
+
 /// What an answer says: the command and its path, the end, or the fault.
 fn told(answer: &Result<Option<Line>, CliFault>) -> (&str, &str) {
     match answer {
-        Ok(Some(Line::Add(path))) => ("add", path.as_str()),
-        Ok(Some(Line::Withdraw)) => ("withdraw", ""),
-        Ok(Some(Line::Externals)) => ("externals", ""),
-        Ok(Some(Line::Undefined)) => ("undefined", ""),
-        Ok(Some(Line::Link(path))) => ("link", path.as_str()),
-        Ok(Some(Line::Bad)) => ("bad", ""),
+        Ok(Some(line)) => asked(line),
         Ok(None) => ("end", ""),
-        Err(CliFault::Memory) => ("no memory", ""),
-        Err(CliFault::LongLine) => ("line too long", ""),
-        Err(CliFault::ManyLines) => ("too many lines", ""),
-        Err(CliFault::ScriptFailed) => ("script read error", ""),
-        Err(_) => ("another fault", ""),
+        Err(fault) => (fault_text(fault), ""),
     }
 }
 

@@ -2,7 +2,7 @@
 use aout_core::Wire;
 use aout_core::samples::{A_O, C_O, D_O, TestReader, TestWriter};
 use fixtures::{ANSWERS, ONE_OBJECT, SCRIPT, words, written};
-use link_out::Options;
+use link_out::{Linked, Options};
 use link_session::{Forced, Session};
 use std::alloc::Global;
 use std::test::Fail;
@@ -54,51 +54,81 @@ fn command_of(line: Line) -> Command<TestReader<'static>> {
     }
 }
 
-/// Answers a line; a file is stored over memory.
-fn answer(
-    alloc: Global,
-    session: &mut Session,
-    options: &Options,
-    line: Line,
-    answers: &mut Wire<TestWriter>,
-    stored: &mut Option<Vec<u8>>,
-) -> Result<u8, Fail> {
-    match step(alloc, session, options, command_of(line), answers)? {
-        Step::Done => Ok(0),
-        Step::Refused => Ok(1),
-        Step::ToStore(linked) => {
-            *stored = Some(written(alloc, &linked.file)?);
-            Ok(link_answer(&linked, "out", Stored::Kept, answers)?)
+/// A session that is played.
+#[derive(Drop)]
+struct Playing {
+    session: Session,
+    options: Options,
+    answers: Wire<TestWriter>,
+    played: Played,
+}
+
+impl Playing {
+    /// A link is stored over memory, and answered.
+    fn store(&mut self, alloc: Global, linked: &Linked) -> Result<u8, Fail> {
+        self.played.stored = Some(written(alloc, &linked.file)?);
+        Ok(link_answer(linked, "out", Stored::Kept, &mut self.answers)?)
+    }
+
+    /// Answers a line.
+    fn answer(&mut self, alloc: Global, line: Line) -> Result<(), Fail> {
+        let command = command_of(line);
+        let answers = &mut self.answers;
+        let status = match step(alloc, &mut self.session, &self.options, command, answers)? {
+            Step::Done => 0,
+            Step::Refused => 1,
+            Step::ToStore(linked) => self.store(alloc, &linked)?,
+        };
+        self.played.status |= status;
+        Ok(())
+    }
+
+    /// Answers the lines of a script.
+    fn play(&mut self, alloc: Global, script: &mut Script<TestReader<'_>>) -> Result<(), Fail> {
+        for _ in 0..100 {
+            let Some(line) = script.next_line()? else {
+                break;
+            };
+            self.answer(alloc, line)?;
         }
+        Ok(())
     }
 }
 
 /// Plays a script. Its links are all to `out`.
 fn play(alloc: Global, all: &[&str], script: &[u8]) -> Result<Played, Fail> {
     let (options, forced) = settings(alloc, all)?;
-    let mut session = Session::with_forced(alloc, &forced)?;
     let mut script = Script::new(alloc, Wire::new(TestReader::whole(script)))?;
-    let mut answers = Wire::new(TestWriter::whole(Vec::new(alloc)));
-    let mut stored = None;
-    let mut status = 0;
-    for _ in 0..100 {
-        let Some(line) = script.next_line()? else {
-            break;
-        };
-        status |= answer(
-            alloc,
-            &mut session,
-            &options,
-            line,
-            &mut answers,
-            &mut stored,
-        )?;
-    }
-    Ok(Played {
-        answers: answers.into_inner().into_taken(),
-        stored,
-        status,
-    })
+    let mut playing = Playing {
+        session: Session::with_forced(alloc, &forced)?,
+        options,
+        answers: Wire::new(TestWriter::whole(Vec::new(alloc))),
+        played: Played {
+            answers: Vec::new(alloc),
+            stored: None,
+            status: 0,
+        },
+    };
+    playing.play(alloc, &mut script)?;
+    let Playing {
+        answers,
+        mut played,
+        ..
+    } = playing;
+    played.answers = answers.into_inner().into_taken();
+    Ok(played)
+}
+
+/// Whether a script of these words is answered so, with this status.
+fn is_played(
+    alloc: Global,
+    all: &[&str],
+    script: &[u8],
+    answers: &[u8],
+    status: u8,
+) -> Result<bool, Fail> {
+    let played = play(alloc, all, script)?;
+    Ok(played.answers.as_slice() == answers && played.status == status)
 }
 
 #[test]
@@ -112,8 +142,7 @@ fn session_script(rt: HostRuntime) -> Result<(), Fail> {
 
 #[test]
 fn session_script_of_no_lines(rt: HostRuntime) -> Result<(), Fail> {
-    let played = play(rt.alloc(), &["session"], b"")?;
-    assert!(rt; played.answers.is_empty() && played.status == 0);
+    assert!(rt; is_played(rt.alloc(), &["session"], b"", b"", 0)?);
     Ok(())
 }
 
@@ -131,25 +160,21 @@ fn session_missing_file(rt: HostRuntime) -> Result<(), Fail> {
 #[test]
 fn session_bad_commands(rt: HostRuntime) -> Result<(), Fail> {
     let script = b"withdraw \nadd \nlink\n\n\xff\n";
-    let played = play(rt.alloc(), &["session"], script)?;
     let answers = b"bad command\nbad command\nbad command\nbad command\nbad command\n";
-    assert!(rt; played.answers.as_slice() == answers.as_slice() && played.status == 1);
+    assert!(rt; is_played(rt.alloc(), &["session"], script, answers, 1)?);
     Ok(())
 }
 
 #[test]
 fn session_last_line(rt: HostRuntime) -> Result<(), Fail> {
-    let played = play(rt.alloc(), &["session"], b"add a.o")?;
-    let answers = b"added a.o\n";
-    assert!(rt; played.answers.as_slice() == answers.as_slice() && played.status == 0);
+    assert!(rt; is_played(rt.alloc(), &["session"], b"add a.o", b"added a.o\n", 0)?);
     Ok(())
 }
 
 #[test]
 fn session_forced(rt: HostRuntime) -> Result<(), Fail> {
     let all = ["session", "-u", "_z"];
-    let played = play(rt.alloc(), &all, b"externals\nundefined\n")?;
-    let answers = b"       U _z\n_z\n";
-    assert!(rt; played.answers.as_slice() == answers.as_slice() && played.status == 0);
+    let script = b"externals\nundefined\n";
+    assert!(rt; is_played(rt.alloc(), &all, script, b"       U _z\n_z\n", 0)?);
     Ok(())
 }

@@ -62,17 +62,17 @@ impl Asked {
         }
     }
 
-    /// Whether a step is taken, and is refused.
-    fn refuses(&mut self, alloc: Global, command: Command<TestReader<'_>>) -> bool {
-        self.take(alloc, command).ok() == Some(true)
+    /// Whether the object of a reader is refused at a path, if a step is taken.
+    fn is_refused(&mut self, alloc: Global, path: &str, reader: TestReader<'_>) -> Option<bool> {
+        match add(alloc, path, reader) {
+            Ok(command) => self.take(alloc, command).ok(),
+            Err(_) => None,
+        }
     }
 
     /// Whether these bytes are added at a path.
     fn adds(&mut self, alloc: Global, path: &str, bytes: &[u8]) -> bool {
-        match add(alloc, path, TestReader::whole(bytes)) {
-            Ok(command) => self.take(alloc, command).ok() == Some(false),
-            Err(_) => false,
-        }
+        self.is_refused(alloc, path, TestReader::whole(bytes)) == Some(false)
     }
 }
 
@@ -81,27 +81,34 @@ fn in_memory(alloc: Global) -> Asked {
     Asked::new(alloc, TestWriter::whole(Vec::new(alloc)))
 }
 
+/// Whether a session refuses to link objects of these bytes, and with these answers.
+fn refuses_to_link(alloc: Global, text: &[u8], data: &[u8], answers: &str) -> bool {
+    let mut asked = in_memory(alloc);
+    let are_added = asked.adds(alloc, "t.o", text) && asked.adds(alloc, "d.o", data);
+    let is_refused = asked.take(alloc, Command::Link).ok() == Some(true);
+    are_added
+        && is_refused
+        && asked.session.entries().len() == 2
+        && asked.answers.into_inner().taken() == answers.as_bytes()
+}
+
 #[test]
 fn session_link_refused(rt: HostRuntime) -> Result<(), Fail> {
     let alloc = rt.alloc();
     let text = sized(alloc, 65_534, 0, 0, &[])?;
     let data = sized(alloc, 0, 2, 0, &[])?;
-    let mut asked = in_memory(alloc);
-    assert!(rt; asked.adds(alloc, "t.o", &text) && asked.adds(alloc, "d.o", &data));
-    assert!(rt; asked.refuses(alloc, Command::Link) && asked.session.entries().len() == 2);
-    let answers = b"added t.o\nadded d.o\ndoes not fit\n";
-    assert!(rt; asked.answers.into_inner().taken() == answers.as_slice());
+    let answers = "added t.o\nadded d.o\ndoes not fit\n";
+    assert!(rt; refuses_to_link(alloc, &text, &data, answers));
     Ok(())
 }
 
 /// Whether a session of `a.o` refuses to add what a reader gives, and with these answers.
 fn refuses_to_add(alloc: Global, reader: TestReader<'_>, answers: &str) -> bool {
     let mut asked = in_memory(alloc);
-    let Ok(command) = add(alloc, "x.o", reader) else {
-        return false;
-    };
-    asked.adds(alloc, "a.o", &A_O)
-        && asked.refuses(alloc, command)
+    let is_added = asked.adds(alloc, "a.o", &A_O);
+    let is_refused = asked.is_refused(alloc, "x.o", reader) == Some(true);
+    is_added
+        && is_refused
         && asked.session.entries().len() == 1
         && asked.answers.into_inner().taken() == answers.as_bytes()
 }
@@ -124,44 +131,57 @@ fn refused_additions(rt: HostRuntime) -> Result<(), Fail> {
     Ok(())
 }
 
-/// The link of `c.o` and `g.o` that a step makes.
-fn two_linked(alloc: Global) -> Option<Linked> {
-    let mut asked = in_memory(alloc);
-    if !asked.adds(alloc, "c.o", &C_O) || !asked.adds(alloc, "g.o", &G_O) {
-        return None;
-    }
-    let Asked {
-        mut session,
-        mut answers,
-    } = asked;
+/// The link that a step of a session makes.
+fn linked(alloc: Global, session: &mut Session, answers: &mut Wire<TestWriter>) -> Option<Linked> {
     let command: Command<TestReader<'static>> = Command::Link;
-    match step(
-        alloc,
-        &mut session,
-        &plain(Keep::All),
-        command,
-        &mut answers,
-    ) {
+    match step(alloc, session, &plain(Keep::All), command, answers) {
         Ok(Step::ToStore(linked)) => Some(linked),
         _ => None,
     }
 }
 
-/// Whether a link is answered by these lines, with status 1.
-fn is_answered(alloc: Global, linked: &Linked, stored: Stored, lines: &str) -> bool {
+/// The link of `c.o` and another object that a step makes.
+fn linked_behind_c_o(alloc: Global, path: &str, bytes: &[u8]) -> Option<Linked> {
+    let mut asked = in_memory(alloc);
+    if asked.adds(alloc, "c.o", &C_O) && asked.adds(alloc, path, bytes) {
+        linked(alloc, &mut asked.session, &mut asked.answers)
+    } else {
+        None
+    }
+}
+
+/// Whether a link is answered by these lines, with this status.
+fn is_answered(alloc: Global, linked: &Linked, stored: Stored, want: (&str, u8)) -> bool {
+    let (lines, status) = want;
     let mut answers = Wire::new(TestWriter::whole(Vec::new(alloc)));
-    let status = link_answer(linked, "out", stored, &mut answers);
-    status.ok() == Some(1) && answers.into_inner().taken() == lines.as_bytes()
+    let answer = link_answer(linked, "out", stored, &mut answers);
+    answer.ok() == Some(status) && answers.into_inner().taken() == lines.as_bytes()
 }
 
 #[test]
 fn link_answers(rt: HostRuntime) -> Result<(), Fail> {
     let alloc = rt.alloc();
-    let linked = two_linked(alloc).ok_or("no link")?;
+    let linked = linked_behind_c_o(alloc, "g.o", &G_O).ok_or("no link")?;
     let lines = "Undefined:\n_f\n_g\nlinked out 1\n";
-    assert!(rt; is_answered(alloc, &linked, Stored::Kept, lines));
-    assert!(rt; is_answered(alloc, &linked, Stored::NotCreated, "out: cannot create\n"));
-    assert!(rt; is_answered(alloc, &linked, Stored::Failed, "out: write error\n"));
+    assert!(rt; is_answered(alloc, &linked, Stored::Kept, (lines, 1)));
+    assert!(rt;
+        is_answered(
+            alloc,
+            &linked,
+            Stored::NotCreated,
+            ("out: cannot create\n", 1)
+        )
+    );
+    assert!(rt; is_answered(alloc, &linked, Stored::Failed, ("out: write error\n", 1)));
+    Ok(())
+}
+
+#[test]
+fn link_answers_without_a_report(rt: HostRuntime) -> Result<(), Fail> {
+    let alloc = rt.alloc();
+    let linked = linked_behind_c_o(alloc, "d.o", &D_O).ok_or("no link")?;
+    assert!(rt; is_answered(alloc, &linked, Stored::Kept, ("linked out 0\n", 0)));
+    assert!(rt; is_answered(alloc, &linked, Stored::Failed, ("out: write error\n", 1)));
     Ok(())
 }
 
@@ -180,22 +200,25 @@ fn is_same(one: &Session, other: &Session) -> bool {
     same
 }
 
-/// Whether a step is told as failed exactly where its answers fail.
-fn is_told(alloc: Global, asked: &mut Asked, command: Command<TestReader<'_>>) -> bool {
-    match asked.take(alloc, command) {
+/// Whether a step of `session_script` is told as failed exactly where its answers fail.
+fn is_told(alloc: Global, asked: &mut Asked, line: u8) -> bool {
+    let answer = match scripted(alloc, line) {
+        Ok(command) => asked.take(alloc, command),
+        Err(_) => Err(CliFault::Memory),
+    };
+    match answer {
         Ok(_) => !asked.answers.failed(),
-        Err(fault) => matches!(fault, CliFault::WriteFailed) && asked.answers.failed(),
+        Err(CliFault::WriteFailed) => asked.answers.failed(),
+        Err(_) => false,
     }
 }
 
 /// Takes a step of `session_script` with answers that may fail, beside a session whose answers do not: whether it is told
 /// as it should be, and the sessions are then the same.
 fn is_alike(alloc: Global, line: u8, failing: &mut Asked, beside: &mut Asked) -> bool {
-    let (Ok(command), Ok(again)) = (scripted(alloc, line), scripted(alloc, line)) else {
-        return false;
-    };
-    is_told(alloc, failing, command)
-        && beside.take(alloc, again).is_ok()
+    is_told(alloc, failing, line)
+        && is_told(alloc, beside, line)
+        && !beside.answers.failed()
         && is_same(&failing.session, &beside.session)
 }
 
