@@ -3,6 +3,7 @@
 -- Each call returns the next line that the bytes give, or the end, or a fault; the end and a fault are returned for good. What was
 -- read and not used waits, and no more is asked of the reader than is needed for the next line.
 use Rattle.std.specs.Prelude.{◌≡◌, ◌≢◌, ◌↔◌, ◌⊎◌, ◌+◌, ◌≤◌, ℕ, cond, eqb, List, [], ◌∷◌, ◌++◌, drop, length, Option, Some, None, Result, Ok, Err, IfSome, IsSome, string_bytes}
+use Rattle.std.specs.Io.KnownBytes.{prepend_known}
 use Rattle.aout_core.specs.Wires.{Latched}
 use Rattle.v7tools.specs.declared.fault.CliFault.{CliFault}
 use Rattle.v7tools.specs.declared.fault.CliFault.TheVariants as faults
@@ -32,6 +33,10 @@ pub record Progress (R : Type 0) : Type 0 where
   pub held : List ℕ
   pub line_count : ℕ
   pub settled : Option Answer
+
+-- what a reader has left: the bytes that were read and not taken, and behind them those of its device
+abbrev pub unread : {R : Type 0} → (R → Option (List ℕ)) → List ℕ → Latched R → Option (List ℕ)
+unread remaining held wire = prepend_known held (remaining wire.device)
 
 -- how many lines an answer gives
 abbrev pub lines_of : Answer → ℕ

@@ -15,7 +15,8 @@ pub(crate) struct BlockReader<R> {
 
 impl<R: Read> BlockReader<R> {
     ghost use Rattle.std.specs.Prelude.{◌≡◌, ◌↔◌, [], ◌∷◌, IfErr, IfNone, IfOk, IfSome, IsErr, IsTrue};
-    ghost use Rattle.std.specs.Io.KnownBytes.{Consumes, IsAtEnd, Keeps, prepend_known};
+    ghost use Rattle.std.specs.Io.KnownBytes.{Consumes, IsAtEnd, Keeps};
+    ghost use Rattle.v7tools.specs.ScriptAnswers.{unread};
 
     /// A reader of which no byte was taken.
     pub(crate) fn new(wire: Wire<R>) -> BlockReader<R>
@@ -39,11 +40,11 @@ impl<R: Read> BlockReader<R> {
     pub(crate) fn next_byte(&mut self) -> Result<Option<u8>, DeviceFault>
         ensures fault { IsErr result ↔ IsTrue self.new.wire.has_failed }
         ensures latched { IsTrue self.old.wire.has_failed → (self.new ≡ self.old) }
-        ensures byte { IfOk result (λ o. IfSome o (λ b. Consumes (prepend_known self.old.held (R.remaining self.old.wire.device)) (prepend_known self.new.held (R.remaining self.new.wire.device)) (b ∷ []))) }
+        ensures byte { IfOk result (λ o. IfSome o (λ b. Consumes (unread R.remaining self.old.held self.old.wire) (unread R.remaining self.new.held self.new.wire) (b ∷ []))) }
         ensures unasked { (self.old.held ≡ [] → ⊥) → self.new.wire ≡ self.old.wire }
         ensures held { IfOk result (λ o. IfSome o (λ b. (self.old.held ≡ [] → ⊥) → self.old.held ≡ b ∷ self.new.held)) }
-        ensures end { IfOk result (λ o. IfNone o (Consumes (prepend_known self.old.held (R.remaining self.old.wire.device)) (prepend_known self.new.held (R.remaining self.new.wire.device)) [] × IsAtEnd (prepend_known self.new.held (R.remaining self.new.wire.device)))) }
-        ensures kept { IfErr result (λ _. Keeps (prepend_known self.old.held (R.remaining self.old.wire.device)) (prepend_known self.new.held (R.remaining self.new.wire.device))) }
+        ensures end { IfOk result (λ o. IfNone o (Consumes (unread R.remaining self.old.held self.old.wire) (unread R.remaining self.new.held self.new.wire) [] × IsAtEnd (unread R.remaining self.new.held self.new.wire))) }
+        ensures kept { IfErr result (λ _. Keeps (unread R.remaining self.old.held self.old.wire) (unread R.remaining self.new.held self.new.wire)) }
     {
         if self.wire.failed() {
             return Err(DeviceFault);

@@ -1,9 +1,8 @@
 //! The reader of a script.
 ghost use Rattle.std.specs.Prelude.{◌≡◌, ◌↔◌, ◌+◌, ◌<◌, ◌≤◌, [], IfErr, IfOk, IfSome, IsTrue, Err, None, Ok, Some, length, vec_capacity, vec_len};
-ghost use Rattle.std.specs.Io.KnownBytes.{prepend_known};
 ghost use Rattle.aout_core.specs.declared.block.TheConstants.{BLOCK_SIZE};
 ghost use Rattle.v7tools.specs.declared.fault.CliFault.TheVariants.{Memory, ScriptFailed};
-ghost use Rattle.v7tools.specs.ScriptAnswers.{answer_of, HasLine, IfTold, IsNextOf, lines_of, NeedsNoMore, Settles};
+ghost use Rattle.v7tools.specs.ScriptAnswers.{answer_of, HasLine, IfTold, IsNextOf, lines_of, NeedsNoMore, Settles, unread};
 ghost use Rattle.v7tools.specs.parts.LineParts.{EndsLine, IsStopOf, IsTakenOf};
 
 use crate::block_reader::BlockReader;
@@ -60,7 +59,7 @@ fn read_line<R: Read>(reader: &mut BlockReader<R>, line: &mut Vec<u8>) -> Ending
     ensures room { LINE_LIMIT ≤ vec_capacity line.new }
     ensures failed { (result ≡ Ending.Failed) ↔ IsTrue reader.new.wire.has_failed }
     ensures latched { IsTrue reader.old.wire.has_failed → (reader.new ≡ reader.old) }
-    ensures ends { EndsLine result (prepend_known reader.old.held (R.remaining reader.old.wire.device)) (prepend_known reader.new.held (R.remaining reader.new.wire.device)) line.new.items }
+    ensures ends { EndsLine result (unread R.remaining reader.old.held reader.old.wire) (unread R.remaining reader.new.held reader.new.wire) line.new.items }
     ensures unasked { HasLine reader.old.held → reader.new.wire ≡ reader.old.wire }
     ensures long { result ≡ Ending.Long → vec_len line.new ≡ LINE_LIMIT }
     ensures short { vec_len line.new ≤ LINE_LIMIT }
@@ -89,7 +88,7 @@ fn read_line<R: Read>(reader: &mut BlockReader<R>, line: &mut Vec<u8>) -> Ending
 fn stop_at_limit<R: Read>(reader: &mut BlockReader<R>) -> Stop
     ensures failed { (result ≡ Stop.ReadFailed) ↔ IsTrue reader.new.wire.has_failed }
     ensures latched { IsTrue reader.old.wire.has_failed → (reader.new ≡ reader.old) }
-    ensures value { IfTold (prepend_known reader.old.held (R.remaining reader.old.wire.device)) (prepend_known reader.new.held (R.remaining reader.new.wire.device)) (λ bytes left. IsStopOf 1000000 bytes left result) }
+    ensures value { IfTold (unread R.remaining reader.old.held reader.old.wire) (unread R.remaining reader.new.held reader.new.wire) (λ bytes left. IsStopOf 1000000 bytes left result) }
     ensures unasked { (reader.old.held ≡ [] → ⊥) → reader.new.wire ≡ reader.old.wire }
 {
     match reader.next_byte() {
@@ -112,7 +111,7 @@ fn take_line<R: Read>(
     ensures failed { IfErr result (λ stop. (stop ≡ Stop.ReadFailed) ↔ IsTrue reader.new.wire.has_failed) }
     ensures works { IfOk result (λ _. IsTrue reader.new.wire.has_failed → ⊥) }
     ensures latched { IsTrue reader.old.wire.has_failed → (reader.new ≡ reader.old) }
-    ensures value { IfTold (prepend_known reader.old.held (R.remaining reader.old.wire.device)) (prepend_known reader.new.held (R.remaining reader.new.wire.device)) (λ bytes left. IsTakenOf line_count bytes left line.new.items result) }
+    ensures value { IfTold (unread R.remaining reader.old.held reader.old.wire) (unread R.remaining reader.new.held reader.new.wire) (λ bytes left. IsTakenOf line_count bytes left line.new.items result) }
     ensures unasked { NeedsNoMore line_count reader.old.held → reader.new.wire ≡ reader.old.wire }
 {
     if line_count == LINES_LIMIT {
@@ -184,7 +183,7 @@ impl<R: Read + Drop> Script<R> {
         ensures latched { IsTrue self.old.wire.has_failed → (self.new.wire ≡ self.old.wire) }
         ensures count { self.new.line_count ≡ self.old.line_count + lines_of result }
         ensures bound { self.new.line_count ≤ 1000000 }
-        ensures next { self.old.settled ≡ None → IfTold (prepend_known self.old.held (R.remaining self.old.wire.device)) (prepend_known self.new.held (R.remaining self.new.wire.device)) (λ bytes left. IsNextOf self.old.line_count bytes left self.new.settled result) }
+        ensures next { self.old.settled ≡ None → IfTold (unread R.remaining self.old.held self.old.wire) (unread R.remaining self.new.held self.new.wire) (λ bytes left. IsNextOf self.old.line_count bytes left self.new.settled result) }
         ensures unasked { NeedsNoMore self.old.line_count self.old.held → self.new.wire ≡ self.old.wire }
         ensures ahead { length self.new.held < BLOCK_SIZE }
     {
