@@ -16,14 +16,14 @@ use Rattle.link_session.specs.declared.cell.Target.{Target}
 use Rattle.link_session.specs.declared.cell.Target.TheVariants as targets
 use Rattle.link_session.specs.declared.state.State.{State}
 use Rattle.link_session.specs.declared.relocate.Shifts.{Shifts}
-use Rattle.link_session.specs.Starts.{shift}
-use Rattle.link_session.specs.Mentions.{Mention, mention, statement, mentions, mentions_in, externals_in, names_of, names_by_first_mention, new_names, place_of}
+use Rattle.link_session.specs.Starts.{shift, shift_by}
+use Rattle.link_session.specs.Mentions.{Mention, mention, statement, statement_by, mentions, mentions_in, externals_in, names_of, names_by_first_mention, new_names, place_of}
 use Rattle.link_session.specs.States.{Definition, state, state_by, first_definition, wanted_size, multiple_names}
 use Rattle.link_session.specs.Cells.{Referent, to_segment, to_name, referent, referent_by, segment_target, name_target, name_in, target_of, target_shift, offset_in, if_pc, cell, words_of, cells}
 use Rattle.link_session.specs.Image.{named_states, image}
 use Rattle.link_session.specs.Sessions.{IsObject}
 use Rattle.link_session.specs.Image.{state_in, state_at}
-use Rattle.link_session.specs.steps.Additions.{state_for, place_in, all_mentioned, all_clashes, bound_by, binding_at, binding, bound_or, settled, statement_by, mention_by, mentions_by, referred, own_cell, own_cells, next_shifts, next_mentions, next_named, joined_image}
+use Rattle.link_session.specs.steps.Additions.{state_for, place_in, all_mentioned, all_clashes, bound_by, binding_at, binding, bound_or, settled, mention_by, mentions_by, referred, own_cell, own_cells, next_shifts, next_mentions, next_named, joined_image}
 use Rattle.link_session.proofs.StateLemmas.{first_definition-append}
 use Rattle.link_session.proofs.MentionLemmas.{names_by_first_mention-append, is_among-externals, get_place}
 use Rattle.link_session.proofs.CellLemmas.{rebound, bound, RefersAmong, AllReferAmong, cells_more, all_made}
@@ -121,7 +121,7 @@ next_shifts-behind forced os o h = λ i. record {
 pub next_mentions-in : (forced : List (List ℕ)) (os : List Contents) (o : Contents) → AllByRecursion IsObject os → next_mentions (image forced os) o ≡ mentions_in os o
 next_mentions-in forced os o h = ap (λ (s : Shifts). mentions_by s o.symbols) (next_shifts-behind forced os o h) ∙ each (externals_in o)
   where
-    says : (segment : Segment) (value : ℕ) → statement_by (shifts_behind os o) segment value ≡ statement os o segment value
+    says : (segment : Segment) (value : ℕ) → statement_by (shift_by (shifts_behind os o)) segment value ≡ statement os o segment value
     says segments.Undefined value = refl
     says segments.Absolute value = refl
     says segments.TextSeg value = refl

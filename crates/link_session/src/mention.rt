@@ -1,10 +1,12 @@
 //! The mentions of external names.
 ghost use Rattle.std.specs.Prelude.{◌≡◌, ◌+◌, ◌*◌, ◌^◌, ◌≤◌, ◌<◌, ◌++◌, ◌&&◌, ◌∷◌, [], cond, nat_lt, filter, length, vec_len, vec_capacity};
 ghost use Rattle.indexmap.specs.IndexMap.{spare};
+ghost use Rattle.aout_core.specs.Words.{plus};
 ghost use Rattle.aout_core.specs.WellFormed.{is_external, segment_of};
-ghost use Rattle.link_session.specs.Mentions.{is_among};
+ghost use Rattle.link_session.specs.Starts.{shift_by};
+ghost use Rattle.link_session.specs.Mentions.{is_among, statement_by};
 ghost use Rattle.link_session.specs.steps.Updates.{updated, clashes};
-ghost use Rattle.link_session.specs.steps.Additions.{definition_by_shift, mentioned, said, clash, state_mark, place_in, state_for, changes, statement_by, mentions_by, all_mentioned, state_marks, all_clashes};
+ghost use Rattle.link_session.specs.steps.Additions.{mentioned, said, clash, state_mark, place_in, state_for, changes, mentions_by, all_mentioned, state_marks, all_clashes};
 
 use crate::mark::Mark;
 use crate::merged::Externals;
@@ -47,7 +49,7 @@ pub(crate) struct Table<'a> {
 
 /// What a symbol says of its name.
 fn statement(symbol: &Symbol, shifts: &Shifts) -> State
-    ensures { result ≡ statement_by shifts.now (segment_of symbol.now) symbol.now.value }
+    ensures { result ≡ statement_by (shift_by shifts.now) (segment_of symbol.now) symbol.now.value }
 {
     match symbol.segment() {
         Segment::Undefined => State::Wanted(symbol.value),
@@ -57,7 +59,7 @@ fn statement(symbol: &Symbol, shifts: &Shifts) -> State
 }
 
 fn definition(segment: Segment, value: u16, shifts: &Shifts) -> State
-    ensures { result ≡ definition_by_shift shifts.now segment value }
+    ensures { result ≡ State.Defined segment (plus value (shift_by shifts.now segment)) }
 {
     State::Defined(segment, value.wrapping_add(shifts.of(segment)))
 }

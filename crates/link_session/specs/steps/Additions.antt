@@ -24,7 +24,7 @@ use Rattle.link_session.specs.declared.mark.Place.TheVariants.{InText, InData}
 use Rattle.link_session.specs.declared.relocate.Shifts.{Shifts}
 use Rattle.link_session.specs.declared.entry.AddFault.{AddFault}
 use Rattle.link_session.specs.declared.entry.AddFault.TheVariants.{TextFull, DataFull, BssFull, NamesFull}
-use Rattle.link_session.specs.Mentions.{Mention, place_of, new_names}
+use Rattle.link_session.specs.Mentions.{Mention, statement_by, place_of, new_names}
 use Rattle.link_session.specs.Cells.{segment_target, name_target, name_in, offset_in, if_pc}
 use Rattle.link_session.specs.Starts.{shift_by}
 use Rattle.link_session.specs.Image.{Image, Named, state_at}
@@ -93,16 +93,8 @@ abbrev pub place_at : Segment → ℕ → Place
 place_at segments.DataSeg i = InData i
 place_at _ i = InText i
 
-abbrev pub definition_by_shift : Shifts → Segment → ℕ → State
-definition_by_shift shifts segment value = Defined segment (plus value (shift_by shifts segment))
-
-abbrev pub statement_by : Shifts → Segment → ℕ → State
-statement_by shifts segments.Undefined value = Wanted value
-statement_by shifts segments.Other value = definition_by_shift shifts segments.Absolute value
-statement_by shifts segment value = definition_by_shift shifts segment value
-
 abbrev pub mention_by : Shifts → Symbol → Mention
-mention_by shifts s = said s.name (statement_by shifts (segment_of s) s.value)
+mention_by shifts s = said s.name (statement_by (shift_by shifts) (segment_of s) s.value)
 
 abbrev pub mentions_by : Shifts → List Symbol → List Mention
 mentions_by shifts symbols = map (mention_by shifts) (filter is_external symbols)
