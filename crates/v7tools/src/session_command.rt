@@ -1,5 +1,9 @@
 //! The session as a command, over any office: each line of a script is answered before the next one is asked for.
-ghost use Rattle.std.specs.Prelude.{◌≤◌, string_bytes, IfOk};
+ghost use Rattle.std.specs.Prelude.{◌≡◌, ◌≤◌, string_bytes, IfErr, IfOk};
+ghost use Rattle.aout_core.specs.Wires.{Writes};
+ghost use Rattle.link_out.specs.Reports.{line};
+ghost use Rattle.v7tools.specs.declared.fault.CliFault.TheVariants.{WriteFailed};
+ghost use Rattle.v7tools.specs.FaultTexts.{cli_text};
 ghost use Rattle.v7tools.specs.Scripts.{to_add, to_link};
 ghost use Rattle.v7tools.specs.ScriptAnswers.{asked_by};
 ghost use Rattle.v7tools.specs.SessionRuns.{IsSessionRun};
@@ -61,6 +65,16 @@ fn answer_add<O: Office, W: Write>(
     take_step(alloc, session, options, Command::Add(path, wire), answers)
 }
 
+/// Answers with the text of the fault that refuses a link, and returns the status of that.
+fn refuse_link<W: Write>(fault: &CliFault, answers: &mut Wire<W>) -> Result<u8, CliFault>
+    ensures written { Writes W.contents result answers.old answers.new (line (cli_text fault.now)) }
+    ensures write_failed { IfErr result (λ fault. fault ≡ WriteFailed) }
+    ensures status { IfOk result (λ status. status ≡ 1) }
+{
+    put_fault(fault, answers)?;
+    Ok(1)
+}
+
 /// Links what the session keeps, stores the file at a path and answers.
 fn answer_link<O: Office, W: Write>(
     alloc: Global,
@@ -78,10 +92,7 @@ fn answer_link<O: Office, W: Write>(
             let stored = office.store(path, &linked.file);
             link_answer(&linked, path, stored, answers)
         }
-        Err(fault) => {
-            put_fault(&CliFault::from(fault), answers)?;
-            Ok(1)
-        }
+        Err(fault) => refuse_link(&CliFault::from(fault), answers),
     }
 }
 
