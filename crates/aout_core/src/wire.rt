@@ -64,9 +64,9 @@ impl<D> Wire<D> {
 }
 
 impl<R: Read> Wire<R> {
-    /// Reads some bytes to the beginning of `buf`, by one call of the device; 0 are read only at its end, or where `buf`
-    /// has no room. What else `buf` holds afterwards is not said, but that a latch that was on leaves it as it was. (own
-    /// choice)
+    /// Reads some bytes to the beginning of `buf`, by one call of the device; 0 are read only at its end, or where
+    /// `buf` has no room. What else `buf` holds afterwards is not said, but that a latch that was on leaves it as it
+    /// was. (own choice)
     pub fn read(&mut self, buf: &mut [u8]) -> Result<usize, DeviceFault>
         ensures fault { IsErr result ↔ IsTrue self.new.has_failed }
         ensures latched { IsTrue self.old.has_failed → (self.new ≡ self.old) }
