@@ -1,6 +1,6 @@
 -- The laws of the format, each proved by a function of the module `laws`.
 --
--- What was written is read back, whatever follows it; what is read is what the bytes spell; and bytes spell one file at most.
+-- What was written is read back, whatever follows it; what is read is what the bytes encode; and bytes encode one file at most.
 use Rattle.std.specs.Prelude.{◌≡◌, ℕ, ◌<◌, List, ◌++◌, take, Ok}
 use Rattle.std.specs.List.{AllByRecursion}
 use Rattle.aout_core.specs.Contents.{Contents, IsSound}
@@ -8,14 +8,15 @@ use Rattle.aout_core.specs.Spelling.{file_length, spelling}
 use Rattle.aout_core.specs.Front.{front}
 use Rattle.aout_core.specs.Spells.{Spells}
 
+-- the encoding of a file, whatever follows it, is read as that file
 abbrev pub SpellingLaw : Type 0
 SpellingLaw = (c : Contents) (rest : List ℕ) → IsSound c → front (spelling c ++ rest) ≡ Ok c
 
--- the file that is read from bytes is sound, and the bytes up to its end spell it
+-- the file that is read from bytes is sound, and the bytes up to its end encode it
 abbrev pub ReadingLaw : Type 0
 ReadingLaw = (bytes : List ℕ) (c : Contents) → AllByRecursion (λ (b : ℕ). b < 256) bytes → front bytes ≡ Ok c →
     IsSound c × Spells (take (file_length c.header) bytes) c
 
--- the same bytes spell one file
+-- the same bytes encode one file at most
 abbrev pub OneFile : Type 0
 OneFile = (bytes : List ℕ) (c d : Contents) → IsSound c → IsSound d → Spells bytes c → Spells bytes d → c ≡ d

@@ -1,7 +1,7 @@
--- What a call of the reader says of the bytes that it was given, and what it leaves of them. (own choice)
+-- What `read_file` returns for the bytes that it was given, and what it leaves of them. (own choice)
 --
--- `read_file` gives the file at the front of the bytes or the first refusal, and takes no byte behind the file. Two things the
--- bytes do not tell: whether the system gave memory for the lists, and whether the device failed.
+-- It returns the file that the bytes begin with, or the first refusal, and takes no byte behind the file. Two things the bytes
+-- do not tell: whether memory runs out for the lists, and whether the device fails.
 use Rattle.std.specs.Prelude.{◌≡◌, ℕ, ◌≤◌, List, [], drop, length, Option, Some, Result, Ok, Err, IsTrue}
 use Rattle.aout_core.specs.declared.header.Header.{Header}
 use Rattle.aout_core.specs.declared.file.ReadFault.{ReadFault}
@@ -20,14 +20,15 @@ pub record HasHeader (bytes : List ℕ) : Type 0 where
   pub long : 16 ≤ length bytes
   pub header : IsFileHeader (header_in bytes)
 
--- the result is what stands at the front of the bytes, unless memory or the device failed
+-- the result is the file that the bytes begin with, or the refusal, unless memory ran out or the device failed
 abbrev pub IsReadOf : Result Contents ReadFault → List ℕ → Type 0
 IsReadOf (Ok c) bytes = front bytes ≡ Ok c
 IsReadOf (Err Memory) bytes = HasHeader bytes
 IsReadOf (Err Device) bytes = Unit {0}
 IsReadOf (Err fault) bytes = front bytes ≡ Err fault
 
--- a file was taken whole and nothing more; a refused header was taken; of too few bytes none is left
+-- a file was taken whole and nothing more; of too few bytes none is left; after a refused header, or where memory ran out, the
+-- header alone was taken; and of a device that failed nothing is said
 abbrev pub LeavesAfter : Result Contents ReadFault → List ℕ → Option (List ℕ) → Type 0
 LeavesAfter (Ok c) bytes left = left ≡ Some (drop (file_length c.header) bytes)
 LeavesAfter (Err ShortHeader) bytes left = left ≡ Some []

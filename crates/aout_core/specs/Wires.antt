@@ -1,7 +1,7 @@
--- What a clause says of a wire: its device, its latch, and what a write leaves behind.
+-- What contracts see of a wire, its device and its latch, and what they say of a write to it.
 --
 -- A wire is a reader or a writer with a latch that goes on when the device fails, and stays on. What a writer holds is a list of
--- bytes where it is known (`Some`), and writing appends to it: all of a text, or on a fault a prefix of it.
+-- bytes where it is known (`Some`), and writing appends to it: all of the bytes, or on a fault a prefix of them.
 use Rattle.std.specs.Prelude.{◌≡◌, ℕ, List, ◌++◌, ◌↔◌, Bool, Option, Result, IsErr, IsTrue, MatchResult}
 use Rattle.std.specs.Io.KnownBytes.{Appends}
 
@@ -18,8 +18,8 @@ AppendsFront old new bytes = (front : List ℕ) × (rest : List ℕ) × (bytes �
 abbrev pub Puts : {T E : Type 0} → Result T E → Option (List ℕ) → Option (List ℕ) → List ℕ → Type 0
 Puts result old new bytes = MatchResult result (λ _. Appends old new bytes) (λ _. AppendsFront old new bytes)
 
--- a write of a text to a wire: all of it goes out, or on a fault a prefix of it; the fault comes exactly with the latch on, and a
--- wire whose latch is on is not touched
+-- a write of the bytes `text` to a wire, where a device holds its `contents`: all of them go out, or on a fault a prefix of
+-- them; it is a fault exactly where the latch is on afterwards; and a wire whose latch was on is left as it was
 pub record Writes {W T E : Type 0} (contents : W → Option (List ℕ)) (result : Result T E) (old new : Latched W) (text : List ℕ) : Type 0 where
   pub fault : IsErr result ↔ IsTrue new.has_failed
   pub latched : IsTrue old.has_failed → (new ≡ old)

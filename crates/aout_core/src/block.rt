@@ -76,8 +76,8 @@ impl Block {
         self.start == self.end
     }
 
-    /// Takes as many of the bytes as there is room for behind those that wait, and returns how many. An empty block
-    /// has room for `BLOCK_SIZE`. (own choice)
+    /// Appends as many of the bytes as there is room for to those that wait, and returns how many. An empty block has
+    /// room for `BLOCK_SIZE`. (own choice)
     pub fn take_in(&mut self, bytes: &[u8]) -> usize
         ensures count { result ≡ min (length bytes.now) (BLOCK_SIZE - length self.old) }
         ensures value { self.new ≡ self.old ++ take result bytes.now }
@@ -99,7 +99,8 @@ impl Block {
         self.start += n;
     }
 
-    /// Moves bytes that wait to the front of `out`, as many as both have, and returns how many. (own choice)
+    /// Moves the first bytes that wait to the beginning of `out`, as many as both have, and returns how many. (own
+    /// choice)
     pub fn give_out(&mut self, out: &mut [u8]) -> usize
         ensures count { result ≡ min (length self.old) (length out.old) }
         ensures value { out.new ≡ take result self.old ++ drop result out.old }
@@ -128,7 +129,7 @@ impl Block {
         Ok(())
     }
 
-    /// Fills an empty block with the next `n` bytes, or with `BLOCK_SIZE` where that is less; fewer come only before
+    /// Fills an empty block with the next `n` bytes, or with `BLOCK_SIZE` where that is less; fewer come only at
     /// the end of the device. (own choice)
     pub fn fill<R: Read>(&mut self, n: usize, wire: &mut Wire<R>) -> Result<(), DeviceFault>
         requires { self.old ≡ [] }

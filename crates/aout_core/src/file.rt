@@ -11,8 +11,8 @@ use std::alloc::AllocError;
 use std::marker::Model;
 use thiserror::Error;
 
-/// The parts of a file, in their order; the relocation of text and of data has one word for each of their words.
-/// (a.out(5))
+/// The parts of a file, in their order; the relocation of text and of data has one word for each of their words, or
+/// none. (a.out(5))
 #[derive(Debug, Drop)]
 pub struct Parts {
     pub header: Header,
@@ -42,7 +42,7 @@ impl Model for File {
     ghost invariant = { λ a. Fits (contents_of a.parts) };
 }
 
-/// Whether a file may begin so: 0405, 0407, 0410 or 0411.
+/// Whether a file may begin with this word: 0405, 0407, 0410 or 0411.
 pub(crate) fn is_magic(magic: u16) -> bool
     ensures { result ≡ is_magic magic }
 {
@@ -100,7 +100,7 @@ impl Parts {
     }
 }
 
-// In the views a size is read for its range: it is a word, so the lists are short.
+// Some functions read a size only for its type: it is a word, and no list is longer than the header says.
 impl File {
     ghost use Rattle.std.specs.Prelude.{◌≡◌, ◌*◌, ◌^◌, ◌<◌, length};
     ghost use Rattle.aout_core.specs.Parts.{contents_of};
@@ -114,7 +114,7 @@ impl File {
         File { parts }
     }
 
-    /// The header. It is what says that the lists are as long as they are. (a.out(5))
+    /// The header. The lists are as long as it says. (a.out(5))
     pub fn header(&self) -> &Header
         ensures value { result.now ≡ self.now.header }
         ensures fits { Fits self.now }
@@ -127,7 +127,7 @@ impl File {
         ensures value { result.now ≡ self.now.text_words }
         ensures short { 2 * length result.now < 2 ^ 16 }
     {
-        // that the size is a word is known once it is read: the clause `short` rests on it
+        // the prover knows that the size is a word once it is read: the clause `short` rests on it
         let _size = self.parts.header.text_size;
         &self.parts.text_words
     }
@@ -137,27 +137,27 @@ impl File {
         ensures value { result.now ≡ self.now.data_words }
         ensures short { 2 * length result.now < 2 ^ 16 }
     {
-        // that the size is a word is known once it is read: the clause `short` rests on it
+        // the prover knows that the size is a word once it is read: the clause `short` rests on it
         let _size = self.parts.header.data_size;
         &self.parts.data_words
     }
 
-    /// The relocation words of the text; none where the header's flag is on. (a.out(5))
+    /// The relocation words of the text; none where the header's flag is not 0. (a.out(5))
     pub fn text_reloc(&self) -> &[Reloc]
         ensures value { result.now ≡ self.now.text_reloc }
         ensures short { 2 * length result.now < 2 ^ 16 }
     {
-        // that the size is a word is known once it is read: the clause `short` rests on it
+        // the prover knows that the size is a word once it is read: the clause `short` rests on it
         let _size = self.parts.header.text_size;
         &self.parts.text_reloc
     }
 
-    /// The relocation words of the data; none where the header's flag is on. (a.out(5))
+    /// The relocation words of the data; none where the header's flag is not 0. (a.out(5))
     pub fn data_reloc(&self) -> &[Reloc]
         ensures value { result.now ≡ self.now.data_reloc }
         ensures short { 2 * length result.now < 2 ^ 16 }
     {
-        // that the size is a word is known once it is read: the clause `short` rests on it
+        // the prover knows that the size is a word once it is read: the clause `short` rests on it
         let _size = self.parts.header.data_size;
         &self.parts.data_reloc
     }
@@ -167,7 +167,7 @@ impl File {
         ensures value { result.now ≡ self.now.symbols }
         ensures short { 12 * length result.now < 2 ^ 16 }
     {
-        // that the size is a word is known once it is read: the clause `short` rests on it
+        // the prover knows that the size is a word once it is read: the clause `short` rests on it
         let _size = self.parts.header.symbol_size;
         &self.parts.symbols
     }
@@ -191,10 +191,10 @@ pub enum ReadFault {
     /// 2: the first word is none of 0405, 0407, 0410 and 0411.
     #[error("bad magic number")]
     BadMagic,
-    /// 3: an odd size of text, data or bss, or a symbol table that 12 does not divide.
+    /// 3: an odd size of text, data or bss, or a size of the symbol table that 12 does not divide.
     #[error("odd size")]
     OddSize,
-    /// 4: no room for what the header announces.
+    /// 4: memory runs out for what the header announces.
     #[error("no memory")]
     Memory,
     /// 5: fewer bytes than the header announces.

@@ -6,7 +6,7 @@ ghost use Rattle.aout_core.specs.Front.{header_in};
 
 use crate::word::{put_words, take_words};
 
-/// The eight words at the front of a file. Sizes are in bytes and do not count the header. (a.out(5))
+/// The eight words that a file begins with. Sizes are in bytes and do not count the header. (a.out(5))
 #[derive(Clone, Copy, Debug, PartialEq, Eq)]
 pub struct Header {
     /// 0407 normal, 0410 with read-only text, 0411 with separated I and D space, 0405 an overlay.
@@ -28,7 +28,7 @@ pub struct Header {
 }
 
 impl Header {
-    /// The header that 16 bytes spell. Any words are allowed here. (a.out(5))
+    /// The header that 16 bytes encode. Any words are allowed here. (a.out(5))
     pub fn read(bytes: &[u8; 16]) -> Header
         ensures { result ≡ header_in bytes.now }
     {
@@ -74,7 +74,7 @@ impl Header {
         segments + text_reloc + data_reloc + self.symbol_size as usize
     }
 
-    /// The 16 bytes that spell the header. (a.out(5))
+    /// The 16 bytes that encode the header. (a.out(5))
     pub fn to_bytes(&self) -> [u8; 16]
         ensures { result ≡ header_spelling self.now }
     {

@@ -1,4 +1,4 @@
-//! What a file holds in rows: words, relocation words and symbols.
+//! The items of a file's lists: words, relocation words and symbols.
 ghost use Rattle.std.specs.Prelude.{◌≡◌, ◌+◌, ◌*◌, ◌≤◌, ◌++◌, ◌↔◌, false, IfOk, IfErr, IsErr, IsTrue, Err, vec_len, vec_capacity};
 ghost use Rattle.std.specs.List.{flat_map};
 ghost use Rattle.std.specs.Io.KnownBytes.{prepend_known};
@@ -17,7 +17,7 @@ use crate::wire::{DeviceFault, Wire};
 use crate::word::{word_bytes, word_in};
 use std::io::{Read, Write};
 
-/// One of a row of things of one width.
+/// An item of a list in a file. All items of one type have the same number of bytes.
 pub(crate) trait Item: Copy {
     ghost use Rattle.std.specs.Prelude.{◌≡◌, ◌≤◌, ◌++◌, ◌↔◌, ℕ, List, false, IfOk, IfErr, IsErr, IsTrue, Err};
     ghost use Rattle.std.specs.Io.KnownBytes.{prepend_known};
@@ -107,7 +107,7 @@ impl Item for Symbol {
     }
 }
 
-/// Puts the next `count` items behind those that are there.
+/// Reads the next `count` items, and appends them to those that are there.
 pub(crate) fn take_items<T: Item, R: Read>(
     count: usize,
     items: &mut Vec<T>,
@@ -143,7 +143,7 @@ pub(crate) fn put_items<T: Item, W: Write>(
     Ok(())
 }
 
-/// Writes one row and then another.
+/// Writes the items of one list and then those of another.
 pub(crate) fn put_both<T: Item, W: Write>(
     first: &[T],
     second: &[T],

@@ -1,7 +1,8 @@
-//! Files of the a.out format of PDP-11 Unix: their parts, how they are spelt as bytes, and which of them are
+//! Files of the a.out format of PDP-11 Unix: their parts, how they are encoded as bytes, and which of them are
 //! objects that a linker may take.
 //!
-//! Words have 16 bits and stand low byte first. The format is that of a.out(5); docs/FORMAT.md tells it whole.
+//! Words have 16 bits and stand low byte first. The format is that of a.out(5); docs/FORMAT.md tells it whole. Here
+//! "(own choice)" marks what the manual leaves open and this project has settled.
 //!
 //! An example, which `library_uses` runs:
 //!

@@ -55,7 +55,7 @@ fn end_of(bytes: &[u8]) -> usize
 }
 
 impl Name {
-    /// The name in a text: the bytes before the first NUL, at most 8. (a.out(5); NULs: own choice)
+    /// The name in these bytes: those before the first NUL, at most 8. (a.out(5); NULs: own choice)
     pub fn from_bytes(text: &[u8]) -> Name
         ensures { result ≡ take 8 (before_nul text.now) }
     {

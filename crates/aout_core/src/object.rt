@@ -45,7 +45,7 @@ pub enum ObjectFault {
     BadSymbolNumber(u16),
 }
 
-/// Whether the symbol is one that a word may wait for.
+/// Whether a relocation word may refer to the symbol of this number: it is there, external and of type 0.
 fn is_wanted(symbols: &[Symbol], number: usize) -> bool
     ensures { result ≡ is_wanted (slice_get symbols.now number) }
 {

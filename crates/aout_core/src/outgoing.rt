@@ -57,7 +57,7 @@ impl Outgoing {
         block.send(wire)
     }
 
-    /// Puts bytes behind those that wait; a block that is full goes out once there are more.
+    /// Appends bytes to those that wait; a block that is full goes out once there are more.
     pub(crate) fn put<W: Write>(
         &mut self,
         bytes: &[u8],

@@ -39,7 +39,7 @@ impl Reloc {
         self.0 & 1 == 1
     }
 
-    /// The number of the symbol, bits 15 to 4. It counts for an external alone. (a.out(5))
+    /// The number of the symbol, bits 15 to 4. It has a meaning for an external alone. (a.out(5))
     pub fn number(&self) -> u16
         ensures { result ≡ symbol_number self.now }
     {

@@ -1,4 +1,7 @@
 //! Small objects and devices over memory, for tests. (the format is that of a.out(5), the objects are an own choice)
+//!
+//! Each object is told by its words, with the relocation word of each, and by its symbols: name, type word and value.
+//! All are octal but the values, which are decimal.
 ghost use Rattle.std.specs.Prelude.{◌≡◌, ◌<◌, ◌^◌, ◌-◌, Some};
 ghost use Rattle.aout_core.specs.declared.samples.Failing.TheVariants.{TakesNothing};
 ghost use Rattle.std.specs.declared.io.ErrorKind.TheVariants.{Other};
@@ -50,7 +53,8 @@ pub const G_O: [u8; 28] = [
     0x5f, 0x67, 0x00, 0x00, 0x00, 0x00, 0x00, 0x00, 0x20, 0x00, 0x00, 0x00,
 ];
 
-/// `i.o`: text 000000, 000000, 000000 (relocation 0, 0, 0); data 000000, 000000 (relocation 0, 0); bss 2 bytes; symbols `_etext` 040 0, `_edata` 040 0, `_end` 040 0, `_x` 040 3.
+/// `i.o`: text 000000, 000000, 000000 (relocation 0, 0, 0); data 000000, 000000 (relocation 0, 0); bss 2 bytes; symbols
+/// `_etext` 040 0, `_edata` 040 0, `_end` 040 0, `_x` 040 3.
 pub const I_O: [u8; 84] = [
     0x07, 0x01, 0x06, 0x00, 0x04, 0x00, 0x02, 0x00, 0x30, 0x00, 0x00, 0x00, 0x00, 0x00, 0x00, 0x00,
     0x00, 0x00, 0x00, 0x00, 0x00, 0x00, 0x00, 0x00, 0x00, 0x00, 0x00, 0x00, 0x00, 0x00, 0x00, 0x00,
@@ -226,7 +230,7 @@ impl Read for TestReader<'_> {
     }
 }
 
-/// What a writer does once its place is reached. (own choice)
+/// What a writer does once it has taken `before_failure` bytes. (own choice)
 #[derive(Clone, Copy, Debug, PartialEq, Eq)]
 pub enum Failing {
     Fails(ErrorKind),
@@ -234,7 +238,8 @@ pub enum Failing {
 }
 
 /// A writer over memory: it takes at most `most` bytes a call, and once `before_failure` bytes were taken each call
-/// returns an error or takes 0 bytes. A flush then returns the error too. It counts its calls. (own choice)
+/// returns an error or takes 0 bytes. A flush then returns that error too. A write for which memory runs out returns
+/// an error as well. It counts its calls. (own choice)
 #[derive(Drop)]
 pub struct TestWriter {
     taken: Vec<u8>,
@@ -254,7 +259,7 @@ impl Model for TestWriter {
 }
 
 impl TestWriter {
-    /// A writer behind the bytes in `taken`.
+    /// A writer that appends to the bytes in `taken`.
     pub fn new(taken: Vec<u8>, most: usize, before_failure: usize, failure: Failing) -> TestWriter
         ensures { result ≡ record { taken = taken.items; most = most; before_failure = before_failure; failure = failure; calls = 0; flushes = 0 } }
     {
@@ -268,7 +273,7 @@ impl TestWriter {
         }
     }
 
-    /// A writer behind the bytes in `taken` that fails only where there is no memory.
+    /// A writer that appends to the bytes in `taken`, and fails only where memory runs out.
     pub fn whole(taken: Vec<u8>) -> TestWriter
         ensures { result ≡ record { taken = taken.items; most = 2 ^ 64 - 1; before_failure = 2 ^ 64 - 1; failure = TakesNothing; calls = 0; flushes = 0 } }
     {

@@ -15,7 +15,8 @@ pub struct Symbol {
     /// The type word: 0 to 4 are undefined, absolute, text, data and bss, 024 a register, 037 a file name; 040 is
     /// added for an external.
     pub type_bits: u16,
-    /// An address; for an undefined external the size of a common in bytes, or 0.
+    /// An address, or the number of an absolute or a register; for an undefined external the size of a common in
+    /// bytes, or 0.
     pub value: u16,
 }
 
@@ -52,7 +53,7 @@ impl Symbol {
         }
     }
 
-    /// The symbol that 12 bytes spell; what stands behind a NUL in its name is left out.
+    /// The symbol that 12 bytes encode; what stands behind a NUL in its name is left out.
     pub(crate) fn from_bytes(bytes: &[u8; 12]) -> Symbol
         ensures { result ≡ symbol_in bytes.now }
     {
@@ -63,7 +64,7 @@ impl Symbol {
         }
     }
 
-    /// The 12 bytes that spell the symbol, its name padded with NULs.
+    /// The 12 bytes that encode the symbol, its name padded with NULs.
     pub(crate) fn to_bytes(&self) -> [u8; 12]
         ensures { result ≡ symbol_spelling self.now }
     {

@@ -64,8 +64,9 @@ impl<D> Wire<D> {
 }
 
 impl<R: Read> Wire<R> {
-    /// Reads some bytes to the front of `buf`, by one call of the device; 0 are read only at its end, or where `buf`
-    /// has no room. What a working device leaves behind those bytes, or on a fault, is not said. (own choice)
+    /// Reads some bytes to the beginning of `buf`, by one call of the device; 0 are read only at its end, or where
+    /// `buf` has no room. What else `buf` holds afterwards is not said, but that a latch that was on leaves it as it
+    /// was. (own choice)
     pub fn read(&mut self, buf: &mut [u8]) -> Result<usize, DeviceFault>
         ensures fault { IsErr result ↔ IsTrue self.new.has_failed }
         ensures latched { IsTrue self.old.has_failed → (self.new ≡ self.old) }
@@ -85,8 +86,8 @@ impl<R: Read> Wire<R> {
         }
     }
 
-    /// Reads until `buf` is full or the device is at its end, and returns how many bytes were read. What a working
-    /// device leaves behind them, or on a fault, is not said. (own choice)
+    /// Reads until `buf` is full or the device is at its end, and returns how many bytes were read. What else
+    /// `buf` holds afterwards is not said, but that a latch that was on leaves it as it was. (own choice)
     pub fn fill(&mut self, buf: &mut [u8]) -> Result<usize, DeviceFault>
         ensures fault { IsErr result ↔ IsTrue self.new.has_failed }
         ensures latched { IsTrue self.old.has_failed → (self.new ≡ self.old) }
@@ -111,7 +112,8 @@ impl<R: Read> Wire<R> {
 }
 
 impl<W: Write> Wire<W> {
-    /// Writes all the bytes, or on a fault a prefix of them. Writing no bytes is a use of the wire too. (own choice)
+    /// Writes all the bytes, or on a fault a prefix of them. Where the latch is on, to write no bytes is a fault too.
+    /// (own choice)
     pub fn put(&mut self, bytes: &[u8]) -> Result<(), DeviceFault>
         ensures { Writes W.contents result self.old self.new bytes.now }
     {
@@ -131,7 +133,7 @@ impl<W: Write> Wire<W> {
         Ok(())
     }
 
-    /// Writes one text and then another, or on a fault a prefix of both. (own choice)
+    /// Writes some bytes and then others, or on a fault a prefix of both together. (own choice)
     pub fn put_both(&mut self, first: &[u8], second: &[u8]) -> Result<(), DeviceFault>
         ensures { Writes W.contents result self.old self.new (first.now ++ second.now) }
     {

@@ -1,4 +1,4 @@
--- Files by the bytes of their paths and by what they hold.
+-- Named files: for each the bytes of its path, and its contents.
 use Rattle.std.specs.Prelude.{ℕ, List, map, string_bytes}
 use Rattle.std.specs.declared.string.String.{String}
 use Rattle.aout_core.specs.Contents.{Contents}

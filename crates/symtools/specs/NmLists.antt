@@ -1,7 +1,7 @@
 -- The list that nm writes. (nm(1); that `-p` wins over the other orders: own choice)
 --
--- The symbols that the options ask for, in the order that they ask for, a line each. With several files, the name of each file
--- stands above its lines, or by `-o` before each line.
+-- The symbols that the options ask for, in the order that they ask for, a line each. With several files, the path of each file
+-- stands above its lines; by `-o` it stands before each line instead.
 use Rattle.std.specs.Prelude.{ℕ, Bool, not, ◌&&◌, ◌||◌, cond, eqb, nat_lt, if◌then◌else◌, List, [], ◌∷◌, ◌++◌, filter, reverse, length, codes}
 use Rattle.std.specs.List.{flat_map}
 use Rattle.std.specs.Cmp.Lexicographic.{slice_cmp}
@@ -12,7 +12,7 @@ use Rattle.aout_core.specs.WellFormed.{is_external}
 use Rattle.symtools.specs.declared.options.NmOptions.{NmOptions}
 use Rattle.symtools.specs.SymbolLines.{symbol_line, is_shown_undefined}
 
--- with both filters, both hold
+-- externals alone where `external` is on, undefined symbols alone where `undefined` is, and with both what is both
 abbrev pub is_shown : NmOptions → Symbol → Bool
 is_shown o s = (not o.external || is_external s) && (not o.undefined || is_shown_undefined s)
 
@@ -23,7 +23,7 @@ name_before s t = is_lt (slice_cmp nat_cmp s.name t.name)
 abbrev pub value_before : Symbol → Symbol → Bool
 value_before s t = nat_lt s.value t.value || (eqb s.value t.value && name_before s t)
 
--- in order, those that tie in the order of the table
+-- x before the first item that is not before x, so `in_order` leaves those that tie in the order of the table
 abbrev pub inserted : {A : Type 0} → (A → A → Bool) → A → List A → List A
 inserted before x [] = x ∷ []
 inserted before x (y ∷ ys) = cond (before y x) (y ∷ inserted before x ys) (x ∷ (y ∷ ys))
@@ -32,7 +32,7 @@ abbrev pub in_order : {A : Type 0} → (A → A → Bool) → List A → List A
 in_order before [] = []
 in_order before (x ∷ xs) = inserted before x (in_order before xs)
 
--- table order wins over all; else by value or by name, and reversed at last
+-- the order of the table, whatever else is asked for; or by value or by name, and then reversed where that is asked for
 abbrev pub arranged : NmOptions → List Symbol → List Symbol
 arranged o ss =
     if o.table_order then ss

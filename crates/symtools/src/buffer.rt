@@ -7,7 +7,7 @@ use std::marker::Model;
 /// How many bytes a line may have.
 pub(crate) const LINE_ROOM: usize = 64;
 
-/// The bytes of a line that is being made, in room of its own. Contracts see it as the list of its bytes.
+/// The bytes of a line that is being made, in an array. Contracts see it as the list of its bytes.
 #[derive(Drop)]
 pub(crate) struct LineBuffer {
     bytes: [u8; LINE_ROOM],
@@ -42,7 +42,7 @@ impl LineBuffer {
         }
     }
 
-    /// Puts bytes at the end.
+    /// Appends bytes.
     pub(crate) fn push(&mut self, more: &[u8])
         requires { length self.old + length more.now ≤ LINE_ROOM }
         ensures value { self.new ≡ self.old ++ more.now }
@@ -53,7 +53,7 @@ impl LineBuffer {
         self.len = end;
     }
 
-    /// Puts a number at the end, in a base up to 10, where it has no more than six digits.
+    /// Appends the digits of a number, at most six, in a base up to 10.
     pub(crate) fn push_number(&mut self, number: u32, base: u32)
         requires base { (2 ≤ base) × (base ≤ 10) }
         requires short { number < base ^ 6 }

@@ -1,4 +1,4 @@
-//! Why lines did not go out.
+//! Why not all lines went out.
 ghost use Rattle.std.specs.Prelude.{◌≡◌};
 ghost use Rattle.symtools.specs.declared.fault.ToolFault.TheVariants.{Memory, Device};
 
@@ -9,7 +9,7 @@ use thiserror::Error;
 /// Why not all lines went out. (own choice)
 #[derive(Clone, Copy, Debug, PartialEq, Eq, Error)]
 pub enum ToolFault {
-    /// 1: no room for the symbols that are to be put in order.
+    /// 1: memory runs out for the symbols of a file that are shown.
     #[error("no memory")]
     Memory,
     /// 2: the device failed, in this call or before it.

@@ -1,4 +1,4 @@
-//! What stands in front of lines.
+//! The path of a file, which stands before or above its lines.
 ghost use Rattle.std.specs.Prelude.{◌≡◌, ◌++◌, [], false, if◌then◌else◌};
 ghost use Rattle.aout_core.specs.Wires.{Writes};
 

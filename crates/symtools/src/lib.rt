@@ -1,4 +1,4 @@
-//! What a file's symbol table and sizes look like: the lines of nm and size.
+//! The lines of nm and size, which show a file's symbols and its sizes.
 //!
 //! Both work on files of all four magics, linked or not. Lines go out through a `Wire`; on a fault a prefix of them
 //! went out.

@@ -15,11 +15,11 @@ use aout_core::{DeviceFault, File, Symbol, Wire};
 use std::alloc::{AllocError, Global};
 use std::io::Write;
 
-/// The symbols of each file's symbol table, a line each as `line` has it, in the order that the options ask for; the
-/// files stay in the order given. With several files, a line with the file and `:` stands above its lines, unless
-/// the options want the file before each line. (nm(1))
+/// Writes the symbols of each file that the options ask for, a line each as `line` has it, in the order that they ask
+/// for; the files stay in the order given. With several files, a line with the file's path and `:` stands above its
+/// lines, unless the options want the path before each line. (nm(1))
 ///
-/// Errors: `Memory`, 1, where there is no room for the symbols of a file; `Device`, 2, where the device failed, in
+/// Errors: `Memory`, 1, where memory runs out for the symbols of a file; `Device`, 2, where the device failed, in
 /// this call or before it.
 pub fn nm<W: Write>(
     alloc: Global,
@@ -41,7 +41,7 @@ pub fn nm<W: Write>(
     Ok(())
 }
 
-/// The list of one file, with the file above it or not.
+/// Writes the lines of one file, with its path above them or not.
 fn list_file<W: Write>(
     alloc: Global,
     path: &str,
@@ -119,14 +119,14 @@ fn is_shown(symbol: &Symbol, options: NmOptions) -> bool
         && (!options.undefined || is_shown_undefined(symbol))
 }
 
-/// Symbols of one name keep their order.
+/// Sorts by name; symbols of one name keep their order.
 fn sort_by_name(list: &mut Vec<Symbol>) -> Result<(), AllocError>
     ensures { OnOk result (list.new.items ≡ in_order name_before list.old.items) }
 {
     list.sort_by_key(|symbol| symbol.name)
 }
 
-/// By name where the values are equal; symbols of one value and name keep their order.
+/// Sorts by value, and by name where values are equal; symbols of one value and name keep their order.
 fn sort_by_value(list: &mut Vec<Symbol>) -> Result<(), AllocError>
     ensures { OnOk result (list.new.items ≡ in_order value_before list.old.items) }
 {

@@ -10,7 +10,7 @@ pub struct NmOptions {
     pub external: bool,
     /// `-n`: by value, then by name.
     pub by_value: bool,
-    /// `-o`: the file stands before each line, and not above its lines.
+    /// `-o`: the file's path stands before each line, and not above its lines.
     pub each_line: bool,
     /// `-p`: in the order of the table, whatever `by_value` and `reverse` say. (own choice)
     pub table_order: bool,

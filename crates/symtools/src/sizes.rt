@@ -11,8 +11,8 @@ use crate::front::put_front;
 use aout_core::{DeviceFault, File, Header, Wire};
 use std::io::Write;
 
-/// A line for each file: the sizes of text, data and bss in bytes, and their sum in decimal and in octal, as
-/// `4+2+2 = 8b = 010b`; with several files, the file and `: ` stand in front. (own choice)
+/// Writes a line for each file: the sizes of text, data and bss in bytes, and their sum in decimal and in octal, as
+/// `4+2+2 = 8b = 010b`; with several files, the file's path and `: ` stand before it. (own choice)
 ///
 /// It takes no memory. Its only error is `Device`, 2: the device failed, in this call or before it.
 pub fn size<W: Write>(files: &[(String, File)], out: &mut Wire<W>) -> Result<(), ToolFault>

@@ -8,8 +8,8 @@ use crate::buffer::LineBuffer;
 use aout_core::{DeviceFault, Symbol, Wire};
 use std::io::Write;
 
-/// The nm line of one symbol, and a newline: value, space, letter, space, name. The value is six octal digits, or six
-/// blanks for the letters u and U. (nm(1))
+/// Writes the nm line of one symbol, and a newline: value, space, letter, space, name. The value is six octal digits,
+/// or six blanks for the letters u and U. (nm(1))
 ///
 /// The letter is by the type word masked with 037: 0 with value 0 is `u` and with another value `c`, 1 is `a`, 2 `t`,
 /// 3 `d`, 4 `b`, 024 `r`, 037 `f`, any other `a`. It is upper case for an external symbol.
@@ -31,7 +31,7 @@ fn line_text(symbol: &Symbol) -> LineBuffer
     text
 }
 
-/// The value, or blanks where it says nothing.
+/// The value, or blanks for the letters u and U.
 fn value_column(symbol: &Symbol) -> [u8; 6]
     ensures { result ≡ value_column symbol.now }
 {

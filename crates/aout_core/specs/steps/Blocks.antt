@@ -28,13 +28,13 @@ EndsBefore Truncated old new size = EndsEarly old new 0 size
 EndsBefore Device old new size = Unit {0}
 EndsBefore fault old new size = ⊥
 
--- a block was read, whole
+-- so many bytes were read as a block has room for, or all that were missing where they are fewer
 pub record Refills (block missing : ℕ) (before after : Option (List ℕ)) (new : Awaited) : Type 0 where
   pub taken : Consumes before after new.waiting
   pub size : length new.waiting ≡ min missing block
   pub left : awaited new ≡ missing
 
--- these bytes stood at the front of what waited and of what could still be read
+-- these bytes were taken: first what waited, and then what could still be read
 pub record Takes (old : Awaited) (before : Option (List ℕ)) (new : Awaited) (after : Option (List ℕ)) (out : List ℕ) : Type 0 where
   pub taken : Consumes (prepend_known old.waiting before) (prepend_known new.waiting after) out
   pub left : awaited old ≡ length out + awaited new

@@ -10,21 +10,21 @@ use Rattle.aout_core.specs.Spelling.{file_length}
 use Rattle.aout_core.specs.Front.{header_in, contents_in}
 use Rattle.aout_core.specs.Reading.{IsFileHeader}
 
--- sixteen bytes were taken, which spell this header
+-- sixteen bytes were taken, which encode this header
 pub record TakesHeader (old new : Option (List ℕ)) (h : Header) : Type 0 where
   pub start : List ℕ
   pub long : length start ≡ 16
   pub taken : Consumes old new start
   pub spelt : h ≡ header_in start
 
--- bytes were taken to the end, fewer than make up the size with those before them
+-- all bytes to the end were taken, and with the `before` bytes ahead of them they are fewer than `size`
 pub record EndsEarly (old new : Option (List ℕ)) (before size : ℕ) : Type 0 where
   pub bytes : List ℕ
   pub short : before + length bytes < size
   pub taken : Consumes old new bytes
   pub end : IsAtEnd new
 
--- the bytes behind the header were taken, and with it they spell this file
+-- the bytes behind the header were taken, and with it they encode this file
 pub record TakesBody (h : Header) (old new : Option (List ℕ)) (c : Contents) : Type 0 where
   pub body : List ℕ
   pub long : 16 + length body ≡ file_length h

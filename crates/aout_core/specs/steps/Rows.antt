@@ -1,4 +1,4 @@
--- Things of one width in a row, as the bytes spell them, and what was taken of them.
+-- Items of one width in a row, as the bytes encode them, and what was taken of them.
 use Rattle.std.specs.Prelude.{◌≡◌, ℕ, zero, suc, ◌*◌, List, [], ◌∷◌, ◌++◌, take, drop, length, slice_index, Option}
 use Rattle.aout_core.specs.declared.reloc.Reloc.{Reloc}
 use Rattle.aout_core.specs.Words.{words_in}
@@ -15,14 +15,14 @@ word_in bytes = slice_index (words_in bytes) 0
 abbrev pub reloc_in : List ℕ → Reloc
 reloc_in bytes = record { 0 = word_in bytes }
 
--- these bytes were taken, and they spell this item
+-- these bytes were taken, and they encode this item
 pub record TakesItem {A : Type 0} (item_in : List ℕ → A) (width : ℕ) (old : Awaited) (before : Option (List ℕ)) (new : Awaited) (after : Option (List ℕ)) (item : A) : Type 0 where
   pub bytes : List ℕ
   pub size : length bytes ≡ width
   pub takes : Takes old before new after bytes
   pub spelt : item ≡ item_in bytes
 
--- these bytes were taken, and the items that they spell stand behind those that were there
+-- these bytes were taken, and the items that they encode were appended to those that were there
 pub record TakesRow {A : Type 0} (item_in : List ℕ → A) (width count : ℕ) (old : Awaited) (before : Option (List ℕ)) (new : Awaited) (after : Option (List ℕ)) (items more : List A) : Type 0 where
   pub bytes : List ℕ
   pub size : length bytes ≡ width * count
