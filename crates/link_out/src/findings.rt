@@ -107,7 +107,7 @@ fn put_if_missing(names: &mut Vec<Name>, name: Name, state: State) -> Result<(),
     Ok(())
 }
 
-/// The names that nothing defines, by first mention. An error: out of memory.
+/// The names that are undefined and not reserved, by first mention. An error: out of memory.
 fn missing(alloc: Global, session: &Session) -> Result<Vec<Name>, AllocError>
     ensures { IfOk result (λ names. names.items ≡ undefined_names (mentions session.now.forced (objects session.now.entries))) }
 {

@@ -30,7 +30,7 @@ pub struct Report {
     pub reserved: Vec<Name>,
     /// The name of the entry point, where it is not in text.
     pub entry_bad: Option<Name>,
-    /// The names that nothing defines.
+    /// The names that nothing defines, but for commons and those three; none where relocation is kept.
     pub undefined: Vec<Name>,
 }
 
