@@ -1,4 +1,4 @@
--- Partial links under weaker premises, again and again, and grouped in any way. (ld(1), the option `-r`)
+-- Laws of partial links under weaker premises than in Laws, again and again, and grouped in any way. (ld(1), the option `-r`)
 --
 -- Large programs are linked in parts. These laws say when the parts may be cut as one likes.
 use Rattle.std.specs.Prelude.{◌≡◌, ℕ, true, List, [], ◌∷◌, ◌++◌, None, Ok}
@@ -29,7 +29,7 @@ behind before DataSeg offset = plus (total DataSeg before) offset
 behind before BssSeg offset = plus (total BssSeg before) offset
 behind before _ offset = plus 0 offset
 
--- what the objects define stands among all, moved behind those before them
+-- each definition of these objects is that of its name among all objects too, moved behind those before them
 abbrev pub DefinitionsStand : List (List ℕ) → List Contents → List Contents → List Contents → Type 0
 DefinitionsStand forced before os after =
     (name : List ℕ) (segment : Segment) (offset : ℕ) → state (mentions [] os) name ≡ Defined segment offset → state (mentions forced (before ++ (os ++ after))) name ≡ Defined segment (behind before segment offset)
@@ -41,7 +41,7 @@ PartialStandsFor = (own forced : List (List ℕ)) (before os after : List Conten
     IsPartialLink own os by x → KeepsNoMore o.keep by.keep → IsPart own forced → DefinitionsStand forced before os after →
     without_multiples (link forced (before ++ x.file ∷ after) o) ≡ without_multiples (link forced (before ++ (os ++ after)) o)
 
--- alone they always stand
+-- alone the definitions always stand, so it needs no such premise
 abbrev pub PartialStandsAlways : Type 0
 PartialStandsAlways = (own forced : List (List ℕ)) (os : List Contents) (by o : Choices) (x : Outcome) → AllByRecursion IsWellFormed os →
     IsPartialLink own os by x → KeepsNoMore o.keep by.keep → IsPart own forced →

@@ -1,4 +1,4 @@
--- What linking is: when a file and a report come of these objects, told by the objects, the file and the report alone. (ld(1))
+-- What linking is: when a file and a report come of objects, forced names and options, told by all these alone. (ld(1))
 --
 -- This relation is what a reader has to believe of the link. It says of a linked file, part by part: that it holds the objects'
 -- words, relocated; what its symbol table has, row by row; that with relocation each word still has its relocation word; its
@@ -21,7 +21,7 @@ pub use Rattle.link_out.specs.LinkedTable.{shown, undefined_row, row_for, room_f
 pub use Rattle.link_out.specs.LinkedWords.{AreRelocated, row_bits, IsNamedBy, AreBits, IsKept, AreKept}
 pub use Rattle.link_out.specs.Reported.{ArePicked, IsOther, IsReported}
 
--- the header but for the sizes of the segments, and what a file may hold at most
+-- the header but for the sizes of the segments and the entry point, and what a file may hold at most
 pub record HasHeader (o : Choices) (file : Contents) : Type 0 where
   pub magic : file.header.magic ≡ magic_of o.layout
   pub symbol_size : file.header.symbol_size ≡ 12 * length file.symbols

@@ -1,7 +1,7 @@
 -- What a linked file means, told by the files that were linked and by the linked file alone. (ld(1))
 --
--- Each law is about one question: where is this word, this definition, this common now? Is this name reported, and rightly? They
--- follow from the relation of LinkedFrom, and are here for who has one such question; nothing rests on them.
+-- Each law is about one question: where is this word, this definition now? Is this name reported, and rightly? They follow from
+-- the relation of LinkedFrom, and are here for who has one such question; nothing rests on them. Places has more of them.
 use Rattle.std.specs.Prelude.{◌≡◌, ◌≢◌, ◌↔◌, ℕ, true, false, eqb, List, [], ◌∷◌, ◌++◌, map, filter, Some, Ok, slice_get}
 use Rattle.std.specs.List.{AllByRecursion}
 use Rattle.aout_core.specs.declared.symbol.Symbol.{Symbol}
@@ -26,7 +26,7 @@ WordsAreRelocated = (forced : List (List ℕ)) (before : List Contents) (k : Con
     (segment : Segment) (i w : ℕ) (r : Reloc) → slice_get (segment_words segment k) i ≡ Some w → slice_get (segment_relocs segment k) i ≡ Some r →
     IsRelocated x.file x.file.symbols (before ++ k ∷ after) before k segment i w r
 
--- and the segments hold nothing else
+-- and text and data hold nothing else
 abbrev pub ObjectsFill : Type 0
 ObjectsFill = (forced : List (List ℕ)) (os : List Contents) (o : Choices) (x : Outcome) → AllByRecursion IsObject os → link forced os o ≡ Ok x → HoldsObjects x.file os
 

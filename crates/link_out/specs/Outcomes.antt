@@ -1,6 +1,6 @@
 -- A report as its lists, a file with its report, and when the result of the code is the link.
 --
--- The code may fail for one more reason than the definition: the system gives no memory.
+-- The code may fail for one more reason than the definition: memory runs out.
 use Rattle.std.specs.Prelude.{◌≡◌, Result, Ok, Err, IsOk}
 use Rattle.link_out.specs.declared.linked.Report.{Report}
 use Rattle.link_out.specs.declared.linked.Linked.{Linked}

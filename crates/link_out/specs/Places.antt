@@ -1,6 +1,6 @@
--- What a linked file means, told of its commons, its entry word, and what a layout changes. (ld(1))
+-- What a linked file means, for its commons, entry word and undefined names, as an object, and in another layout. (ld(1))
 --
--- Like the laws of Meaning, each is about one question, follows from the relation of LinkedFrom, and has nothing that rests on it.
+-- Like the laws of Meaning, each is about one question, and follows from the relation of LinkedFrom; nothing rests on it.
 use Rattle.std.specs.Prelude.{◌≡◌, ◌≢◌, ℕ, ◌+◌, ◌≤◌, ◌⊎◌, true, false, eqb, List, [], ◌∷◌, Some, None, Ok, bytes_eq}
 use Rattle.std.specs.List.{AllByRecursion}
 use Rattle.aout_core.specs.declared.symbol.Symbol.{Symbol}
@@ -24,7 +24,7 @@ pub record IsCommon (forced : List (List ℕ)) (os : List Contents) (name : List
   pub wanted : IsWanted (mentions forced os) name size
   pub sized : eqb size 0 ≡ false
 
--- a symbol of bss with so many bytes of its own between data and bss
+-- a symbol of bss with so many bytes of its own between data and the objects' bss
 pub record HasRoom (file : Contents) (os : List Contents) (name : List ℕ) (size : ℕ) : Type 0 where
   pub row : Symbol
   pub found : entry_of file.symbols name ≡ Some row

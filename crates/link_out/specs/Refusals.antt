@@ -1,7 +1,8 @@
 -- When a link is refused, and for what, by the objects, the forced names and the options alone. (own choice)
 --
--- A file has 16 bits for an address, so a program that ends behind 65,535 has none. Its header has 16 bits for the bytes of the
--- table, which are 12 for a symbol, so a table has at most 5,461. A relocation word has 12 bits for the number of a symbol.
+-- An address has 16 bits, also the one where bss ends, so that is at most 65,535. A header has 16 bits for the bytes of the
+-- table, which are 12 for a symbol, so a table has at most 5,461 symbols. A relocation word has 12 bits for the number of a
+-- symbol.
 use Rattle.std.specs.Prelude.{◌≡◌, ◌↔◌, ℕ, ◌+◌, ◌<◌, ◌≤◌, ◌⊎◌, true, false, List, [], ◌∷◌, ◌++◌, filter, length, Some, Err, slice_get}
 use Rattle.std.specs.List.{flat_map, AllByRecursion}
 use Rattle.aout_core.specs.declared.symbol.Symbol.{Symbol}
@@ -49,7 +50,7 @@ entries _ count = count
 abbrev pub entry_count : List (List ℕ) → List Contents → Choices → ℕ
 entry_count forced os o = entries o.keep (length (kept_locals o os) + length (externals forced os))
 
--- a word refers to a name that is not bound with relocation, and whose number would be over this one
+-- a word refers to a name that a link with relocation does not bind, and whose number in the table would be over this one
 pub record HasFarWord (number : ℕ) (forced : List (List ℕ)) (os : List Contents) (o : Choices) : Type 0 where
   pub before : List Contents
   pub k : Contents
@@ -76,5 +77,6 @@ IsRefused forced os o TooManySymbols = (end : ℕ) × EndsAt forced os o end × 
 IsRefused forced os o SymbolNumber = (end : ℕ) × EndsAt forced os o end × (end ≤ 65535) × (entry_count forced os o ≤ 5461) × (o.relocatable ≡ true) × HasFarWord 4095 forced os o
 IsRefused forced os o Memory = ⊥
 
+-- the function `link` gives a fault exactly where the link is refused for it
 abbrev pub RefusedExactly : Type 0
 RefusedExactly = (forced : List (List ℕ)) (os : List Contents) (o : Choices) (fault : LinkFault) → AllByRecursion IsObject os → (link forced os o ≡ Err fault) ↔ IsRefused forced os o fault

@@ -73,14 +73,15 @@ segment_relocs TextSeg c = c.text_reloc
 segment_relocs DataSeg c = c.data_reloc
 segment_relocs _ c = []
 
--- word i of a segment of k, which is w with relocation word r, stands behind that segment of the objects before k, with its
--- address added, less what its place was carried by if it is relative to the pc
+-- word i of a segment of k, which is w with relocation word r, stands behind that segment of the objects before k: what
+-- `IsAdded` has for r is added to it, and if it is relative to the pc, how far its own segment was carried is subtracted
 pub record IsRelocated (file : Contents) (rows : List Symbol) (os before : List Contents) (k : Contents) (segment : Segment) (i w : ℕ) (r : Reloc) : Type 0 where
   pub added : ℕ
   pub is : IsAdded file.header rows os before k (kind_of r) (symbol_number r) added
   pub word : slice_get (segment_words segment file) (total segment before / 2 + i) ≡ Some (minus (plus w added) (cond (is_pc_relative r) (carried file.header os before k segment) 0))
 
--- there is nothing else: the segments hold the objects' bytes and no more, and bss besides only commons
+-- text and data are as long as the objects' together, so they hold nothing else; bss is at least as long as theirs (the commons
+-- in it are told by `AreRows`)
 pub record HoldsObjects (file : Contents) (os : List Contents) : Type 0 where
   pub text : file.header.text_size ≡ total TextSeg os
   pub «data» : file.header.data_size ≡ total DataSeg os

@@ -1,7 +1,8 @@
 -- What is reported of a link, told by the mentions. (ld(1); what is a multiple: own choice)
 --
--- Each definition that differs from the first of its name, each reserved name that the objects define, and each name that nothing
--- defines. With relocation undefined names are not reported, as a later link may define them.
+-- Each definition that differs from the first of its name, each reserved name that the objects define or make a common, and
+-- each other name that is undefined. With relocation undefined names are not reported, as a later link may define them. The
+-- entry point is told by `IsEntry` in Relocated.
 use Rattle.std.specs.Prelude.{◌≡◌, ◌≢◌, ℕ, ◌⊎◌, true, false, List, [], ◌∷◌, map}
 use Rattle.aout_core.specs.declared.symbol.Segment.{Segment}
 use Rattle.aout_core.specs.Contents.{Contents}
@@ -17,7 +18,7 @@ abbrev pub ArePicked : {A : Type 0} → (A → Type 0) → List A → List A →
 ArePicked P [] picked = picked ≡ []
 ArePicked {A = A} P (x ∷ xs) picked = (P x × ((rest : List A) × (picked ≡ x ∷ rest) × ArePicked P xs rest)) ⊎ ((P x → ⊥) × ArePicked P xs picked)
 
--- a mention that defines its name, and otherwise than the first one that does
+-- a mention that defines its name, and differently from the first one that does
 pub record IsOther (ms : List Mention) (m : Mention) : Type 0 where
   pub segment : Segment
   pub offset : ℕ

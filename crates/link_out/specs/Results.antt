@@ -2,7 +2,7 @@
 use Rattle.std.specs.Prelude.{ℕ, List, Option}
 use Rattle.aout_core.specs.Contents.{Contents}
 
--- names that are multiply defined, reserved names that are defined, an entry point that is not in text, undefined names
+-- names multiply defined, reserved names that are defined or common, an entry point that is not in text, undefined names
 pub record Findings : Type 0 where
   pub multiples : List (List ℕ)
   pub reserved : List (List ℕ)

@@ -34,7 +34,7 @@ pub enum Reply {
 /// Why a run gave no link. (own choice)
 #[derive(Clone, Copy, Debug, PartialEq, Eq, Error)]
 pub enum RunFault {
-    /// 1: no room, in any step.
+    /// 1: memory ran out, in any step.
     #[error("no memory")]
     Memory,
     /// 2: the link was refused, for another cause than memory.

@@ -54,7 +54,7 @@ fn waiting(size: u16) -> Final
     }
 }
 
-/// Whether a name is this text.
+/// Whether a name has these bytes.
 pub(crate) fn is_named(name: &Name, text: &[u8]) -> bool
     ensures { result ≡ bytes_eq name.now text.now }
 {
@@ -115,7 +115,7 @@ pub(crate) fn final_at(
     }
 }
 
-/// What becomes of the externals, by first mention. An error: no room for them.
+/// What becomes of the externals, by first mention. An error: out of memory.
 pub(crate) fn finals_of(
     alloc: Global,
     session: &Session,

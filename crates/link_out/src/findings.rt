@@ -22,12 +22,12 @@ use std::alloc::{AllocError, Global};
 /// The type word of an external that is bound to text.
 const TEXT_EXTERNAL: u16 = 0o42;
 
-/// Where a program is entered.
+/// The entry point of a program.
 #[derive(Clone, Copy, Debug)]
 pub(crate) struct EntryPoint {
     /// The address of the name that is asked for, if that is in text, and else 0.
     pub(crate) address: u16,
-    /// The name, where it is none in text.
+    /// The name that is asked for, where it is not in text.
     pub(crate) bad: Option<Name>,
 }
 
@@ -51,7 +51,7 @@ fn known_at(session: &Session, index: u16) -> State
     }
 }
 
-/// What is known of a name; one that nothing mentions is wanted at no size.
+/// What is known of a name; one that nothing mentions is wanted at size 0.
 fn state_of(session: &Session, name: &Name) -> State
     ensures { result ≡ state (mentions session.now.forced (objects session.now.entries)) name.now }
 {
@@ -71,7 +71,7 @@ fn put_if_taken(names: &mut Vec<Name>, session: &Session, name: Name) -> Result<
     Ok(())
 }
 
-/// Those of the reserved names that the objects define, or make commons. An error: no room for them.
+/// Those of the reserved names that the objects define, or make commons. An error: out of memory.
 fn reserved_taken(alloc: Global, session: &Session) -> Result<Vec<Name>, AllocError>
     ensures { IfOk result (λ names. names.items ≡ reserved_taken (mentions session.now.forced (objects session.now.entries))) }
 {
@@ -107,7 +107,7 @@ fn put_if_missing(names: &mut Vec<Name>, name: Name, state: State) -> Result<(),
     Ok(())
 }
 
-/// The names that nothing defines, by first mention. An error: no room for them.
+/// The names that are undefined and not reserved, by first mention. An error: out of memory.
 fn missing(alloc: Global, session: &Session) -> Result<Vec<Name>, AllocError>
     ensures { IfOk result (λ names. names.items ≡ undefined_names (mentions session.now.forced (objects session.now.entries))) }
 {
@@ -119,7 +119,7 @@ fn missing(alloc: Global, session: &Session) -> Result<Vec<Name>, AllocError>
     Ok(names)
 }
 
-/// The undefined names that are reported: none where relocation is kept. An error: no room for them.
+/// The undefined names that are reported: none where relocation is kept. An error: out of memory.
 fn undefined_names(
     alloc: Global,
     session: &Session,
@@ -173,7 +173,7 @@ pub(crate) fn entry_point(session: &Session, options: &Options, finals: &[Final]
     }
 }
 
-/// A copy of the names. An error: no room for it.
+/// A copy of the names. An error: out of memory.
 fn copy_of(alloc: Global, names: &[Name]) -> Result<Vec<Name>, AllocError>
     ensures { IfOk result (λ copy. copy.items ≡ names.now) }
 {
@@ -182,7 +182,7 @@ fn copy_of(alloc: Global, names: &[Name]) -> Result<Vec<Name>, AllocError>
     Ok(copy)
 }
 
-/// The report of a link, with the name of an entry point that is none in text. An error: no room for it.
+/// The report of a link, with the name of an entry point that is not in text. An error: out of memory.
 pub(crate) fn report_of(
     alloc: Global,
     session: &Session,

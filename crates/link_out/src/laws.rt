@@ -15,21 +15,21 @@ pub fn strip_law()
 
 /// A partial link stands for its objects. Its file is an object. Linked alone it gives what its objects give, but for
 /// the multiples reported; linked among others it gives what its objects give among them, if no name is multiply
-/// defined. Neither keeps a local that the partial link dropped, and the forced names are the same. (ld(1), the option
-/// `-r`)
+/// defined. Both are of links that keep no local which the partial link dropped, with the same forced names. (ld(1),
+/// the option `-r`)
 pub fn partial_law()
     ensures object { PartialIsObject }
     ensures alone { PartialStandsAlone }
     ensures among { PartialStandsAmong }
 {}
 
-/// What a linked file means, told by the files that were linked and by its own header and symbol table. (a.out(5),
-/// ld(1))
+/// What a linked file means, told by the files that were linked and by its own header and symbol table. All laws that
+/// look something up in the table are of links that keep symbols. (a.out(5), ld(1))
 ///
 /// - `words`: each word of each object stands behind those of the objects before it, with the address added of what
 ///   its relocation word names: how far that segment was carried, or what the table gives for the name; less how far
 ///   its own segment was carried, where it is relative to the pc.
-/// - `fill`: the segments hold the objects' bytes and no others, and bss what commons take besides.
+/// - `fill`: text and data hold the objects' bytes and no others, and bss at least the objects' bss.
 /// - `definitions`: where no name is multiply defined, each definition of each object is in the table, carried.
 /// - `multiples`: a name is reported so exactly where the objects have two definitions of it that differ.
 /// - `names`: without relocation, and where no name is reported undefined, each external symbol gives an address.
@@ -58,8 +58,9 @@ pub fn meaning_law()
 /// names that were forced in the partial link are a part of those that are forced later, or none. (ld(1), the option
 /// `-r`)
 ///
-/// - `stands`: it stands for its objects, but for the multiples, wherever what these define stands in the whole.
-/// - `always`: alone it always does.
+/// - `stands`: it stands for its objects, but for the multiples, where the whole defines the names that these define
+///   as they do.
+/// - `always`: linked alone it always does.
 /// - `others`: multiples included, if its objects define none of the names that are multiply defined in the whole.
 /// - `again`: linked again alone by its own options it is itself, and has no multiples to report.
 /// - `grouping`: where no name is multiply defined, links with `-r` grouped in any way change nothing.
@@ -73,10 +74,11 @@ pub fn beyond_law()
     ensures accepted { PartialIsAccepted }
 {}
 
-/// What linking is: the relation `IsLinkedFrom` of specs/LinkedFrom, told by the objects, the file and the report alone,
-/// holds exactly of what a link gives, and of one file and report at most. (ld(1), a.out(5))
+/// What linking is: the relation `IsLinkedFrom` of specs/LinkedFrom, told by the objects, the forced names, the
+/// options, the file and the report alone, holds exactly of what a link gives, and of one file and report at most.
+/// (ld(1), a.out(5))
 ///
-/// - `exactly`: a link of objects is answered with a file and a report exactly where these are linked from them.
+/// - `exactly`: a link of objects gives a file and a report exactly where these are linked from them.
 /// - `once`: no two files or reports are linked from the same objects, forced names and options.
 /// - `refused`: a link of objects is refused exactly where its end, its table or a word's number is too large, with
 ///   the first of these, told by the objects, the forced names and the options alone.

@@ -130,7 +130,7 @@ pub(crate) fn link_bases(session: &Session, options: &Options) -> Bases
     ensures value { result ≡ (plan_of session.now options.now).at }
     ensures text { result.text_end ≤ 65535 }
 {
-    // for its clauses: what the session keeps are objects, and it is within its limits
+    // for its contract: what the session keeps are objects, and it is within its limits
     let _objects = session.entries();
     segment_bases(
         options.layout(),

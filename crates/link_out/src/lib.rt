@@ -1,5 +1,5 @@
 //! The link of a session's objects: layout, final words, symbols and report; and runs of edits that end with a link.
-//! docs/LINK.md tells the rules whole.
+//! docs/LINK.md has all the rules.
 //!
 //! An example, which `library_uses` runs:
 //!

@@ -15,22 +15,22 @@ use thiserror::Error;
 /// A file and what is reported of it. (ld(1))
 #[derive(Debug, Drop)]
 pub struct Linked {
-    /// The file, to be written whole.
+    /// The linked file.
     pub file: File,
-    /// What is to be told beside it.
+    /// What is reported of it.
     pub report: Report,
 }
 
 /// What is reported of a link. Its lines stand in the order of the fields. (ld(1))
 #[derive(Debug, Drop)]
 pub struct Report {
-    /// A name for each symbol that defines it otherwise than its first definition does.
+    /// A name for each symbol whose definition of it differs from the first.
     pub multiples: Vec<Name>,
     /// Those of `_etext`, `_edata` and `_end` that the objects define, or make commons.
     pub reserved: Vec<Name>,
-    /// The name of the entry point, where it is none in text.
+    /// The name of the entry point, where it is not in text.
     pub entry_bad: Option<Name>,
-    /// The names that nothing defines.
+    /// The names that nothing defines, but for commons and those three; none where relocation is kept.
     pub undefined: Vec<Name>,
 }
 
@@ -46,7 +46,7 @@ pub enum LinkFault {
     /// 3: a relocation word would need a symbol number over 4,095.
     #[error("symbol number too large")]
     SymbolNumber,
-    /// 4: no room for the file or the report.
+    /// 4: memory ran out for the file or the report.
     #[error("no memory")]
     Memory,
 }
@@ -100,7 +100,7 @@ impl Report {
         self.write_missing(out)
     }
 
-    /// Writes a line for each name with more than one definition.
+    /// Writes a line for each name that is multiply defined or reserved.
     fn write_multiples<W: Write>(&self, out: &mut Wire<W>) -> Result<(), DeviceFault>
         ensures { Writes W.contents result out.old out.new (multiple_lines (self.now.multiples.items ++ self.now.reserved.items)) }
     {

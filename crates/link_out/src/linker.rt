@@ -77,7 +77,7 @@ fn header_for(options: &Options, bases: &Bases, rows: usize, entry: u16) -> Head
     }
 }
 
-/// The relocation words of the cells where relocation is kept, and else none. An error: no room for them.
+/// The relocation words of the cells where relocation is kept, and else none. An error: out of memory.
 fn kept_relocs(
     alloc: Global,
     options: &Options,
@@ -95,7 +95,7 @@ fn kept_relocs(
     }
 }
 
-/// The parts of the file of a link that no fault refuses. An error: no room for them.
+/// The parts of the file of a link that no fault refuses. An error: out of memory.
 fn parts_of(
     alloc: Global,
     session: &Session,
@@ -111,7 +111,7 @@ fn parts_of(
     ensures fits { IfOk result (λ parts. Fits (contents_of parts)) }
     ensures object { options.now.relocatable ≡ true → IfOk result (λ parts. IsWellFormed (contents_of parts)) }
 {
-    // for its clauses: what the session keeps are objects, and it is within its limits
+    // for its contract: what the session keeps are objects, and it is within its limits
     let _objects = session.entries();
     let text_cells = session.text_cells();
     let data_cells = session.data_cells();
@@ -155,7 +155,7 @@ fn locals_passed(session: &Session, options: &Options, bases: &Bases) -> Result<
 ///
 /// Errors, the first that applies: `DoesNotFit`, 1, where the end of bss would pass 65,535; `TooManySymbols`, 2,
 /// where more than 5,461 symbols would be written; `SymbolNumber`, 3, where a relocation word would need a number
-/// over 4,095; `Memory`, 4, where there is no room for file and report.
+/// over 4,095; `Memory`, 4, where memory runs out for file and report.
 pub fn finish(alloc: Global, session: &Session, options: &Options) -> Result<Linked, LinkFault>
     ensures value { IsLinkOf result (link session.now.forced (objects session.now.entries) options.now) }
     ensures object { options.now.relocatable ≡ true → IfOk result (λ linked. IsWellFormed linked.file) }

@@ -11,7 +11,7 @@ use thiserror::Error;
 pub enum Layout {
     /// Behind text. Magic 0407.
     Plain,
-    /// Behind text at the next multiple of 8,192, so that text can be shared (the option `-n`). Magic 0410.
+    /// Behind text at the next multiple of 020000, so that text can be shared (the option `-n`). Magic 0410.
     Pure,
     /// At 0 of a space of its own (the option `-i`). Magic 0411.
     Split,

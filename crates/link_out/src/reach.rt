@@ -65,7 +65,7 @@ pub(crate) fn has_far_word(session: &Session, options: &Options, locals: u16) ->
     requires locals { locals ≡ length (local_rows (plan_of session.now options.now) (objects session.now.entries)) }
     ensures { result ≡ has_far_word (plan_of session.now options.now) (objects session.now.entries) }
 {
-    // for its clauses: what the session keeps are objects, and it is within its limits
+    // for its contract: what the session keeps are objects, and it is within its limits
     let _entries = session.entries();
     let commons = options.lays_commons();
     let in_text = is_any_out(session, commons, locals, session.text_cells());

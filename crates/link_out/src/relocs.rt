@@ -84,7 +84,7 @@ fn reloc_of_cell(finals: &[Final], locals: u16, cell: Cell) -> Reloc
 }
 
 /// The relocation words of the cells of a segment, none of which waits for a name whose number is too large; `locals`
-/// rows stand before the externals. An error: no room for them.
+/// rows stand before the externals. An error: out of memory.
 pub(crate) fn relocs_of_cells(
     alloc: Global,
     cells: &[Cell],

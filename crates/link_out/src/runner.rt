@@ -14,7 +14,7 @@ use aout_core::Object;
 use link_session::{AddFault, Forced, Session};
 use std::alloc::{AllocError, Global};
 
-/// Adds an object, or refuses it. An error: no room for it.
+/// Adds an object, or refuses it. An error: out of memory.
 #[tactic(auto, using(crate::proofs::RunLemmas::by_edit))]
 fn add_or_refuse(session: &mut Session, label: String, object: Object) -> Result<Reply, AllocError>
     ensures { IfOk result (λ reply. IsDone session.old session.new (addition (labelled label object)) reply) }
@@ -39,7 +39,7 @@ fn withdraw_last(session: &mut Session) -> Reply
     }
 }
 
-/// Does one edit. An error: no room for it.
+/// Does one edit. An error: out of memory.
 fn reply_to(session: &mut Session, edit: Edit) -> Result<Reply, AllocError>
     ensures { IfOk result (λ reply. IsDone session.old session.new (change_of edit) reply) }
 {
@@ -49,7 +49,7 @@ fn reply_to(session: &mut Session, edit: Edit) -> Result<Reply, AllocError>
     }
 }
 
-/// Does one edit, and puts its reply last. An error: no room for it.
+/// Does one edit, and appends its reply. An error: out of memory.
 #[tactic(auto, using(crate::proofs::RunLemmas::by_edit))]
 fn put_reply(session: &mut Session, edit: Edit, replies: &mut Vec<Reply>) -> Result<(), AllocError>
     ensures { IfOk result (λ done. IsReplied session.old session.new (change_of edit) replies.old.items replies.new.items) }
@@ -59,7 +59,7 @@ fn put_reply(session: &mut Session, edit: Edit, replies: &mut Vec<Reply>) -> Res
     Ok(())
 }
 
-/// Does the edits in order, with a reply to each. An error: no room for them.
+/// Does the edits in order, with a reply to each. An error: out of memory.
 #[tactic(auto, using(crate::proofs::RunLemmas::by_edit))]
 fn replies_to(
     alloc: Global,
@@ -78,7 +78,7 @@ fn replies_to(
 /// Does the edits in order, from a session with these forced names and no objects, and links what is left: the
 /// replies, one to each edit, and the link. (ld(1); edits are an own choice)
 ///
-/// Errors: `Memory`, 1, where there is no room, in any step; `Link`, 2, where the link is refused, for another cause.
+/// Errors: `Memory`, 1, where memory runs out, in any step; `Link`, 2, where the link is refused, for another cause.
 pub fn run(
     alloc: Global,
     forced: &Forced,

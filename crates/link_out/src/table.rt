@@ -150,7 +150,7 @@ fn put_locals_of(
     Ok(())
 }
 
-/// The kept locals of all objects, in order, moved with their segments. An error: no room for them.
+/// The kept locals of all objects, in order, moved with their segments. An error: out of memory.
 fn kept_locals(
     alloc: Global,
     entries: &[Entry],
@@ -215,7 +215,7 @@ fn put_externals(
 }
 
 /// The symbol table: the kept locals, object by object, and then the externals, of which `finals` says what becomes.
-/// An error: no room for it.
+/// An error: out of memory.
 pub(crate) fn table(
     alloc: Global,
     session: &Session,

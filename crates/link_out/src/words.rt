@@ -57,7 +57,7 @@ fn word_of_cell(bases: &Bases, finals: &[Final], segment: Segment, cell: Cell) -
         .wrapping_sub(start)
 }
 
-/// The words of the cells of a segment, text or data. An error: no room for them.
+/// The words of the cells of a segment, text or data. An error: out of memory.
 pub(crate) fn words_of_cells(
     alloc: Global,
     cells: &[Cell],

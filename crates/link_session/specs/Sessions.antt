@@ -43,7 +43,7 @@ pub record Withdraws (old new : Kept) (e : Labelled) : Type 0 where
   pub marks : List Mark
   pub journal : old.journal ≡ new.journal ++ marks ∷ []
 
--- a limit is the cause where one is passed, and else that there was no memory
+-- a limit is the cause where one is passed, and else that memory ran out
 abbrev pub IsCause : Option AddFault → AddFault → Type 0
 IsCause None cause = cause ≡ Memory
 IsCause (Some limit) cause = cause ≡ limit

@@ -100,7 +100,7 @@ fn cell_at(text_cells: &[Cell], data_cells: &[Cell], place: Place) -> Cell
     }
 }
 
-/// Marks the cells of a chain, in its order. An error leaves the marks that there were in front.
+/// Marks the cells of a chain, in its order. After an error the marks that there were are a prefix of the marks.
 fn note_chain(
     text_cells: &[Cell],
     data_cells: &[Cell],

@@ -2,9 +2,9 @@
 
 /// A word of the merged image, bound as far as its objects allow.
 ///
-/// Its value takes the target as an offset in bytes from the start of the merged segment of the target. In a word that
-/// is relative to the pc its own place, too, is taken as an offset from the start of its merged segment, the text or
-/// the data. A word that waits for an external holds its offset from that. (own choice)
+/// In its value, what the word refers to counts as an offset in bytes from the start of the merged segment that is the
+/// target. In a word that is relative to the pc its own place, too, counts from the start of its merged segment, the
+/// text or the data. A word that waits for an external holds its offset from that. (own choice)
 #[derive(Clone, Copy, Debug, PartialEq, Eq)]
 pub struct Cell {
     pub value: u16,

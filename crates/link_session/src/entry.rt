@@ -68,7 +68,7 @@ pub enum AddFault {
     /// 4: there would be more than 65,535 external names, forced names counted.
     #[error("names full")]
     NamesFull,
-    /// 5: no room for the object's cells, names and marks.
+    /// 5: memory ran out for the object's cells, names and marks.
     #[error("no memory")]
     Memory,
 }

@@ -1,4 +1,4 @@
-//! Names that are entered beforehand.
+//! The forced names, which are mentioned before all objects.
 ghost use Rattle.std.specs.Prelude.{◌≡◌, ◌≤◌, length, []};
 ghost use Rattle.link_session.specs.ForcedNames.{AreDifferent, takes, with_name};
 
@@ -9,7 +9,7 @@ use std::marker::Model;
 /// How many names can be forced.
 const MOST: usize = 64;
 
-/// A list of at most 64 different names. It lies in a fixed array, so it takes no memory. Contracts see it as the
+/// A list of at most 64 different names. It lies in a fixed array, and allocates nothing. Contracts see it as the
 /// list. (ld(1), the option `-u`; the limit: own choice)
 #[derive(Clone, Copy, Debug)]
 pub struct Forced {
@@ -62,7 +62,7 @@ impl Forced {
         true
     }
 
-    /// The names, in the order in which they were put. (own choice)
+    /// The names, in the order in which they were appended. (own choice)
     pub fn names(&self) -> &[Name]
         ensures value { result.now ≡ self.now }
         ensures short { length result.now ≤ 64 }

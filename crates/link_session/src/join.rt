@@ -74,7 +74,7 @@ fn make_room(image: &mut Merged, marks: &mut Vec<Mark>, file: &File) -> Result<(
     marks.reserve(entries)
 }
 
-/// Appends the object's own cells and bss, behind heads for its new names. There is room for them.
+/// Appends heads for the object's new names, and then its own cells and its bss. There is room for them.
 fn settle(image: &mut Merged, file: &File, shifts: &Shifts)
     requires names { length image.old.externals.entries ≤ 65535 }
     requires bss { image.old.bss_total + file.now.header.bss_size ≤ 65534 }

@@ -44,14 +44,14 @@ fn contains(externals: &Externals, name: &Name) -> bool
     externals.contains_key(name)
 }
 
-/// Whether a symbol is the first to mention its name, behind these.
+/// Whether a symbol is the first to mention its name, behind these externals and these symbols.
 fn is_new(externals: &Externals, before: &[Symbol], symbol: &Symbol) -> bool
     ensures { result ≡ (is_external symbol.now && not (is_among (keys_of externals.now.entries ++ external_names before.now) symbol.now.name)) }
 {
     symbol.is_external() && !(contains(externals, &symbol.name) || mentions(before, &symbol.name))
 }
 
-/// How many names the symbols would add. This takes time by the square of their number, and no memory.
+/// How many names the symbols would add. This takes time quadratic in their number, and no memory.
 fn count_new(externals: &Externals, symbols: &[Symbol]) -> usize
     requires { 12 * length symbols.now < 2 ^ 16 }
     ensures { result ≡ new_count (keys_of externals.now.entries) symbols.now }
@@ -65,7 +65,7 @@ fn count_new(externals: &Externals, symbols: &[Symbol]) -> usize
     count
 }
 
-/// Whether the names would be too many. They are counted only where they may be.
+/// Whether the names would be too many. They are counted only where the external symbols could pass the limit.
 fn names_full(externals: &Externals, symbols: &[Symbol]) -> bool
     requires { 12 * length symbols.now < 2 ^ 16 }
     ensures { result ≡ nat_lt 65535 (length externals.now.entries + new_count (keys_of externals.now.entries) symbols.now) }

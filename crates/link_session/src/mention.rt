@@ -21,7 +21,7 @@ pub(crate) fn is_among(names: &[Name], name: &Name) -> bool
     names.iter().any(|known| name == known)
 }
 
-/// The place of a name and its state; one that is not there would stand last, wanted at no size.
+/// The place of a name and its state; one that is not there has the place behind the last, and is wanted at size 0.
 pub(crate) fn look_up(externals: &Externals, name: &Name) -> (usize, State)
     ensures place { result.0 ≡ place_in externals.now.entries name.now }
     ensures within { result.0 ≤ length externals.now.entries }
@@ -86,7 +86,7 @@ fn changes(was: State, says: State) -> bool
     }
 }
 
-/// Whether a name that is defined is defined again, and otherwise.
+/// Whether a name that is defined is defined again, and differently.
 fn clashes(was: State, says: State) -> bool
     ensures { result ≡ clashes was says }
 {
@@ -111,7 +111,7 @@ fn note_state(marks: &mut Vec<Mark>, kept: usize, place: usize, was: State, says
     }
 }
 
-/// Notes a name that is defined again, and otherwise. There is room for it.
+/// Notes a name that is defined again, and differently. There is room for it.
 fn note_clash(multiples: &mut Vec<Name>, name: Name, was: State, says: State)
     requires { vec_len multiples.old < vec_capacity multiples.old }
     ensures names { multiples.new.items ≡ multiples.old.items ++ cond (clashes was says) (name ∷ []) [] }

@@ -30,7 +30,7 @@ use std::alloc::{AllocError, Global};
 use std::marker::Model;
 use thiserror::Error;
 
-/// No memory was found. (own choice)
+/// Memory ran out. (own choice)
 #[derive(Clone, Copy, Debug, PartialEq, Eq, Error)]
 #[error("no memory")]
 pub struct Memory;
@@ -98,10 +98,10 @@ impl Session {
         }
     }
 
-    /// A session of no objects, whose first externals are the forced names, each wanted at no size. (ld(1), the
-    /// option `-u`)
+    /// A session of no objects, whose first externals are the forced names, each wanted at size 0. (ld(1), the option
+    /// `-u`)
     ///
-    /// Errors: `Memory`, where there is no room for them.
+    /// Errors: `Memory`, where memory runs out.
     pub fn with_forced(alloc: Global, forced: &Forced) -> Result<Session, Memory>
         ensures { IfOk result (λ session. session ≡ nothing_kept forced.now) }
     {
@@ -134,9 +134,8 @@ impl Session {
     /// now, are bound. (ld(1); the limits are an own choice)
     ///
     /// Errors, the first that applies: `TextFull`, 1, `DataFull`, 2, and `BssFull`, 3, where that segment would pass
-    /// 65,534 bytes in all; `NamesFull`, 4, where there would be more than 65,535 externals; `Memory`, 5, where there
-    /// is no room for the object's cells, names and marks. Then nothing changes, and label and object are handed
-    /// back.
+    /// 65,534 bytes in all; `NamesFull`, 4, where there would be more than 65,535 externals; `Memory`, 5, where memory
+    /// runs out for the object's cells, names and marks. Then nothing changes, and label and object are handed back.
     pub fn add(&mut self, label: String, object: Object) -> Result<(), AddRefused>
         ensures fits { OnOk result (refusal self.old.forced (objects self.old.entries) object ≡ None) }
         ensures added { OnOk result (Adds self.old self.new (labelled label object)) }
@@ -248,7 +247,7 @@ impl Session {
         }
     }
 
-    /// The names that are defined more than once, and otherwise than at first: one for each such symbol.
+    /// The names that are multiply defined: one for each symbol whose definition differs from the first of its name.
     pub fn multiples(&self) -> &[Name]
         ensures { result.now ≡ (image_of self.now).multiples }
     {

@@ -8,6 +8,6 @@ use Rattle.link_out.specs.Reports.{line}
 abbrev pub is_silent : Findings → Bool
 is_silent f = eqb (length f.multiples) 0 && (eqb (length f.reserved) 0 && (is_none f.entry_bad && eqb (length f.undefined) 0))
 
--- the lines of names with more than one definition
+-- the lines of names that are multiply defined
 abbrev pub multiple_lines : List (List ℕ) → List ℕ
 multiple_lines names = flat_map (λ n. line (n ++ codes ": Multiply defined")) names

@@ -62,7 +62,7 @@ abbrev pub state_marks : ℕ → Named → List Mention → List Mark
 state_marks kept es [] = []
 state_marks kept es (m ∷ ms) = state_mark kept es m ++ state_marks kept (mentioned es m) ms
 
--- the names that mentions define once more, and otherwise
+-- the names that mentions define once more, and differently
 abbrev pub clash : Named → Mention → List (List ℕ)
 clash es m = cond (clashes (state_for es m.name) m.says) (m.name ∷ []) []
 
@@ -161,6 +161,6 @@ next_limit m o =
     else (if nat_lt 65535 (length m.externals + new_count (keys_of m.externals) o.symbols) then Some NamesFull
     else None)))
 
--- the image once the mentions are entered, and no cell is bound
+-- the image once the mentions are entered, but no cell is bound yet
 abbrev pub entered : Image → Contents → Image
 entered m o = record m { externals = next_named m o; multiples = m.multiples ++ all_clashes m.externals (next_mentions m o) }

@@ -13,11 +13,11 @@ waiting_for k cs = filter (λ c. waits_at k c.target) cs
 abbrev pub to_bind : Named → List Cell → List Cell
 to_bind es cs = filter (λ c. is_some (binding es c)) cs
 
--- a mark more for each cell that waits for the external
+-- one more mark for each cell that waits for the external
 abbrev pub NotesWaiting : ℕ → List Cell → List Cell → List Mark → List Mark → Type 0
 NotesWaiting k texts datas old new = length new ≡ length old + (length (waiting_for k texts) + length (waiting_for k datas))
 
--- a mark more for each cell that is no more to be bound
+-- one more mark for each cell that was to be bound and no longer is
 abbrev pub NotesBound : Named → List Cell → List Cell → List Cell → List Cell → List Mark → List Mark → Type 0
 NotesBound es texts datas new_texts new_datas old new =
     length new + (length (to_bind es new_texts) + length (to_bind es new_datas)) ≡ length old + (length (to_bind es texts) + length (to_bind es datas))

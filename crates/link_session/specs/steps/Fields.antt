@@ -1,4 +1,4 @@
--- The fields of a session, and what they are worth.
+-- The fields of a session: the image that they hold, the links and heads, and what is true of them between calls.
 use Rattle.std.specs.Prelude.{◌≡◌, ℕ, ◌+◌, ◌*◌, ◌≤◌, List, [], ◌++◌, map, drop, length, None, vec_capacity}
 use Rattle.std.specs.List.{AllByRecursion}
 use Rattle.aout_core.specs.Contents.{Contents}
@@ -43,7 +43,7 @@ sizes_of m = record {
   multiples = length m.multiples;
 }
 
--- so many cells are there, and one link for each
+-- so many cells are there at least, and one link for each cell
 pub record IsBehind (s : Sizes) (m : Image) (t : Threads) : Type 0 where
   pub text : s.text_cells ≤ length m.text_cells
   pub «data» : s.data_cells ≤ length m.data_cells
@@ -56,7 +56,7 @@ unthreaded_behind s m t = record t {
   heads = unthreaded (drop s.text_cells m.text_cells) (drop s.text_cells t.text_links) (unthreaded (drop s.data_cells m.data_cells) (drop s.data_cells t.data_links) t.heads);
 }
 
--- the threads cut to these sizes, and once marks are put back
+-- the threads cut to these sizes
 abbrev pub threads_by : Sizes → Image → Threads → Threads
 threads_by s m t = cut_threads s.text_cells s.data_cells s.externals m t
 
