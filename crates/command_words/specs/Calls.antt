@@ -1,4 +1,4 @@
--- What every call of a tool keeps, and what it takes over from the words. (ld(1), nm(1), size(1), strip(1))
+-- Which call words ask for, and what holds of every call. (ld(1), nm(1), size(1), strip(1))
 --
 -- A call is a tool with its options and files. It is asked for by words if `clap` takes them, they name its tool, and its options
 -- and files are those that are read of them; nm and size without files take the program, `a.out`.
@@ -17,7 +17,7 @@ use Rattle.command_words.specs.declared.words.TheConstants.{FILE, OUT, EXTERNAL,
 use Rattle.command_words.specs.LinkWords.{AreAllowed, AreForced, forced_asked, is_given, options_asked, values_of}
 use Rattle.command_words.specs.Tools.{v7_app}
 
--- a call of a tool has files, and no option of a link excludes another
+-- a call has files, but for a session; no option of a link excludes another, and at most 64 different names are forced
 abbrev pub IsWhole : Call → Type 0
 IsWhole (Ld options forced out files) = (0 < vec_len files) × AreAllowed options × AreForced forced
 IsWhole (Nm options files) = 0 < vec_len files
@@ -60,7 +60,7 @@ files_of (Size files) = map string_bytes files.items
 files_of (Strip files) = map string_bytes files.items
 files_of (Session options forced) = []
 
--- how many of the words are a dash alone
+-- how many of the words are a dash alone; each has to be a file, since none may be the value of an option
 abbrev pub dashes_in : List (List ℕ) → ℕ
 dashes_in words = length (filter (λ word. bytes_eq word (codes "-")) words)
 

@@ -1,7 +1,7 @@
 -- The tools as the words see them: which options each takes, and which take files. (ld(1), nm(1), size(1), strip(1))
 --
--- How words are read, the definitions of the kit's `clap` say, by rules: an option is a letter, and is a flag (`Count`), has a value
--- (`Set`), or may have several (`Append`). Here are the rules of each tool.
+-- The definitions of the kit's `clap` say how words are read, given a rule for each option: its letter, and whether it is a flag
+-- (`Count`), has a value (`Set`), or may have several (`Append`). Here are the rules of each tool.
 use Rattle.std.specs.Prelude.{ℕ, true, List, [], ◌∷◌, Some, codes, fold}
 use Rattle.clap.specs.Lexer.{usize_max}
 use Rattle.clap.specs.Simple.{App, new_app, new_rule, on_top, with_rule, with_subcommand}

@@ -17,11 +17,11 @@ use std::alloc::{AllocError, Global};
 
 /// The option of a file that can be linked again.
 const RELOCATABLE: &str = "relocatable";
-/// The option without symbols.
+/// The option of a file without symbols.
 const STRIP: &str = "strip";
-/// The option without locals.
+/// The option of a file without locals.
 const EXTERNALS: &str = "externals";
-/// The option without those locals whose names begin with `L`.
+/// The option of a file without those locals whose names begin with `L`.
 const NOT_L: &str = "not-l";
 /// The option of text that can be shared.
 const PURE: &str = "pure";

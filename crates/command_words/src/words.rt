@@ -251,14 +251,14 @@ fn call_of(
     }
 }
 
-/// How many of the words are a dash alone.
+/// How many of the words are a dash alone. Each has to be a file, since none may be the value of an option.
 fn dashes(words: &[String]) -> usize
     ensures { result ≡ length (filter (λ word. bytes_eq (string_bytes word) (codes "-")) words.now) }
 {
     words.iter().filter(|word| word.as_str() == "-").count()
 }
 
-/// What the words ask for, which are those after the program's name:
+/// What the words after the program's name ask for:
 ///
 /// - `ld [-rsxXnid] [-u NAME]... [-e NAME] [-o FILE] FILE...`, where the output is `a.out` unless `-o` names it. `-s`
 ///   wins over `-x`, and that over `-X`. A name is cut at 8 bytes.

@@ -5,7 +5,7 @@ use aout_core::{Object, ReadFault, Wire, read_file, strip_file, write_file};
 use std::alloc::Global;
 use v7tools::{CliFault, load};
 
-/// A file is read; refused memory, its reader is left behind the header or further.
+/// A file is read; refused memory, its reader is left right behind the header.
 pub fn reading(alloc: Global) -> Outcome {
     let mut wire = Wire::new(TestReader::whole(&C_O));
     let answer = read_file(alloc, &mut wire);

@@ -1,4 +1,4 @@
-//! Calls that may be refused memory, each once, and how each ended: of the program `memory` and of its tests.
+//! Calls that may be refused memory, each made once, and how each ended: for the program `memory` and its tests.
 #![tactic(auto)]
 
 pub mod commands;

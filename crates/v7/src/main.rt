@@ -1,4 +1,4 @@
-//! The object tools of PDP-11 Unix, by their first word.
+//! The program `v7`: the object tools of PDP-11 Unix, each named by the first word of the command.
 #![tactic(auto)]
 
 use std::fs::File;
@@ -36,7 +36,7 @@ fn run(rt: &HostRuntime) -> io::Result<u8> {
     Ok(command(rt, words(rt)?))
 }
 
-/// Words that are not text are no words that any tool knows.
+/// Runs the command. Words that are not UTF-8 are refused with `usage`.
 fn main(rt: HostRuntime) -> ExitCode {
     match run(&rt) {
         Ok(status) => ExitCode::from(status),

@@ -38,12 +38,13 @@ pub data Asking : Type 0 where
   linking : Asking
   anything_else : Asking
 
--- what a step does: the answer, what is kept after it, and what is to be stored
+-- how a step ends: it is done, or refused, or its link is made and the file of that is to be stored
 pub data Verdict : Type 0 where
   done : Verdict
   refused : Verdict
   to_store : Outcome → Verdict
 
+-- what a step does: how it ends, its answer, and what is kept after it
 pub record Stepped : Type 0 where
   pub verdict : Verdict
   pub answer : List ℕ

@@ -1,6 +1,6 @@
 -- A writer that passes its bytes on in blocks. (own choice)
 --
--- To write a line at a time to a device costs a call each. So bytes wait until a block is full, or until they are flushed.
+-- To write each line to a device would cost a call for each. So bytes wait until a block is full, or until they are flushed.
 use Rattle.std.specs.Prelude.{ℕ, List}
 
 -- a device, and the bytes that wait for it

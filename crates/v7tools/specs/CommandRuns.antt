@@ -1,7 +1,7 @@
 -- What the program does with its words: which call it runs, what it tells of a fault, and its status. (own choice)
 --
--- Words either ask for a call, and then it is run, or they are refused and nothing is asked of the office. Without a fault the
--- status is that of the call, and standard error is left alone; with one it is 2, and the line of the fault goes there.
+-- Words either ask for a call, and then it is run, or they are refused and nothing is asked of the office (Deeds). Without a fault
+-- the status is that of the call, and standard error is left alone; with one it is 2, and the line of the fault goes there.
 use Rattle.std.specs.Prelude.{◌≡◌, ◌⊎◌, ℕ, List, [], map, Option, Result, Ok, Err, string_bytes}
 use Rattle.aout_core.specs.Wires.{Latched}
 use Rattle.symtools.specs.NmLists.{nm_text}
@@ -38,7 +38,7 @@ pub record RunsCall {W : Type 0} (contents : W → Option (List ℕ)) (words : L
   pub asks : AsksFor words call
   pub run : IsCallRun contents script call old new result before after
 
--- the words ask for no call, or memory was wanted to read them: nothing is asked of the office, and nothing is written
+-- the words ask for no call, or memory ran out while they were read: nothing is asked of the office, and nothing is written
 pub record RefusesWords {W : Type 0} (words : List (List ℕ)) (old new : History) (result : Result ℕ CliFault) (before after : Latched W) : Type 0 where
   pub fault : CliFault
   pub of_words : IsOfWords fault
@@ -46,17 +46,18 @@ pub record RefusesWords {W : Type 0} (words : List (List ℕ)) (old new : Histor
   pub asked : Extends old new []
   pub refuses : Refuses fault result before after
 
--- what the words ask for was done
+-- the words were refused, or the call that they ask for was run
 abbrev pub RunsWords : {W : Type 0} → (W → Option (List ℕ)) → List (List ℕ) → Option (List ℕ) → History → History → Result ℕ CliFault → Latched W → Latched W → Type 0
 RunsWords contents words script old new result before after =
     RefusesWords words old new result before after ⊎ RunsCall contents words script old new result before after
 
--- the status of the program, and what is written to standard error: nothing, or with 2 the line of a fault
+-- the status of the program, and what is written to standard error: nothing, or with 2 the line of a fault, of which only
+-- a prefix goes out where that device fails
 abbrev pub Ends : {E : Type 0} → (E → Option (List ℕ)) → Result ℕ CliFault → ℕ → Latched E → Latched E → Type 0
 Ends contents (Ok answer) status before after = (status ≡ answer) × (after ≡ before)
 Ends contents (Err fault) status before after = (status ≡ 2) × PutsUnless after.has_failed (contents before.device) (contents after.device) (fault_line fault)
 
--- the words were done, and the program ended so
+-- the words were refused or their call was run, and the program ended so
 abbrev pub Performs : {W E : Type 0} → (W → Option (List ℕ)) → (E → Option (List ℕ)) → List (List ℕ) → Option (List ℕ) → History → History → ℕ → Latched W → Latched W → Latched E → Latched E → Type 0
 Performs out_contents error_contents words script old new status out_before out_after error_before error_after =
     (result : Result ℕ CliFault) × RunsWords out_contents words script old new result out_before out_after × Ends error_contents result status error_before error_after

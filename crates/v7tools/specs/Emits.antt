@@ -1,4 +1,4 @@
--- What a writer holds behind a text, unless it failed. (own choice)
+-- What a writer holds after a text was written to it: all of the text, or where it failed a prefix. (own choice)
 use Rattle.std.specs.Prelude.{ℕ, Bool, true, false, List, Option}
 use Rattle.std.specs.Io.KnownBytes.{Appends}
 use Rattle.aout_core.specs.Wires.{AppendsFront}

@@ -57,7 +57,7 @@ cause_text path (bad_file fault) = read_text path fault
 cause_text path (bad_object fault) = at_file path (object_text fault)
 cause_text path (not_added fault) = add_text path fault
 
--- the text of a fault of the program, without what stands in front of every one
+-- the text of a fault of the program, without the `v7: ` that its line begins with
 abbrev pub cli_text : CliFault → List ℕ
 cli_text faults.Usage = codes "usage"
 cli_text (faults.CannotOpen path) = at_file (string_bytes path) (codes "cannot open")

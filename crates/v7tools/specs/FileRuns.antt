@@ -22,11 +22,11 @@ use Rattle.v7tools.specs.declared.link_answers.Stored.TheVariants.{Kept, NotCrea
 abbrev pub Loaded : Type 0
 Loaded = String Global × Contents
 
--- the file at a path was opened, and its bytes are known or not; this is said of them
+-- the file at a path was opened, and this holds of its bytes, where they are known
 abbrev pub OpensOn : History → History → String Global → (List ℕ → Type 0) → Type 0
 OpensOn old new path holds = (known : Option (List ℕ)) × Extends old new (opened (string_bytes path) (Some known) ∷ []) × IfSome known holds
 
--- the file at a path was opened and read, or why it was not
+-- the file at a path was opened and read, or why it was not; memory runs out only behind a header of a file
 abbrev pub IsLoadAt : History → History → String Global → Result Loaded CliFault → Type 0
 IsLoadAt old new path (Ok loaded) = (loaded.0 ≡ path) × OpensOn old new path (λ bytes. front bytes ≡ Ok loaded.1)
 IsLoadAt old new path (Err (faults.CannotOpen at)) = (at ≡ path) × Extends old new (opened (string_bytes path) None ∷ [])
@@ -34,7 +34,7 @@ IsLoadAt old new path (Err (faults.BadFile at fault)) = (at ≡ path) × (fault 
 IsLoadAt old new path (Err faults.Memory) = OpensOn old new path HasHeader
 IsLoadAt old new path (Err _) = ⊥
 
--- each of the files that were opened is what was read
+-- what was read at each path is what the bytes of the file that was opened there give, where they are known
 abbrev pub AreRead : List Opened → List Loaded → Type 0
 AreRead [] [] = Unit {0}
 AreRead (f ∷ fs) (l ∷ ls) = ((f.0 ≡ string_bytes l.0) × IfSome f.1 (λ bytes. front bytes ≡ Ok l.1)) × AreRead fs ls
@@ -60,7 +60,7 @@ pub record ReadsUpTo (old new : History) (files : List (String Global)) (fault :
 abbrev pub ReadsAll : History → History → List (String Global) → List Loaded → Type 0
 ReadsAll old new files loaded = (files ≡ map (λ l. l.0) loaded) × Reads old new loaded
 
--- only those up to one that was not read; or there was no memory before
+-- only those up to one that was not read; or memory ran out before any was opened
 abbrev pub ReadsNotAll : History → History → List (String Global) → CliFault → Type 0
 ReadsNotAll old new files fault = ((fault ≡ faults.Memory) × Extends old new []) ⊎ ReadsUpTo old new files fault
 

@@ -33,7 +33,7 @@ pub record DoesStep (did : Stepped) (r : LineRun) : Type 0 where
   pub status : r.status ≡ status_after did.verdict
   pub entries : r.kept.entries ≡ did.kept
 
--- the file that was opened is added on its bytes, where they are known; its device may fail, and behind a header of a
+-- the file that was opened is added by its bytes, where they are known; its device may fail, and behind a header of a
 -- file memory may run out
 abbrev pub IsAddOf : Option (List ℕ) → Kept → List ℕ → Stepped → Type 0
 IsAddOf known old path did =

@@ -1,7 +1,7 @@
 -- What the result of a link of files says of the bytes of its inputs. (own choice)
 --
--- Where all bytes are known, it is the link of these bytes, or the first refusal; a device that fails and a lack of memory may come
--- before it.
+-- Where all bytes are known, it is the link of these bytes, or the first refusal; but before that a device may fail, or memory
+-- run out.
 use Rattle.std.specs.declared.alloc.Global.{Global}
 use Rattle.std.specs.Prelude.{◌≡◌, ◌⊎◌, ℕ, false, List, [], ◌∷◌, Option, Some, None, Result, Ok, Err, IsOkAnd, String, string_bytes}
 use Rattle.aout_core.specs.declared.file.ReadFault.TheVariants as reads
@@ -16,7 +16,7 @@ use Rattle.v7tools.specs.Inputs.{bad_file, bad_object, not_added, Refusal, of_in
 use Rattle.v7tools.specs.declared.fault.CliFault.{CliFault}
 use Rattle.v7tools.specs.declared.fault.CliFault.TheVariants as faults
 
--- a path and its bytes in front of others, where they are told
+-- a path and its bytes before others, where they are told
 abbrev pub and_told : List ℕ → Option (List ℕ) → Option (List (List ℕ × List ℕ)) → Option (List (List ℕ × List ℕ))
 and_told path None rest = None
 and_told path (Some bytes) None = None
@@ -37,7 +37,7 @@ pub data Said : Type 0 where
   says_nothing : Said
   never : Said
 
--- a device that fails and a lack of memory say nothing; no other fault than these comes from a link
+-- where a device failed or memory ran out a fault says nothing; no other fault than these comes from a link
 abbrev pub said_by : CliFault → Said
 said_by (faults.BadFile path reads.Device) = says_nothing
 said_by (faults.BadFile path reads.Memory) = never
@@ -54,7 +54,7 @@ abbrev pub IsPossible : Said → Type 0
 IsPossible never = ⊥
 IsPossible _ = Unit {0}
 
--- what is said is true where this is to be answered
+-- what is said is true where the bytes give this
 abbrev pub IsTrueOf : {A : Type 0} → Said → Result A Refusal → Type 0
 IsTrueOf (refuses r) answer = answer ≡ Err r
 IsTrueOf says_nothing answer = Unit {0}
@@ -65,7 +65,7 @@ abbrev pub IsReached : List (List ℕ) → List Labelled → List ℕ → List (
 IsReached forced kept path [] = ⊥
 IsReached forced kept path (i ∷ is) = (i.0 ≡ path) ⊎ IsOkAnd (with_input forced kept i.0 i.1) (λ more. IsReached forced more path is)
 
--- where the fault is that a device broke off, it is the device of such an input
+-- where the fault is that the device at a path failed, the inputs before one at this path are all taken
 abbrev pub BreaksAt : List (List ℕ) → List Labelled → List (List ℕ × List ℕ) → CliFault → Type 0
 BreaksAt forced kept inputs fault = (path : String Global) → fault ≡ faults.BadFile path reads.Device → IsReached forced kept (string_bytes path) inputs
 

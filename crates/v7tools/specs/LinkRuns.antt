@@ -65,7 +65,7 @@ pub record MakesNoLink {W : Type 0} (forced : List (List ℕ)) (o : Choices) (fi
   pub asked : Extends old new (opens found)
   pub refuses : Refuses fault result before after
 
--- there is a link: its file is to be stored behind all that was opened, and then it is reported
+-- there is a link: after all files were opened its file is to be stored, and if that is done the link is reported
 pub record StoresLink {W : Type 0} (contents : W → Option (List ℕ)) (forced : List (List ℕ)) (o : Choices) (out : String Global) (files : List (List ℕ)) (old new : History) (result : Result ℕ CliFault) (before after : Latched W) : Type 0 where
   pub made : Linked
   pub what : Stored

@@ -1,4 +1,4 @@
--- What a file is that was read at a path. (own choice)
+-- What `load` returns for the file at a path, by what `read_file` returns for its bytes. (own choice)
 --
 -- `load` is `read_file` with the path: the path comes back with the file, or stands in the fault.
 use Rattle.std.specs.Prelude.{◌≡◌, ◌≢◌, Result, Ok, Err, String}
@@ -9,7 +9,7 @@ use Rattle.aout_core.specs.Contents.{Contents}
 use Rattle.v7tools.specs.declared.fault.CliFault.{CliFault}
 use Rattle.v7tools.specs.declared.fault.CliFault.TheVariants as faults
 
--- what the reader answered
+-- what `read_file` returned
 abbrev pub read_of : Result (String Global × Contents) CliFault → Result Contents ReadFault
 read_of (Ok loaded) = Ok loaded.1
 read_of (Err (faults.BadFile path fault)) = Err fault

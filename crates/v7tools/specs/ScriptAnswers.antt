@@ -22,12 +22,12 @@ asked_by lines.Undefined = for_undefined
 asked_by (lines.Link path) = to_link (string_bytes path)
 asked_by lines.Bad = for_nothing
 
--- an answer of a call: a line, the end, or a fault
+-- what a call returns: a line, the end, or a fault
 abbrev pub Answer : Type 0
 Answer = Result (Option Line) CliFault
 
--- a script: its reader, the bytes that were read and not taken, how many lines it gave, and the answer of each further
--- call, once that is settled
+-- a script: its reader, the bytes that were read and not taken, how many lines it gave, and what each further call
+-- returns, once that is settled
 pub record Progress (R : Type 0) : Type 0 where
   pub wire : Latched R
   pub held : List ℕ
@@ -104,7 +104,7 @@ abbrev pub FailsInLine : List ℕ → List ℕ → Type 0
 FailsInLine bytes left = (front : List ℕ) × HasNone front × (length front ≤ 4096) × (bytes ≡ front ++ left)
 
 -- behind so many lines, the answer is the next that these bytes give, and leaves those behind it; with a last line that
--- lacks its newline, and with no other, the end is settled
+-- lacks its newline, and with no other, the end is settled; no other fault comes (Settles)
 abbrev pub IsNextOf : ℕ → List ℕ → List ℕ → Option Answer → Answer → Type 0
 IsNextOf n bytes left settled (Ok (Some line)) = TakesLine n bytes left (asked_by line) × (IsSome settled ↔ HasNone bytes)
 IsNextOf n bytes left settled (Ok None) = TakesNone n bytes left

@@ -1,7 +1,8 @@
 -- What a session does with the lines of a script, and its status. (own choice)
 --
--- Each line is run on what the line before it left (LineRuns). A session asks and answers all that its lines do, one behind another,
--- and its status is the largest of theirs. It ends behind the last line, at a fault of the script, or where an answer can't be written.
+-- Each line is run on what the line before it left (LineRuns). What a session asks of the office, and what it answers, is that of
+-- its lines, one behind another, and its status is the largest of theirs. It ends behind the last line, at a fault of the script, or
+-- where an answer can't be written.
 use Rattle.std.specs.Prelude.{◌≡◌, ◌⊎◌, ℕ, max, List, [], ◌∷◌, ◌++◌, map, Option, Some, None, Result, Ok, Err, IfSome, IsTrue}
 use Rattle.std.specs.List.{flat_map}
 use Rattle.std.specs.Io.KnownBytes.{Appends}
@@ -81,7 +82,7 @@ pub record RunsUpTo {W : Type 0} (contents : W → Option (List ℕ)) (forced : 
   pub stops : StopsBehind script (lines_asked runs) fault
   pub refusal : result ≡ Err fault
 
--- one more line was run behind those, and of its answer a prefix went out
+-- behind the lines whose answers went out whole one more was run, and of its answer a prefix went out
 pub record BreaksOff {W : Type 0} (contents : W → Option (List ℕ)) (forced : List (List ℕ)) (o : Choices) (script : Option (List ℕ)) (old new : History) (result : Result ℕ CliFault) (before after : Latched W) : Type 0 where
   pub runs : List LineRun
   pub kept : Kept

@@ -1,7 +1,7 @@
 -- What a step of a session does, as far as its reader's bytes are known and memory is found. (own choice)
 --
--- A step does what the definition `step` says of the command, by what its path leads to. Two things are not told by the command and
--- the session: whether a device failed, and whether there was memory. Here is what each may change, and what goes out.
+-- A step does what the definition `step` (Answers) says of the command, by what its path leads to. Two things are not told by the
+-- command and the session: whether a device failed, and whether there was memory. Here is what each may change, and what goes out.
 use Rattle.std.specs.Prelude.{◌≡◌, ◌⊎◌, ℕ, false, List, Option, Some, None, Result, IfOk, IfSome, IsOk, string_bytes}
 use Rattle.aout_core.specs.Contents.{Contents}
 use Rattle.aout_core.specs.Reading.{HasHeader}
@@ -24,7 +24,7 @@ use Rattle.v7tools.specs.Inputs.{Cause, kept_with}
 use Rattle.v7tools.specs.FaultTexts.{no_memory}
 use Rattle.v7tools.specs.Answers.{absent, failing, giving, adding, withdrawing, listing_externals, listing_undefined, anything_else, Verdict, done, refused, to_store, Stepped, add_step, input_from, link_step, step}
 
--- what a step answers
+-- the verdict on a step that the code returns
 abbrev pub verdict_of : Step → Verdict
 verdict_of Done = done
 verdict_of Refused = refused
@@ -36,7 +36,7 @@ verdict_of (ToStore l) = to_store (outcome_of l)
 abbrev pub without_memory : List Labelled → Stepped
 without_memory kept = record { verdict = refused; answer = line no_memory; kept = kept }
 
--- the file at a path is added on its bytes, where they are known; else on some file, or some cause that there is none
+-- the file at a path is added by its bytes, where they are known; else as some file, or refused for some cause
 abbrev pub IsAddOn : Option (List ℕ) → List (List ℕ) → List Labelled → List ℕ → Stepped → Type 0
 IsAddOn (Some bytes) forced kept path did = did ≡ add_step kept path (input_from forced kept path (giving bytes))
 IsAddOn None forced kept path did = (found : Result Contents Cause) × (did ≡ add_step kept path (kept_with forced kept path found))
@@ -61,9 +61,9 @@ IsStepOn remaining old o Undefined did = did ≡ step old.forced o old.entries l
 IsStepOn remaining old o Link did = IsLinkBy old.entries (link old.forced (objects old.entries) o) did
 IsStepOn remaining old o Bad did = did ≡ step old.forced o old.entries anything_else
 
--- ---- what is left behind it
+-- ---- what a step leaves
 
--- an addition that is done puts an object last, and a withdrawal that is done takes one away; nothing else changes a session
+-- an addition that is done appends an object, and a withdrawal that is done takes the last; nothing else changes a session
 abbrev pub AddsIf : Verdict → Kept → Kept → Type 0
 AddsIf done old new = (e : Labelled) × Adds old new e
 AddsIf _ old new = new ≡ old

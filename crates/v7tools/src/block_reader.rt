@@ -5,7 +5,8 @@ ghost use Rattle.aout_core.specs.declared.block.TheConstants.{BLOCK_SIZE};
 use aout_core::{Block, DeviceFault, Wire};
 use std::io::Read;
 
-/// A wire, and the bytes that were read from it and not taken yet. Of each block that was read a byte was taken.
+/// A wire, and the bytes that were read from it and not taken yet. They are fewer than a block, since a block is read
+/// only to take a byte of it.
 #[derive(Drop)]
 pub(crate) struct BlockReader<R> {
     wire: Wire<R>,

@@ -18,20 +18,20 @@ use std::fmt::{Display, Formatter};
 use std::io::Write;
 use symtools::ToolFault;
 
-/// Why a command came to no end. Out of memory is `Memory` alone, whatever was being done. (own choice)
+/// Why a command failed. Where memory runs out it is `Memory`, whatever was being done. (own choice)
 #[derive(Debug, Drop)]
 pub enum CliFault {
     /// 1: the words ask for nothing that there is.
     Usage,
     /// 2: there is no file at this path, or it may not be read.
     CannotOpen(String),
-    /// 3: what stands at this path is no file of the format.
+    /// 3: what stands at this path is no a.out file, or its device failed.
     BadFile(String, ReadFault),
     /// 4: the file at this path is no object.
     BadObject(String, ObjectFault),
     /// 5: the object at this path has no room behind those before it.
     NotAdded(String, AddFault),
-    /// 6: the objects give no file.
+    /// 6: the objects can't be linked.
     NotLinked(LinkFault),
     /// 7: no file can be made at this path.
     CannotCreate(String),

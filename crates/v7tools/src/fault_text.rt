@@ -105,7 +105,7 @@ pub(crate) fn link_text<'a>(fault: LinkFault) -> FaultText<'a>
     })
 }
 
-/// Writes a path and what stands behind it, if there is a path.
+/// Writes a path and `: `, if there is a path.
 fn put_front<W: Write>(path: Option<&str>, out: &mut Wire<W>) -> Result<(), DeviceFault>
     ensures { Writes W.contents result out.old out.new (spelt_front path.entry) }
 {

@@ -1,4 +1,4 @@
-//! The tools: the words of a command, its files, and what it answers.
+//! The tools as commands: their words, the files that they open and store, and what they write.
 #![tactic(auto)]
 
 mod additions;

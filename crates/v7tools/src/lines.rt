@@ -18,11 +18,11 @@ pub enum Line {
     Undefined,
     /// `link PATH`: the session is linked into the file at this path.
     Link(String),
-    /// Anything else, also a line that is no text.
+    /// Anything else, also a line that is not UTF-8.
     Bad,
 }
 
-/// The path behind a word at the front of a line, where there is one.
+/// The path behind a word that a line begins with, where there is one.
 fn path_behind<'a>(word: &str, line: &'a str) -> Option<&'a str>
     ensures { MatchOption result (has_path word.now line.now ≡ false) (λ path. (has_path word.now line.now ≡ true) × (path.now ≡ drop (length word.now) line.now)) }
 {
@@ -30,7 +30,7 @@ fn path_behind<'a>(word: &str, line: &'a str) -> Option<&'a str>
     if path.is_empty() { None } else { Some(path) }
 }
 
-/// What a line that is text asks for. Memory is wanted for a path alone.
+/// What a line that is UTF-8 asks for. Memory is taken for a path alone.
 fn asked_in(alloc: Global, line: &str) -> Result<Line, AllocError>
     ensures value { IfOk result (λ it. asked_by it ≡ asked line.now) }
     ensures room { IfErr result (λ _. NamesPath (asked line.now)) }
@@ -51,7 +51,7 @@ fn asked_in(alloc: Global, line: &str) -> Result<Line, AllocError>
 }
 
 impl Line {
-    /// What the bytes of a line, without its newline, ask for. Memory is wanted for a path alone. (own choice)
+    /// What the bytes of a line, without its newline, ask for. Memory is taken for a path alone. (own choice)
     pub(crate) fn from_bytes(alloc: Global, bytes: &[u8]) -> Result<Line, AllocError>
         ensures value { IfOk result (λ line. asked_by line ≡ asked bytes.now) }
         ensures room { IfErr result (λ _. NamesPath (asked bytes.now)) }

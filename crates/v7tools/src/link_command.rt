@@ -32,7 +32,7 @@ fn open_all<O: Office>(
     Ok(inputs)
 }
 
-/// Writes a report to its end, and returns its status.
+/// Writes a report and flushes it, and returns its status.
 fn put_report<W: Write>(report: &Report, output: &mut Wire<W>) -> Result<u8, CliFault>
     ensures small { IfOk result (λ status. status ≤ 1) }
     ensures run { Reports W.contents (findings_of report.now) result output.old output.new }
@@ -59,7 +59,7 @@ fn report_stored<W: Write>(
     }
 }
 
-/// Links the files into the output, and reports it.
+/// Links the files into the file `out`, and writes the report to `output`.
 pub(crate) fn link_files<O: Office, W: Write>(
     alloc: Global,
     office: &mut O,

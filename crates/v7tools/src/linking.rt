@@ -40,7 +40,7 @@ fn take_inputs<R: Read + Drop>(
 ///
 /// Errors: for the first input that is refused, with its path, `BadFile`, 3, where it is no file or its device
 /// failed, `BadObject`, 4, where it is no object, or `NotAdded`, 5, where it passes a limit; behind the last input
-/// `NotLinked`, 6, where there is no link; `Memory`, 9, wherever there is none.
+/// `NotLinked`, 6, where there is no link; `Memory`, 9, wherever memory runs out.
 pub fn ld<R: Read + Drop>(
     alloc: Global,
     inputs: Vec<(String, Wire<R>)>,

@@ -1,4 +1,4 @@
-//! What a command asks of the world.
+//! The office of a command: what opens and stores its files.
 ghost use Rattle.std.specs.Prelude.{[], ◌∷◌, List, None, Option};
 ghost use Rattle.std.specs.Option.{option_map};
 ghost use Rattle.v7tools.specs.Deeds.{Deed, Extends, opened, stored};
@@ -7,7 +7,7 @@ use crate::link_answers::Stored;
 use aout_core::File;
 use std::io::Read;
 
-/// The files of a command, by their paths. (own choice)
+/// The files of a command, by their paths. Its `history` lists what it was asked, where that is known. (own choice)
 pub trait Office {
     /// A file that is open.
     type Source: Read + Drop;

@@ -7,7 +7,7 @@ use crate::fault::CliFault;
 use command_words::Call;
 use std::alloc::Global;
 
-/// What the words ask for, which are those after the program's name:
+/// What the words after the program's name ask for:
 ///
 /// - `ld [-rsxXnid] [-u NAME]... [-e NAME] [-o FILE] FILE...`, where the output is `a.out` unless `-o` names it. `-s`
 ///   wins over `-x`, and that over `-X`. A name is cut at 8 bytes.

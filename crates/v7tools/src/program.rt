@@ -60,9 +60,9 @@ fn run_words<O: Office, R: Read + Drop, W: Write>(
     run_call(alloc, office, script, output, call)
 }
 
-/// Does what the words ask for, which are those after the program's name, over any office and any streams: a session's
-/// script, standard output and standard error. It returns the status of the program: 0, or 1 where there was something
-/// to report, or 2 for a fault, whose line goes to standard error; without a fault nothing goes there. (own choice)
+/// Does what the words after the program's name ask for, over any office and any streams: a session's script, standard
+/// output and standard error. It returns the status of the program: 0, or 1 where there was something to report, or 2
+/// for a fault, whose line goes to standard error; without a fault nothing goes there. (own choice)
 pub fn perform<O: Office, R: Read + Drop, W: Write, E: Write>(
     alloc: Global,
     office: &mut O,
@@ -83,10 +83,10 @@ pub fn perform<O: Office, R: Read + Drop, W: Write, E: Write>(
     }
 }
 
-/// Does what the words ask for, which are those after the program's name, and returns the status of the program: 0, or
-/// 1 where there was something to report, or 2 for a fault, whose line goes to standard error. With 2 no output was
-/// opened, or a device failed while it was written, or a script could not be answered to its end; what its links stored
-/// before then stays. (own choice)
+/// Does what the words after the program's name ask for, and returns the status of the program: 0, or 1 where there was
+/// something to report, or 2 for a fault, whose line goes to standard error. With 2 the words or an input were refused
+/// before any output, or memory ran out, or no file could be made at a path, or a device failed while it was written,
+/// or a script could not be answered to its end; what was stored before then stays. (own choice)
 pub fn command<H: Runtime + AllocGlobal>(rt: &H, words: Vec<String>) -> u8
     ensures { result ≤ 2 }
 {

@@ -53,7 +53,7 @@ impl Stop {
     }
 }
 
-/// Takes a line, at most `LINE_LIMIT` bytes of it.
+/// Takes a line with its newline, and keeps it without; of one over `LINE_LIMIT` bytes it takes a byte more than that.
 fn read_line<R: Read>(reader: &mut BlockReader<R>, line: &mut Vec<u8>) -> Ending
     requires { LINE_LIMIT ≤ vec_capacity line.old }
     ensures room { LINE_LIMIT ≤ vec_capacity line.new }
@@ -170,8 +170,8 @@ impl<R: Read + Drop> Script<R> {
 
     /// The next line, or `None` at the end and at every later call. A line ends at a newline; a last one without it
     /// counts if it is not empty, and the reader is not asked again behind it. The reader is asked for a block, one
-    /// read at a time, only while the script holds no whole line, at most 4,096 bytes of one, and no byte behind the
-    /// last line that it may give; what a read gives is used at once. (own choice)
+    /// read at a time, only while what the script holds does not settle the result: no whole line, at most 4,096 bytes
+    /// of one, and no byte behind the last line that it may give. What a read gives is used at once. (own choice)
     ///
     /// Errors: `LongLine`, 11, for more than 4,096 bytes before a newline; `ManyLines`, 12, where there is anything
     /// behind 1,000,000 lines; `ScriptFailed`, 13, where the device failed; `Memory`, 9, where there is no room for a

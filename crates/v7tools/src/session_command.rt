@@ -122,7 +122,7 @@ fn answer_line<O: Office, W: Write>(
     take_step(alloc, session, options, command, answers)
 }
 
-/// Answers a line, and passes the answer on.
+/// Answers a line, and flushes the answer.
 fn pass_answer<O: Office, W: Write>(
     alloc: Global,
     office: &mut O,

@@ -2,7 +2,7 @@
 use std::io::{ErrorKind, Write};
 use std::{io, str};
 
-/// Bytes that are no text are an error here, since a runtime's standard error takes text alone.
+/// Bytes that are not UTF-8 are an error here, since a runtime's standard error takes text alone.
 #[derive(Drop)]
 pub(crate) struct StandardError<'a, H> {
     rt: &'a H,

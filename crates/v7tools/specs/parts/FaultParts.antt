@@ -3,7 +3,7 @@ use Rattle.std.specs.Prelude.{ℕ, List, [], ◌++◌, codes, decimal, Option, S
 use Rattle.std.specs.Borrow.{Bor}
 use Rattle.v7tools.specs.declared.fault_text.FaultText.{FaultText}
 
--- a path and what stands behind it
+-- a path and `: `, if there is a path
 abbrev pub spelt_front : Option (Bor (List ℕ)) → List ℕ
 spelt_front (Some path) = path.now ++ codes ": "
 spelt_front None = []

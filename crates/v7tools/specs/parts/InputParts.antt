@@ -12,7 +12,7 @@ use Rattle.v7tools.specs.declared.fault.CliFault.{CliFault}
 use Rattle.v7tools.specs.declared.fault.CliFault.TheVariants as faults
 use Rattle.v7tools.specs.LinkAnswers.{said_by, IsTrueOf, BreaksAt}
 
--- a device broke off
+-- a device failed
 abbrev pub IsDeviceFault : CliFault → Type 0
 IsDeviceFault (faults.BadFile path reads.Device) = Unit {0}
 IsDeviceFault _ = ⊥
@@ -22,7 +22,7 @@ abbrev pub without_wire : {R : Type 0} → Result (Unit {0}) (CliFault × Latche
 without_wire (Ok x) = Ok x
 without_wire (Err refused) = Err refused.0
 
--- the inputs were put behind what is kept, or why one was not
+-- the objects of the inputs were appended to those that are kept, or why one was not
 abbrev pub AreTaken : Kept → Kept → List (List ℕ × List ℕ) → Result (Unit {0}) CliFault → Type 0
 AreTaken old new inputs (Ok _) = with_inputs old.forced old.entries inputs ≡ Ok new.entries
 AreTaken old new inputs (Err fault) = IsTrueOf (said_by fault) (with_inputs old.forced old.entries inputs) × BreaksAt old.forced old.entries inputs fault

@@ -22,7 +22,7 @@ abbrev pub IsNoLink : {R : Type 0} → Command R → Type 0
 IsNoLink Link = ⊥
 IsNoLink _ = Unit {0}
 
--- the status of a step is told, and its answer went out, or on a fault a prefix of it
+-- the status of a step is returned, and its answer went out, or on a fault a prefix of it
 pub record TellsStep {W : Type 0} (contents : W → Option (List ℕ)) (did : Stepped) (left : Kept) (result : Result ℕ CliFault) (before after : Latched W) : Type 0 where
   pub entries : left.entries ≡ did.kept
   pub status : IfOk result (λ status. status ≡ status_after did.verdict)

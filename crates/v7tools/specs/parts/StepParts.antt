@@ -55,12 +55,13 @@ abbrev pub IsAddition : Option (List ℕ) → Kept → Kept → String Global �
 IsAddition known old new path (Ok _) = (object : Contents) × IsAccepted known old new (string_bytes path) object
 IsAddition known old new path (Err fault) = (new ≡ old) × (((fault ≡ faults.Memory) × IfSome known HasHeader) ⊎ IsRefusal known old path fault)
 
--- the same on some file, or some cause but that the device failed
+-- the file at a path is added by its bytes, where they are known; else as some file, or refused for some cause but a
+-- device that failed
 abbrev pub IsAddWorking : Option (List ℕ) → List (List ℕ) → List Labelled → List ℕ → Stepped → Type 0
 IsAddWorking (Some bytes) forced kept path did = did ≡ add_step kept path (input_from forced kept path (giving bytes))
 IsAddWorking None forced kept path did = (found : Result Contents Cause) × (found ≢ Err (bad_file reads.Device)) × (did ≡ add_step kept path (kept_with forced kept path found))
 
--- what the wire is like before and after an addition: the answer is that of a device that failed exactly where this did
+-- an addition, with its wire before and after: the answer is that of a device that failed exactly where the wire has
 abbrev pub IsAddOver : {R : Type 0} → (R → Option (List ℕ)) → Latched R → Latched R → List (List ℕ) → List Labelled → List ℕ → Stepped → Type 0
 IsAddOver remaining from to forced kept path did =
     (IsTrue to.has_failed × (did ≡ add_step kept path (input_from forced kept path failing)))
