@@ -1,7 +1,8 @@
 # v7: see README.md. The command `rt` of the Rattle kit has to be on the PATH.
 PREFIX ?= /usr/local
 
-# how many crates the gate checks side by side, each on one processor, with up to 3 GB: several on one crate would work longer
+# how many crates the gate checks side by side, each on one processor and in up to 3 GB of memory: several processors on one
+# crate would take more processor time in all
 LANES ?= $(shell n=$$(nproc); echo $$((n < 4 ? n : 4)))
 
 .PHONY: all demo test wrong-bodies memory bench instructions simulate lesson check-manual check-examples check-streams install clean
