@@ -1,10 +1,6 @@
 # v7: see README.md. The command `rt` of the Rattle kit has to be on the PATH.
 PREFIX ?= /usr/local
 
-# how many crates the gate checks side by side, each on one processor and in up to 3 GB of memory: several processors on one
-# crate would take more processor time in all
-LANES ?= $(shell n=$$(nproc); echo $$((n < 4 ? n : 4)))
-
 .PHONY: all demo test wrong-bodies memory bench instructions simulate lesson check-manual check-examples check-streams install clean
 
 all: build/v7
@@ -33,7 +29,7 @@ demo: build/v7
 test:
 	python3 tests/trusted.py
 	python3 tests/edits.py
-	RT_JOBS=$(LANES) rt ci
+	rt ci
 
 # further wrong bodies, which the prover has to refuse as well; NAMES are the crates whose are tried
 wrong-bodies:
