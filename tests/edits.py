@@ -1,8 +1,8 @@
 #!/usr/bin/env python3
 """Looks whether each wrong body still fits the code: each text that it takes out stands in its file exactly once.
 
-The gate tries those of must-fail/ in each crate, one for each promise. Those of wrong-bodies/ are further ones, which the
-gate only looks at here; `make wrong-bodies` has the prover refuse them as well.
+The gate has the prover refuse those of must-fail/ in each crate. Those of wrong-bodies/ are further ones, which the gate
+only looks at here; `make wrong-bodies` has the prover refuse them as well.
 """
 import glob
 import os

@@ -2,9 +2,9 @@
 """Lists the files that a reader has to trust, and fails where a promise leads to another.
 
 A promise is the contract of a public function, or what contracts see of a public type. From the definitions that it cites
-this follows the imports. Each file that they lead to has to stand in specs/ of its crate, not in a folder of STEPS there, and in the table
-"What a reader has to trust" of docs/PROOFS.md, and that table has no other. Nothing in src/ or specs/ of a crate may import the
-steps of another.
+this follows the imports. Each file that they lead to has to stand in specs/ of its crate, not in a folder of STEPS there,
+and in the table "What a reader has to trust" of docs/PROOFS.md, and that table has no other. Nothing in src/ or specs/ of a
+crate may import the steps of another.
 
 The lines that are counted are those of definitions: imports, comments and empty lines are left out.
 """
