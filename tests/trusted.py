@@ -3,8 +3,8 @@
 
 A promise is the contract of a public function, or what contracts see of a public type. From the definitions that it cites
 this follows the imports. Each file that they lead to has to stand in specs/ of its crate, not in a folder of STEPS there,
-and in the table "What a reader has to trust" of docs/PROOFS.md, and that table has no other. Nothing in src/ or specs/ of a
-crate may import the steps of another.
+and with its lines in the table "What a reader has to trust" of docs/PROOFS.md, which has no other. Nothing in src/ or
+specs/ of a crate may import the steps of another.
 
 The lines that are counted are those of definitions: imports, comments and empty lines are left out.
 """
@@ -136,11 +136,12 @@ def count(path):
 
 
 def listed():
-    """The files that the table of docs/PROOFS.md names."""
+    """The files that the table of docs/PROOFS.md names, each with its lines."""
     text = read("docs/PROOFS.md").split("## What a reader has to trust")[1].split("\n## ")[0]
-    found = set()
+    found = {}
     for crate, row in re.findall(r"^\| `(\w+)` \|(.*)$", text, re.M):
-        found.update(f"crates/{crate}/specs/{name}.antt" for name in re.findall(r"\b([A-Z]\w+)", row))
+        for name, lines in re.findall(r"\b([A-Z]\w+) (\d+)", row):
+            found[f"crates/{crate}/specs/{name}.antt"] = int(lines)
     return found
 
 
@@ -157,9 +158,10 @@ def main():
             print(f"  {count(path):4} {path}")
     print(f"{total} lines in {len(reached)} files")
     known = listed()
-    for path in sorted(reached - known):
-        faults.append(f"{path} is not in the table of docs/PROOFS.md")
-    for path in sorted(known - reached):
+    for path in sorted(reached):
+        if known.get(path) != count(path):
+            faults.append(f"{path} is not in the table of docs/PROOFS.md, or not with {count(path)} lines")
+    for path in sorted(known.keys() - reached):
         faults.append(f"{path} is in the table of docs/PROOFS.md, and no promise leads to it")
     for fault in faults:
         print(f"fault: {fault}")
