@@ -3,9 +3,6 @@
 //! those that the calls make is refused. See tests/memory.sh.
 #![tactic(auto)]
 
-#[cfg(test)]
-mod tests;
-
 use memory_calls::{Outcome, commands, files, links, scripts, sessions};
 use std::alloc::Global;
 use std::io;

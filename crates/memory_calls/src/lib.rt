@@ -1,4 +1,4 @@
-//! Calls that may be refused memory, each made once, and how each ended: for the program `memory` and its tests.
+//! Calls that may be refused memory, each made once, and how each ended: for the program `memory` and for tests.
 #![tactic(auto)]
 
 pub mod commands;

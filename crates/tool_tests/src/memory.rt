@@ -1,4 +1,4 @@
-//! The calls while none is refused memory.
+//! The calls that may be refused memory, while none is.
 use memory_calls::{Outcome, commands, files, links, scripts, sessions};
 
 #[test]
