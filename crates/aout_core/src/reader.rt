@@ -2,7 +2,7 @@
 ghost use Rattle.std.specs.Prelude.{◌≡◌, ◌↔◌, false, IfOk, IfErr, IfSome, IsTrue};
 ghost use Rattle.aout_core.specs.Contents.{has_whole_sizes};
 ghost use Rattle.aout_core.specs.Parts.{contents_of};
-ghost use Rattle.aout_core.specs.steps.ReadParts.{HasRoom, IsBodyRead, IsHeaderRead, TakesBody};
+ghost use Rattle.aout_core.specs.steps.ReadParts.{HasNoItems, HasRoom, IsBodyRead, IsHeaderRead, TakesBody};
 ghost use Rattle.aout_core.specs.Reading.{IsFileHeader, IsReadOf, LeavesAfter};
 
 use crate::file::{File, Parts, ReadFault, has_whole_sizes, is_magic};
@@ -13,35 +13,52 @@ use crate::wire::Wire;
 use std::alloc::{AllocError, Global};
 use std::io::Read;
 
+/// Makes room in the lists of parts for what their header announces.
+fn make_room(parts: &mut Parts) -> Result<(), AllocError>
+    requires { HasNoItems parts.old }
+    ensures { IfOk result (λ _. HasRoom parts.old.header parts.new) }
+{
+    let text = parts.header.text_size as usize;
+    let data = parts.header.data_size as usize;
+    let symbols = parts.header.symbol_size as usize;
+    let text_reloc = parts.header.with_relocation(parts.header.text_size) as usize;
+    let data_reloc = parts.header.with_relocation(parts.header.data_size) as usize;
+    parts.text_words.reserve_exact(text / 2)?;
+    parts.data_words.reserve_exact(data / 2)?;
+    parts.text_reloc.reserve_exact(text_reloc / 2)?;
+    parts.data_reloc.reserve_exact(data_reloc / 2)?;
+    parts.symbols.reserve_exact(symbols / 12)
+}
+
 /// Empty parts with room for what the header announces.
 fn parts_with_room(alloc: Global, header: Header) -> Result<Parts, AllocError>
     ensures { IfOk result (HasRoom header) }
 {
-    let text_reloc = header.with_relocation(header.text_size);
-    let data_reloc = header.with_relocation(header.data_size);
-    Ok(Parts {
+    let mut parts = Parts {
         header,
-        text_words: Vec::with_capacity(alloc, header.text_size as usize / 2)?,
-        data_words: Vec::with_capacity(alloc, header.data_size as usize / 2)?,
-        text_reloc: Vec::with_capacity(alloc, text_reloc as usize / 2)?,
-        data_reloc: Vec::with_capacity(alloc, data_reloc as usize / 2)?,
-        symbols: Vec::with_capacity(alloc, header.symbol_size as usize / 12)?,
-    })
+        text_words: Vec::new(alloc),
+        data_words: Vec::new(alloc),
+        text_reloc: Vec::new(alloc),
+        data_reloc: Vec::new(alloc),
+        symbols: Vec::new(alloc),
+    };
+    make_room(&mut parts)?;
+    Ok(parts)
 }
 
 /// Fills the lists of the parts, in their order.
-fn read_lists<R: Read>(mut parts: Parts, wire: &mut Wire<R>) -> Result<Parts, ReadFault>
+fn read_lists<R: Read>(parts: &mut Parts, wire: &mut Wire<R>) -> Result<(), ReadFault>
     requires works { wire.old.has_failed ≡ false }
-    requires room { HasRoom parts.header parts }
-    requires sizes { IsTrue (has_whole_sizes parts.header) }
+    requires room { HasRoom parts.old.header parts.old }
+    requires sizes { IsTrue (has_whole_sizes parts.old.header) }
     ensures device { (result ≡ Err ReadFault.Device) ↔ IsTrue wire.new.has_failed }
-    ensures value { IfOk result (λ read. TakesBody parts.header (R.remaining wire.old.device) (R.remaining wire.new.device) (contents_of read)) }
-    ensures end { IfErr result (λ fault. IsBodyRead parts.header (R.remaining wire.old.device) (R.remaining wire.new.device) (Err fault)) }
+    ensures value { IfOk result (λ _. TakesBody parts.old.header (R.remaining wire.old.device) (R.remaining wire.new.device) (contents_of parts.new)) }
+    ensures end { IfErr result (λ fault. IsBodyRead parts.old.header (R.remaining wire.old.device) (R.remaining wire.new.device) (Err fault)) }
 {
     let header = parts.header;
     let text_reloc = header.with_relocation(header.text_size) as usize;
     let data_reloc = header.with_relocation(header.data_size) as usize;
-    let symbols = header.symbol_size as usize;
+    let symbols = parts.header.symbol_size as usize;
     let mut from = Incoming::new(header.body_size());
     take_items(
         header.text_size as usize / 2,
@@ -58,7 +75,7 @@ fn read_lists<R: Read>(mut parts: Parts, wire: &mut Wire<R>) -> Result<Parts, Re
     take_items(text_reloc / 2, &mut parts.text_reloc, &mut from, wire)?;
     take_items(data_reloc / 2, &mut parts.data_reloc, &mut from, wire)?;
     take_items(symbols / 12, &mut parts.symbols, &mut from, wire)?;
-    Ok(parts)
+    Ok(())
 }
 
 /// Reads a header, and refuses one that no file has.
@@ -88,7 +105,8 @@ fn read_body<R: Read>(alloc: Global, header: Header, wire: &mut Wire<R>) -> Resu
     ensures device { (result ≡ Err ReadFault.Device) ↔ IsTrue wire.new.has_failed }
     ensures value { IsBodyRead header (R.remaining wire.old.device) (R.remaining wire.new.device) result }
 {
-    let parts = read_lists(parts_with_room(alloc, header)?, wire)?;
+    let mut parts = parts_with_room(alloc, header)?;
+    read_lists(&mut parts, wire)?;
     Ok(File::from_parts(parts))
 }
 

@@ -48,6 +48,14 @@ IsBodyRead h old new (Err Truncated) = EndsEarly old new 16 (file_length h)
 IsBodyRead h old new (Err Device) = Unit {0}
 IsBodyRead h old new (Err fault) = ⊥
 
+-- parts whose lists are empty
+pub record HasNoItems (p : Parts) : Type 0 where
+  pub no_text : p.text_words.items ≡ []
+  pub no_data : p.data_words.items ≡ []
+  pub no_text_reloc : p.text_reloc.items ≡ []
+  pub no_data_reloc : p.data_reloc.items ≡ []
+  pub no_symbols : p.symbols.items ≡ []
+
 -- parts under this header whose lists are empty and have room for what it announces
 pub record HasRoom (h : Header) (p : Parts) : Type 0 where
   pub header : p.header ≡ h

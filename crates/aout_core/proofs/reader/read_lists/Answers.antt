@@ -12,7 +12,7 @@ use Rattle.aout_core.proofs.reader.read_lists.Goals as goal
 
 pub returns-in_err-take_items-2-clause-end : goal.returns-in_err-take_items-2-clause-end
 returns-in_err-take_items-2-clause-end g c =
-    let h = c.args.parts.header in
+    let h = c.args.parts.now.header in
     let n = c.body_size.result in
     let a0 = g.R.Read.remaining c.args.wire.now.device in
     let a1 = g.R.Read.remaining c.take_items.new.wire.device in
@@ -26,7 +26,7 @@ returns-in_err-take_items-2-clause-end g c =
 
 pub returns-in_err-take_items-3-clause-end : goal.returns-in_err-take_items-3-clause-end
 returns-in_err-take_items-3-clause-end g c =
-    let h = c.args.parts.header in
+    let h = c.args.parts.now.header in
     let n = c.body_size.result in
     let a0 = g.R.Read.remaining c.args.wire.now.device in
     let a1 = g.R.Read.remaining c.take_items.new.wire.device in
@@ -44,7 +44,7 @@ returns-in_err-take_items-3-clause-end g c =
 
 pub returns-in_err-take_items-4-clause-end : goal.returns-in_err-take_items-4-clause-end
 returns-in_err-take_items-4-clause-end g c =
-    let h = c.args.parts.header in
+    let h = c.args.parts.now.header in
     let n = c.body_size.result in
     let a0 = g.R.Read.remaining c.args.wire.now.device in
     let a1 = g.R.Read.remaining c.take_items.new.wire.device in
@@ -66,7 +66,7 @@ returns-in_err-take_items-4-clause-end g c =
 
 pub returns-in_err-take_items-5-clause-end : goal.returns-in_err-take_items-5-clause-end
 returns-in_err-take_items-5-clause-end g c =
-    let h = c.args.parts.header in
+    let h = c.args.parts.now.header in
     let n = c.body_size.result in
     let a0 = g.R.Read.remaining c.args.wire.now.device in
     let a1 = g.R.Read.remaining c.take_items.new.wire.device in
@@ -92,7 +92,7 @@ returns-in_err-take_items-5-clause-end g c =
 
 pub returns-clause-value : goal.returns-clause-value
 returns-clause-value g c =
-    let h = c.args.parts.header in
+    let h = c.args.parts.now.header in
     let n = c.body_size.result in
     let a0 = g.R.Read.remaining c.args.wire.now.device in
     let a1 = g.R.Read.remaining c.take_items.new.wire.device in
@@ -114,7 +114,7 @@ returns-clause-value g c =
     let room = c.requires.room in
     let first = c.with_relocation-text_reloc.ensures.value in
     let second = c.with_relocation-data_reloc.ensures.value in
-    let read : Contents = contents_of (record c.args.parts {
+    let read : Contents = contents_of (record c.args.parts.now {
       text_words = c.take_items.new.items;
       data_words = c.take_items-2.new.items;
       text_reloc = c.take_items-3.new.items;
