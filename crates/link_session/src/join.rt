@@ -13,7 +13,8 @@ ghost use Rattle.link_session.specs.steps.Counts.{NotesBound};
 ghost use Rattle.link_session.specs.steps.Additions.{joined_image, next_limit};
 
 use crate::bind::{Mentioned, bind_names};
-use crate::chain::grow_heads;
+use crate::cell::Cell;
+use crate::chain::{Link, grow_heads};
 use crate::mark::Mark;
 use crate::mention::{Table, count_external, enter_all};
 use crate::merged::{Merged, undo};
@@ -49,6 +50,21 @@ fn data_of(file: &File) -> Words<'_>
     }
 }
 
+/// Makes room for so many cells, each with its link. An error changes nothing but room.
+fn reserve_cells(
+    cells: &mut Vec<Cell>,
+    links: &mut Vec<Link>,
+    count: usize,
+) -> Result<(), AllocError>
+    ensures cells { cells.new.items ≡ cells.old.items }
+    ensures links { links.new.items ≡ links.old.items }
+    ensures cells_room { OnOk result (vec_len cells.new + count ≤ vec_capacity cells.new) }
+    ensures links_room { OnOk result (vec_len links.new + count ≤ vec_capacity links.new) }
+{
+    cells.reserve(count)?;
+    links.reserve(count)
+}
+
 /// Makes room for an object. An error changes nothing but room.
 fn make_room(image: &mut Merged, marks: &mut Vec<Mark>, file: &File) -> Result<(), AllocError>
     ensures image { image_in image.new ≡ image_in image.old }
@@ -64,10 +80,10 @@ fn make_room(image: &mut Merged, marks: &mut Vec<Mark>, file: &File) -> Result<(
     ensures states { OnOk result (vec_len marks.new + length (filter is_external file.now.symbols) ≤ vec_capacity marks.new) }
 {
     let entries = count_external(file.symbols());
-    image.text_cells.reserve(file.text_words().len())?;
-    image.data_cells.reserve(file.data_words().len())?;
-    image.text_links.reserve(file.text_words().len())?;
-    image.data_links.reserve(file.data_words().len())?;
+    let text = file.text_words().len();
+    let data = file.data_words().len();
+    reserve_cells(&mut image.text_cells, &mut image.text_links, text)?;
+    reserve_cells(&mut image.data_cells, &mut image.data_links, data)?;
     image.heads.reserve(entries)?;
     image.externals.reserve(entries)?;
     image.multiples.reserve(entries)?;

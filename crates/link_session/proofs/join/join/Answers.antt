@@ -49,7 +49,6 @@ returns-in-Err-clause-err c =
     let v = threads_in c.bind_waiting.new.image in
     let e = entered-is m (image_in c.make_room.new.image) o c.file-file.result.now c.next_shifts-shifts.result c.symbols.result.now c.enter_all.new.externals.entries c.enter_all.new.multiples.items
     c.make_room.ensures.image c.file-file.ensures.value c.symbols.ensures.value c.next_shifts-shifts.ensures c.enter_all.ensures.names c.enter_all.ensures.multiples in
-    let table : c.symbols.result.now ≡ o.symbols = c.symbols.ensures.value ∙ ap (λ (f : Contents). f.symbols) c.file-file.ensures.value in
     let states : c.enter_all.new.marks.items ≡ state_marks (length m.externals) m.externals (next_mentions m o) = search rules in
     let texts : length b.text_cells ≡ length m.text_cells = search rules in
     let datas : length b.data_cells ≡ length m.data_cells = search rules in
@@ -63,15 +62,8 @@ pub settle-requires-clause-names : goal.settle-requires-clause-names
 settle-requires-clause-names c =
     let m = image_in c.args.image.now in
     let o = c.args.object.now in
-    let t = threads_in c.args.image.now in
-    let n : Image = record (image_in c.make_room.new.image) { externals = c.enter_all.new.externals.entries; multiples = c.enter_all.new.multiples.items } in
-    let u = threads_in c.make_room.new.image in
-    let b = image_in c.bind_waiting.new.image in
-    let v = threads_in c.bind_waiting.new.image in
     let e = entered-is m (image_in c.make_room.new.image) o c.file-file.result.now c.next_shifts-shifts.result c.symbols.result.now c.enter_all.new.externals.entries c.enter_all.new.multiples.items
     c.make_room.ensures.image c.file-file.ensures.value c.symbols.ensures.value c.next_shifts-shifts.ensures c.enter_all.ensures.names c.enter_all.ensures.multiples in
-    let table : c.symbols.result.now ≡ o.symbols = c.symbols.ensures.value ∙ ap (λ (f : Contents). f.symbols) c.file-file.ensures.value in
-    let states : c.enter_all.new.marks.items ≡ state_marks (length m.externals) m.externals (next_mentions m o) = search rules in
     subst (λ (x : Image). length x.externals ≤ 65535) (sym c.bind_waiting.ensures.else_same) (subst (λ (x : Image). length x.externals ≤ 65535) (sym e) (few_named m o c.requires.fits))
 
 pub settle-requires-clause-text_small : goal.settle-requires-clause-text_small
@@ -88,15 +80,8 @@ pub settle-requires-clause-heads_room : goal.settle-requires-clause-heads_room
 settle-requires-clause-heads_room c =
     let m = image_in c.args.image.now in
     let o = c.args.object.now in
-    let t = threads_in c.args.image.now in
-    let n : Image = record (image_in c.make_room.new.image) { externals = c.enter_all.new.externals.entries; multiples = c.enter_all.new.multiples.items } in
-    let u = threads_in c.make_room.new.image in
-    let b = image_in c.bind_waiting.new.image in
-    let v = threads_in c.bind_waiting.new.image in
     let e = entered-is m (image_in c.make_room.new.image) o c.file-file.result.now c.next_shifts-shifts.result c.symbols.result.now c.enter_all.new.externals.entries c.enter_all.new.multiples.items
     c.make_room.ensures.image c.file-file.ensures.value c.symbols.ensures.value c.next_shifts-shifts.ensures c.enter_all.ensures.names c.enter_all.ensures.multiples in
-    let table : c.symbols.result.now ≡ o.symbols = c.symbols.ensures.value ∙ ap (λ (f : Contents). f.symbols) c.file-file.ensures.value in
-    let states : c.enter_all.new.marks.items ≡ state_marks (length m.externals) m.externals (next_mentions m o) = search rules in
     let few : length c.bind_waiting.new.image.externals.entries ≤ length m.externals + length (filter is_external o.symbols) =
     subst (λ (x : Image). length x.externals ≤ length m.externals + length (filter is_external o.symbols)) (sym c.bind_waiting.ensures.else_same)
     (subst (λ (x : Image). length x.externals ≤ length m.externals + length (filter is_external o.symbols)) (sym e) (few_new m o)) in
@@ -108,15 +93,11 @@ pub returns-clause-image : goal.returns-clause-image
 returns-clause-image c =
     let m = image_in c.args.image.now in
     let o = c.args.object.now in
-    let t = threads_in c.args.image.now in
     let n : Image = record (image_in c.make_room.new.image) { externals = c.enter_all.new.externals.entries; multiples = c.enter_all.new.multiples.items } in
-    let u = threads_in c.make_room.new.image in
     let b = image_in c.bind_waiting.new.image in
-    let v = threads_in c.bind_waiting.new.image in
     let e = entered-is m (image_in c.make_room.new.image) o c.file-file.result.now c.next_shifts-shifts.result c.symbols.result.now c.enter_all.new.externals.entries c.enter_all.new.multiples.items
     c.make_room.ensures.image c.file-file.ensures.value c.symbols.ensures.value c.next_shifts-shifts.ensures c.enter_all.ensures.names c.enter_all.ensures.multiples in
     let table : c.symbols.result.now ≡ o.symbols = c.symbols.ensures.value ∙ ap (λ (f : Contents). f.symbols) c.file-file.ensures.value in
-    let states : c.enter_all.new.marks.items ≡ state_marks (length m.externals) m.externals (next_mentions m o) = search rules in
     let bound = bound-is m n o c.symbols.result.now e table c.requires.covered b c.bind_waiting.ensures.else_same c.in_default.ensures.texts c.in_default.ensures.datas in
     joined-is m b o c.file-file.result.now c.next_shifts-shifts.result bound c.file-file.ensures.value c.next_shifts-shifts.ensures (image_in c.settle.new.image) c.settle.ensures.image
 
@@ -132,7 +113,6 @@ returns-clause-threads c =
     let e = entered-is m (image_in c.make_room.new.image) o c.file-file.result.now c.next_shifts-shifts.result c.symbols.result.now c.enter_all.new.externals.entries c.enter_all.new.multiples.items
     c.make_room.ensures.image c.file-file.ensures.value c.symbols.ensures.value c.next_shifts-shifts.ensures c.enter_all.ensures.names c.enter_all.ensures.multiples in
     let table : c.symbols.result.now ≡ o.symbols = c.symbols.ensures.value ∙ ap (λ (f : Contents). f.symbols) c.file-file.ensures.value in
-    let states : c.enter_all.new.marks.items ≡ state_marks (length m.externals) m.externals (next_mentions m o) = search rules in
     let bound = bound-is m n o c.symbols.result.now e table c.requires.covered b c.bind_waiting.ensures.else_same c.in_default.ensures.texts c.in_default.ensures.datas in
     let heads = heads-are m n o c.symbols.result.now e table t u v c.make_room.ensures.threads c.bind_waiting.ensures.links c.in_default.ensures.heads in
     joined_threads m b o c.file-file.result.now c.next_shifts-shifts.result bound c.file-file.ensures.value c.next_shifts-shifts.ensures t v (threads_in c.settle.new.image) heads c.settle.ensures.threads

@@ -1,4 +1,5 @@
-use Rattle.std.proofs.Common.{◌≡◌, ◌++◌, ◌∷◌, [], ◌∙◌, ap, sym, subst, rules}
+use Rattle.std.proofs.Common.{arith, ◌≡◌, ◌++◌, ◌∷◌, [], ◌∙◌, ap, sym, subst, rules}
+use Rattle.std.proofs.lemmas.Grind.{common_steps}
 use Rattle.link_session.specs.Labelled.{objects}
 use Rattle.link_session.specs.Image.{image}
 use Rattle.link_session.specs.Undo.{undo}
@@ -30,3 +31,9 @@ invariant_of-self-2 c =
     let threads : threads_in c.undo.new.image ≡ with_heads_back step.marks.items (threads_by step.sizes m t) = c.undo.ensures.threads ∙ ap (λ ks. with_heads_back ks (threads_by step.sizes m t)) c.deref.ensures.value in
     subst (λ (P : Type 0). P) (λ i. IsSession c.self.inside.forced c.pop.new.self.items c.pop-2.new.self.items (sym image_then i) (sym threads i))
     (withdrawn_session c.self.inside.forced c.pop.new.self.items c.pop-2.new.self.items m t c.in_ok-entry.entry step session)
+
+pub unwrap-step-requires : goal.unwrap-step-requires
+unwrap-step-requires c = grind (arith, common_steps)
+
+pub returns-clause-last : goal.returns-clause-last
+returns-clause-last c = grind (arith, common_steps)
