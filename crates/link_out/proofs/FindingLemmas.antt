@@ -13,7 +13,7 @@ use Rattle.link_session.specs.States.{state}
 use Rattle.link_session.proofs.PlaceLemmas.{found_place, missing_state}
 use Rattle.link_session.proofs.MentionedLemmas.{keys-named_states, state_for-named_states}
 use Rattle.link_out.specs.Plans.{Plan}
-use Rattle.link_out.specs.Finals.{final, type_of}
+use Rattle.link_out.specs.Finals.{Final, final, type_of}
 use Rattle.link_out.specs.steps.FromCells.{finals}
 use Rattle.link_out.specs.Reports.{is_missing, undefined_names, is_in_text, entry_word, entry_found_bad}
 use Rattle.link_out.specs.steps.Entries.{text_address, text_address_at}
@@ -86,9 +86,10 @@ position-place name names =
     ∙ ap (λ (t : Bool). cond t (Some (place_of name names)) None) (sym (among-place name names))
 
 -- the address of a name in text, from the final names
-address-found : (p : Plan) (name : List ℕ) → text_address_at (finals p) (position (bytes_eq name) (names_by_first_mention p.said)) ≡ cond (is_in_text p name) (Some (final p name).address) None
-address-found p name =
-    ap (text_address_at (finals p)) (position-place name (names_by_first_mention p.said)) ∙ by_test (is_among (names_by_first_mention p.said) name) refl
+address-found : (p : Plan) (fs : List Final) (name : List ℕ) → fs ≡ finals p → text_address_at fs (position (bytes_eq name) (names_by_first_mention p.said)) ≡ cond (is_in_text p name) (Some (final p name).address) None
+address-found p fs name same =
+    ap (λ (gs : List Final). text_address_at gs (position (bytes_eq name) (names_by_first_mention p.said))) same
+    ∙ ap (text_address_at (finals p)) (position-place name (names_by_first_mention p.said)) ∙ by_test (is_among (names_by_first_mention p.said) name) refl
   where
     by_test : (t : Bool) → is_among (names_by_first_mention p.said) name ≡ t →
         text_address_at (finals p) (cond t (Some (place_of name (names_by_first_mention p.said))) None) ≡ cond (t && eqb (type_of (final p name).bound) 34) (Some (final p name).address) None
@@ -96,17 +97,17 @@ address-found p name =
     by_test false h = refl
 
 -- what is told of an entry point that has an address, and of one that has none
-pub entry_at : (p : Plan) (name : List ℕ) (address : ℕ) → Some address ≡ text_address_at (finals p) (position (bytes_eq name) (names_by_first_mention p.said)) →
+pub entry_at : (p : Plan) (fs : List Final) (name : List ℕ) (address : ℕ) → fs ≡ finals p → Some address ≡ text_address_at fs (position (bytes_eq name) (names_by_first_mention p.said)) →
     (address ≡ entry_word p (Some name)) × (None ≡ entry_found_bad p (Some name))
-entry_at p name address h = by_test (is_in_text p name) (h ∙ address-found p name)
+entry_at p fs name address same h = by_test (is_in_text p name) (h ∙ address-found p fs name same)
   where
     by_test : (t : Bool) → Some address ≡ cond t (Some (final p name).address) None → (address ≡ cond t (final p name).address 0) × (None ≡ cond t None (Some name))
     by_test true e = (cc, refl)
     by_test false e = absurd (cc)
 
-pub entry_nowhere : (p : Plan) (name : List ℕ) → None ≡ text_address_at (finals p) (position (bytes_eq name) (names_by_first_mention p.said)) →
+pub entry_nowhere : (p : Plan) (fs : List Final) (name : List ℕ) → fs ≡ finals p → None ≡ text_address_at fs (position (bytes_eq name) (names_by_first_mention p.said)) →
     (0 ≡ entry_word p (Some name)) × (Some name ≡ entry_found_bad p (Some name))
-entry_nowhere p name h = by_test (is_in_text p name) (h ∙ address-found p name)
+entry_nowhere p fs name same h = by_test (is_in_text p name) (h ∙ address-found p fs name same)
   where
     by_test : (t : Bool) → None ≡ cond t (Some (final p name).address) None → (0 ≡ cond t (final p name).address 0) × (Some name ≡ cond t None (Some name))
     by_test true e = absurd (cc)

@@ -1,6 +1,6 @@
 -- Commons, final names and undefined names, name by name.
-use Rattle.std.proofs.Common.{◌≡◌, ℕ, zero, suc, ◌+◌, ◌≤◌, Bool, true, false, cond, ◌||◌, List, [], ◌∷◌, ◌++◌, map, take, drop, length, Some, None, refl, sym, ◌∙◌, ap, arith, append_assoc, add-one}
-use Rattle.std.specs.Prelude.{bytes_eq, slice_get}
+use Rattle.std.proofs.Common.{◌≡◌, ℕ, zero, suc, ◌+◌, ◌<◌, ◌≤◌, Bool, true, false, cond, ◌||◌, List, [], ◌∷◌, ◌++◌, map, take, drop, length, Option, Some, None, refl, sym, ◌∙◌, ap, arith, append_assoc, add-one}
+use Rattle.std.specs.Prelude.{bytes_eq, slice_get, IsSome}
 use Rattle.std.proofs.Math.Seq.{take-append_seam, drop-cons}
 use Rattle.std.proofs.lemmas.Option.{slice_get_within, get_or_from_slice_get}
 use Rattle.std.proofs.lemmas.List.Sums.{sum_by-append}
@@ -34,6 +34,11 @@ pub none_behind : {A : Type 0} (xs : List A) (i : ℕ) → slice_get xs i ≡ No
 none_behind [] i h = omega arith
 none_behind (x ∷ xs) zero h = absurd (cc)
 none_behind (x ∷ xs) (suc i) h = let shorter = none_behind xs i h in omega arith
+
+-- what is read ahead of the end is there
+pub some_within : {A : Type 0} (found : Option A) (xs : List A) (i : ℕ) → found ≡ slice_get xs i → i < length xs → IsSome found
+some_within None xs i e h = absurd (omega (arith, none_behind xs i (sym e)))
+some_within (Some x) xs i e h = refl
 
 pub room_next : (total : ℕ) (es : Named) (i : ℕ) (e : List ℕ × State) → slice_get es i ≡ Some e → total + room_in (drop i es) ≡ (total + common_size e.1) + room_in (drop (i + 1) es)
 room_next total es i e h = let next = ap room_in (drop_next es i e h) in omega arith

@@ -1,11 +1,10 @@
 //! The link of what a session keeps.
 ghost use Rattle.std.specs.Prelude.{◌≡◌, ℕ, ◌≤◌, true, false, cond, List, map, [], length, IfOk, IfErr, Err};
-ghost use Rattle.std.specs.List.{list_any, AllByRecursion};
+ghost use Rattle.std.specs.List.{list_any};
 ghost use Rattle.aout_core.specs.Contents.{Contents, Fits};
 ghost use Rattle.aout_core.specs.WellFormed.{IsWellFormed};
 ghost use Rattle.aout_core.specs.Parts.{contents_of};
 ghost use Rattle.link_session.specs.Labelled.{objects};
-ghost use Rattle.link_session.specs.Sessions.{IsObject};
 ghost use Rattle.link_out.specs.Layouts.{magic_of};
 ghost use Rattle.link_out.specs.steps.FromCells as from_cells;
 ghost use Rattle.link_out.specs.Reports.{entry_word};

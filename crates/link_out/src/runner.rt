@@ -1,8 +1,10 @@
 //! Runs: edits of a session in order, then the link.
 ghost use Rattle.std.specs.Prelude.{◌≡◌, true, map, IfOk};
 ghost use Rattle.aout_core.specs.WellFormed.{IsWellFormed};
-ghost use Rattle.link_session.specs.Edits.{addition, withdrawal, answers};
+ghost use Rattle.link_session.specs.Edits.{addition, withdrawal, answers, answers_from, survivors_from};
+ghost use Rattle.link_session.specs.Labelled.{objects};
 ghost use Rattle.link_session.specs.Sessions.{labelled};
+ghost use Rattle.link_out.specs.Link.{link};
 ghost use Rattle.link_out.specs.Runs.{change_of, link_after, IsRunOf};
 ghost use Rattle.link_out.specs.steps.Replies.{IsDone, IsReplied, AreDone};
 
@@ -75,6 +77,21 @@ fn replies_to(
     Ok(replies)
 }
 
+/// Does the edits in order, and links what is left.
+fn run_on(
+    alloc: Global,
+    session: &mut Session,
+    edits: Vec<Edit>,
+    options: &Options,
+) -> Result<(Vec<Reply>, Linked), RunFault>
+    ensures value { let changes = map change_of edits.items in IsRunOf result (answers_from session.old.forced session.old.entries changes) (link session.old.forced (objects (survivors_from session.old.forced session.old.entries changes)) options.now) }
+    ensures object { options.now.relocatable ≡ true → IfOk result (λ run. IsWellFormed run.1.file) }
+{
+    let replies = replies_to(alloc, session, edits)?;
+    let linked = finish(alloc, session, options)?;
+    Ok((replies, linked))
+}
+
 /// Does the edits in order, from a session with these forced names and no objects, and links what is left: the
 /// replies, one to each edit, and the link. (ld(1); edits are an own choice)
 ///
@@ -89,7 +106,5 @@ pub fn run(
     ensures object { options.now.relocatable ≡ true → IfOk result (λ run. IsWellFormed run.1.file) }
 {
     let mut session = Session::with_forced(alloc, forced)?;
-    let replies = replies_to(alloc, &mut session, edits)?;
-    let linked = finish(alloc, &session, options)?;
-    Ok((replies, linked))
+    run_on(alloc, &mut session, edits, options)
 }

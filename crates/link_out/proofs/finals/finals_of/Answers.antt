@@ -1,9 +1,10 @@
 use Rattle.std.proofs.Common.{◌≡◌, ◌+◌, ◌++◌, ◌∷◌, [], ◌∙◌, drop, sym, ap, arith}
+use Rattle.std.proofs.lemmas.Grind.{common_steps}
 use Rattle.link_session.specs.Undo.{image_of}
 use Rattle.link_out.specs.Plans.{common_size}
 use Rattle.link_out.specs.Finals.{final_at}
 use Rattle.link_out.specs.steps.InOrder.{finals_from}
-use Rattle.link_out.proofs.InOrderLemmas.{finals_next}
+use Rattle.link_out.proofs.InOrderLemmas.{finals_next, some_within}
 use Rattle.link_out.proofs.finals.finals_of.Goals as goal
 
 pub loop-index-preserved : goal.loop-index-preserved
@@ -23,3 +24,10 @@ loop-index-preserved c =
           ∙ (λ k. items k ++ finals_from o b (offset k) (drop (i + 1) es));
       small = omega (arith, c.loop-index.invariant.small, c.common_size-offset.ensures.small);
     }
+
+pub unwrap-name-requires : goal.unwrap-name-requires
+unwrap-name-requires c =
+    some_within c.external.result (image_of c.args.session.now).externals c.loop-index.index c.external.ensures (omega (arith, c.external_count-index-end.ensures))
+
+pub returns : goal.returns
+returns c = grind (arith, common_steps)

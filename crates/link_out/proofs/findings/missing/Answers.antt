@@ -1,7 +1,9 @@
-use Rattle.std.proofs.Common.{◌≤◌, ◌+◌, ◌++◌, ◌∙◌, length, sym, ap, rules}
+use Rattle.std.proofs.Common.{arith, ◌≤◌, ◌+◌, ◌++◌, ◌∙◌, length, sym, ap, rules}
 use Rattle.link_session.specs.Labelled.{objects}
 use Rattle.link_session.specs.Mentions.{mentions}
 use Rattle.link_session.specs.Image.{named_states}
+use Rattle.link_session.specs.Undo.{image_of}
+use Rattle.link_out.proofs.InOrderLemmas.{some_within}
 use Rattle.link_out.proofs.FindingLemmas.{missing_behind, missing_more, missing_all}
 use Rattle.link_out.proofs.findings.missing.Goals as goal
 
@@ -19,3 +21,7 @@ returns c =
     let ms = mentions c.args.session.now.forced (objects c.args.session.now.entries) in
     let behind : length (named_states ms) ≤ c.loop-index.index = search rules in
     missing_all ms c.loop-index.names.items c.loop-index.index behind c.loop-index.invariant
+
+pub unwrap-name-requires : goal.unwrap-name-requires
+unwrap-name-requires c =
+    some_within c.external.result (image_of c.args.session.now).externals c.loop-index.index c.external.ensures (omega (arith, c.external_count-index-end.ensures))

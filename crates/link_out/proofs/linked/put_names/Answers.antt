@@ -1,4 +1,5 @@
-use Rattle.std.proofs.Common.{rules, ℕ, ◌++◌, List, get_or, ap, sym, ◌∙◌}
+use Rattle.std.proofs.Common.{arith, rules, ℕ, ◌++◌, List, get_or, ap, sym, ◌∙◌}
+use Rattle.std.proofs.lemmas.Grind.{common_steps}
 use Rattle.aout_core.proofs.PutsLemmas.{front_of_row, writes_in_part}
 use Rattle.link_out.proofs.linked.put_names.Goals as goal
 
@@ -13,3 +14,9 @@ returns-in_err-put_both g c =
     let is = c.as_bytes.ensures.value ∙ c.name-item.is ∙ ap (λ (d : List ℕ). get_or names i d) (sym c.as_bytes.ensures.value) in
     writes_in_part c.from_residual.ensures.0 (search rules) (search rules)
     (front_of_row f names i name old (g.W.Write.contents c.loop-name.out.device) new c.loop-name-test.true is c.loop-name.invariant.gone c.in_err-put_both.ensures.bytes)
+
+pub loop-name-preserved : goal.loop-name-preserved
+loop-name-preserved g c = grind (arith, common_steps)
+
+pub returns : goal.returns
+returns g c = grind (arith, common_steps)

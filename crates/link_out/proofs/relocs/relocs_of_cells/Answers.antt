@@ -1,0 +1,12 @@
+use Rattle.std.proofs.Common.{arith}
+use Rattle.std.proofs.lemmas.Grind.{common_steps}
+use Rattle.link_out.proofs.relocs.relocs_of_cells.Goals as goal
+
+pub reloc_of_cell-requires : goal.reloc_of_cell-requires
+reloc_of_cell-requires c = grind (arith, common_steps)
+
+pub loop-cell-preserved : goal.loop-cell-preserved
+loop-cell-preserved c = grind (arith, common_steps)
+
+pub returns : goal.returns
+returns c = grind (arith, common_steps)
