@@ -1,7 +1,7 @@
 -- The inputs one after another, and the link of what is kept of them.
 use Rattle.std.specs.declared.alloc.Global.{Global}
 use Rattle.std.proofs.Common.{◌≡◌, ℕ, List, [], ◌∷◌, Option, Some, None, Result, Ok, Err, refl, sym, ap, ◌∙◌, subst, inl, inr}
-use Rattle.std.specs.Prelude.{String, string_bytes, IsOkAnd, IfSome, IsErrAnd}
+use Rattle.std.specs.Prelude.{String, string_bytes, IfErr, IsOkAnd, IfSome, IsErrAnd}
 use Rattle.std.specs.List.{AllByRecursion}
 use Rattle.aout_core.specs.declared.file.ReadFault.TheVariants as reads
 use Rattle.aout_core.specs.Wires.{Latched}
@@ -19,7 +19,7 @@ use Rattle.v7tools.specs.declared.fault.CliFault.{CliFault}
 use Rattle.v7tools.specs.declared.fault.CliFault.TheVariants as faults
 use Rattle.v7tools.specs.FaultTexts.{fault_of_link}
 use Rattle.v7tools.specs.Inputs.{Cause, Refusal, object_in, kept_with, with_input, with_inputs, at_path, and_then, link_or_refusal, linked}
-use Rattle.v7tools.specs.LinkAnswers.{Said, said_by, refuses, says_nothing, never, IsTrueOf, IsReached, IsLinkOf, IsWorking, and_told, told}
+use Rattle.v7tools.specs.LinkAnswers.{Said, said_by, refuses, says_nothing, never, IsPossible, IsTrueOf, IsReached, IsLinkOf, IsWorking, and_told, told}
 use Rattle.v7tools.specs.parts.InputParts.{AreTaken, IsTaken}
 
 -- the inputs before those that are left are put behind what was kept
@@ -173,6 +173,14 @@ no_device links.DoesNotFit path e = absurd (cc)
 no_device links.TooManySymbols path e = absurd (cc)
 no_device links.SymbolNumber path e = absurd (cc)
 no_device links.Memory path e = absurd (cc)
+
+-- what refuses a link refuses the inputs
+pub refusal_possible : (cause : LinkFault) (r : Result Linked CliFault) → IsErrAnd r (λ f. f ≡ fault_of_link cause) → IfErr r (λ f. IsPossible (said_by f))
+refusal_possible cause (Ok l) is = tt
+refusal_possible links.DoesNotFit (Err f) is = rw is tt
+refusal_possible links.TooManySymbols (Err f) is = rw is tt
+refusal_possible links.SymbolNumber (Err f) is = rw is tt
+refusal_possible links.Memory (Err f) is = rw is tt
 
 pub linked_refused : (known : Option (List (List ℕ × List ℕ))) (forced : List (List ℕ)) (o : Choices) (old new : Kept) (cause : LinkFault) (r : Result Linked CliFault) → old ≡ nothing_kept forced →
     new.forced ≡ old.forced → IfSome known (λ all. AreTaken old new all (Ok tt)) → outcomes.IsLinkOf (Err cause) (link new.forced (objects new.entries) o) → IsErrAnd r (λ f. f ≡ fault_of_link cause) →

@@ -34,6 +34,10 @@ all_behind P (y ∷ ys) x h p = (h.0, all_behind P ys x h.1 p)
 pub one_more : {A : Type 0} (all before left later : List A) (x : A) → all ≡ before ++ left → left ≡ x ∷ later → all ≡ (before ++ x ∷ []) ++ later
 one_more {A} all before left later x h e = h ∙ ap (λ (l : List A). before ++ l) e ∙ sym (append_assoc before (x ∷ []) later)
 
+-- none are left
+pub no_more : {A : Type 0} (all before left : List A) → all ≡ before ++ left → left ≡ [] → all ≡ before
+no_more {A} all before left h e = h ∙ ap (λ (l : List A). before ++ l) e ∙ append-nil before
+
 module _ {R : Type 0} (remaining : R → Option (List ℕ)) where
   -- one more file is opened
   pub opens_more : (a b c : History) (inputs : List (String Global × Latched R)) (i : String Global × Latched R) → Extends a b (opens (sources remaining inputs)) →

@@ -28,7 +28,7 @@ use Rattle.v7tools.specs.declared.fault.CliFault.{CliFault}
 use Rattle.v7tools.specs.declared.fault.CliFault.TheVariants as faults
 use Rattle.v7tools.specs.declared.link_answers.Stored.{Stored}
 use Rattle.v7tools.proofs.DeedLemmas.{nothing_asked}
-use Rattle.v7tools.proofs.StepLemmas.{link_refused_by, refused_as}
+use Rattle.v7tools.proofs.StepLemmas.{link_refused_by, no_value, refused_as}
 use Rattle.aout_core.proofs.PutsLemmas.{put_broke_off}
 
 -- ---- a step that is no link
@@ -194,12 +194,8 @@ module _ {W : Type 0} (contents : W → Option (List ℕ)) where
     leaves = h.leaves;
     is_run = h.is_run;
     asked = h.asked;
-    status = no_status result err;
+    status = no_value result (λ s. s ≡ h.run.status) err;
     write_failed = write_failed;
     fault = (λ _. failed, λ _. err);
     bytes = put_broke_off result (contents before.device) (contents after.device) h.run.answer err (not_passed (contents before.device) (contents between.device) (contents after.device) h.run.answer h.bytes keeps);
   }
-    where
-      no_status : (r : Result ℕ CliFault) → IsErr r → IfOk r (λ s. s ≡ h.run.status)
-      no_status (Ok s) e = absurd (cc)
-      no_status (Err fault) e = tt

@@ -2,12 +2,14 @@
 use Rattle.std.proofs.Common.{◌≡◌, ◌≢◌, ◌+◌, ◌<◌, ◌≤◌, ℕ, Bool, true, false, cond, if◌then◌else◌, List, [], ◌∷◌, ◌++◌, length, Option, Some, None, Ok, refl, sym, ap, ◌∙◌, ◌↔◌, Err, subst, drop, drop_at, arith, append_assoc, append-nil, length-append}
 use Rattle.std.specs.Prelude.{nat_lt, IsSome}
 use Rattle.std.specs.Io.KnownBytes.{Consumes, IsAtEnd}
+use Rattle.std.proofs.KnownBytes.{Consumes-trans}
 use Rattle.std.proofs.lemmas.Bool.{ne_eqb, lt-leb, lt-ltb, le-ltb}
 use Rattle.v7tools.specs.declared.fault.CliFault.TheVariants as faults
 use Rattle.v7tools.specs.declared.lines.Line.{Line}
+use Rattle.v7tools.specs.declared.script.Stop.{Stop}
 use Rattle.v7tools.specs.declared.script.Stop.TheVariants as stops
 use Rattle.v7tools.specs.Scripts.{asked, lines_in, on_first, long_line, many_lines, and_given, ends_with_fault, given_behind}
-use Rattle.v7tools.specs.ScriptAnswers.{Answer, asked_by, HasLine, HasNone, NamesPath, behind_line, IfTold, IsNextOf}
+use Rattle.v7tools.specs.ScriptAnswers.{Answer, asked_by, HasLine, HasNone, NamesPath, Settles, answer_of, behind_line, IfTold, IsNextOf}
 use Rattle.v7tools.specs.parts.LineParts.{IsStopOf, IsTakenOf}
 
 pub has_none_push : (line : List ℕ) (b : ℕ) → HasNone line → b ≢ 10 → HasNone (line ++ b ∷ [])
@@ -17,6 +19,17 @@ has_none_push (x ∷ line) b h n = (h.0, has_none_push line b h.1 n)
 -- a line whose newline is not among these bytes goes on behind them
 pub goes_on : (all line held : List ℕ) → HasNone line → all ≡ line ++ held → HasLine all → held ≡ [] → ⊥
 goes_on all line held none split whole empty = whole (subst HasNone (sym (split ∙ ap (λ (l : List ℕ). line ++ l) empty ∙ append-nil line)) none)
+
+-- where a line goes on behind the bytes that were taken, some are held, and its reader is not asked
+pub not_asked : {A : Type 0} {before now after : A} (all line held : List ℕ) → HasNone line → (HasLine all → (all ≡ line ++ held) × (now ≡ before)) → ((held ≡ [] → ⊥) → after ≡ now) →
+    HasLine all → after ≡ before
+not_asked all line held none begun kept whole =
+    let (split, same) = begun whole in
+    kept (goes_on all line held none split whole) ∙ same
+
+-- nothing was left behind the bytes that were taken
+pub taken_to_end : (a b c : Option (List ℕ)) (bs : List ℕ) → HasNone bs → Consumes a b bs → Consumes b c [] × IsAtEnd c → HasNone bs × Consumes a c bs × IsAtEnd c
+taken_to_end a b c bs none taken end = (none, subst (Consumes a c) (append-nil bs) (Consumes-trans a b c bs [] taken end.0), end.1)
 
 -- ---- the lines of bytes
 
@@ -134,3 +147,27 @@ pub lost_told : (n : ℕ) (old new : Option (List ℕ)) (settled : Option Answer
 lost_told n old new settled answer line is_last is named =
     told_map old new (λ bytes left. IsTakenOf n bytes left line (Ok is_last)) (λ bytes left. IsNextOf n bytes left settled answer)
     (λ bytes left h. subst (IsNextOf n bytes left settled) (sym is) (asked line, named, h.0))
+
+-- why there is no further line, and the answer of that
+stops_next : (n : ℕ) (settled : Option Answer) (stop : Stop) (bytes left : List ℕ) → IsStopOf n bytes left stop → IsNextOf n bytes left settled (answer_of stop)
+stops_next n settled stops.End bytes left h = h
+stops_next n settled stops.LongLine bytes left h = h
+stops_next n settled stops.ManyLines bytes left h = h
+stops_next n settled stops.ReadFailed bytes left h = h
+stops_next n settled stops.Memory bytes left h = absurd h
+
+pub stop_told : (n : ℕ) (old new : Option (List ℕ)) (settled : Option Answer) (answer : Answer) (stop : Stop) → answer ≡ answer_of stop →
+    IfTold old new (λ bytes left. IsStopOf n bytes left stop) → IfTold old new (λ bytes left. IsNextOf n bytes left settled answer)
+stop_told n old new settled answer stop is =
+    told_map old new (λ bytes left. IsStopOf n bytes left stop) (λ bytes left. IsNextOf n bytes left settled answer)
+    (λ bytes left h. subst (IsNextOf n bytes left settled) (sym is) (stops_next n settled stop bytes left h))
+
+stays_stopped : (stop : Stop) → Settles (answer_of stop) (Some (answer_of stop))
+stays_stopped stops.End = refl
+stays_stopped stops.LongLine = refl
+stays_stopped stops.ManyLines = refl
+stays_stopped stops.ReadFailed = refl
+stays_stopped stops.Memory = refl
+
+pub settled_by : (answer : Answer) (stop : Stop) → answer ≡ answer_of stop → Settles answer (Some (answer_of stop))
+settled_by answer stop is = subst (λ (a : Answer). Settles a (Some (answer_of stop))) (sym is) (stays_stopped stop)

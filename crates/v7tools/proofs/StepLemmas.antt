@@ -150,10 +150,10 @@ link_refused_by kept answer links.SymbolNumber h = inl (ap (link_step kept) (sym
 
 -- ---- answers
 
--- a step that failed has no verdict
-pub no_verdict : (r : Result Step CliFault) (P : Step → Type 0) → IsErr r → IfOk r P
-no_verdict (Ok s) P h = absurd (cc)
-no_verdict (Err f) P h = tt
+-- a call that failed has no value
+pub no_value : {T E : Type 0} (r : Result T E) (P : T → Type 0) → IsErr r → IfOk r P
+no_value (Ok x) P h = absurd (cc)
+no_value (Err e) P h = tt
 
 -- an answer that went out whole
 abbrev pub stepped : Step → Result Step CliFault

@@ -1,6 +1,7 @@
 //! The session as a command, over any office: each line of a script is answered before the next one is asked for.
-ghost use Rattle.std.specs.Prelude.{◌≡◌, ◌≤◌, string_bytes, IfErr, IfOk};
+ghost use Rattle.std.specs.Prelude.{◌≡◌, ◌≤◌, ℕ, List, [], string_bytes, IfErr, IfOk};
 ghost use Rattle.aout_core.specs.Wires.{Writes};
+ghost use Rattle.link_session.specs.Sessions.{nothing_kept};
 ghost use Rattle.link_out.specs.Reports.{line};
 ghost use Rattle.v7tools.specs.declared.fault.CliFault.TheVariants.{WriteFailed};
 ghost use Rattle.v7tools.specs.FaultTexts.{cli_text};
@@ -139,6 +140,49 @@ fn pass_answer<O: Office, W: Write>(
     Ok(status)
 }
 
+/// Answers the lines of a script of which none was read, one after another.
+fn answer_lines<O: Office, R: Read + Drop, W: Write>(
+    alloc: Global,
+    office: &mut O,
+    session: &mut Session,
+    options: &Options,
+    script: &mut Script<R>,
+    answers: &mut Wire<W>,
+) -> Result<u8, CliFault>
+    requires held { script.old.held ≡ [] }
+    requires count { script.old.line_count ≡ 0 }
+    requires settled { script.old.settled ≡ None }
+    ensures small { IfOk result (λ status. status ≤ 1) }
+    ensures run { (forced : List (List ℕ)) → session.old ≡ nothing_kept forced → IsSessionRun W.contents forced options.now (R.remaining script.old.wire.device) (O.history office.old) (O.history office.new) result answers.old answers.new }
+{
+    let mut status = 0;
+    // a script ends at its limit of lines, long before this
+    for _ in 0..u64::MAX {
+        let Some(line) = script.next_line()? else {
+            return Ok(status);
+        };
+        let answered = pass_answer(alloc, office, session, options, line, answers)?;
+        status = status.max(answered);
+    }
+    unreachable!()
+}
+
+/// Answers the script on a wire, on a session that keeps nothing yet.
+fn answer_wire<O: Office, R: Read + Drop, W: Write>(
+    alloc: Global,
+    office: &mut O,
+    session: &mut Session,
+    options: &Options,
+    wire: Wire<R>,
+    answers: &mut Wire<W>,
+) -> Result<u8, CliFault>
+    ensures small { IfOk result (λ status. status ≤ 1) }
+    ensures run { (forced : List (List ℕ)) → session.old ≡ nothing_kept forced → IsSessionRun W.contents forced options.now (R.remaining wire.device) (O.history office.old) (O.history office.new) result answers.old answers.new }
+{
+    let mut script = Script::new(alloc, wire)?;
+    answer_lines(alloc, office, session, options, &mut script, answers)
+}
+
 /// Answers the lines of a script, one after another.
 pub(crate) fn answer_script<O: Office, R: Read + Drop, W: Write>(
     alloc: Global,
@@ -152,15 +196,5 @@ pub(crate) fn answer_script<O: Office, R: Read + Drop, W: Write>(
     ensures run { IsSessionRun W.contents forced.now options.now (R.remaining script.device) (O.history office.old) (O.history office.new) result answers.old answers.new }
 {
     let mut session = Session::with_forced(alloc, forced)?;
-    let mut script = Script::new(alloc, script)?;
-    let mut status = 0;
-    // a script ends at its limit of lines, long before this
-    for _ in 0..u64::MAX {
-        let Some(line) = script.next_line()? else {
-            return Ok(status);
-        };
-        let answered = pass_answer(alloc, office, &mut session, options, line, answers)?;
-        status = status.max(answered);
-    }
-    unreachable!()
+    answer_wire(alloc, office, &mut session, options, script, answers)
 }

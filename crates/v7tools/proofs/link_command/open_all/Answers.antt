@@ -1,9 +1,10 @@
 use Rattle.std.proofs.Common.{rules, ◌≡◌, [], ◌∷◌, ◌++◌, map, length, Some, None, refl, sym, ap, ◌∙◌, subst, string_bytes}
 use Rattle.std.specs.List.{AllByRecursion}
+use Rattle.std.proofs.lemmas.List.{nil_from_length}
 use Rattle.v7tools.specs.Deeds.{Extends, opens}
 use Rattle.v7tools.specs.LinkAnswers.{IsWorking}
 use Rattle.v7tools.specs.parts.Openings.{sources}
-use Rattle.v7tools.proofs.DeedLemmas.{all_behind, nothing_asked, one_more, opened_at, opens_more, map-append, stops_at}
+use Rattle.v7tools.proofs.DeedLemmas.{all_behind, no_more, nothing_asked, one_more, opened_at, opens_more, map-append, stops_at}
 use Rattle.v7tools.proofs.link_command.open_all.Goals as goal
 
 pub loop-path-init : goal.loop-path-init
@@ -40,3 +41,11 @@ loop-path-preserved g c =
       order = subst (λ xs. c.args.files.items ≡ xs ++ c.next.new.self.rest.items) (sym (ap (map (λ i. i.0)) pushed ∙ map-append (λ i. i.0) c.loop-path.inputs.items _)) (one_more c.args.files.items _ _ _ _ c.loop-path.invariant.order e);
       working = subst (AllByRecursion IsWorking) (sym pushed) (all_behind IsWorking c.loop-path.inputs.items _ c.loop-path.invariant.working c.new.ensures.latch);
     }
+
+pub returns : goal.returns
+returns g c =
+    let left = c.loop-path.path-iterator.rest in (
+      c.loop-path.invariant.asked,
+      no_more c.args.files.items (map (λ i. i.0) c.loop-path.inputs.items) left.items c.loop-path.invariant.order (nil_from_length left.items (sym left.ok.0 ∙ c.in-None.ensures.steps.0)),
+      c.loop-path.invariant.working,
+    )

@@ -1,6 +1,7 @@
 use Rattle.std.proofs.Common.{Err, refl}
 use Rattle.v7tools.specs.LinkAnswers.{told}
-use Rattle.v7tools.proofs.AnswerLemmas.{not_taken, linked_file, linked_refused}
+use Rattle.v7tools.proofs.AnswerLemmas.{refusal_possible, not_taken, linked_file, linked_refused}
+use Rattle.v7tools.proofs.StepLemmas.{no_value}
 use Rattle.v7tools.proofs.linking.ld.Goals as goal
 
 pub returns-in-Err-clause-value : goal.returns-in-Err-clause-value
@@ -17,3 +18,15 @@ pub returns-clause-value : goal.returns-clause-value
 returns-clause-value g c =
     linked_file (told g.R.Read.remaining c.args.inputs.items) c.args.forced.now c.args.options.now c.in_ok-session.session c.take_inputs.new.session c.in_ok-finish.field-0
     c.in_ok-session.ensures c.in_default.ensures.forced c.in_default.ensures.value c.in_ok-finish.ensures.value
+
+pub returns-in_err-finish-clause-faults : goal.returns-in_err-finish-clause-faults
+returns-in_err-finish-clause-faults g c = refusal_possible c.in_err-finish.field-0.0 c.from_residual-in_err-finish.result c.from_residual-in_err-finish.ensures.1
+
+pub returns-in_err-finish-clause-working : goal.returns-in_err-finish-clause-working
+returns-in_err-finish-clause-working g c = no_value c.from_residual-in_err-finish.result _ c.from_residual-in_err-finish.ensures.0
+
+pub returns-in_err-finish-clause-object : goal.returns-in_err-finish-clause-object
+returns-in_err-finish-clause-object g c = λ _. no_value c.from_residual-in_err-finish.result _ c.from_residual-in_err-finish.ensures.0
+
+pub returns-clause-object : goal.returns-clause-object
+returns-clause-object g c = c.in_ok-finish.ensures.object

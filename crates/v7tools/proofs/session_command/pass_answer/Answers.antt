@@ -1,4 +1,4 @@
-use Rattle.std.proofs.Common.{rules, ◌≡◌, refl}
+use Rattle.std.proofs.Common.{rules, ◌≡◌, true, refl}
 use Rattle.std.specs.Prelude.{IfErr}
 use Rattle.v7tools.specs.ScriptAnswers.{asked_by}
 use Rattle.v7tools.specs.declared.fault.CliFault.TheVariants.{WriteFailed}
@@ -10,4 +10,4 @@ returns-in_err-flush-clause-run g c =
     let r = c.from_residual-in_err-flush.result in
     let write_failed : IfErr r (λ e. e ≡ WriteFailed) = search rules in
     not_passed_on g.W.Write.contents c.args.options.now (asked_by c.args.line) c.args.session.now c.answer_line.new.session (g.O.Office.history c.args.office.now) (g.O.Office.history c.answer_line.new.office)
-    c.in_ok-status.status r c.args.answers.now c.answer_line.new.answers c.flush.new.self c.in_ok-status.ensures.run c.in_err-flush.ensures.bytes c.from_residual-in_err-flush.ensures.0 write_failed (c.in_err-flush.ensures.fault.0 refl)
+    c.in_ok-status.status r c.args.answers.now c.answer_line.new.answers c.flush.new.self c.in_ok-status.ensures.run c.in_err-flush.ensures.bytes c.from_residual-in_err-flush.ensures.0 write_failed (c.in_err-flush.ensures.fault.0 (refl {a = true}))

@@ -5,7 +5,7 @@ use Rattle.v7tools.specs.declared.commands.Step.TheVariants.{Done}
 use Rattle.v7tools.specs.Answers.{add_step}
 use Rattle.v7tools.specs.FaultTexts.{cli_text}
 use Rattle.aout_core.proofs.PutsLemmas.{writes_broke_off}
-use Rattle.v7tools.proofs.StepLemmas.{told_whole, added_by, not_added_by, refused_as, no_verdict, refused_verdict, label_is, worked_before, worked_after}
+use Rattle.v7tools.proofs.StepLemmas.{told_whole, added_by, not_added_by, refused_as, no_value, refused_verdict, label_is, worked_before, worked_after}
 use Rattle.v7tools.proofs.steps.add.Goals as goal
 
 pub returns-in_err-put_line-in-Ok-clause-step : goal.returns-in_err-put_line-in-Ok-clause-step
@@ -23,7 +23,7 @@ returns-in_err-put_line-in-Ok-clause-step g c =
       (_, accepted.adds),
       record {
         kept = refl;
-        verdict = no_verdict r _ c.from_residual.ensures.0;
+        verdict = no_value r _ c.from_residual.ensures.0;
         answer = told;
       },
     )

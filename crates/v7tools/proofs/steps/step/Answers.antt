@@ -3,7 +3,7 @@ use Rattle.std.specs.Prelude.{string_bytes}
 use Rattle.v7tools.specs.declared.commands.Step.TheVariants.{Done, Refused}
 use Rattle.v7tools.specs.Answers.{step, adding, absent, listing_externals, listing_undefined, anything_else}
 use Rattle.aout_core.proofs.PutsLemmas.{writes_broke_off}
-use Rattle.v7tools.proofs.StepLemmas.{told_whole, no_verdict, refused_verdict, added_over}
+use Rattle.v7tools.proofs.StepLemmas.{told_whole, no_value, refused_verdict, added_over}
 use Rattle.v7tools.proofs.steps.step.Goals as goal
 
 pub returns-in_err-put_externals-in-Externals-clause-step : goal.returns-in_err-put_externals-in-Externals-clause-step
@@ -12,7 +12,7 @@ returns-in_err-put_externals-in-Externals-clause-step g c =
     let did = step s.forced c.args.options.now s.entries listing_externals in
     let r = c.from_residual.result in
     let told = writes_broke_off {r = r} c.from_residual.ensures.0 c.in_err-put_externals-in-Externals.ensures in
-    rw c.in-Externals.is (did, refl, refl, record { kept = refl; verdict = no_verdict r _ c.from_residual.ensures.0; answer = told })
+    rw c.in-Externals.is (did, refl, refl, record { kept = refl; verdict = no_value r _ c.from_residual.ensures.0; answer = told })
 
 pub returns-in_ok-put_externals-in-Externals-clause-step : goal.returns-in_ok-put_externals-in-Externals-clause-step
 returns-in_ok-put_externals-in-Externals-clause-step g c =
@@ -26,7 +26,7 @@ returns-in_err-put_undefined-in-Undefined-clause-step g c =
     let did = step s.forced c.args.options.now s.entries listing_undefined in
     let r = c.from_residual-in_err-put_undefined-in-Undefined.result in
     let told = writes_broke_off {r = r} c.from_residual-in_err-put_undefined-in-Undefined.ensures.0 c.in_err-put_undefined-in-Undefined.ensures in
-    rw c.in-Undefined.is (did, refl, refl, record { kept = refl; verdict = no_verdict r _ c.from_residual-in_err-put_undefined-in-Undefined.ensures.0; answer = told })
+    rw c.in-Undefined.is (did, refl, refl, record { kept = refl; verdict = no_value r _ c.from_residual-in_err-put_undefined-in-Undefined.ensures.0; answer = told })
 
 pub returns-in_ok-put_undefined-in-Undefined-clause-step : goal.returns-in_ok-put_undefined-in-Undefined-clause-step
 returns-in_ok-put_undefined-in-Undefined-clause-step g c =
@@ -40,7 +40,7 @@ returns-in_err-put_line-in-Bad-clause-step g c =
     let did = step s.forced c.args.options.now s.entries anything_else in
     let r = c.from_residual-in_err-put_line-in-Bad.result in
     let told = writes_broke_off {r = r} c.from_residual-in_err-put_line-in-Bad.ensures.0 c.in_err-put_line-in-Bad.ensures in
-    rw c.in-Bad.is (did, refl, refl, record { kept = refl; verdict = no_verdict r _ c.from_residual-in_err-put_line-in-Bad.ensures.0; answer = told })
+    rw c.in-Bad.is (did, refl, refl, record { kept = refl; verdict = no_value r _ c.from_residual-in_err-put_line-in-Bad.ensures.0; answer = told })
 
 pub returns-in_ok-put_line-in-Bad-clause-step : goal.returns-in_ok-put_line-in-Bad-clause-step
 returns-in_ok-put_line-in-Bad-clause-step g c =

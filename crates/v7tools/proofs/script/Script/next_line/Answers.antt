@@ -3,9 +3,9 @@ use Rattle.std.specs.Prelude.{IsSome}
 use Rattle.std.specs.Io.KnownBytes.{prepend_known}
 use Rattle.v7tools.specs.declared.fault.CliFault.TheVariants.{Memory}
 use Rattle.v7tools.specs.Scripts.{asked}
-use Rattle.v7tools.specs.ScriptAnswers.{asked_by, IfTold, IsNextOf, NamesPath}
+use Rattle.v7tools.specs.ScriptAnswers.{answer_of, asked_by, IfTold, IsNextOf, NamesPath}
 use Rattle.v7tools.specs.parts.LineParts.{IsTakenOf}
-use Rattle.v7tools.proofs.ScriptLemmas.{told_map, line_answered, lost_told}
+use Rattle.v7tools.proofs.ScriptLemmas.{told_map, line_answered, lost_told, settled_by, stop_told}
 use Rattle.v7tools.proofs.script.Script.next_line.Goals as goal
 
 pub returns-clause-next : goal.returns-clause-next
@@ -35,3 +35,15 @@ returns-in_default-from_bytes-clause-next g c =
     let named : NamesPath (asked c.take_line.new.line.items) = subst (λ line. NamesPath (asked line)) text c.in_default-from_bytes.ensures.room in
     λ _. lost_told c.args.self.now.line_count (prepend_known c.args.self.now.held (g.R.Read.remaining c.args.self.now.wire.device)) (prepend_known c.take_line.new.reader.held (g.R.Read.remaining c.take_line.new.reader.wire.device)) (Some (Err Memory)) c.answer-in_default-from_bytes.result
     c.take_line.new.line.items c.in-Ok.is_last (search rules) named taken
+
+pub returns-in-Err-clause-settles : goal.returns-in-Err-clause-settles
+returns-in-Err-clause-settles g c = settled_by c.answer-in-Err.result c.in-Err.stop c.answer-in-Err.ensures
+
+pub returns-in-Err-clause-next : goal.returns-in-Err-clause-next
+returns-in-Err-clause-next g c =
+    let stopped = subst (λ (P : Type 0). P)
+    (λ i. IfTold (prepend_known (c.self.view_is i).held (g.R.Read.remaining (c.self.view_is i).wire.device)) (prepend_known c.take_line.new.reader.held (g.R.Read.remaining c.take_line.new.reader.wire.device))
+    (λ bytes left. IsTakenOf (c.self.view_is i).line_count bytes left c.take_line.new.line.items (Err c.in-Err.stop)))
+    c.in-Err.ensures.value in
+    λ _. stop_told c.args.self.now.line_count (prepend_known c.args.self.now.held (g.R.Read.remaining c.args.self.now.wire.device)) (prepend_known c.take_line.new.reader.held (g.R.Read.remaining c.take_line.new.reader.wire.device)) (Some (answer_of c.in-Err.stop))
+    c.answer-in-Err.result c.in-Err.stop c.answer-in-Err.ensures stopped

@@ -1,6 +1,6 @@
 use Rattle.std.proofs.Common.{◌≡◌, ◌≤◌}
 use Rattle.v7tools.proofs.SessionRunLemmas.{Running}
-use Rattle.v7tools.proofs.session_command.answer_script.Given as goal
+use Rattle.v7tools.proofs.session_command.answer_lines.Given as goal
 
 -- the lines so far were run, and the script counts them
 abbrev pub invariant-loop : goal.invariant-loop
