@@ -1,8 +1,8 @@
 //! How often a link calls its devices, counted by devices over memory.
-use crate::input::{Size, defining_all, referring};
+use crate::input::{Size, bytes_in, object_files};
 use anyhow::{Result, anyhow};
-use aout_core::{Object, Wire, write_file};
-use link_out::{Keep, Layout, Options};
+use aout_core::Wire;
+use link_out::{Keep, Layout, Linked, Options};
 use link_session::Forced;
 use std::cell::Cell;
 use std::io;
@@ -40,51 +40,54 @@ impl<W: Write> Write for Counted<'_, W> {
     }
 }
 
-fn bytes_of(rt: &HostRuntime, object: &Object) -> Result<Vec<u8>> {
-    let mut out = Wire::new(Vec::new(rt.alloc()));
-    write_file(object.file(), &mut out).map_err(|_| anyhow!("write error"))?;
-    Ok(out.into_inner())
+fn counted_inputs<'a>(
+    rt: &HostRuntime,
+    objects: &'a [Vec<u8>],
+    calls: &'a Cell<u32>,
+) -> Result<Vec<(String, Wire<Counted<'a, &'a [u8]>>)>> {
+    let mut inputs = Vec::new(rt.alloc());
+    for object in objects {
+        let path = String::from_str(rt.alloc(), "input.o")?;
+        let device = object.as_slice();
+        inputs.push((path, Wire::new(Counted { device, calls })))?;
+    }
+    Ok(inputs)
 }
 
-/// The objects of the input, and one that defines all their names.
-fn objects(rt: &HostRuntime, size: Size) -> Result<Vec<Vec<u8>>> {
-    let mut objects = Vec::new(rt.alloc());
-    for number in 0..size.objects {
-        objects.push(bytes_of(rt, &referring(rt.alloc(), size, number)?)?)?;
+/// Writes the file that was linked, and answers how many bytes it has.
+fn write_counted(rt: &HostRuntime, linked: &Linked, calls: &Cell<u32>) -> Result<usize> {
+    let device = Vec::new(rt.alloc());
+    let mut file = Wire::new(Counted { device, calls });
+    let mut report = Wire::new(Vec::new(rt.alloc()));
+    emit(linked, &mut file, &mut report).map_err(|_| anyhow!("write error"))?;
+    Ok(file.into_inner().device.len())
+}
+
+/// Links the objects, and answers how many bytes the file has.
+fn link_counted(
+    rt: &HostRuntime,
+    objects: &[Vec<u8>],
+    options: &Options,
+    reads: &Cell<u32>,
+    writes: &Cell<u32>,
+) -> Result<usize> {
+    let inputs = counted_inputs(rt, objects, reads)?;
+    match ld(rt.alloc(), inputs, &Forced::none(), options) {
+        Ok(linked) => write_counted(rt, &linked, writes),
+        Err(_) => Err(anyhow!("the link was refused")),
     }
-    objects.push(bytes_of(rt, &defining_all(rt.alloc(), size)?)?)?;
-    Ok(objects)
 }
 
 /// Links the objects with these options, and prints how often they were read and the file was written.
 fn print_link(rt: &HostRuntime, objects: &[Vec<u8>], name: &str, options: &Options) -> Result<()> {
     let reads = Cell::new(0);
-    let mut inputs = Vec::new(rt.alloc());
-    let mut bytes = 0u64;
-    for object in objects {
-        let device = object.as_slice();
-        let wire = Wire::new(Counted {
-            device,
-            calls: &reads,
-        });
-        inputs.push((String::from_str(rt.alloc(), "input.o")?, wire))?;
-        bytes = bytes.saturating_add(object.len() as u64);
-    }
-    let linked = ld(rt.alloc(), inputs, &Forced::none(), options).map_err(|_| anyhow!(
-        "the link was refused"
-    ))?;
     let writes = Cell::new(0);
-    let mut file = Wire::new(Counted {
-        device: Vec::new(rt.alloc()),
-        calls: &writes,
-    });
-    let mut report = Wire::new(Vec::new(rt.alloc()));
-    emit(&linked, &mut file, &mut report).map_err(|_| anyhow!("write error"))?;
-    let written = file.into_inner().device.len();
+    let written = link_counted(rt, objects, options, &reads, &writes)?;
     println!(rt;
-        "ld {name} of {} files: {} calls of read for {bytes} bytes, {} of write for {written}",
+        "ld {name} of {} files: {} calls of read for {} bytes, {} of write for {written}",
         objects.len(),
         reads.get(),
+        bytes_in(objects),
         writes.get()
     )?;
     Ok(())
@@ -92,7 +95,7 @@ fn print_link(rt: &HostRuntime, objects: &[Vec<u8>], name: &str, options: &Optio
 
 /// Prints the calls of a link with `-s` and of one with `-r`.
 pub fn print_calls(rt: &HostRuntime, size: Size) -> Result<()> {
-    let objects = objects(rt, size)?;
+    let objects = object_files(rt.alloc(), size)?;
     for (name, relocatable, keep) in [("-s", false, Keep::Nothing), ("-r", true, Keep::All)] {
         let options = Options::new(Layout::Plain, relocatable, keep, None).map_err(|_| anyhow!(
             "the options exclude one another"

@@ -1,6 +1,6 @@
 //! Objects for the benchmark.
 use anyhow::{Result, anyhow};
-use aout_core::{File, Header, Name, Object, Parts, Reloc, Symbol};
+use aout_core::{File, Header, Name, Object, Parts, Reloc, Symbol, Wire, write_file};
 use std::alloc::Global;
 
 /// How many names each referring object mentions.
@@ -90,7 +90,7 @@ pub fn defining(alloc: Global, number: u16) -> Result<Object> {
 
 /// An object that defines all the names as absolute. Without it a link with relocation would be refused, since a
 /// relocation word has room for 4,096 symbols.
-pub fn defining_all(alloc: Global, size: Size) -> Result<Object> {
+fn defining_all(alloc: Global, size: Size) -> Result<Object> {
     let mut symbols = Vec::new(alloc);
     for number in 0..size.objects.wrapping_mul(NAMES) {
         symbols.push(Symbol {
@@ -100,4 +100,34 @@ pub fn defining_all(alloc: Global, size: Size) -> Result<Object> {
         })?;
     }
     object(Vec::new(alloc), Vec::new(alloc), symbols, alloc)
+}
+
+fn bytes_of(alloc: Global, object: &Object) -> Result<Vec<u8>> {
+    let mut out = Wire::new(Vec::new(alloc));
+    write_file(object.file(), &mut out).map_err(|_| anyhow!("write error"))?;
+    Ok(out.into_inner())
+}
+
+fn referring_file(alloc: Global, size: Size, number: u16) -> Result<Vec<u8>> {
+    bytes_of(alloc, &referring(alloc, size, number)?)
+}
+
+/// The files of all objects that refer to names, and of one that defines all the names.
+pub fn object_files(alloc: Global, size: Size) -> Result<Vec<Vec<u8>>> {
+    let mut files = Vec::new(alloc);
+    for number in 0..size.objects {
+        files.push(referring_file(alloc, size, number)?)?;
+    }
+    let all = defining_all(alloc, size)?;
+    files.push(bytes_of(alloc, &all)?)?;
+    Ok(files)
+}
+
+/// How many bytes the files have together.
+pub fn bytes_in(files: &[Vec<u8>]) -> u64 {
+    let mut bytes = 0u64;
+    for file in files {
+        bytes = bytes.saturating_add(file.len() as u64);
+    }
+    bytes
 }

@@ -10,13 +10,14 @@ mod input;
 mod repeat;
 
 use anyhow::{Result, anyhow};
+use aout_core::Object;
 use calls::print_calls;
 use command::time_command;
 use input::{Size, defining, referring};
 use link_session::{Mark, Session};
 use repeat::repeat;
 use std::env;
-use std::time::Instant;
+use std::time::{Duration, Instant};
 
 /// The full run: 65,000 bytes of text with 20,000 words that refer to 5,000 names.
 const FULL: Size = Size {
@@ -46,16 +47,21 @@ fn visited(session: &Session) -> usize {
     count
 }
 
+/// Adds an object, and answers how many earlier cells were visited.
+fn add(rt: &HostRuntime, session: &mut Session, label: &str, object: Object) -> Result<usize> {
+    let label = String::from_str(rt.alloc(), label)?;
+    match session.add(label, object) {
+        Ok(()) => Ok(visited(session)),
+        Err(refused) => Err(anyhow!("{}", refused.cause)),
+    }
+}
+
 /// Adds all objects, and answers how many earlier cells were visited.
 fn add_all(rt: &HostRuntime, session: &mut Session, size: Size) -> Result<usize> {
     let mut cells: usize = 0;
     for number in 0..size.objects {
         let object = referring(rt.alloc(), size, number)?;
-        let label = String::from_str(rt.alloc(), "referring.o")?;
-        if let Err(refused) = session.add(label, object) {
-            return Err(anyhow!("{}", refused.cause));
-        }
-        cells = cells.saturating_add(visited(session));
+        cells = cells.saturating_add(add(rt, session, "referring.o", object)?);
     }
     Ok(cells)
 }
@@ -65,11 +71,7 @@ fn add_and_withdraw(rt: &HostRuntime, session: &mut Session, size: Size) -> Resu
     let mut cells: usize = 0;
     for number in 0..withdrawals(size) {
         let object = defining(rt.alloc(), number)?;
-        let label = String::from_str(rt.alloc(), "defining.o")?;
-        if let Err(refused) = session.add(label, object) {
-            return Err(anyhow!("{}", refused.cause));
-        }
-        cells = cells.saturating_add(visited(session));
+        cells = cells.saturating_add(add(rt, session, "defining.o", object)?);
         if session.withdraw().is_none() {
             return Err(anyhow!("nothing to withdraw"));
         }
@@ -77,31 +79,64 @@ fn add_and_withdraw(rt: &HostRuntime, session: &mut Session, size: Size) -> Resu
     Ok(cells)
 }
 
+/// How long a part of the run took, and how many earlier cells it visited.
+#[derive(Clone, Copy)]
+struct Times {
+    time: Duration,
+    cells: usize,
+}
+
+fn time_adding(rt: &HostRuntime, session: &mut Session, size: Size) -> Result<Times> {
+    let start = Instant::now(rt)?;
+    let cells = add_all(rt, session, size)?;
+    let time = start.elapsed(rt)?;
+    Ok(Times { time, cells })
+}
+
+fn time_withdrawing(rt: &HostRuntime, session: &mut Session, size: Size) -> Result<Times> {
+    let start = Instant::now(rt)?;
+    let cells = add_and_withdraw(rt, session, size)?;
+    let time = start.elapsed(rt)?;
+    Ok(Times { time, cells })
+}
+
+fn print_held(rt: &HostRuntime, session: &Session) -> Result<()> {
+    let objects = session.entries().len();
+    let cells = session.text_cells().len();
+    let names = session.external_count();
+    println!(rt; "{objects} objects, {cells} words of text, {names} names")?;
+    Ok(())
+}
+
+fn print_times(rt: &HostRuntime, size: Size, adding: Times, withdrawing: Times) -> Result<()> {
+    println!(rt;
+        "added in {} ms, earlier cells visited: {}",
+        adding.time.as_millis(),
+        adding.cells
+    )?;
+    println!(rt;
+        "one more added and withdrawn {} times in {} ms, earlier cells bound and put back: {}",
+        withdrawals(size),
+        withdrawing.time.as_millis(),
+        withdrawing.cells
+    )?;
+    Ok(())
+}
+
 /// Times the session, and prints what it holds and the times where the run is the full one.
-fn time_session(rt: &HostRuntime, size: Size, is_full: bool) -> Result<()> {
-    let mut session = Session::new(rt.alloc());
-    let start = Instant::now(rt)?;
-    let bound = add_all(rt, &mut session, size)?;
-    let added = start.elapsed(rt)?;
-    let start = Instant::now(rt)?;
-    let put_back = add_and_withdraw(rt, &mut session, size)?;
-    let withdrawn = start.elapsed(rt)?;
+fn time_in(rt: &HostRuntime, session: &mut Session, size: Size, is_full: bool) -> Result<()> {
+    let adding = time_adding(rt, session, size)?;
+    let withdrawing = time_withdrawing(rt, session, size)?;
     if is_full {
-        let objects = session.entries().len();
-        let cells = session.text_cells().len();
-        let names = session.external_count();
-        println!(rt; "{objects} objects, {cells} words of text, {names} names")?;
-        println!(rt;
-            "added in {} ms, earlier cells visited: {bound}",
-            added.as_millis()
-        )?;
-        let times = withdrawals(size);
-        println!(rt;
-            "one more added and withdrawn {times} times in {} ms, earlier cells bound and put back: {put_back}",
-            withdrawn.as_millis()
-        )?;
+        print_held(rt, session)?;
+        print_times(rt, size, adding, withdrawing)?;
     }
     Ok(())
+}
+
+/// The same for a session that is made for it.
+fn time_session(rt: &HostRuntime, size: Size, is_full: bool) -> Result<()> {
+    time_in(rt, &mut Session::new(rt.alloc()), size, is_full)
 }
 
 /// The words after the program's name.

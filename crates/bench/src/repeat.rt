@@ -33,11 +33,20 @@ fn add_and_withdraw_often(
     Ok(())
 }
 
+fn repeat_in(
+    rt: &HostRuntime,
+    session: &mut Session,
+    size: Size,
+    kind: &str,
+    times: u32,
+) -> Result<()> {
+    add_all(rt, session, size)?;
+    let label = String::from_str(rt.alloc(), "repeated.o")?;
+    let object = repeated(rt, size, kind)?;
+    add_and_withdraw_often(session, label, object, times)
+}
+
 /// Adds all objects, and then adds and withdraws one more, this many times.
 pub fn repeat(rt: &HostRuntime, size: Size, kind: &str, times: u32) -> Result<()> {
-    let mut session = Session::new(rt.alloc());
-    add_all(rt, &mut session, size)?;
-    let object = repeated(rt, size, kind)?;
-    let label = String::from_str(rt.alloc(), "repeated.o")?;
-    add_and_withdraw_often(&mut session, label, object, times)
+    repeat_in(rt, &mut Session::new(rt.alloc()), size, kind, times)
 }

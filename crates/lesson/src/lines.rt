@@ -45,23 +45,37 @@ fn state_text(alloc: Global, state: State) -> Result<String, AllocError> {
     }
 }
 
+fn cell_mark_text(
+    alloc: Global,
+    session: &Session,
+    place: Place,
+    cell: Cell,
+) -> Result<String, AllocError> {
+    let (segment, index) = match place {
+        Place::InText(index) => ("text", index),
+        Place::InData(index) => ("data", index),
+    };
+    let was = cell_text(alloc, session, cell)?;
+    format!(in alloc; "{} {:06o} was {}", segment, 2 * u32::from(index), was)
+}
+
+fn state_mark_text(
+    alloc: Global,
+    session: &Session,
+    index: u16,
+    state: State,
+) -> Result<String, AllocError> {
+    let was = state_text(alloc, state)?;
+    match session.external(index) {
+        Some((name, _)) => format!(in alloc; "{} was {}", text_of(&name), was),
+        None => String::from_str(alloc, "no name"),
+    }
+}
+
 fn mark_text(alloc: Global, session: &Session, mark: Mark) -> Result<String, AllocError> {
     match mark {
-        Mark::CellWas(place, cell) => {
-            let (segment, index) = match place {
-                Place::InText(index) => ("text", index),
-                Place::InData(index) => ("data", index),
-            };
-            let was = cell_text(alloc, session, cell)?;
-            format!(in alloc; "{} {:06o} was {}", segment, 2 * u32::from(index), was)
-        }
-        Mark::StateWas(index, state) => {
-            let was = state_text(alloc, state)?;
-            match session.external(index) {
-                Some((name, _)) => format!(in alloc; "{} was {}", text_of(&name), was),
-                None => String::from_str(alloc, "no name"),
-            }
-        }
+        Mark::CellWas(place, cell) => cell_mark_text(alloc, session, place, cell),
+        Mark::StateWas(index, state) => state_mark_text(alloc, session, index, state),
     }
 }
 

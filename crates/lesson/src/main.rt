@@ -32,9 +32,22 @@ fn add(rt: &HostRuntime, session: &mut Session, path: String) -> Result<()> {
     show(rt, session)
 }
 
+fn add_all(rt: &HostRuntime, session: &mut Session) -> Result<()> {
+    for path in env::args(rt)?.skip(1) {
+        add(rt, session, path)?;
+    }
+    Ok(())
+}
+
+/// The label of the object that was withdrawn.
+fn withdraw(session: &mut Session) -> Option<String> {
+    let (label, _) = session.withdraw()?;
+    Some(label)
+}
+
 fn withdraw_all(rt: &HostRuntime, session: &mut Session) -> Result<()> {
     for _ in 0..session.entries().len() {
-        let Some((label, _)) = session.withdraw() else {
+        let Some(label) = withdraw(session) else {
             break;
         };
         println!(rt; "withdraw {label}")?;
@@ -43,13 +56,14 @@ fn withdraw_all(rt: &HostRuntime, session: &mut Session) -> Result<()> {
     Ok(())
 }
 
-fn main(rt: HostRuntime) -> Result<()> {
-    let mut session = Session::new(rt.alloc());
-    for path in env::args(&rt)?.skip(1) {
-        add(&rt, &mut session, path)?;
-    }
+fn play(rt: &HostRuntime, session: &mut Session) -> Result<()> {
+    add_all(rt, session)?;
     if session.entries().is_empty() {
         return Err(anyhow!("usage: lesson FILE..."));
     }
-    withdraw_all(&rt, &mut session)
+    withdraw_all(rt, session)
+}
+
+fn main(rt: HostRuntime) -> Result<()> {
+    play(&rt, &mut Session::new(rt.alloc()))
 }

@@ -47,14 +47,26 @@ fn program_name(alloc: Global) -> Result<String, AllocError> {
     String::from_str(alloc, "program")
 }
 
+/// Brings the files that the words name to the session.
+fn bring_all(rt: &HostRuntime, session: &mut Session) -> Result<()> {
+    for path in paths(rt)? {
+        add(rt, session, path.as_str())?;
+        strip(rt, path.as_str())?;
+    }
+    Ok(())
+}
+
+/// Lists the program that the session makes.
+fn list_program(rt: &HostRuntime, session: &Session) -> Result<()> {
+    let name = program_name(rt.alloc())?;
+    let program = program_of(rt.alloc(), session)?;
+    let mut out = Wire::new(io::writer(rt));
+    list(rt.alloc(), name, program, &mut out)?;
+    Ok(out.flush()?)
+}
+
 fn main(rt: HostRuntime) -> Result<()> {
     let mut session = Session::new(rt.alloc());
-    for path in paths(&rt)? {
-        add(&rt, &mut session, path.as_str())?;
-        strip(&rt, path.as_str())?;
-    }
-    let program = program_of(rt.alloc(), &session)?;
-    let mut out = Wire::new(io::writer(&rt));
-    list(rt.alloc(), program_name(rt.alloc())?, program, &mut out)?;
-    Ok(out.flush()?)
+    bring_all(&rt, &mut session)?;
+    list_program(&rt, &session)
 }
