@@ -1,12 +1,12 @@
 //! A runtime for commands: standard input is bytes in memory, the outputs are kept in the files `stdout` and `stderr`, and
 //! what a command asks for is listed in the file `asked`.
-use crate::devices::{Device, ask};
+use crate::devices::{Device, append, ask};
 use std::alloc::Allocator;
 use std::env::FillError;
 use std::fmt::Display;
 use std::fs::{Metadata, OpenOptions, Permissions};
 use std::io;
-use std::io::{BufRead, Lines, PipeReader, PipeWriter, Write};
+use std::io::{BufRead, Lines, PipeReader, PipeWriter};
 use std::os::fd::BorrowedFd;
 use std::os::unix::net::SocketAddr;
 use std::path::PathBuf;
@@ -32,10 +32,7 @@ impl<R: Files + AllocGlobal> Console<'_, R> {
     /// Writes bytes behind those of the file of a standard stream.
     fn keep(&self, stream: &str, bytes: &[u8]) -> io::Result<()> {
         ask(&self.rt, self.refused, "write", stream)?;
-        let mut options = OpenOptions::new();
-        options.append(true);
-        let mut file = options.open(&self.rt, stream)?;
-        file.write_all(bytes)
+        append(&self.rt, stream, bytes)
     }
 }
 
@@ -126,8 +123,10 @@ impl<'a, R: Runtime + AllocGlobal> Files for Console<'a, R> {
     fn open_file(&self, how: &OpenOptions, path: &str) -> io::Result<Device<'a, R, R::File>> {
         let word = if how.asks_write() { "create" } else { "open" };
         ask(&self.rt, self.refused, word, path)?;
-        let file = self.rt.open_file(how, path)?;
-        Device::new(self.rt.clone()?, self.refused, path, file)
+        let own_path = String::from_str(self.rt.alloc(), path)?;
+        let rt = self.rt.clone()?;
+        let file = rt.open_file(how, path)?;
+        Ok(Device::new(rt, self.refused, own_path, file))
     }
 
     fn open_dir(&self, path: &str) -> io::Result<R::Dir> {

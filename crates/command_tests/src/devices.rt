@@ -1,25 +1,25 @@
 //! Files whose calls are listed, and refused where a test says so.
-use std::fs::{Metadata, OpenFile};
+use std::fs::{Metadata, OpenFile, OpenOptions};
 use std::io::{Error, ErrorKind, Read, Seek, SeekFrom, Write};
 use std::rt::{Files, Runtime};
 use std::{fs, io};
 
-/// Whether this is the last line of a text. Line and text end with a newline.
-fn is_last(text: &str, line: &str) -> bool {
-    match text.strip_suffix(line) {
-        Some(before) => before.is_empty() || before.ends_with('\n'),
-        None => false,
-    }
+/// Writes bytes behind those of a file.
+pub fn append<R: Files + AllocGlobal>(rt: &R, path: &str, bytes: &[u8]) -> io::Result<()> {
+    let mut options = OpenOptions::new();
+    options.append(true);
+    let mut file = options.open(rt, path)?;
+    file.write_all(bytes)
 }
 
-/// Lists a request, once for all that follow one another and are the same.
+/// Lists a request, once for all that follow one another and are the same. The last one stands in the file `last`.
 fn list<R: Files + AllocGlobal>(rt: &R, line: &str) -> io::Result<()> {
-    let listed = fs::read_to_string(rt, "asked")?;
-    if is_last(listed.as_str(), line) {
+    let last = fs::read_to_string(rt, "last")?;
+    if last.as_str() == line {
         return Ok(());
     }
-    let more = format!(in rt.alloc(); "{listed}{line}")?;
-    fs::write(rt, "asked", more.as_str())
+    fs::write(rt, "last", line)?;
+    append(rt, "asked", line.as_bytes())
 }
 
 /// Lists a request, a word and a path, and fails where it is the one to refuse.
@@ -47,14 +47,13 @@ pub struct Device<'a, R, F> {
 }
 
 impl<'a, R: Runtime + AllocGlobal, F: Drop> Device<'a, R, F> {
-    pub fn new(rt: R, refused: &'a str, path: &str, file: F) -> io::Result<Device<'a, R, F>> {
-        let path = String::from_str(rt.alloc(), path)?;
-        Ok(Device {
+    pub fn new(rt: R, refused: &'a str, path: String, file: F) -> Device<'a, R, F> {
+        Device {
             rt,
             refused,
             path,
             file,
-        })
+        }
     }
 
     fn ask(&self, word: &str) -> io::Result<()> {

@@ -1,25 +1,24 @@
 //! Commands run in a folder of their own.
 use crate::consoles::Console;
 use aout_core::samples::{A_O, B_O, C_O, D_O, D2_O, G_O, I_O, K_O, P_O, Q_O, R_O, S_O, Y1_O, Y2_O};
-use fixtures::words_of;
+use fixtures::{sized, words_of};
 use std::path::PathBuf;
 use std::process::Abort;
-use std::rt::{Files, Runtime};
+use std::rt::{Env, Files, Runtime};
 use std::test::Fail;
-use std::{env, fs, io, process};
+use std::{env, fs, io};
 use v7tools::command;
 
-/// The path of a folder that is the test's own.
-fn folder_path(rt: &HostRuntime, name: &str) -> io::Result<PathBuf> {
-    let id = process::id(rt.process());
-    let unique = format!(in rt.alloc(); "v7-{name}-{id}")?;
+/// The path of a folder that is the test's own, in the folder for temporary files. Each run of the tests has one of its own.
+fn folder_path<R: Env + AllocGlobal>(rt: &R, name: &str) -> io::Result<PathBuf> {
+    let unique = format!(in rt.alloc(); "v7-{name}")?;
     let mut folder = env::temp_dir(rt)?;
     folder.push(unique.as_str())?;
     Ok(folder)
 }
 
 /// Goes to a new folder, which is the test's own.
-pub fn enter_folder(rt: &HostRuntime, name: &str) -> io::Result<()> {
+pub fn enter_folder<R: Runtime + AllocGlobal>(rt: &R, name: &str) -> io::Result<()> {
     let folder = folder_path(rt, name)?;
     let _ = fs::remove_dir_all(rt, folder.as_path());
     fs::create_dir(rt, folder.as_path())?;
@@ -52,9 +51,54 @@ fn write_objects<R: Files>(rt: &R) -> io::Result<()> {
 }
 
 /// Goes to a folder of the test's own, where the objects are.
-pub fn enter_objects(rt: &HostRuntime, name: &str) -> io::Result<()> {
+pub fn enter_objects<R: Runtime + AllocGlobal>(rt: &R, name: &str) -> io::Result<()> {
     enter_folder(rt, name)?;
     write_objects(rt)
+}
+
+/// The files that a console writes.
+static OUTPUTS: [&str; 4] = ["stdout", "stderr", "asked", "last"];
+
+/// Empties the files that a console writes.
+fn clear_outputs<R: Files>(rt: &R) -> io::Result<()> {
+    for path in &OUTPUTS {
+        fs::write(rt, *path, "")?;
+    }
+    Ok(())
+}
+
+/// Writes an object of so many bytes of text and data.
+fn write_sized<R: Files + AllocGlobal>(
+    rt: &R,
+    path: &str,
+    text: u16,
+    data: u16,
+) -> Result<(), Fail> {
+    let bytes = sized(rt.alloc(), text, data, 0, &[])?;
+    Ok(fs::write(rt, path, bytes.as_slice())?)
+}
+
+/// Goes to a folder of the test's own, with objects of so many bytes of text and data.
+pub fn enter_sized<R: Runtime + AllocGlobal>(
+    rt: &R,
+    name: &str,
+    objects: &[(&str, u16, u16)],
+) -> Result<(), Fail> {
+    enter_folder(rt, name)?;
+    for (path, text, data) in objects {
+        write_sized(rt, path, *text, *data)?;
+    }
+    Ok(())
+}
+
+/// The command of words, one of whose requests is refused: its status.
+fn status_of_words<R: Runtime + AllocGlobal>(
+    rt: R,
+    words: Vec<String>,
+    input: &str,
+    refused: &str,
+) -> u8 {
+    command(&Console::new(rt, input.as_bytes(), refused), words)
 }
 
 /// The command of a line, one of whose requests is refused: its status. What it writes stands in the files `stdout` and
@@ -65,12 +109,10 @@ fn status_of<R: Runtime + AllocGlobal>(
     input: &str,
     refused: &str,
 ) -> Result<u8, Fail> {
-    for path in ["stdout", "stderr", "asked"] {
-        fs::write(rt, path, "")?;
-    }
+    clear_outputs(rt)?;
+    let own = rt.clone()?;
     let words = words_of(rt.alloc(), line)?;
-    let console = Console::new(rt.clone()?, input.as_bytes(), refused);
-    Ok(command(&console, words))
+    Ok(status_of_words(own, words, input, refused))
 }
 
 /// A file has this text.
@@ -122,26 +164,63 @@ pub fn assert_runs<R: Runtime + AllocGlobal + Abort>(
     assert_runs_refused(rt, line, input, "", want)
 }
 
-/// Runs the commands of lines, one after another: each ends with its status, prints its text, and has no faults.
-pub fn assert_all_run<R: Runtime + AllocGlobal + Abort>(
-    rt: &R,
-    lines: &[(&str, u8, &str)],
-) -> Result<(), Fail> {
-    for (line, status, stdout) in lines {
-        assert_runs(rt, line, "", (*status, stdout, ""))?;
+/// A step of a test.
+pub enum Step<'a> {
+    /// A file of these bytes is written.
+    Put(&'a str, &'a [u8]),
+    /// The command of a line runs on this input: it ends with this status, prints this, and these are its faults.
+    Run(&'a str, &'a str, (u8, &'a str, &'a str)),
+    /// A file has these bytes.
+    Has(&'a str, &'a [u8]),
+    /// Two files have the same bytes.
+    Same(&'a str, &'a str),
+    /// There is no such file.
+    Lacks(&'a str),
+}
+
+/// Takes a step.
+fn take<R: Runtime + AllocGlobal + Abort>(rt: &R, step: &Step<'_>) -> Result<(), Fail> {
+    match *step {
+        Step::Put(path, bytes) => Ok(fs::write(rt, path, bytes)?),
+        Step::Run(line, input, want) => assert_runs(rt, line, input, want),
+        Step::Has(path, bytes) => assert_file(rt, path, bytes),
+        Step::Same(path, other) => {
+            let bytes = fs::read(rt, other)?;
+            assert_file(rt, path, &bytes)
+        }
+        Step::Lacks(path) => {
+            assert!(rt; fs::read(rt, path).is_err(), "{path}");
+            Ok(())
+        }
+    }
+}
+
+/// Takes these steps, one after another.
+pub fn take_all<R: Runtime + AllocGlobal + Abort>(rt: &R, steps: &[Step<'_>]) -> Result<(), Fail> {
+    for step in steps {
+        take(rt, step)?;
     }
     Ok(())
 }
 
-/// Runs the commands of lines: each ends with status 2, and this fault.
-pub fn assert_all_fail<R: Runtime + AllocGlobal + Abort>(
+/// Takes these steps in an empty folder of the test's own.
+pub fn take_in_folder<R: Runtime + AllocGlobal + Abort>(
     rt: &R,
-    lines: &[(&str, &str)],
+    name: &str,
+    steps: &[Step<'_>],
 ) -> Result<(), Fail> {
-    for (line, fault) in lines {
-        assert_runs(rt, line, "", (2, "", fault))?;
-    }
-    Ok(())
+    enter_folder(rt, name)?;
+    take_all(rt, steps)
+}
+
+/// Takes these steps in a folder of the test's own, where the objects are.
+pub fn take_among_objects<R: Runtime + AllocGlobal + Abort>(
+    rt: &R,
+    name: &str,
+    steps: &[Step<'_>],
+) -> Result<(), Fail> {
+    enter_objects(rt, name)?;
+    take_all(rt, steps)
 }
 
 /// A command of a line, what it reads, and a request of its that is refused; and what then comes of it: the status, the
@@ -156,22 +235,31 @@ pub struct Case<'a> {
     pub left: (&'a str, &'a [u8]),
 }
 
+/// Whether a file has these bytes. Where it is to have none, it may not be there.
+fn is_left<R: Files + AllocGlobal>(rt: &R, path: &str, want: &[u8]) -> bool {
+    match fs::read(rt, path) {
+        Ok(bytes) => bytes.as_slice() == want,
+        Err(_) => want.is_empty(),
+    }
+}
+
 /// The command of a case comes out so, and its file is then gone. Where that is to be left with no bytes, it was not there.
 fn assert_case<R: Runtime + AllocGlobal + Abort>(rt: &R, case: &Case<'_>) -> Result<(), Fail> {
     assert_runs_refused(rt, case.line, case.input, case.refused, case.want)?;
     assert_text(rt, "asked", case.asked, case.line)?;
     let (path, want) = case.left;
-    let left = fs::read(rt, path).unwrap_or(Vec::new(rt.alloc()));
-    assert!(rt; left.as_slice() == want, "{}: {path}", case.line);
+    assert!(rt; is_left(rt, path, want), "{}: {path}", case.line);
     let _ = fs::remove_file(rt, path);
     Ok(())
 }
 
-/// The commands of these cases come out so, each in the folder as it was before.
+/// The commands of these cases come out so, each among the objects as they were before, in a folder of the test's own.
 pub fn assert_cases<R: Runtime + AllocGlobal + Abort>(
     rt: &R,
+    name: &str,
     cases: &[Case<'_>],
 ) -> Result<(), Fail> {
+    enter_folder(rt, name)?;
     for case in cases {
         write_objects(rt)?;
         assert_case(rt, case)?;

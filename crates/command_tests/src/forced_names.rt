@@ -1,5 +1,4 @@
 //! Links with names that are entered before the objects.
-use crate::folders::enter_objects;
 use crate::outputs::{Link, Written, assert_links};
 use fixtures::CALL;
 use std::test::Fail;
@@ -25,8 +24,7 @@ static FORCED_UNDEFINED: [Link<'static>; 2] = [
 
 #[test]
 fn forced_undefined(rt: HostRuntime) -> Result<(), Fail> {
-    enter_objects(&rt, "forced_undefined")?;
-    assert_links(&rt, &FORCED_UNDEFINED)
+    assert_links(&rt, "forced_undefined", &FORCED_UNDEFINED)
 }
 
 static FORCED_THEN_MENTIONED: [Link<'static>; 1] = [Link {
@@ -42,8 +40,7 @@ static FORCED_THEN_MENTIONED: [Link<'static>; 1] = [Link {
 
 #[test]
 fn forced_then_mentioned(rt: HostRuntime) -> Result<(), Fail> {
-    enter_objects(&rt, "forced_then_mentioned")?;
-    assert_links(&rt, &FORCED_THEN_MENTIONED)
+    assert_links(&rt, "forced_then_mentioned", &FORCED_THEN_MENTIONED)
 }
 
 static FORCED_END: [Link<'static>; 1] = [Link {
@@ -59,6 +56,5 @@ static FORCED_END: [Link<'static>; 1] = [Link {
 
 #[test]
 fn forced_end(rt: HostRuntime) -> Result<(), Fail> {
-    enter_objects(&rt, "forced_end")?;
-    assert_links(&rt, &FORCED_END)
+    assert_links(&rt, "forced_end", &FORCED_END)
 }

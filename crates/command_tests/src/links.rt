@@ -1,8 +1,7 @@
 //! Links without relocation: words, symbols, addresses and the report.
-use crate::folders::{assert_all_fail, assert_file, assert_runs, enter_folder, enter_objects};
-use crate::outputs::{Link, Written, assert_links};
-use fixtures::{CALL, CALL_STRIPPED, COMMONS, ONE_OBJECT, TWO_OBJECTS, UNDEFINED, sized};
-use std::fs;
+use crate::folders::{Step, take_all, take_among_objects, take_in_folder};
+use crate::outputs::{Link, Written, assert_links, assert_more_links};
+use fixtures::{CALL, CALL_STRIPPED, COMMONS, ONE_OBJECT, TWO_OBJECTS, UNDEFINED};
 use std::test::Fail;
 
 static STRIP_TWO_OBJECTS: [Link<'static>; 1] = [Link {
@@ -14,24 +13,30 @@ static STRIP_TWO_OBJECTS: [Link<'static>; 1] = [Link {
 
 #[test]
 fn strip_two_objects(rt: HostRuntime) -> Result<(), Fail> {
-    enter_objects(&rt, "strip_two_objects")?;
-    assert_links(&rt, &STRIP_TWO_OBJECTS)
+    assert_links(&rt, "strip_two_objects", &STRIP_TWO_OBJECTS)
 }
+
+static DEFAULT_OUTPUT: [Step<'static>; 2] = [
+    Step::Run("ld -s a.o", "", (0, "", "")),
+    Step::Has("a.out", &ONE_OBJECT),
+];
 
 #[test]
 fn default_output(rt: HostRuntime) -> Result<(), Fail> {
-    enter_objects(&rt, "default_output")?;
-    assert_runs(&rt, "ld -s a.o", "", (0, "", ""))?;
-    assert_file(&rt, "a.out", &ONE_OBJECT)
+    take_among_objects(&rt, "default_output", &DEFAULT_OUTPUT)
 }
+
+static WITHOUT_FILES: [Step<'static>; 5] = [
+    Step::Run("ld", "", (2, "", "v7: usage\n")),
+    Step::Run("ld -s", "", (2, "", "v7: usage\n")),
+    Step::Run("ld -s -o out", "", (2, "", "v7: usage\n")),
+    Step::Run("", "", (2, "", "v7: usage\n")),
+    Step::Run("strip", "", (2, "", "v7: usage\n")),
+];
 
 #[test]
 fn nothing_added_without_files(rt: HostRuntime) -> Result<(), Fail> {
-    enter_folder(&rt, "nothing_added_without_files")?;
-    for line in ["ld", "ld -s", "ld -s -o out", "", "strip"] {
-        assert_all_fail(&rt, &[(line, "v7: usage\n")])?;
-    }
-    Ok(())
+    take_in_folder(&rt, "nothing_added_without_files", &WITHOUT_FILES)
 }
 
 static UNDEFINED_WORD_STRIPPED: [Link<'static>; 1] = [Link {
@@ -47,8 +52,7 @@ static UNDEFINED_WORD_STRIPPED: [Link<'static>; 1] = [Link {
 
 #[test]
 fn undefined_word_stripped(rt: HostRuntime) -> Result<(), Fail> {
-    enter_objects(&rt, "undefined_word_stripped")?;
-    assert_links(&rt, &UNDEFINED_WORD_STRIPPED)
+    assert_links(&rt, "undefined_word_stripped", &UNDEFINED_WORD_STRIPPED)
 }
 
 static CALL_FORWARD: [Link<'static>; 2] = [
@@ -72,8 +76,7 @@ static CALL_FORWARD: [Link<'static>; 2] = [
 
 #[test]
 fn call_forward_linked(rt: HostRuntime) -> Result<(), Fail> {
-    enter_objects(&rt, "call_forward_linked")?;
-    assert_links(&rt, &CALL_FORWARD)
+    assert_links(&rt, "call_forward_linked", &CALL_FORWARD)
 }
 
 static CALL_BACKWARD: [Link<'static>; 1] = [Link {
@@ -89,8 +92,7 @@ static CALL_BACKWARD: [Link<'static>; 1] = [Link {
 
 #[test]
 fn call_backward(rt: HostRuntime) -> Result<(), Fail> {
-    enter_objects(&rt, "call_backward")?;
-    assert_links(&rt, &CALL_BACKWARD)
+    assert_links(&rt, "call_backward", &CALL_BACKWARD)
 }
 
 static IN_DATA: [Link<'static>; 2] = [
@@ -118,8 +120,7 @@ static IN_DATA: [Link<'static>; 2] = [
 
 #[test]
 fn pc_word_in_data(rt: HostRuntime) -> Result<(), Fail> {
-    enter_objects(&rt, "pc_word_in_data")?;
-    assert_links(&rt, &IN_DATA)
+    assert_links(&rt, "pc_word_in_data", &IN_DATA)
 }
 
 static LAID_OUT: [Link<'static>; 3] = [
@@ -172,8 +173,7 @@ static LAID_OUT: [Link<'static>; 3] = [
 
 #[test]
 fn split_layout(rt: HostRuntime) -> Result<(), Fail> {
-    enter_objects(&rt, "split_layout")?;
-    assert_links(&rt, &LAID_OUT)
+    assert_links(&rt, "split_layout", &LAID_OUT)
 }
 
 static COMMONS_AND_END: [Link<'static>; 2] = [
@@ -197,8 +197,7 @@ static COMMONS_AND_END: [Link<'static>; 2] = [
 
 #[test]
 fn commons_and_end(rt: HostRuntime) -> Result<(), Fail> {
-    enter_objects(&rt, "commons_and_end")?;
-    assert_links(&rt, &COMMONS_AND_END)
+    assert_links(&rt, "commons_and_end", &COMMONS_AND_END)
 }
 
 static WITH_A_FILE_NAME: [Link<'static>; 2] = [
@@ -220,13 +219,21 @@ static WITH_A_FILE_NAME: [Link<'static>; 2] = [
     },
 ];
 
+/// An object of nothing but the symbol `main.o` 037 0.
+const NAMED_O: [u8; 28] = [
+    0x07, 0x01, 0x00, 0x00, 0x00, 0x00, 0x00, 0x00, 0x0c, 0x00, 0x00, 0x00, 0x00, 0x00, 0x00, 0x00,
+    0x6d, 0x61, 0x69, 0x6e, 0x2e, 0x6f, 0x00, 0x00, 0x1f, 0x00, 0x00, 0x00,
+];
+
+static NAMED: [Step<'static>; 2] = [
+    Step::Put("named.o", &NAMED_O),
+    Step::Run("nm named.o", "", (0, "000000 f main.o\n", "")),
+];
+
 #[test]
 fn file_name_symbol_linked(rt: HostRuntime) -> Result<(), Fail> {
-    enter_objects(&rt, "file_name_symbol_linked")?;
-    let object = sized(rt.alloc(), 0, 0, 0, &[("main.o", 0o37, 0)])?;
-    fs::write(&rt, "named.o", object.as_slice())?;
-    assert_runs(&rt, "nm named.o", "", (0, "000000 f main.o\n", ""))?;
-    assert_links(&rt, &WITH_A_FILE_NAME)
+    take_among_objects(&rt, "file_name_symbol_linked", &NAMED)?;
+    assert_more_links(&rt, &WITH_A_FILE_NAME)
 }
 
 static ENTERED: [Link<'static>; 2] = [
@@ -252,16 +259,15 @@ static ENTERED: [Link<'static>; 2] = [
     },
 ];
 
-static NOT_TOGETHER: [(&str, &str); 2] = [
-    ("ld -r -s c.o", "v7: usage\n"),
-    ("ld -n -i c.o", "v7: usage\n"),
+static NOT_TOGETHER: [Step<'static>; 2] = [
+    Step::Run("ld -r -s c.o", "", (2, "", "v7: usage\n")),
+    Step::Run("ld -n -i c.o", "", (2, "", "v7: usage\n")),
 ];
 
 #[test]
 fn entry_and_usage_linked(rt: HostRuntime) -> Result<(), Fail> {
-    enter_objects(&rt, "entry_and_usage_linked")?;
-    assert_links(&rt, &ENTERED)?;
-    assert_all_fail(&rt, &NOT_TOGETHER)
+    assert_links(&rt, "entry_and_usage_linked", &ENTERED)?;
+    take_all(&rt, &NOT_TOGETHER)
 }
 
 static LINKED_STRIPPED: [Link<'static>; 1] = [Link {
@@ -271,16 +277,18 @@ static LINKED_STRIPPED: [Link<'static>; 1] = [Link {
     kept: None,
 }];
 
+static STRIPPED_TWICE: [Step<'static>; 5] = [
+    Step::Put("out", &CALL),
+    Step::Run("strip out", "", (0, "", "")),
+    Step::Has("out", &CALL_STRIPPED),
+    Step::Run("strip out", "", (0, "", "")),
+    Step::Has("out", &CALL_STRIPPED),
+];
+
 #[test]
 fn strip_a_link(rt: HostRuntime) -> Result<(), Fail> {
-    enter_objects(&rt, "strip_a_link")?;
-    assert_links(&rt, &LINKED_STRIPPED)?;
-    fs::write(&rt, "out", CALL.as_slice())?;
-    for _ in 0..2 {
-        assert_runs(&rt, "strip out", "", (0, "", ""))?;
-        assert_file(&rt, "out", &CALL_STRIPPED)?;
-    }
-    Ok(())
+    assert_links(&rt, "strip_a_link", &LINKED_STRIPPED)?;
+    take_all(&rt, &STRIPPED_TWICE)
 }
 
 static REPORTED: [Link<'static>; 1] = [Link {
@@ -292,8 +300,7 @@ static REPORTED: [Link<'static>; 1] = [Link {
 
 #[test]
 fn undefined_report_as_command(rt: HostRuntime) -> Result<(), Fail> {
-    enter_objects(&rt, "undefined_report_as_command")?;
-    assert_links(&rt, &REPORTED)
+    assert_links(&rt, "undefined_report_as_command", &REPORTED)
 }
 
 static DOUBLY_DEFINED: [Link<'static>; 1] = [Link {
@@ -309,6 +316,5 @@ static DOUBLY_DEFINED: [Link<'static>; 1] = [Link {
 
 #[test]
 fn multiply_defined_as_command(rt: HostRuntime) -> Result<(), Fail> {
-    enter_objects(&rt, "multiply_defined_as_command")?;
-    assert_links(&rt, &DOUBLY_DEFINED)
+    assert_links(&rt, "multiply_defined_as_command", &DOUBLY_DEFINED)
 }

@@ -1,5 +1,7 @@
 //! Links of files, as commands and over memory, and what they write.
-use crate::folders::{assert_file, assert_runs};
+use crate::folders::{assert_file, assert_runs, enter_objects};
+use aout_core::Wire;
+use aout_core::samples::TestReader;
 use fixtures::{Row, file_of, wires, words_of};
 use link_fixtures::{Output, output_of};
 use link_out::Options;
@@ -38,27 +40,47 @@ fn link_asked(alloc: Global, line: &str) -> Result<(Options, Forced, Vec<String>
     }
 }
 
+/// The paths and the bytes of these files.
+fn inputs_of(alloc: Global, files: &[(String, Vec<u8>)]) -> Result<Vec<(&str, &[u8])>, AllocError> {
+    let mut inputs = Vec::with_capacity(alloc, files.len())?;
+    for (path, bytes) in files {
+        inputs.push((path.as_str(), bytes.as_slice()))?;
+    }
+    Ok(inputs)
+}
+
+/// What the link of these inputs writes.
+fn link_output(
+    alloc: Global,
+    inputs: Vec<(String, Wire<TestReader<'_>>)>,
+    forced: &Forced,
+    options: &Options,
+) -> Option<Output> {
+    match ld(alloc, inputs, forced, options) {
+        Ok(linked) => output_of(alloc, &linked).ok(),
+        Err(_) => None,
+    }
+}
+
 /// What the link of bytes in memory writes, each with its path.
 fn linked_bytes(
     alloc: Global,
     files: &[(String, Vec<u8>)],
     forced: &Forced,
     options: &Options,
-) -> Result<Output, Fail> {
-    let mut inputs = Vec::new(alloc);
-    for (path, bytes) in files {
-        inputs.push((path.as_str(), bytes.as_slice()))?;
-    }
-    let wires = wires(alloc, &inputs)?;
-    let linked = ld(alloc, wires, forced, options)?;
-    Ok(output_of(alloc, &linked)?)
+) -> Result<Option<Output>, AllocError> {
+    let wires = wires(alloc, &inputs_of(alloc, files)?)?;
+    Ok(link_output(alloc, wires, forced, options))
 }
 
 /// What the link that a line asks for writes, over memory.
-fn linked_over_memory<R: Runtime + AllocGlobal>(rt: &R, line: &str) -> Result<Output, Fail> {
+fn linked_over_memory<R: Runtime + AllocGlobal>(
+    rt: &R,
+    line: &str,
+) -> Result<Option<Output>, Fail> {
     let (options, forced, paths) = link_asked(rt.alloc(), line)?;
     let files = read_all(rt, &paths)?;
-    linked_bytes(rt.alloc(), &files, &forced, &options)
+    Ok(linked_bytes(rt.alloc(), &files, &forced, &options)?)
 }
 
 /// A file that a link writes.
@@ -71,10 +93,10 @@ pub enum Written<'a> {
 }
 
 impl Written<'_> {
-    fn bytes(self, alloc: Global) -> Result<Vec<u8>, AllocError> {
+    fn bytes(&self, alloc: Global) -> Result<Vec<u8>, AllocError> {
         match self {
-            Written::Spelt(header, words, rows) => file_of(alloc, header, words, rows),
-            Written::Bytes(bytes) => Vec::from_slice(alloc, bytes),
+            Written::Spelt(header, words, rows) => file_of(alloc, *header, words, rows),
+            Written::Bytes(bytes) => bytes.to_vec(alloc),
         }
     }
 }
@@ -89,6 +111,13 @@ pub struct Link<'a> {
     pub kept: Option<&'a str>,
 }
 
+/// Whether these bytes and this report are written.
+fn is_output(output: &Output, file: &[u8], report: &str) -> bool {
+    output.file.as_slice() == file
+        && output.report.as_slice() == report.as_bytes()
+        && output.status == u8::from(!report.is_empty())
+}
+
 /// Whether a link writes these bytes and this report over memory.
 fn is_linked_over_memory<R: Runtime + AllocGlobal>(
     rt: &R,
@@ -96,12 +125,10 @@ fn is_linked_over_memory<R: Runtime + AllocGlobal>(
     file: &[u8],
     report: &str,
 ) -> Result<bool, Fail> {
-    let output = linked_over_memory(rt, line)?;
-    Ok(
-        output.file.as_slice() == file
-            && output.report.as_slice() == report.as_bytes()
-            && output.status == u8::from(!report.is_empty()),
-    )
+    match linked_over_memory(rt, line)? {
+        Some(output) => Ok(is_output(&output, file, report)),
+        None => Ok(false),
+    }
 }
 
 /// The link writes its file and its report, as a command and over memory.
@@ -117,7 +144,7 @@ fn assert_link<R: Runtime + AllocGlobal + Abort>(rt: &R, link: &Link<'_>) -> Res
 }
 
 /// The links write their files and their reports, one after another.
-pub fn assert_links<R: Runtime + AllocGlobal + Abort>(
+pub fn assert_more_links<R: Runtime + AllocGlobal + Abort>(
     rt: &R,
     links: &[Link<'_>],
 ) -> Result<(), Fail> {
@@ -128,4 +155,14 @@ pub fn assert_links<R: Runtime + AllocGlobal + Abort>(
         }
     }
     Ok(())
+}
+
+/// The same in a folder of the test's own, where the objects are.
+pub fn assert_links<R: Runtime + AllocGlobal + Abort>(
+    rt: &R,
+    name: &str,
+    links: &[Link<'_>],
+) -> Result<(), Fail> {
+    enter_objects(rt, name)?;
+    assert_more_links(rt, links)
 }

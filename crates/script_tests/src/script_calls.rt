@@ -10,44 +10,44 @@ use std::test::Fail;
 use v7tools::Script;
 
 /// How often a reader is called that gives at most `most` bytes a call, until its script has answered so often.
-fn calls(alloc: Global, bytes: &[u8], most: usize, answers: usize) -> Result<u32, Fail>
+fn calls(alloc: Global, bytes: &[u8], most: usize, answers: usize) -> Option<u32>
     requires { 0 < most }
 {
     let mut reader = TestReader::new(bytes, most, usize::MAX, ErrorKind::Other);
-    let mut script = Script::new(alloc, Wire::new(&mut reader))?;
+    let Ok(mut script) = Script::new(alloc, Wire::new(&mut reader)) else {
+        return None;
+    };
     for _ in 0..answers {
         let _ = script.next_line();
     }
     drop(script);
-    Ok(reader.calls())
+    Some(reader.calls())
 }
 
 #[test]
-fn script_of_one_block(rt: HostRuntime) -> Result<(), Fail> {
+fn script_of_one_block(rt: HostRuntime) {
     let alloc = rt.alloc();
-    assert!(rt; calls(alloc, SCRIPT.as_bytes(), 512, 9)? == 1);
-    assert!(rt; calls(alloc, SCRIPT.as_bytes(), 512, 10)? == 2);
-    assert!(rt; calls(alloc, SCRIPT.as_bytes(), usize::MAX, 11)? == 2);
-    assert!(rt; calls(alloc, b"add a.o", 512, 1)? == 2);
-    assert!(rt; calls(alloc, b"add a.o", 512, 2)? == 2);
-    Ok(())
+    assert!(rt; calls(alloc, SCRIPT.as_bytes(), 512, 9) == Some(1));
+    assert!(rt; calls(alloc, SCRIPT.as_bytes(), 512, 10) == Some(2));
+    assert!(rt; calls(alloc, SCRIPT.as_bytes(), usize::MAX, 11) == Some(2));
+    assert!(rt; calls(alloc, b"add a.o", 512, 1) == Some(2));
+    assert!(rt; calls(alloc, b"add a.o", 512, 2) == Some(2));
 }
 
 #[test]
-fn script_that_is_typed(rt: HostRuntime) -> Result<(), Fail> {
+fn script_that_is_typed(rt: HostRuntime) {
     let alloc = rt.alloc();
     let typed = b"withdraw\nwithdraw\n";
-    assert!(rt; calls(alloc, typed, 9, 1)? == 1);
-    assert!(rt; calls(alloc, typed, 9, 2)? == 2);
-    assert!(rt; calls(alloc, typed, 9, 3)? == 3);
-    assert!(rt; calls(alloc, typed, 9, 4)? == 3);
-    Ok(())
+    assert!(rt; calls(alloc, typed, 9, 1) == Some(1));
+    assert!(rt; calls(alloc, typed, 9, 2) == Some(2));
+    assert!(rt; calls(alloc, typed, 9, 3) == Some(3));
+    assert!(rt; calls(alloc, typed, 9, 4) == Some(3));
 }
 
 #[test]
 fn script_asked_for_a_longer_line(rt: HostRuntime) -> Result<(), Fail> {
     let line = vec![in rt.alloc(); b'x'; 5_000]?;
-    assert!(rt; calls(rt.alloc(), &line, 512, 1)? == 9);
-    assert!(rt; calls(rt.alloc(), &line, 512, 2)? == 9);
+    assert!(rt; calls(rt.alloc(), &line, 512, 1) == Some(9));
+    assert!(rt; calls(rt.alloc(), &line, 512, 2) == Some(9));
     Ok(())
 }

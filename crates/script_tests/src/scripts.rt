@@ -55,14 +55,11 @@ fn told(answer: &Result<Option<Line>, CliFault>) -> (&str, &str) {
 }
 
 /// A script of these bytes, of which its reader gives at most `most` a call.
-fn script(alloc: Global, bytes: &[u8], most: usize) -> Result<Script<TestReader<'_>>, Fail>
+fn script(alloc: Global, bytes: &[u8], most: usize) -> Result<Script<TestReader<'_>>, CliFault>
     requires { 0 < most }
 {
     let reader = TestReader::new(bytes, most, usize::MAX, ErrorKind::Other);
-    match Script::new(alloc, Wire::new(reader)) {
-        Ok(script) => Ok(script),
-        Err(_) => Err(Fail::from("no room for a line")),
-    }
+    Script::new(alloc, Wire::new(reader))
 }
 
 /// Whether a script answers so, line after line.
@@ -74,6 +71,16 @@ fn tells(script: &mut Script<TestReader<'_>>, wanted: &[(&str, &str)]) -> bool {
     is_told
 }
 
+/// Whether a script of these bytes answers so, in pieces of `most` bytes.
+fn script_tells(alloc: Global, bytes: &[u8], most: usize, wanted: &[(&str, &str)]) -> bool
+    requires { 0 < most }
+{
+    match script(alloc, bytes, most) {
+        Ok(mut script) => tells(&mut script, wanted),
+        Err(_) => false,
+    }
+}
+
 /// A line `add` with a path of so many bytes.
 fn long_line(alloc: Global, path_length: usize) -> Result<Vec<u8>, Fail> {
     let mut line = b"add ".to_vec(alloc)?;
@@ -82,16 +89,18 @@ fn long_line(alloc: Global, path_length: usize) -> Result<Vec<u8>, Fail> {
 }
 
 /// How long the path is that a script of one line asks to add, in pieces of `most` bytes.
-fn added_length(alloc: Global, line: &[u8], most: usize) -> Result<usize, Fail>
+fn added_length(alloc: Global, line: &[u8], most: usize) -> Option<usize>
     requires { 0 < most }
 {
-    let mut script = script(alloc, line, most)?;
+    let Ok(mut script) = script(alloc, line, most) else {
+        return None;
+    };
     let Ok(Some(Line::Add(path))) = script.next_line() else {
-        return Err(Fail::from("no line to add"));
+        return None;
     };
     match script.next_line() {
-        Ok(None) => Ok(path.len()),
-        _ => Err(Fail::from("no end behind the line")),
+        Ok(None) => Some(path.len()),
+        _ => None,
     }
 }
 
@@ -99,71 +108,67 @@ fn added_length(alloc: Global, line: &[u8], most: usize) -> Result<usize, Fail>
 fn session_longest_line(rt: HostRuntime) -> Result<(), Fail> {
     let alloc = rt.alloc();
     let mut line = long_line(alloc, 4092)?;
-    assert!(rt; added_length(alloc, &line, 1)? == 4092);
-    assert!(rt; added_length(alloc, &line, 512)? == 4092);
+    assert!(rt; added_length(alloc, &line, 1) == Some(4092));
+    assert!(rt; added_length(alloc, &line, 512) == Some(4092));
     line.push(b'\n')?;
-    assert!(rt; added_length(alloc, &line, 1)? == 4092);
-    assert!(rt; added_length(alloc, &line, 5)? == 4092);
-    assert!(rt; added_length(alloc, &line, 512)? == 4092);
+    assert!(rt; added_length(alloc, &line, 1) == Some(4092));
+    assert!(rt; added_length(alloc, &line, 5) == Some(4092));
+    assert!(rt; added_length(alloc, &line, 512) == Some(4092));
     Ok(())
 }
+
+/// What is answered of a line that is too long.
+static LONGER: [(&str, &str); 2] = [("line too long", ""), ("line too long", "")];
 
 #[test]
 fn script_with_a_longer_line(rt: HostRuntime) -> Result<(), Fail> {
-    let alloc = rt.alloc();
-    let mut line = long_line(alloc, 4093)?;
+    let mut line = long_line(rt.alloc(), 4093)?;
     line.extend_from_slice(b"\nwithdraw\n")?;
-    let mut script = script(alloc, &line, 512)?;
-    assert!(rt; tells(&mut script, &[("line too long", ""), ("line too long", "")]));
+    assert!(rt; script_tells(rt.alloc(), &line, 512, &LONGER));
     Ok(())
 }
 
-/// Reads 1,000,000 lines that ask for nothing, and answers the script behind them.
-fn behind_most_lines(mut script: Script<TestReader<'_>>) -> Result<Script<TestReader<'_>>, Fail> {
+/// Whether the next 1,000,000 lines of a script ask for nothing.
+fn are_bad(script: &mut Script<TestReader<'_>>) -> bool {
+    let mut are_bad = true;
     for _ in 0..1_000_000 {
-        let Ok(Some(Line::Bad)) = script.next_line() else {
-            return Err(Fail::from("a line is not bad"));
-        };
+        are_bad = are_bad && matches!(script.next_line(), Ok(Some(Line::Bad)));
     }
-    Ok(script)
+    are_bad
+}
+
+/// Whether a script answers so behind 1,000,000 lines that ask for nothing.
+fn tells_behind_most_lines(alloc: Global, lines: &[u8], wanted: &[(&str, &str)]) -> bool {
+    match script(alloc, lines, 512) {
+        Ok(mut script) => are_bad(&mut script) && tells(&mut script, wanted),
+        Err(_) => false,
+    }
 }
 
 #[test]
 fn session_most_lines(rt: HostRuntime) -> Result<(), Fail> {
     let lines = vec![in rt.alloc(); b'\n'; 1_000_000]?;
-    let mut script = behind_most_lines(script(rt.alloc(), &lines, 512)?)?;
-    assert!(rt; tells(&mut script, &[("end", ""), ("end", "")]));
+    assert!(rt; tells_behind_most_lines(rt.alloc(), &lines, &[("end", ""), ("end", "")]));
     Ok(())
 }
+
+/// What is answered behind the most lines, where there is one more.
+static MORE_LINES: [(&str, &str); 2] = [("too many lines", ""), ("too many lines", "")];
 
 #[test]
 fn script_with_one_line_more(rt: HostRuntime) -> Result<(), Fail> {
     let mut lines = vec![in rt.alloc(); b'\n'; 1_000_000]?;
     lines.push(b'x')?;
-    let mut script = behind_most_lines(script(rt.alloc(), &lines, 512)?)?;
-    assert!(rt;
-        tells(
-            &mut script,
-            &[("too many lines", ""), ("too many lines", "")]
-        )
-    );
+    assert!(rt; tells_behind_most_lines(rt.alloc(), &lines, &MORE_LINES));
     Ok(())
-}
-
-/// Whether a script in pieces of `most` bytes gives its lines, and then its end.
-fn gives_its_lines(alloc: Global, most: usize) -> Result<bool, Fail>
-    requires { 0 < most }
-{
-    let mut script = script(alloc, SCRIPT.as_bytes(), most)?;
-    Ok(tells(&mut script, &ASKED))
 }
 
 #[test]
-fn script_pieces(rt: HostRuntime) -> Result<(), Fail> {
-    assert!(rt; gives_its_lines(rt.alloc(), 1)?);
-    assert!(rt; gives_its_lines(rt.alloc(), 5)?);
-    assert!(rt; gives_its_lines(rt.alloc(), 512)?);
-    Ok(())
+fn script_pieces(rt: HostRuntime) {
+    let alloc = rt.alloc();
+    assert!(rt; script_tells(alloc, SCRIPT.as_bytes(), 1, &ASKED));
+    assert!(rt; script_tells(alloc, SCRIPT.as_bytes(), 5, &ASKED));
+    assert!(rt; script_tells(alloc, SCRIPT.as_bytes(), 512, &ASKED));
 }
 
 /// What a script answers whose device fails behind its first line.

@@ -70,26 +70,29 @@ impl Asked {
         }
     }
 
+    /// Whether there are so many objects, and these answers.
+    fn has(self, objects: usize, answers: &str) -> bool {
+        let Asked {
+            session,
+            answers: out,
+        } = self;
+        let writer = out.into_inner();
+        session.entries().len() == objects && writer.taken() == answers.as_bytes()
+    }
+
     /// Whether these bytes are added at a path.
     fn adds(&mut self, alloc: Global, path: &str, bytes: &[u8]) -> bool {
         self.is_refused(alloc, path, TestReader::whole(bytes)) == Some(false)
     }
 }
 
-/// A session that answers into memory.
-fn in_memory(alloc: Global) -> Asked {
-    Asked::new(alloc, TestWriter::whole(Vec::new(alloc)))
-}
-
 /// Whether a session refuses to link objects of these bytes, and with these answers.
 fn refuses_to_link(alloc: Global, text: &[u8], data: &[u8], answers: &str) -> bool {
-    let mut asked = in_memory(alloc);
-    let are_added = asked.adds(alloc, "t.o", text) && asked.adds(alloc, "d.o", data);
-    let is_refused = asked.take(alloc, Command::Link).ok() == Some(true);
-    are_added
-        && is_refused
-        && asked.session.entries().len() == 2
-        && asked.answers.into_inner().taken() == answers.as_bytes()
+    let mut asked = Asked::new(alloc, TestWriter::whole(Vec::new(alloc)));
+    let is_refused = asked.adds(alloc, "t.o", text)
+        && asked.adds(alloc, "d.o", data)
+        && matches!(asked.take(alloc, Command::Link), Ok(true));
+    asked.has(2, answers) && is_refused
 }
 
 #[test]
@@ -104,13 +107,10 @@ fn session_link_refused(rt: HostRuntime) -> Result<(), Fail> {
 
 /// Whether a session of `a.o` refuses to add what a reader gives, and with these answers.
 fn refuses_to_add(alloc: Global, reader: TestReader<'_>, answers: &str) -> bool {
-    let mut asked = in_memory(alloc);
-    let is_added = asked.adds(alloc, "a.o", &A_O);
-    let is_refused = asked.is_refused(alloc, "x.o", reader) == Some(true);
-    is_added
-        && is_refused
-        && asked.session.entries().len() == 1
-        && asked.answers.into_inner().taken() == answers.as_bytes()
+    let mut asked = Asked::new(alloc, TestWriter::whole(Vec::new(alloc)));
+    let is_refused = asked.adds(alloc, "a.o", &A_O)
+        && asked.is_refused(alloc, "x.o", reader) == Some(true);
+    asked.has(1, answers) && is_refused
 }
 
 #[test]
@@ -131,58 +131,73 @@ fn refused_additions(rt: HostRuntime) -> Result<(), Fail> {
     Ok(())
 }
 
-/// The link that a step of a session makes.
-fn linked(alloc: Global, session: &mut Session, answers: &mut Wire<TestWriter>) -> Option<Linked> {
-    let command: Command<TestReader<'static>> = Command::Link;
-    match step(alloc, session, &plain(Keep::All), command, answers) {
-        Ok(Step::ToStore(linked)) => Some(linked),
-        _ => None,
-    }
-}
-
-/// The link of `c.o` and another object that a step makes.
-fn linked_behind_c_o(alloc: Global, path: &str, bytes: &[u8]) -> Option<Linked> {
-    let mut asked = in_memory(alloc);
-    if asked.adds(alloc, "c.o", &C_O) && asked.adds(alloc, path, bytes) {
-        linked(alloc, &mut asked.session, &mut asked.answers)
-    } else {
-        None
-    }
-}
-
 /// Whether a link is answered by these lines, with this status.
-fn is_answered(alloc: Global, linked: &Linked, stored: Stored, want: (&str, u8)) -> bool {
+fn is_link_answered(alloc: Global, linked: &Linked, stored: Stored, want: (&str, u8)) -> bool {
     let (lines, status) = want;
     let mut answers = Wire::new(TestWriter::whole(Vec::new(alloc)));
     let answer = link_answer(linked, "out", stored, &mut answers);
-    answer.ok() == Some(status) && answers.into_inner().taken() == lines.as_bytes()
+    let writer = answers.into_inner();
+    answer.ok() == Some(status) && writer.taken() == lines.as_bytes()
+}
+
+/// The step of a session that links.
+fn link_step(alloc: Global, session: &mut Session) -> Result<Step, CliFault> {
+    let command: Command<TestReader<'static>> = Command::Link;
+    let mut answers = Wire::new(TestWriter::whole(Vec::new(alloc)));
+    step(alloc, session, &plain(Keep::All), command, &mut answers)
+}
+
+/// Whether the link that a step of a session makes is answered by these lines, with this status.
+fn is_step_answered(
+    alloc: Global,
+    session: &mut Session,
+    stored: Stored,
+    want: (&str, u8),
+) -> bool {
+    match link_step(alloc, session) {
+        Ok(Step::ToStore(linked)) => is_link_answered(alloc, &linked, stored, want),
+        _ => false,
+    }
+}
+
+/// The same of a session of `c.o` and another object.
+fn is_answered(alloc: Global, other: (&str, &[u8]), stored: Stored, want: (&str, u8)) -> bool {
+    let (path, bytes) = other;
+    let mut asked = Asked::new(alloc, TestWriter::whole(Vec::new(alloc)));
+    asked.adds(alloc, "c.o", &C_O)
+        && asked.adds(alloc, path, bytes)
+        && is_step_answered(alloc, &mut asked.session, stored, want)
 }
 
 #[test]
-fn link_answers(rt: HostRuntime) -> Result<(), Fail> {
+fn link_answers(rt: HostRuntime) {
     let alloc = rt.alloc();
-    let linked = linked_behind_c_o(alloc, "g.o", &G_O).ok_or("no link")?;
     let lines = "Undefined:\n_f\n_g\nlinked out 1\n";
-    assert!(rt; is_answered(alloc, &linked, Stored::Kept, (lines, 1)));
+    let not_created = "out: cannot create\n";
+    assert!(rt; is_answered(alloc, ("g.o", &G_O), Stored::Kept, (lines, 1)));
+    assert!(rt; is_answered(alloc, ("g.o", &G_O), Stored::NotCreated, (not_created, 1)));
     assert!(rt;
         is_answered(
             alloc,
-            &linked,
-            Stored::NotCreated,
-            ("out: cannot create\n", 1)
+            ("g.o", &G_O),
+            Stored::Failed,
+            ("out: write error\n", 1)
         )
     );
-    assert!(rt; is_answered(alloc, &linked, Stored::Failed, ("out: write error\n", 1)));
-    Ok(())
 }
 
 #[test]
-fn link_answers_without_a_report(rt: HostRuntime) -> Result<(), Fail> {
+fn link_answers_without_a_report(rt: HostRuntime) {
     let alloc = rt.alloc();
-    let linked = linked_behind_c_o(alloc, "d.o", &D_O).ok_or("no link")?;
-    assert!(rt; is_answered(alloc, &linked, Stored::Kept, ("linked out 0\n", 0)));
-    assert!(rt; is_answered(alloc, &linked, Stored::Failed, ("out: write error\n", 1)));
-    Ok(())
+    assert!(rt; is_answered(alloc, ("d.o", &D_O), Stored::Kept, ("linked out 0\n", 0)));
+    assert!(rt;
+        is_answered(
+            alloc,
+            ("d.o", &D_O),
+            Stored::Failed,
+            ("out: write error\n", 1)
+        )
+    );
 }
 
 /// Whether two sessions show the same.
@@ -226,7 +241,7 @@ fn is_alike(alloc: Global, line: u8, failing: &mut Asked, beside: &mut Asked) ->
 fn fails_behind(alloc: Global, n: usize, failing: Failing) -> bool {
     let answers = TestWriter::new(Vec::new(alloc), usize::MAX, n, failing);
     let mut short = Asked::new(alloc, answers);
-    let mut beside = in_memory(alloc);
+    let mut beside = Asked::new(alloc, TestWriter::whole(Vec::new(alloc)));
     let mut alike = true;
     for line in 0..9 {
         alike = alike && is_alike(alloc, line, &mut short, &mut beside);

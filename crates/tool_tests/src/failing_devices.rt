@@ -75,11 +75,10 @@ pub fn fails_to_write(
         emit(linked, &mut file, &mut report),
         Err(CliFault::WriteFailed)
     );
-    let is_untouched = !report.failed() && report.into_inner().calls() == 0;
-    is_told
-        && is_untouched
-        && file.failed()
-        && Some(file.into_inner().taken()) == bytes.get(..place)
+    let is_latched = file.failed() && !report.failed();
+    let report = report.into_inner();
+    let file = file.into_inner();
+    is_told && is_latched && report.calls() == 0 && Some(file.taken()) == bytes.get(..place)
 }
 
 #[test]
@@ -112,9 +111,9 @@ fn fails_to_report(
         emit(linked, &mut file, &mut report),
         Err(CliFault::WriteFailed)
     );
-    is_told
-        && file.into_inner().taken() == UNDEFINED.as_slice()
-        && Some(report.into_inner().taken()) == lines.get(..place)
+    let file = file.into_inner();
+    let report = report.into_inner();
+    is_told && file.taken() == UNDEFINED.as_slice() && Some(report.taken()) == lines.get(..place)
 }
 
 #[test]

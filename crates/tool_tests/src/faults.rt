@@ -21,7 +21,9 @@ fn link_stripped(alloc: Global, inputs: &[(&str, &[u8])]) -> Result<Linked, CliF
 fn writes(alloc: Global, fault: &CliFault, line: &str) -> bool {
     let writer = TestWriter::new(Vec::new(alloc), 3, usize::MAX, Failing::TakesNothing);
     let mut out = Wire::new(writer);
-    fault.write(&mut out).is_ok() && out.into_inner().taken() == line.as_bytes()
+    let is_written = fault.write(&mut out).is_ok();
+    let writer = out.into_inner();
+    is_written && writer.taken() == line.as_bytes()
 }
 
 /// Whether the link is refused with this line.
@@ -74,10 +76,9 @@ fn is_written(alloc: Global, linked: &Linked, bytes: &[u8]) -> bool {
     let mut report = in_memory(alloc);
     let is_emitted = matches!(emit(linked, &mut file, &mut report), Ok(0));
     let is_latched = file.failed() || report.failed();
-    is_emitted
-        && !is_latched
-        && file.into_inner().taken() == bytes
-        && report.into_inner().taken().is_empty()
+    let file = file.into_inner();
+    let report = report.into_inner();
+    is_emitted && !is_latched && file.taken() == bytes && report.taken().is_empty()
 }
 
 #[test]
