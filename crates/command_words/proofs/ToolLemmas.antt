@@ -1,7 +1,11 @@
 -- What options make of a command, and what is read of the words by it.
-use Rattle.std.proofs.Common.{◌≡◌, ℕ, true, false, List, [], length, filter, map, Option, Some, None, option_map, Result, Ok, Err, refl, sym, ap, ap₂, ◌∙◌, subst, inl, inr}
+use Rattle.std.proofs.Common.{◌≡◌, ◌<◌, ◌+◌, ℕ, Bool, true, false, cond, drop, get_or, List, [], length, filter, map, Option, Some, None, option_map, Result, Ok, Err, refl, sym, ap, ap₂, ◌∙◌, subst, inl, inr}
+use Rattle.std.specs.Borrow.{Bor}
 use Rattle.std.specs.declared.alloc.Global.{Global}
-use Rattle.std.specs.Prelude.{IfErr, IfOk, IsErrAnd, String, string_bytes}
+use Rattle.std.proofs.lemmas.Bool.{false_from_ne_true}
+use Rattle.std.proofs.lemmas.List.{at_drop_more}
+use Rattle.std.proofs.lemmas.Slice.Eq.{bytes_eq-Decides}
+use Rattle.std.specs.Prelude.{IfErr, IfOk, IsErrAnd, String, bytes_eq, codes, string_bytes}
 use Rattle.clap.specs.Built.{AddsArg, AddsSubcommand}
 use Rattle.clap.specs.Faults.{fault_of, is_simple_and_free}
 use Rattle.clap.specs.Kinds.{HasKind, Kinds}
@@ -23,7 +27,8 @@ use Rattle.command_words.specs.declared.words.TheConstants.{FILE}
 use Rattle.command_words.specs.Calls.{Asks, AsksForNone, IsAsked, fault_of_words, name_of}
 use Rattle.command_words.specs.steps.ToolCalls.{HasNoCall}
 use Rattle.command_words.specs.LinkWords.{values_of}
-use Rattle.command_words.specs.Tools.{v7_app}
+use Rattle.command_words.specs.steps.ToolApps.{tool_app, tools_added}
+use Rattle.command_words.specs.Tools.{bare, files_rule, ld_app, nm_app, session_app, v7_app}
 use Rattle.command_words.proofs.WordsLemmas.{dashes-asked, dashes-bytes, is_dash}
 
 v7_is_simple : is_simple v7_app ≡ true
@@ -43,6 +48,30 @@ pub adds_tool : (old sub new : Command) (app tool : App) → AddsSubcommand old 
 adds_tool old sub new app tool adds was is plain =
     let top : shape_of sub ≡ tool.top = ap (λ (a : App). a.top) is in
     adds.shape (plain_fields sub (ap (λ s. s.is_plain) top ∙ plain)).globals ∙ ap₂ with_subcommand was top
+
+-- ---- the tool of a name
+
+is_other : (name tool : List ℕ) → (name ≡ tool → ⊥) → bytes_eq name tool ≡ false
+is_other name tool n = false_from_ne_true (bytes_eq name tool) (λ e. n ((bytes_eq-Decides name tool).0 e))
+
+pub takes_files : (name : List ℕ) → (name ≡ codes "ld" → ⊥) → (name ≡ codes "nm" → ⊥) → (name ≡ codes "session" → ⊥) → tool_app name ≡ with_rule (bare name) files_rule
+takes_files name a b c = rw (is_other name (codes "ld") a, is_other name (codes "nm") b, is_other name (codes "session") c) refl
+
+tool_is_plain : (name : List ℕ) → (tool_app name).top.is_plain ≡ true
+tool_is_plain name = by_tests (bytes_eq name (codes "ld")) (bytes_eq name (codes "nm")) (bytes_eq name (codes "session"))
+  where
+    by_tests : (ld nm session : Bool) → (cond ld ld_app (cond nm nm_app (cond session session_app (with_rule (bare name) files_rule)))).top.is_plain ≡ true
+    by_tests true nm session = refl
+    by_tests false true session = refl
+    by_tests false false true = refl
+    by_tests false false false = refl
+
+-- one of several tools is added, and the others are left
+pub adds_named : (old sub new : Command) (names : List (Bor (List ℕ))) (i : ℕ) (d : Bor (List ℕ)) → i < length names → AddsSubcommand old sub new → app_of sub ≡ tool_app (get_or names i d).now →
+    tools_added (app_of old) (map (λ n. n.now) (drop i names)) ≡ tools_added (app_of new) (map (λ n. n.now) (drop (i + 1) names))
+adds_named old sub new names i d more adds is =
+    let added = adds_tool old sub new (app_of old) (tool_app (get_or names i d).now) adds refl is (tool_is_plain (get_or names i d).now) in
+    at_drop_more (λ (ns : List (Bor (List ℕ))). tools_added (app_of old) (map (λ n. n.now) ns)) names i d more ∙ ap (λ (app : App). tools_added app (map (λ n. n.now) (drop (i + 1) names))) (sym added)
 
 -- ---- the subcommand that was read
 

@@ -5,6 +5,7 @@ ghost use Rattle.clap.specs.Simple.{app_of};
 ghost use Rattle.clap.specs.Walk.{first_of, rows_of, rule_of};
 ghost use Rattle.command_words.specs.declared.fault.WordsFault.TheVariants.{Memory};
 ghost use Rattle.command_words.specs.Calls.{Asks, AsksForNone, IsAsked, IsWhole, dashes_in, files_of, name_of, or_program, program};
+ghost use Rattle.command_words.specs.steps.ToolApps.{tool_app, tools_added};
 ghost use Rattle.command_words.specs.steps.ToolCalls.{HasNoCall};
 ghost use Rattle.command_words.specs.LinkWords.{values_of};
 ghost use Rattle.command_words.specs.Tools.{bare, files_rule, ld_app, nm_app, v7_alone, v7_app};
@@ -88,6 +89,9 @@ const NM_FLAGS: [(&str, char); 6] = [
     (UNDEFINED, 'u'),
 ];
 
+/// The names of the tools. Those that have no options of their own take files.
+const TOOLS: [&str; 5] = ["ld", "nm", "size", "strip", "session"];
+
 /// A command without help and version.
 fn tool<'a>(alloc: Global, name: &'a str) -> Command<'a>
     ensures { app_of result ≡ bare name.entry.now }
@@ -131,15 +135,36 @@ fn program<'a>(alloc: Global) -> Command<'a>
         .subcommand_required(true)
 }
 
+/// The tool of this name.
+fn tool_named<'a>(alloc: Global, name: &'a str) -> Result<Command<'a>, AllocError>
+    ensures { IfOk result (λ r. app_of r ≡ tool_app name.entry.now) }
+{
+    match name {
+        "ld" => ld_tool(alloc),
+        "nm" => nm_tool(alloc),
+        "session" => with_link_options(alloc, tool(alloc, "session")),
+        _ => tool(alloc, name).arg(files(alloc)),
+    }
+}
+
+/// A command with the tools of these names.
+fn with_tools<'a>(
+    alloc: Global,
+    mut command: Command<'a>,
+    names: &[&'a str],
+) -> Result<Command<'a>, AllocError>
+    ensures { IfOk result (λ r. app_of r ≡ tools_added (app_of command.entry) (map (λ name. name.now) names.now)) }
+{
+    for name in names {
+        command = command.subcommand(tool_named(alloc, name)?)?;
+    }
+    Ok(command)
+}
+
 fn tools<'a>(alloc: Global) -> Result<Command<'a>, AllocError>
     ensures { IfOk result (λ r. app_of r ≡ v7_app) }
 {
-    program(alloc)
-        .subcommand(ld_tool(alloc)?)?
-        .subcommand(nm_tool(alloc)?)?
-        .subcommand(tool(alloc, "size").arg(files(alloc))?)?
-        .subcommand(tool(alloc, "strip").arg(files(alloc))?)?
-        .subcommand(with_link_options(alloc, tool(alloc, "session"))?)
+    with_tools(alloc, program(alloc), &TOOLS)
 }
 
 /// The files of a command, owned.
