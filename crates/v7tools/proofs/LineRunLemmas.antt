@@ -1,5 +1,5 @@
 -- A line of a script, from the step or the link that answers it.
-use Rattle.std.proofs.Common.{◌≡◌, ℕ, List, [], ◌∷◌, Option, Some, None, Result, Ok, Err, refl, sym, ap, subst, inl, inr, append-nil}
+use Rattle.std.proofs.Common.{◌≡◌, ℕ, List, [], ◌∷◌, Option, Some, None, Result, Ok, Err, refl, sym, ap, ◌∙◌, subst, inl, inr, append-nil}
 use Rattle.std.specs.declared.alloc.Global.{Global}
 use Rattle.std.specs.Prelude.{IfErr, IfOk, IsErr, IsTrue, ◌↔◌, String, string_bytes}
 use Rattle.std.specs.Io.KnownBytes.{Appends, Keeps}
@@ -21,8 +21,9 @@ use Rattle.v7tools.specs.Inputs.{Cause, kept_with}
 use Rattle.v7tools.specs.Scripts.{Asked, to_add, to_withdraw, for_externals, for_undefined, to_link, for_nothing}
 use Rattle.v7tools.specs.LineRuns.{DoesStep, IsAddOf, IsLineOf, LineRun, OnlyTells, TakesLast, status_after}
 use Rattle.v7tools.specs.parts.SessionParts.{AnswersLine, IsNoLink, IsOpenedAt, TakesPlainStep, TellsStep}
-use Rattle.v7tools.specs.Steps.{AddsIf, Does, GoesOut, IsAddBy, IsAddOn, IsStepOn}
+use Rattle.v7tools.specs.Steps.{AddsIf, Does, GoesOut, IsAddBy, IsAddOn, IsStepOn, verdict_of}
 use Rattle.v7tools.specs.declared.commands.Command.{Command}
+use Rattle.v7tools.specs.declared.commands.Step.{Step}
 use Rattle.v7tools.specs.declared.commands.Command.TheVariants.{Add, Withdraw, Externals, Undefined, Link, Bad}
 use Rattle.v7tools.specs.declared.fault.CliFault.{CliFault}
 use Rattle.v7tools.specs.declared.fault.CliFault.TheVariants as faults
@@ -91,6 +92,24 @@ module _ {W : Type 0} (contents : W → Option (List ℕ)) where
         fault = (λ _. out.0, λ _. refl);
         bytes = out.1;
       })
+
+  -- an answer that went out
+  wrote : (v : Verdict) (answer : List ℕ) (s : Step) (status : ℕ) (before after : Latched W) → ((x : Outcome) → v ≡ to_store x → ⊥) → GoesOut contents v answer (Ok s) before after →
+      (IsErr {E = CliFault} (Ok status) ↔ IsTrue after.has_failed) × Puts {E = CliFault} (Ok status) (contents before.device) (contents after.device) answer
+  wrote done answer s status before after plain h = (h.fault, h.bytes)
+  wrote refused answer s status before after plain h = (h.fault, h.bytes)
+  wrote (to_store x) answer s status before after plain h = absurd (plain x refl)
+
+  pub tells_status : (did : Stepped) (left : Kept) (s : Step) (status : ℕ) (before after : Latched W) → Does contents did left (Ok s) before after → ((x : Outcome) → verdict_of s ≡ to_store x → ⊥) → status ≡ status_after (verdict_of s) →
+      TellsStep contents did left (Ok status) before after
+  tells_status did left s status before after h plain is =
+      let out = wrote did.verdict did.answer s status before after (λ x e. plain x (h.verdict ∙ e)) h.answer in record {
+        entries = h.kept;
+        status = is ∙ ap status_after h.verdict;
+        write_failed = tt;
+        fault = out.0;
+        bytes = out.1;
+      }
 
   -- ---- a line
 

@@ -20,3 +20,9 @@ returns-in_ok-write-in-Kept g c =
     let f = findings_of c.args.linked.now.report in
     subst (λ (s : Stored). Writes g.W.Write.contents c.put_linked_line.result c.args.answers.now c.put_linked_line.new.answers (link_answer_text f c.args.path.now s)) (sym c.in-Kept.is)
     (writes_both c.in_ok-write-in-Kept.ensures (rw c.status.ensures at c.put_linked_line.ensures))
+
+pub returns-in-NotCreated : goal.returns-in-NotCreated
+returns-in-NotCreated g c = rw c.in-NotCreated.is c.put_path_line.ensures
+
+pub returns-in-Failed : goal.returns-in-Failed
+returns-in-Failed g c = rw c.in-Failed.is c.put_path_line-in-Failed.ensures
