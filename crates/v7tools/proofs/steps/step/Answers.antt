@@ -1,7 +1,8 @@
 use Rattle.std.proofs.Common.{refl}
 use Rattle.std.specs.Prelude.{string_bytes}
+use Rattle.link_session.specs.Edits.{last_of}
 use Rattle.v7tools.specs.declared.commands.Step.TheVariants.{Done, Refused}
-use Rattle.v7tools.specs.Answers.{step, adding, absent, listing_externals, listing_undefined, anything_else}
+use Rattle.v7tools.specs.Answers.{step, adding, absent, listing_externals, listing_undefined, anything_else, withdraw_step}
 use Rattle.aout_core.proofs.PutsLemmas.{writes_broke_off}
 use Rattle.v7tools.proofs.StepLemmas.{told_whole, no_value, refused_verdict, added_over}
 use Rattle.v7tools.proofs.steps.step.Goals as goal
@@ -59,3 +60,65 @@ returns-in-None-clause-step g c =
     let s = c.args.session.now in
     let told = c.refuse.ensures in
     rw (c.in-Add.is, c.in-None.is) (step s.forced c.args.options.now s.entries (adding (string_bytes c.in-Add.path) absent), refl, refl, record { kept = refl; verdict = refused_verdict c.refuse.result told.step; answer = told.written })
+
+pub returns-in-Some-clause-write_failed : goal.returns-in-Some-clause-write_failed
+returns-in-Some-clause-write_failed g c = c.add.ensures.write_failed
+
+pub returns-in-Some-clause-latched : goal.returns-in-Some-clause-latched
+returns-in-Some-clause-latched g c = c.add.ensures.latched
+
+pub returns-in-Some-clause-object : goal.returns-in-Some-clause-object
+returns-in-Some-clause-object g c = λ _. c.add.ensures.object
+
+pub returns-in-Withdraw-clause-write_failed : goal.returns-in-Withdraw-clause-write_failed
+returns-in-Withdraw-clause-write_failed g c = c.withdraw.ensures.write_failed
+
+pub returns-in-Withdraw-clause-latched : goal.returns-in-Withdraw-clause-latched
+returns-in-Withdraw-clause-latched g c = c.withdraw.ensures.latched
+
+pub returns-in-Withdraw-clause-object : goal.returns-in-Withdraw-clause-object
+returns-in-Withdraw-clause-object g c = λ _. c.withdraw.ensures.object
+
+pub returns-in-Link-clause-write_failed : goal.returns-in-Link-clause-write_failed
+returns-in-Link-clause-write_failed g c = c.make_link.ensures.write_failed
+
+pub returns-in-Link-clause-latched : goal.returns-in-Link-clause-latched
+returns-in-Link-clause-latched g c = c.make_link.ensures.latched
+
+pub returns-in-Link-clause-object : goal.returns-in-Link-clause-object
+returns-in-Link-clause-object g c = c.make_link.ensures.object
+
+pub returns-in-None-clause-write_failed : goal.returns-in-None-clause-write_failed
+returns-in-None-clause-write_failed g c = c.refuse.ensures.write_failed
+
+pub returns-in-None-clause-latched : goal.returns-in-None-clause-latched
+returns-in-None-clause-latched g c = c.refuse.ensures.written.latched
+
+pub returns-in-Withdraw-clause-step : goal.returns-in-Withdraw-clause-step
+returns-in-Withdraw-clause-step g c =
+    let s = c.args.session.now in
+    let (changes, does) = c.withdraw.ensures.step in
+    rw c.in-Withdraw.is (withdraw_step s.entries (last_of s.entries), refl, changes, does)
+
+pub returns-in-Link-clause-step : goal.returns-in-Link-clause-step
+returns-in-Link-clause-step g c =
+    let (did, by, does) = c.make_link.ensures.step in
+    rw c.in-Link.is (did, by, refl, does)
+
+pub returns-in_err-put_externals-in-Externals-clause-latched : goal.returns-in_err-put_externals-in-Externals-clause-latched
+returns-in_err-put_externals-in-Externals-clause-latched g c = c.in_err-put_externals-in-Externals.ensures.latched
+
+pub returns-in_ok-put_externals-in-Externals-clause-latched : goal.returns-in_ok-put_externals-in-Externals-clause-latched
+returns-in_ok-put_externals-in-Externals-clause-latched g c = c.in_ok-put_externals-in-Externals.ensures.latched
+
+pub returns-in_err-put_undefined-in-Undefined-clause-latched : goal.returns-in_err-put_undefined-in-Undefined-clause-latched
+returns-in_err-put_undefined-in-Undefined-clause-latched g c = c.in_err-put_undefined-in-Undefined.ensures.latched
+
+pub returns-in_ok-put_undefined-in-Undefined-clause-latched : goal.returns-in_ok-put_undefined-in-Undefined-clause-latched
+returns-in_ok-put_undefined-in-Undefined-clause-latched g c = c.in_ok-put_undefined-in-Undefined.ensures.latched
+
+pub returns-in_err-put_line-in-Bad-clause-latched : goal.returns-in_err-put_line-in-Bad-clause-latched
+returns-in_err-put_line-in-Bad-clause-latched g c = c.in_err-put_line-in-Bad.ensures.latched
+
+pub returns-in_ok-put_line-in-Bad-clause-latched : goal.returns-in_ok-put_line-in-Bad-clause-latched
+returns-in_ok-put_line-in-Bad-clause-latched g c = c.in_ok-put_line-in-Bad.ensures.latched
