@@ -9,3 +9,4 @@ pub mod ScriptLemmas
 pub mod ListingLemmas
 pub mod AdditionLemmas
 pub mod StepLemmas
+pub mod EmitLemmas

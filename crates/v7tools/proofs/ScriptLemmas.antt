@@ -171,3 +171,14 @@ stays_stopped stops.Memory = refl
 
 pub settled_by : (answer : Answer) (stop : Stop) → answer ≡ answer_of stop → Settles answer (Some (answer_of stop))
 settled_by answer stop is = subst (λ (a : Answer). Settles a (Some (answer_of stop))) (sym is) (stays_stopped stop)
+
+script_failed : (stop : Stop) → answer_of stop ≡ Err faults.ScriptFailed → stop ≡ stops.ReadFailed
+script_failed stops.End e = absurd (cc)
+script_failed stops.LongLine e = absurd (cc)
+script_failed stops.ManyLines e = absurd (cc)
+script_failed stops.ReadFailed e = refl
+script_failed stops.Memory e = absurd (cc)
+
+-- a stop is answered by a fault of the script exactly where its reader failed
+pub failed_as : {P : Type 0} (answer : Answer) (stop : Stop) → answer ≡ answer_of stop → (stop ≡ stops.ReadFailed ↔ P) → (answer ≡ Err faults.ScriptFailed ↔ P)
+failed_as answer stop is failed = (λ e. failed.0 (script_failed stop (sym is ∙ e)), λ p. is ∙ ap answer_of (failed.1 p))

@@ -26,3 +26,12 @@ returns-in-Long-clause-value g c =
     let size : length c.read_line.new.line.items ≡ vec_len c.read_line.new.line = search rules in
     let (b, none, taken) = c.in-Long.ensures.ends in
     long_told c.args.line_count (prepend_known c.args.reader.now.held (g.R.Read.remaining c.args.reader.now.wire.device)) (prepend_known c.read_line.new.reader.held (g.R.Read.remaining c.read_line.new.reader.wire.device)) c.read_line.new.line.items b (omega (arith, few)) (size ∙ c.in-Long.ensures.long refl) none taken
+
+pub returns-in-Newline-clause-latched : goal.returns-in-Newline-clause-latched
+returns-in-Newline-clause-latched g c = c.read_line.ensures.latched
+
+pub returns-in-Long-clause-latched : goal.returns-in-Long-clause-latched
+returns-in-Long-clause-latched g c = c.read_line.ensures.latched
+
+pub returns-in-Failed-clause-latched : goal.returns-in-Failed-clause-latched
+returns-in-Failed-clause-latched g c = c.read_line.ensures.latched

@@ -5,7 +5,7 @@ use Rattle.v7tools.specs.declared.fault.CliFault.TheVariants.{Memory}
 use Rattle.v7tools.specs.Scripts.{asked}
 use Rattle.v7tools.specs.ScriptAnswers.{answer_of, asked_by, IfTold, IsNextOf, NamesPath}
 use Rattle.v7tools.specs.parts.LineParts.{IsTakenOf}
-use Rattle.v7tools.proofs.ScriptLemmas.{told_map, line_answered, lost_told, settled_by, stop_told}
+use Rattle.v7tools.proofs.ScriptLemmas.{told_map, failed_as, line_answered, lost_told, settled_by, stop_told}
 use Rattle.v7tools.proofs.script.Script.next_line.Goals as goal
 
 pub returns-clause-next : goal.returns-clause-next
@@ -47,3 +47,6 @@ returns-in-Err-clause-next g c =
     c.in-Err.ensures.value in
     λ _. stop_told c.args.self.now.line_count (prepend_known c.args.self.now.held (g.R.Read.remaining c.args.self.now.wire.device)) (prepend_known c.take_line.new.reader.held (g.R.Read.remaining c.take_line.new.reader.wire.device)) (Some (answer_of c.in-Err.stop))
     c.answer-in-Err.result c.in-Err.stop c.answer-in-Err.ensures stopped
+
+pub returns-in-Err-clause-failed : goal.returns-in-Err-clause-failed
+returns-in-Err-clause-failed g c = failed_as c.answer-in-Err.result c.in-Err.stop c.answer-in-Err.ensures c.in-Err.ensures.failed
