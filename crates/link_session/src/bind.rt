@@ -18,7 +18,7 @@ use aout_core::{Name, Segment, Symbol};
 use std::alloc::AllocError;
 
 /// What a name is defined as: an offset in a merged segment.
-#[derive(Clone, Copy, Debug)]
+#[derive(Clone, Copy)]
 pub(crate) struct Definition {
     pub(crate) segment: Segment,
     pub(crate) offset: u16,

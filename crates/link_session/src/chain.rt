@@ -10,7 +10,7 @@ use crate::mark::Place;
 pub(crate) type Link = Option<Place>;
 
 /// The links of all cells.
-#[derive(Clone, Copy, Debug)]
+#[derive(Clone, Copy)]
 pub(crate) struct Links<'a> {
     pub(crate) text: &'a [Link],
     pub(crate) data: &'a [Link],

@@ -17,9 +17,9 @@ use crate::cell::Cell;
 use crate::chain::{Link, grow_heads};
 use crate::mark::Mark;
 use crate::mention::{Table, count_external, enter_all};
-use crate::merged::{Merged, undo};
+use crate::merged::{Externals, Merged, undo};
 use crate::relocate::{Scope, Shifts, Words, append_cells, next_shifts};
-use aout_core::{File, Object, Segment, Symbol};
+use aout_core::{File, Name, Object, Segment, Symbol};
 use std::alloc::{AllocError, Global};
 
 /// The words of an object's text.
@@ -65,6 +65,29 @@ fn reserve_cells(
     links.reserve(count)
 }
 
+/// Makes room for so many names, with what is noted of them. An error changes nothing but room.
+fn reserve_names(
+    externals: &mut Externals,
+    heads: &mut Vec<Link>,
+    multiples: &mut Vec<Name>,
+    marks: &mut Vec<Mark>,
+    count: usize,
+) -> Result<(), AllocError>
+    ensures names { externals.new.entries ≡ externals.old.entries }
+    ensures heads { heads.new.items ≡ heads.old.items }
+    ensures multiples { multiples.new.items ≡ multiples.old.items }
+    ensures marks { marks.new.items ≡ marks.old.items }
+    ensures names_room { OnOk result (count ≤ spare externals.new) }
+    ensures heads_room { OnOk result (vec_len heads.new + count ≤ vec_capacity heads.new) }
+    ensures multiples_room { OnOk result (vec_len multiples.new + count ≤ vec_capacity multiples.new) }
+    ensures marks_room { OnOk result (vec_len marks.new + count ≤ vec_capacity marks.new) }
+{
+    heads.reserve(count)?;
+    externals.reserve(count)?;
+    multiples.reserve(count)?;
+    marks.reserve(count)
+}
+
 /// Makes room for an object. An error changes nothing but room.
 fn make_room(image: &mut Merged, marks: &mut Vec<Mark>, file: &File) -> Result<(), AllocError>
     ensures image { image_in image.new ≡ image_in image.old }
@@ -84,10 +107,13 @@ fn make_room(image: &mut Merged, marks: &mut Vec<Mark>, file: &File) -> Result<(
     let data = file.data_words().len();
     reserve_cells(&mut image.text_cells, &mut image.text_links, text)?;
     reserve_cells(&mut image.data_cells, &mut image.data_links, data)?;
-    image.heads.reserve(entries)?;
-    image.externals.reserve(entries)?;
-    image.multiples.reserve(entries)?;
-    marks.reserve(entries)
+    reserve_names(
+        &mut image.externals,
+        &mut image.heads,
+        &mut image.multiples,
+        marks,
+        entries,
+    )
 }
 
 /// Appends heads for the object's new names, and then its own cells and its bss. There is room for them.

@@ -34,7 +34,7 @@ pub(crate) fn look_up(externals: &Externals, name: &Name) -> (usize, State)
 }
 
 /// A name, and what a symbol says of it.
-#[derive(Clone, Copy, Debug)]
+#[derive(Clone, Copy)]
 struct Claim {
     name: Name,
     says: State,

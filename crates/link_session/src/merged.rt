@@ -32,7 +32,7 @@ pub(crate) struct Merged {
 }
 
 /// The sizes of an image: what is behind them was added later.
-#[derive(Clone, Copy, Debug)]
+#[derive(Clone, Copy)]
 pub(crate) struct Sizes {
     pub(crate) text_cells: usize,
     pub(crate) data_cells: usize,
