@@ -1,5 +1,5 @@
 //! The session: the objects that are kept, their merged image, and the journal.
-ghost use Rattle.std.specs.Prelude.{◌≡◌, ◌*◌, ◌≤◌, ◌<◌, ◌++◌, ◌∷◌, [], None, Some, length, map, position, slice_get, bytes_eq, IfOk, IfErr, OnOk, OnErr, IfSome, IsNone, vec_len, vec_capacity};
+ghost use Rattle.std.specs.Prelude.{◌≡◌, ◌*◌, ◌≤◌, ◌<◌, ◌++◌, ◌∷◌, [], None, Some, length, map, replicate, position, slice_get, bytes_eq, IfOk, IfErr, OnOk, OnErr, IfSome, IsNone, vec_len, vec_capacity};
 ghost use Rattle.std.specs.List.{AllByRecursion};
 ghost use Rattle.std.specs.Map.{keys_of};
 ghost use Rattle.indexmap.specs.IndexMap.{spare};
@@ -16,7 +16,7 @@ ghost use Rattle.link_session.specs.steps.Additions.{all_mentioned, joined_image
 ghost use Rattle.link_session.specs.Sessions.{nothing_kept, labelled, newest, Adds, Withdraws, IsCause, IsObject};
 
 use crate::cell::Cell;
-use crate::chain::grow_heads;
+use crate::chain::{Link, grow_heads};
 use crate::entry::{AddFault, AddRefused, Entry};
 use crate::forced::Forced;
 use crate::join::join;
@@ -84,6 +84,24 @@ fn force_names(externals: &mut Externals, names: &[Name])
     }
 }
 
+/// Enters the forced names into an image that has no names: each is mentioned, and no cell waits for it.
+fn enter_forced(
+    externals: &mut Externals,
+    heads: &mut Vec<Link>,
+    names: &[Name],
+) -> Result<(), AllocError>
+    requires no_names { externals.old.entries ≡ [] }
+    requires no_heads { heads.old.items ≡ [] }
+    ensures names { OnOk result (externals.new.entries ≡ all_mentioned [] (map forced_mention names.now)) }
+    ensures heads { OnOk result (heads.new.items ≡ replicate (length externals.new.entries) None) }
+{
+    externals.reserve(names.len())?;
+    heads.reserve(names.len())?;
+    force_names(externals, names);
+    grow_heads(heads, externals.len());
+    Ok(())
+}
+
 impl Session {
     /// A session of no objects and no forced names. (own choice)
     pub fn new(alloc: Global) -> Session
@@ -105,13 +123,8 @@ impl Session {
     pub fn with_forced(alloc: Global, forced: &Forced) -> Result<Session, Memory>
         ensures { IfOk result (λ session. session ≡ nothing_kept forced.now) }
     {
-        let names = forced.names();
         let mut image = Merged::new(alloc);
-        image.externals.reserve(names.len())?;
-        image.heads.reserve(names.len())?;
-        force_names(&mut image.externals, names);
-        let count = image.externals.len();
-        grow_heads(&mut image.heads, count);
+        enter_forced(&mut image.externals, &mut image.heads, forced.names())?;
         Ok(Session {
             forced: *forced,
             entries: Vec::new(alloc),
