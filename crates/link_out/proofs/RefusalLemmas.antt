@@ -35,7 +35,7 @@ use Rattle.link_out.specs.Tables.{is_kept_local, rows_kept, moved_local, local_r
 use Rattle.link_out.specs.Reports.{findings}
 use Rattle.link_out.specs.steps.InOrder.{room_in}
 use Rattle.link_out.specs.NameStates.{HasState, IsWanted}
-use Rattle.link_out.specs.Relocated.{segment_words}
+use Rattle.link_out.specs.Relocated.{segment_words, segment_relocs}
 use Rattle.link_out.specs.LinkedTable.{room_for}
 use Rattle.link_out.specs.Link.{Outcome, linked_file, link}
 use Rattle.link_out.specs.Refusals.{CommonsTake, EndsAt, kept_locals, entries, entry_count, HasFarWord, IsRefused}
@@ -219,34 +219,42 @@ module _ (forced : List (List ℕ)) (os : List Contents) (o : Choices) where
   far_by : (name : List ℕ) → 4095 < row_of p os name → 4095 < length (kept_locals o os) + place_of name (externals forced os)
   far_by name far = subst (λ (n : ℕ). 4095 < n) (number_same name) far
 
-  far_in : AllByRecursion IsObject os → o.relocatable ≡ true → (segment : Segment) → has_far_in p os segment ≡ true → HasFarWord 4095 forced os o
-  far_in good rel segment h =
-      let s = any_split (IsFarIn segment) os h in
-      let k = s.1.0 in
-      let at = any_index (λ wr. is_out_of_reach p os (referent k wr.1)) (words_of segment k) s.1.1.2 in
-      let back = words_back segment k at.0 at.1.0 at.1.1 in
-      let word = word_at forced os s.0 k s.1.1.0 s.1.1.1 good segment at.0 at.1.0.0 at.1.0.1 back.0 back.1 in
-      let f = is_far k at.1.0.1 word.number word.fine at.1.2 in
-      let st = far_state f.symbol.name (row_of p os f.symbol.name) (state ms f.symbol.name) rel (has_state ms f.symbol.name) f.far in
+  far_word : (before : List Contents) (k : Contents) (after : List Contents) → os ≡ before ++ k ∷ after → (segment : Segment) (i w : ℕ) (r : Reloc) → slice_get (segment_words segment k) i ≡ Some w → slice_get (segment_relocs segment k) i ≡ Some r →
+      (f : IsFar k r) → (size : ℕ) × IsWanted ms f.symbol.name size × ((size ≡ 0) ⊎ (lays_commons o ≡ false)) × (4095 < row_of p os f.symbol.name) → HasFarWord 4095 forced os o
+  far_word before k after all segment i w r word reloc f (size, wanted, waits, far) =
       record {
-        before = s.0;
+        before = before;
         k = k;
-        after = s.1.1.0;
-        all = s.1.1.1;
+        after = after;
+        all = all;
         segment = segment;
-        i = at.0;
-        w = at.1.0.0;
-        r = at.1.0.1;
-        word = back.0;
-        reloc = back.1;
+        i = i;
+        w = w;
+        r = r;
+        word = word;
+        reloc = reloc;
         kind = f.kind;
         symbol = f.symbol;
         named = f.named;
-        size = st.0;
-        wanted = st.1;
-        waits = st.2;
-        far = far_by f.symbol.name st.3;
+        size = size;
+        wanted = wanted;
+        waits = waits;
+        far = far_by f.symbol.name far;
       }
+
+  far_in : AllByRecursion IsObject os → o.relocatable ≡ true → (segment : Segment) → has_far_in p os segment ≡ true → HasFarWord 4095 forced os o
+  far_in good rel segment h = by_object (any_split (IsFarIn segment) os h)
+    where
+      by_index : (before : List Contents) (k : Contents) (after : List Contents) → os ≡ before ++ k ∷ after →
+          (i : ℕ) × ((wr : ℕ × Reloc) × (slice_get (words_of segment k) i ≡ Some wr) × (is_out_of_reach p os (referent k wr.1) ≡ true)) → HasFarWord 4095 forced os o
+      by_index before k after all (i, ((w, r), at, out)) =
+          let back = words_back segment k i (w, r) at in
+          let word = word_at forced os before k after all good segment i w r back.0 back.1 in
+          let f = is_far k r word.number word.fine out in
+          far_word before k after all segment i w r back.0 back.1 f (far_state f.symbol.name (row_of p os f.symbol.name) (state ms f.symbol.name) rel (has_state ms f.symbol.name) f.far)
+
+      by_object : (before : List Contents) × ((k : Contents) × ((after : List Contents) × (os ≡ before ++ k ∷ after) × (IsFarIn segment k ≡ true))) → HasFarWord 4095 forced os o
+      by_object (before, (k, (after, all, far))) = by_index before k after all (any_index (λ wr. is_out_of_reach p os (referent k wr.1)) (words_of segment k) far)
 
   far_found : AllByRecursion IsObject os → o.relocatable ≡ true → has_far_word p os ≡ true → HasFarWord 4095 forced os o
   far_found good rel h = by_text (has_far_in p os TextSeg) refl h
