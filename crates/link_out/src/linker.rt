@@ -1,7 +1,7 @@
 //! The link of what a session keeps.
-ghost use Rattle.std.specs.Prelude.{◌≡◌, ℕ, ◌≤◌, true, false, cond, List, map, [], length, IfOk, IfErr, Err};
+ghost use Rattle.std.specs.Prelude.{◌≡◌, ℕ, ◌≤◌, true, false, cond, List, map, [], length, IfOk, IfErr, Ok, Err};
 ghost use Rattle.std.specs.List.{list_any};
-ghost use Rattle.aout_core.specs.Contents.{Contents, Fits};
+ghost use Rattle.aout_core.specs.Contents.{Contents};
 ghost use Rattle.aout_core.specs.WellFormed.{IsWellFormed};
 ghost use Rattle.aout_core.specs.Parts.{contents_of};
 ghost use Rattle.link_session.specs.Labelled.{objects};
@@ -13,7 +13,7 @@ ghost use Rattle.link_out.specs.Tables.{table};
 ghost use Rattle.link_out.specs.Link.{link, link_by, linked_header, linked_file};
 ghost use Rattle.link_out.specs.steps.InOrder.{plan_of};
 ghost use Rattle.link_out.specs.steps.Passes.{IsPassed};
-ghost use Rattle.link_out.specs.Outcomes.{IsLinkOf};
+ghost use Rattle.link_out.specs.Outcomes.{IsLinkOf, outcome_of};
 
 use crate::finals::{Final, finals_of};
 use crate::findings::{entry_point, report_of};
@@ -106,9 +106,7 @@ fn parts_of(
     requires text { resolved.now.bases.now.text_end ≤ 65535 }
     requires finals { resolved.now.finals.now ≡ from_cells.finals (plan_of session.now options.now) }
     requires entry { resolved.now.entry ≡ entry_word (plan_of session.now options.now) options.now.entry }
-    ensures value { IfOk result (λ parts. contents_of parts ≡ linked_file (plan_of session.now options.now) (objects session.now.entries)) }
-    ensures fits { IfOk result (λ parts. Fits (contents_of parts)) }
-    ensures object { options.now.relocatable ≡ true → IfOk result (λ parts. IsWellFormed (contents_of parts)) }
+    ensures { IfOk result (λ parts. contents_of parts ≡ linked_file (plan_of session.now options.now) (objects session.now.entries)) }
 {
     // for its contract: what the session keeps are objects, and it is within its limits
     let _objects = session.entries();
@@ -129,6 +127,54 @@ fn parts_of(
         data_reloc: kept_relocs(alloc, options, data_cells, finals, locals)?,
         symbols,
     })
+}
+
+/// The file of a link that no fault refuses. An error: out of memory.
+fn file_of(
+    alloc: Global,
+    session: &Session,
+    options: &Options,
+    resolved: &Resolved<'_>,
+) -> Result<File, AllocError>
+    requires passed { IsPassed (plan_of session.now options.now) (objects session.now.entries) resolved.now.locals }
+    requires bases { resolved.now.bases.now ≡ (plan_of session.now options.now).at }
+    requires text { resolved.now.bases.now.text_end ≤ 65535 }
+    requires finals { resolved.now.finals.now ≡ from_cells.finals (plan_of session.now options.now) }
+    requires entry { resolved.now.entry ≡ entry_word (plan_of session.now options.now) options.now.entry }
+    ensures value { IfOk result (λ file. file ≡ linked_file (plan_of session.now options.now) (objects session.now.entries)) }
+    ensures object { options.now.relocatable ≡ true → IfOk result (λ file. IsWellFormed file) }
+{
+    // for its contract: what the session keeps are objects, and it is within its limits
+    let _objects = session.entries();
+    let parts = parts_of(alloc, session, options, resolved)?;
+    Ok(File::from_parts(parts))
+}
+
+/// The link that no fault refuses. An error: out of memory.
+fn link_passed(
+    alloc: Global,
+    session: &Session,
+    options: &Options,
+    bases: &Bases,
+    locals: u16,
+) -> Result<Linked, AllocError>
+    requires bases { bases.now ≡ (plan_of session.now options.now).at }
+    requires text { bases.now.text_end ≤ 65535 }
+    requires passed { IsPassed (plan_of session.now options.now) (objects session.now.entries) locals }
+    ensures value { IfOk result (λ linked. link_by (plan_of session.now options.now) (objects session.now.entries) ≡ Ok (outcome_of linked)) }
+    ensures object { options.now.relocatable ≡ true → IfOk result (λ linked. IsWellFormed linked.file) }
+{
+    let finals = finals_of(alloc, session, options, bases)?;
+    let entry = entry_point(session, options, &finals);
+    let resolved = Resolved {
+        bases,
+        finals: &finals,
+        locals,
+        entry: entry.address,
+    };
+    let file = file_of(alloc, session, options, &resolved)?;
+    let report = report_of(alloc, session, options, entry.bad)?;
+    Ok(Linked { file, report })
 }
 
 /// How many locals the table of a link has, or the first fault that refuses it. This takes no memory.
@@ -161,16 +207,5 @@ pub fn finish(alloc: Global, session: &Session, options: &Options) -> Result<Lin
 {
     let bases = link_bases(session, options);
     let locals = locals_passed(session, options, &bases)?;
-    let finals = finals_of(alloc, session, options, &bases)?;
-    let entry = entry_point(session, options, &finals);
-    let resolved = Resolved {
-        bases: &bases,
-        finals: &finals,
-        locals,
-        entry: entry.address,
-    };
-    let parts = parts_of(alloc, session, options, &resolved)?;
-    let report = report_of(alloc, session, options, entry.bad)?;
-    let file = File::from_parts(parts);
-    Ok(Linked { file, report })
+    Ok(link_passed(alloc, session, options, &bases, locals)?)
 }

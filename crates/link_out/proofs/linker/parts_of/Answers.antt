@@ -1,14 +1,9 @@
-use Rattle.std.proofs.Common.{◌≡◌, ◌∙◌, length, sym, subst, refl, ap, rules}
+use Rattle.std.proofs.Common.{◌≡◌, ◌∙◌, length, sym, refl, ap, rules}
 use Rattle.aout_core.specs.declared.symbol.Segment.TheVariants.{TextSeg, DataSeg}
-use Rattle.aout_core.specs.Contents.{Fits}
-use Rattle.aout_core.specs.WellFormed.{IsWellFormed}
 use Rattle.link_session.specs.Labelled.{objects}
 use Rattle.link_out.specs.steps.InOrder.{plan_of}
 use Rattle.link_out.specs.Tables.{table}
 use Rattle.link_out.proofs.FinishLemmas.{near_text, near_data, words_planned, relocs_planned, linked_parts}
-use Rattle.link_out.proofs.FitLemmas.{linked_fits}
-use Rattle.link_out.proofs.ObjectLemmas.{linked_object}
-use Rattle.link_session.proofs.AdditionLemmas.{well_formed}
 use Rattle.link_out.proofs.linker.parts_of.Goals as goal
 
 pub kept_relocs-requires : goal.kept_relocs-requires
@@ -23,8 +18,8 @@ kept_relocs-requires-2 c =
     near_data s.forced (objects s.entries) c.args.options.now c.args.resolved.now.finals.now c.args.resolved.now.locals c.data_cells-data_cells.result.now
     c.entries-objects.ensures.objects c.requires.passed c.requires.finals c.data_cells-data_cells.ensures.value
 
-pub returns-clause-value : goal.returns-clause-value
-returns-clause-value c =
+pub returns : goal.returns
+returns c =
     let s = c.args.session.now in
     let os = objects s.entries in
     let o = c.args.options.now in
@@ -40,14 +35,3 @@ returns-clause-value c =
     (c.in_ok-kept_relocs.ensures ∙ relocs_planned s.forced os o TextSeg c.args.resolved.now.finals.now c.args.resolved.now.locals c.text_cells-text_cells.result.now good c.requires.passed c.requires.finals c.text_cells-text_cells.ensures.value)
     (c.in_ok-kept_relocs-2.ensures ∙ relocs_planned s.forced os o DataSeg c.args.resolved.now.finals.now c.args.resolved.now.locals c.data_cells-data_cells.result.now good c.requires.passed c.requires.finals c.data_cells-data_cells.ensures.value)
     symbols
-
-pub returns-clause-fits : goal.returns-clause-fits
-returns-clause-fits c =
-    let s = c.args.session.now in
-    subst Fits (sym (returns-clause-value c)) (linked_fits (plan_of s c.args.options.now) (objects s.entries) c.entries-objects.ensures.objects)
-
-pub returns-clause-object : goal.returns-clause-object
-returns-clause-object c = λ kept.
-    let s = c.args.session.now in
-    let os = objects s.entries in
-    subst IsWellFormed (sym (returns-clause-value c)) (linked_object s.forced os c.args.options.now c.requires.passed.allowed kept (well_formed os c.entries-objects.ensures.objects))
