@@ -74,8 +74,7 @@ fn read_lists<R: Read>(parts: &mut Parts, wire: &mut Wire<R>) -> Result<(), Read
     )?;
     take_items(text_reloc / 2, &mut parts.text_reloc, &mut from, wire)?;
     take_items(data_reloc / 2, &mut parts.data_reloc, &mut from, wire)?;
-    take_items(symbols / 12, &mut parts.symbols, &mut from, wire)?;
-    Ok(())
+    take_items(symbols / 12, &mut parts.symbols, &mut from, wire)
 }
 
 /// Reads a header, and refuses one that no file has.

@@ -59,6 +59,12 @@ bound_by p name (Wanted size) h r u = by_tests (plus p.at.data_end (common_offse
     by_tests a true false e d u = reserved_bound p.at name u
     by_tests a false false e d u = refl
 
+no_row : (row : Symbol) → None ≡ Some row → ⊥
+no_row row e = cc
+
+same_row : (one other : Symbol) → Some one ≡ Some other → one ≡ other
+same_row one other e = cc
+
 pub names_have_addresses : (forced : List (List ℕ)) (os : List Contents) (o : Choices) (x : Outcome) →
     o.keep ≢ Nothing → o.relocatable ≡ false → link forced os o ≡ Ok x → x.report.undefined ≡ [] →
     (name : List ℕ) (row : Symbol) → entry_of x.file.symbols name ≡ Some row → eqb (masked_type row) 0 ≡ false
@@ -71,9 +77,9 @@ names_have_addresses forced os o x others plain linked none name row e =
         ∙ ap (λ (f : Findings). f.undefined) (made_report (plan forced os o) os x linked) ∙ none
 
     by_test : (t : Bool) → is_among (names_by_first_mention (mentions forced os)) name ≡ t → cond t (Some (external_row (plan forced os o) name)) None ≡ Some row → eqb (masked_type row) 0 ≡ false
-    by_test false k f = absurd (cc)
+    by_test false k f = absurd (no_row row f)
     by_test true k f =
-        let same : external_row (plan forced os o) name ≡ row = cc in
+        let same : external_row (plan forced os o) name ≡ row = same_row (external_row (plan forced os o) name) row f in
         subst (λ (s : Symbol). eqb (masked_type s) 0 ≡ false) same
         (bound_by (plan forced os o) name (state (mentions forced os) name) (state_is_proper forced os name) plain
         (none_filtered (λ n. is_undefined (state (mentions forced os) n) && not (is_among reserved_names n)) (names_by_first_mention (mentions forced os)) name undefined k))
@@ -107,13 +113,16 @@ waiting_still p name (Wanted size) h = by_tests (plus p.at.data_end (common_offs
     by_tests a true true c h = refl
     by_tests a true false c h = reserved (bytes_eq name etext) (bytes_eq name edata) (bytes_eq name end_name) h
 
+false_true : false ≡ true → ⊥
+false_true e = cc
+
 pub missing_have_no_address : (forced : List (List ℕ)) (os : List Contents) (o : Choices) (x : Outcome) → o.keep ≢ Nothing → link forced os o ≡ Ok x →
     (name : List ℕ) → is_among x.report.undefined name ≡ true → (row : Symbol) × (entry_of x.file.symbols name ≡ Some row) × (row.type_bits ≡ 32) × (row.value ≡ 0)
 missing_have_no_address forced os o x others linked name h =
     by_relocation o.relocatable (ap (λ (f : Findings). is_among f.undefined name) (made_report (plan forced os o) os x linked) ∙ h)
   where
     by_relocation : (r : Bool) → is_among (cond r [] (undefined_names (mentions forced os))) name ≡ true → (row : Symbol) × (entry_of x.file.symbols name ≡ Some row) × (row.type_bits ≡ 32) × (row.value ≡ 0)
-    by_relocation true k = absurd (cc)
+    by_relocation true k = absurd (false_true k)
     by_relocation false k =
         let parts = filtered_among (λ n. is_undefined (state (mentions forced os) n) && not (is_among reserved_names n)) (names_by_first_mention (mentions forced os)) name k in
         let last : final (plan forced os o) name ≡ waiting 0 = waiting_still (plan forced os o) name (state (mentions forced os) name) parts.1 in (

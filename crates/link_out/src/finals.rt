@@ -15,7 +15,7 @@ use std::alloc::{AllocError, Global};
 use std::marker::Model;
 
 /// What becomes of a name: the segment that it is bound to, if it is bound, its address, and the value that is written.
-#[derive(Clone, Copy, Debug, PartialEq, Eq)]
+#[derive(Clone, Copy)]
 pub(crate) struct Final {
     pub(crate) bound: Option<Segment>,
     pub(crate) address: u16,

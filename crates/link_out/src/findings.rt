@@ -23,7 +23,7 @@ use std::alloc::{AllocError, Global};
 const TEXT_EXTERNAL: u16 = 0o42;
 
 /// The entry point of a program.
-#[derive(Clone, Copy, Debug)]
+#[derive(Clone, Copy)]
 pub(crate) struct EntryPoint {
     /// The address of the name that is asked for, if that is in text, and else 0.
     pub(crate) address: u16,

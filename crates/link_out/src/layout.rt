@@ -16,7 +16,7 @@ use link_session::{Session, State};
 use std::marker::Model;
 
 /// The bounds of the segments, in bytes. Text starts at 0, and commons at the end of data. An end may pass 65,535.
-#[derive(Clone, Copy, Debug, PartialEq, Eq)]
+#[derive(Clone, Copy)]
 pub(crate) struct Bases {
     pub(crate) text_end: u64,
     pub(crate) data_start: u64,

@@ -21,7 +21,7 @@ use std::alloc::{AllocError, Global};
 const MOST_ROWS: usize = 5461;
 
 /// How far the segments of an object move, modulo 65,536.
-#[derive(Clone, Copy, Debug)]
+#[derive(Clone, Copy)]
 pub(crate) struct Moves {
     text: u16,
     data: u16,

@@ -1,5 +1,6 @@
 use Rattle.std.proofs.Common.{◌≡◌, refl, ◌++◌, ◌*◌, ◌/◌, ap, ◌∙◌, subst, sym, rules}
 use Rattle.std.specs.Prelude.{Err, IfErr}
+use Rattle.std.proofs.lemmas.Result.{IfErr-weaker, IfOk-weaker}
 use Rattle.aout_core.specs.Contents.{Contents}
 use Rattle.aout_core.specs.steps.ReadParts.{IsBodyRead}
 use Rattle.aout_core.specs.Front.{symbol_in}
@@ -64,8 +65,8 @@ returns-in_err-take_items-4-clause-end g c =
     subst (λ r. IfErr r (λ fault. IsBodyRead h a0 end (Err fault))) (sym same)
     (ends_in_body c.in_err-take_items-4.field-0.0 h n w3 a0 a3 end (((row1.bytes) ++ row2.bytes) ++ row3.bytes) c.body_size.ensures t3 c.in_err-take_items-4.ensures.end)
 
-pub returns-in_err-take_items-5-clause-end : goal.returns-in_err-take_items-5-clause-end
-returns-in_err-take_items-5-clause-end g c =
+pub returns-clause-end : goal.returns-clause-end
+returns-clause-end g c =
     let h = c.args.parts.now.header in
     let n = c.body_size.result in
     let a0 = g.R.Read.remaining c.args.wire.now.device in
@@ -85,10 +86,9 @@ returns-in_err-take_items-5-clause-end g c =
     let t2 = takes_more (unread n) w1 w2 a0 a1 a2 (row1.bytes) row2.bytes t1 row2.takes in
     let t3 = takes_more (unread n) w2 w3 a0 a2 a3 ((row1.bytes) ++ row2.bytes) row3.bytes t2 row3.takes in
     let t4 = takes_more (unread n) w3 w4 a0 a3 a4 (((row1.bytes) ++ row2.bytes) ++ row3.bytes) row4.bytes t3 row4.takes in
-    let end = g.R.Read.remaining c.take_items-5.new.wire.device in
-    let same : c.from_residual-in_err-take_items-5.result ≡ Err c.in_err-take_items-5.field-0.0 = search rules in
-    subst (λ r. IfErr r (λ fault. IsBodyRead h a0 end (Err fault))) (sym same)
-    (ends_in_body c.in_err-take_items-5.field-0.0 h n w4 a0 a4 end ((((row1.bytes) ++ row2.bytes) ++ row3.bytes) ++ row4.bytes) c.body_size.ensures t4 c.in_err-take_items-5.ensures.end)
+    IfErr-weaker c.take_items-5.result _ _
+    (λ fault e. ends_in_body fault h n w4 a0 a4 (g.R.Read.remaining c.take_items-5.new.wire.device) ((((row1.bytes) ++ row2.bytes) ++ row3.bytes) ++ row4.bytes) c.body_size.ensures t4 e)
+    c.take_items-5.ensures.end
 
 pub returns-clause-value : goal.returns-clause-value
 returns-clause-value g c =
@@ -109,7 +109,6 @@ returns-clause-value g c =
     let row4 = c.in_ok-take_items-4.ensures.value in
     let a5 = g.R.Read.remaining c.take_items-5.new.wire.device in
     let w5 = c.take_items-5.new.incoming in
-    let row5 = c.in_ok-take_items-5.ensures.value in
     let t1 = subst (λ (w : Awaited). Takes w a0 w1 a1 row1.bytes) c.new-from.ensures row1.takes in
     let room = c.requires.room in
     let first = c.with_relocation-text_reloc.ensures.value in
@@ -121,6 +120,8 @@ returns-clause-value g c =
       data_reloc = c.take_items-4.new.items;
       symbols = c.take_items-5.new.items;
     }) in
+    IfOk-weaker c.take_items-5.result _ _
+    (λ done row5.
     let rows : AreRows h row1.bytes row2.bytes row3.bytes row4.bytes row5.bytes read = record {
       header = refl;
       has_text = row1.spelt ∙ ap (λ l. l ++ row_in word_in 2 (h.text_size / 2) row1.bytes) room.no_text;
@@ -140,4 +141,5 @@ returns-clause-value g c =
     let whole = takes_more (unread n) w1 w5 a0 a1 a5 row1.bytes (row2.bytes ++ (row3.bytes ++ (row4.bytes ++ row5.bytes))) t1 from_words in
     let body = all_rows row1.bytes row2.bytes row3.bytes row4.bytes row5.bytes in
     let (long, spelt) = rows_are_body h row1.bytes row2.bytes row3.bytes row4.bytes row5.bytes read c.requires.sizes rows in
-    record { body = body; long = long; taken = took_body h n w5 a0 a5 body c.body_size.ensures long whole; spelt = spelt }
+    record { body = body; long = long; taken = took_body h n w5 a0 a5 body c.body_size.ensures long whole; spelt = spelt })
+    c.take_items-5.ensures.value
