@@ -44,6 +44,23 @@ use Rattle.link_out.proofs.HasStateLemmas.{has_state, state_is}
 use Rattle.link_out.proofs.SegmentLemmas.{words_back, word_at}
 use Rattle.link_out.proofs.LinkedRows.{room_laid}
 
+-- no two of these are equal
+
+false_true : false ≡ true → ⊥
+false_true e = cc
+
+fault_none : (fault : ObjectFault) → Some fault ≡ None → ⊥
+fault_none fault e = cc
+
+none_word : (w : ℕ) → None ≡ Some w → ⊥
+none_word w e = cc
+
+made_refused : (x : Outcome) (fault : LinkFault) → (let made : Result Outcome LinkFault = Ok x in made) ≡ Err fault → ⊥
+made_refused x fault e = cc
+
+same_fault : (one other : LinkFault) → (let refused : Result Outcome LinkFault = Err one in refused) ≡ Err other → one ≡ other
+same_fault one other e = cc
+
 -- numbers
 
 not_over : (m n : ℕ) → n ≤ m → nat_lt m n ≡ false
@@ -169,15 +186,15 @@ module _ (forced : List (List ℕ)) (os : List Contents) (o : Choices) where
 
   -- a name that waits at a far row is wanted and has no address
   far_state : (name : List ℕ) (n : ℕ) (st : State) → o.relocatable ≡ true → HasState ms name st → waits_far (final_by p name st).bound n ≡ true → (size : ℕ) × IsWanted ms name size × ((size ≡ 0) ⊎ (lays_commons o ≡ false)) × (4095 < n)
-  far_state name n (Defined segment offset) r h e = absurd (cc)
+  far_state name n (Defined segment offset) r h e = absurd (false_true e)
   far_state name n (Wanted size) r h e = by_tests (eqb size 0) refl o.relocatable r (lays_commons o) refl e
     where
       by_tests : (z : Bool) → eqb size 0 ≡ z → (r : Bool) → r ≡ true → (c : Bool) → lays_commons o ≡ c →
           waits_far (cond z (cond r (waiting 0) (undefined_name p.at name)) (cond c (bound_at BssSeg (plus p.at.data_end (common_offset ms name))) (waiting size))).bound n ≡ true →
           (size : ℕ) × IsWanted ms name size × ((size ≡ 0) ⊎ (lays_commons o ≡ false)) × (4095 < n)
       by_tests true ze true re c ce e = (size, h, inl (eqb-true size 0 ze), ltb-true 4095 n e)
-      by_tests true ze false re c ce e = absurd (cc)
-      by_tests false ze r re true ce e = absurd (cc)
+      by_tests true ze false re c ce e = absurd (false_true re)
+      by_tests false ze r re true ce e = absurd (false_true e)
       by_tests false ze r re false ce e = (size, h, inr ce, ltb-true 4095 n e)
 
   state_far : (name : List ℕ) (n size : ℕ) → o.relocatable ≡ true → IsWanted ms name size → (size ≡ 0) ⊎ (lays_commons o ≡ false) → 4095 < n → waits_far (final p name).bound n ≡ true
@@ -186,10 +203,10 @@ module _ (forced : List (List ℕ)) (os : List Contents) (o : Choices) where
       by_tests : (z : Bool) → eqb size 0 ≡ z → (r : Bool) → r ≡ true → (c : Bool) → lays_commons o ≡ c → (size ≡ 0) ⊎ (lays_commons o ≡ false) →
           waits_far (cond z (cond r (waiting 0) (undefined_name p.at name)) (cond c (bound_at BssSeg (plus p.at.data_end (common_offset ms name))) (waiting size))).bound n ≡ true
       by_tests true ze true re c ce w = is_over 4095 n far
-      by_tests true ze false re c ce w = absurd (cc)
+      by_tests true ze false re c ce w = absurd (false_true re)
       by_tests false ze r re false ce w = is_over 4095 n far
-      by_tests false ze r re true ce (inl w) = absurd (let bad : true ≡ false = sym (ap (λ (m : ℕ). eqb m 0) w) ∙ ze in cc)
-      by_tests false ze r re true ce (inr w) = absurd (let bad : true ≡ false = sym ce ∙ w in cc)
+      by_tests false ze r re true ce (inl w) = absurd (false_true (sym ze ∙ ap (λ (m : ℕ). eqb m 0) w))
+      by_tests false ze r re true ce (inr w) = absurd (false_true (sym w ∙ ce))
 
   abbrev IsFarIn : Segment → Contents → Bool
   IsFarIn segment k = list_any (λ wr. is_out_of_reach p os (referent k wr.1)) (words_of segment k)
@@ -205,15 +222,15 @@ module _ (forced : List (List ℕ)) (os : List Contents) (o : Choices) where
     where
       by_slot : kind_of r ≡ Some kinds.External → (slot : Option Symbol) → slice_get k.symbols (symbol_number r) ≡ slot → cond (is_wanted slot) None (Some (ObjectFault.BadSymbolNumber n)) ≡ None →
           waits_far (final p (name_in slot)).bound (row_of p os (name_in slot)) ≡ true → IsFar k r
-      by_slot ke None se h f = absurd (cc)
+      by_slot ke None se h f = absurd (fault_none _ h)
       by_slot ke (Some s) se h f = record { kind = ke; symbol = s; named = se; far = f }
 
       by_kind : (kind : Option Kind) → kind_of r ≡ kind → kind_fault k.symbols n kind (symbol_number r) ≡ None → is_out_of_reach p os (referent_by k (symbol_number r) kind) ≡ true → IsFar k r
-      by_kind None ke h f = absurd (cc)
-      by_kind (Some kinds.Absolute) ke h f = absurd (cc)
-      by_kind (Some kinds.TextSeg) ke h f = absurd (cc)
-      by_kind (Some kinds.DataSeg) ke h f = absurd (cc)
-      by_kind (Some kinds.BssSeg) ke h f = absurd (cc)
+      by_kind None ke h f = absurd (fault_none _ h)
+      by_kind (Some kinds.Absolute) ke h f = absurd (false_true f)
+      by_kind (Some kinds.TextSeg) ke h f = absurd (false_true f)
+      by_kind (Some kinds.DataSeg) ke h f = absurd (false_true f)
+      by_kind (Some kinds.BssSeg) ke h f = absurd (false_true f)
       by_kind (Some kinds.External) ke h f = by_slot ke (slice_get k.symbols (symbol_number r)) refl h f
 
   far_by : (name : List ℕ) → 4095 < row_of p os name → 4095 < length (kept_locals o os) + place_of name (externals forced os)
@@ -275,7 +292,7 @@ module _ (forced : List (List ℕ)) (os : List Contents) (o : Choices) where
       or_middle : (a b c : Bool) → b ≡ true → (a || (b || c)) ≡ true
       or_middle true b c h = refl
       or_middle false true c h = refl
-      or_middle false false c h = absurd (cc)
+      or_middle false false c h = absurd (false_true h)
 
       here : has_far_in p os f.segment ≡ true
       here =
@@ -285,10 +302,10 @@ module _ (forced : List (List ℕ)) (os : List Contents) (o : Choices) where
           (any_here (λ wr. is_out_of_reach p os (referent f.k wr.1)) (words_of f.segment f.k) f.i (f.w, f.r) (word_at forced os f.before f.k f.after f.all good f.segment f.i f.w f.r f.word f.reloc).stands reach)
 
       by_segment : (segment : Segment) → slice_get (segment_words segment f.k) f.i ≡ Some f.w → has_far_in p os segment ≡ true → has_far_word p os ≡ true
-      by_segment Undefined w h = absurd (cc)
-      by_segment Absolute w h = absurd (cc)
-      by_segment BssSeg w h = absurd (cc)
-      by_segment Other w h = absurd (cc)
+      by_segment Undefined w h = absurd (none_word f.w w)
+      by_segment Absolute w h = absurd (none_word f.w w)
+      by_segment BssSeg w h = absurd (none_word f.w w)
+      by_segment Other w h = absurd (none_word f.w w)
       by_segment TextSeg w h = ap (λ (t : Bool). t || has_far_in p os DataSeg) h
       by_segment DataSeg w h = or_right (has_far_in p os TextSeg) (has_far_in p os DataSeg) h
         where
@@ -306,17 +323,17 @@ module _ (forced : List (List ℕ)) (os : List Contents) (o : Choices) where
     where
       by_tests : (t : Bool) → nat_lt 65535 p.at.bss_end ≡ t → (u : Bool) → nat_lt 5461 (length (table p os)) ≡ u → (r : Bool) → o.relocatable ≡ r → (v : Bool) → has_far_word p os ≡ v → made_by t u (r && v) ≡ Err fault → IsRefused forced os o fault
       by_tests true te u ue r re v ve h =
-          let same : DoesNotFit ≡ fault = cc in
+          let same : DoesNotFit ≡ fault = same_fault DoesNotFit fault h in
           subst (λ (f : LinkFault). IsRefused forced os o f) same (p.at.bss_end, ends_here, ltb-true 65535 p.at.bss_end te)
       by_tests false te true ue r re v ve h =
-          let same : TooManySymbols ≡ fault = cc in
+          let same : TooManySymbols ≡ fault = same_fault TooManySymbols fault h in
           subst (λ (f : LinkFault). IsRefused forced os o f) same (p.at.bss_end, ends_here, ltb-false 65535 p.at.bss_end te, subst (λ (n : ℕ). 5461 < n) table_long (ltb-true 5461 (length (table p os)) ue))
       by_tests false te false ue true re true ve h =
-          let same : SymbolNumber ≡ fault = cc in
+          let same : SymbolNumber ≡ fault = same_fault SymbolNumber fault h in
           subst (λ (f : LinkFault). IsRefused forced os o f) same
           (p.at.bss_end, ends_here, ltb-false 65535 p.at.bss_end te, subst (λ (n : ℕ). n ≤ 5461) table_long (ltb-false 5461 (length (table p os)) ue), re, far_found good re ve)
-      by_tests false te false ue true re false ve h = absurd (cc)
-      by_tests false te false ue false re v ve h = absurd (cc)
+      by_tests false te false ue true re false ve h = absurd (made_refused _ fault h)
+      by_tests false te false ue false re v ve h = absurd (made_refused _ fault h)
 
   short_by : (end : ℕ) → EndsAt forced os o end → end ≤ 65535 → nat_lt 65535 p.at.bss_end ≡ false
   short_by end e l = not_over 65535 p.at.bss_end (subst (λ (n : ℕ). n ≤ 65535) (ends_is end e) l)
