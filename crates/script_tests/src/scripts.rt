@@ -54,30 +54,32 @@ fn told(answer: &Result<Option<Line>, CliFault>) -> (&str, &str) {
     }
 }
 
-/// A script of these bytes, of which its reader gives at most `most` a call.
-fn script(alloc: Global, bytes: &[u8], most: usize) -> Result<Script<TestReader<'_>>, CliFault>
+/// A reader of these bytes that gives at most `most` a call.
+fn in_pieces(bytes: &[u8], most: usize) -> TestReader<'_>
     requires { 0 < most }
 {
-    let reader = TestReader::new(bytes, most, usize::MAX, ErrorKind::Other);
-    Script::new(alloc, Wire::new(reader))
+    TestReader::new(bytes, most, usize::MAX, ErrorKind::Other)
+}
+
+/// Whether a script gives this answer next.
+fn tells_next(script: &mut Script<TestReader<'_>>, wanted: (&str, &str)) -> bool {
+    told(&script.next_line()) == wanted
 }
 
 /// Whether a script answers so, line after line.
 fn tells(script: &mut Script<TestReader<'_>>, wanted: &[(&str, &str)]) -> bool {
     let mut is_told = true;
     for answer in wanted {
-        is_told = is_told && told(&script.next_line()) == *answer;
+        is_told = is_told && tells_next(script, *answer);
     }
     is_told
 }
 
-/// Whether a script of these bytes answers so, in pieces of `most` bytes.
-fn script_tells(alloc: Global, bytes: &[u8], most: usize, wanted: &[(&str, &str)]) -> bool
-    requires { 0 < most }
-{
-    match script(alloc, bytes, most) {
-        Ok(mut script) => tells(&mut script, wanted),
-        Err(_) => false,
+/// Whether a script that is read so answers so.
+fn script_tells(alloc: Global, reader: TestReader<'_>, wanted: &[(&str, &str)]) -> bool {
+    match Script::new(alloc, Wire::new(reader)).ok() {
+        Some(mut script) => tells(&mut script, wanted),
+        None => false,
     }
 }
 
@@ -88,19 +90,18 @@ fn long_line(alloc: Global, path_length: usize) -> Result<Vec<u8>, Fail> {
     Ok(line)
 }
 
-/// How long the path is that a script of one line asks to add, in pieces of `most` bytes.
-fn added_length(alloc: Global, line: &[u8], most: usize) -> Option<usize>
-    requires { 0 < most }
-{
-    let Ok(mut script) = script(alloc, line, most) else {
-        return None;
-    };
-    let Ok(Some(Line::Add(path))) = script.next_line() else {
-        return None;
-    };
-    match script.next_line() {
-        Ok(None) => Some(path.len()),
-        _ => None,
+/// Whether the next line of a script asks to add a path of 4,092 bytes.
+fn adds_longest(script: &mut Script<TestReader<'_>>) -> bool {
+    let answer = script.next_line();
+    let (command, path) = told(&answer);
+    command == "add" && path.len() == 4092
+}
+
+/// Whether a script that is read so asks to add a path of 4,092 bytes, and then ends.
+fn is_longest(alloc: Global, reader: TestReader<'_>) -> bool {
+    match Script::new(alloc, Wire::new(reader)).ok() {
+        Some(mut script) => adds_longest(&mut script) && tells_next(&mut script, ("end", "")),
+        None => false,
     }
 }
 
@@ -108,12 +109,12 @@ fn added_length(alloc: Global, line: &[u8], most: usize) -> Option<usize>
 fn session_longest_line(rt: HostRuntime) -> Result<(), Fail> {
     let alloc = rt.alloc();
     let mut line = long_line(alloc, 4092)?;
-    assert!(rt; added_length(alloc, &line, 1) == Some(4092));
-    assert!(rt; added_length(alloc, &line, 512) == Some(4092));
+    assert!(rt; is_longest(alloc, in_pieces(&line, 1)));
+    assert!(rt; is_longest(alloc, in_pieces(&line, 512)));
     line.push(b'\n')?;
-    assert!(rt; added_length(alloc, &line, 1) == Some(4092));
-    assert!(rt; added_length(alloc, &line, 5) == Some(4092));
-    assert!(rt; added_length(alloc, &line, 512) == Some(4092));
+    assert!(rt; is_longest(alloc, in_pieces(&line, 1)));
+    assert!(rt; is_longest(alloc, in_pieces(&line, 5)));
+    assert!(rt; is_longest(alloc, in_pieces(&line, 512)));
     Ok(())
 }
 
@@ -122,9 +123,9 @@ static LONGER: [(&str, &str); 2] = [("line too long", ""), ("line too long", "")
 
 #[test]
 fn script_with_a_longer_line(rt: HostRuntime) -> Result<(), Fail> {
-    let mut line = long_line(rt.alloc(), 4093)?;
-    line.extend_from_slice(b"\nwithdraw\n")?;
-    assert!(rt; script_tells(rt.alloc(), &line, 512, &LONGER));
+    let mut lines = long_line(rt.alloc(), 4093)?;
+    lines.extend_from_slice(b"\nwithdraw\n")?;
+    assert!(rt; script_tells(rt.alloc(), in_pieces(&lines, 512), &LONGER));
     Ok(())
 }
 
@@ -132,16 +133,16 @@ fn script_with_a_longer_line(rt: HostRuntime) -> Result<(), Fail> {
 fn are_bad(script: &mut Script<TestReader<'_>>) -> bool {
     let mut are_bad = true;
     for _ in 0..1_000_000 {
-        are_bad = are_bad && matches!(script.next_line(), Ok(Some(Line::Bad)));
+        are_bad = are_bad && tells_next(script, ("bad", ""));
     }
     are_bad
 }
 
 /// Whether a script answers so behind 1,000,000 lines that ask for nothing.
 fn tells_behind_most_lines(alloc: Global, lines: &[u8], wanted: &[(&str, &str)]) -> bool {
-    match script(alloc, lines, 512) {
-        Ok(mut script) => are_bad(&mut script) && tells(&mut script, wanted),
-        Err(_) => false,
+    match Script::new(alloc, Wire::new(in_pieces(lines, 512))).ok() {
+        Some(mut script) => are_bad(&mut script) && tells(&mut script, wanted),
+        None => false,
     }
 }
 
@@ -166,9 +167,9 @@ fn script_with_one_line_more(rt: HostRuntime) -> Result<(), Fail> {
 #[test]
 fn script_pieces(rt: HostRuntime) {
     let alloc = rt.alloc();
-    assert!(rt; script_tells(alloc, SCRIPT.as_bytes(), 1, &ASKED));
-    assert!(rt; script_tells(alloc, SCRIPT.as_bytes(), 5, &ASKED));
-    assert!(rt; script_tells(alloc, SCRIPT.as_bytes(), 512, &ASKED));
+    assert!(rt; script_tells(alloc, in_pieces(SCRIPT.as_bytes(), 1), &ASKED));
+    assert!(rt; script_tells(alloc, in_pieces(SCRIPT.as_bytes(), 5), &ASKED));
+    assert!(rt; script_tells(alloc, in_pieces(SCRIPT.as_bytes(), 512), &ASKED));
 }
 
 /// What a script answers whose device fails behind its first line.
@@ -179,11 +180,7 @@ static FAILING: [(&str, &str); 3] = [
 ];
 
 #[test]
-fn script_device_fails(rt: HostRuntime) -> Result<(), Fail> {
-    let reader = TestReader::new(b"withdraw\nadd a.o\n", 512, 11, ErrorKind::Other);
-    let Ok(mut script) = Script::new(rt.alloc(), Wire::new(reader)) else {
-        return Err(Fail::from("no room for a line"));
-    };
-    assert!(rt; tells(&mut script, &FAILING));
-    Ok(())
+fn script_device_fails(rt: HostRuntime) {
+    let failing = TestReader::new(b"withdraw\nadd a.o\n", 512, 11, ErrorKind::Other);
+    assert!(rt; script_tells(rt.alloc(), failing, &FAILING));
 }

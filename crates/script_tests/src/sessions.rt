@@ -8,17 +8,6 @@ use std::alloc::Global;
 use std::test::Fail;
 use v7tools::{Call, Command, Line, Script, Step, Stored, link_answer, parse, step};
 
-/// What a session did.
-#[derive(Drop)]
-struct Played {
-    /// Its answers.
-    answers: Vec<u8>,
-    /// The file that was stored last.
-    stored: Option<Vec<u8>>,
-    /// The status that the program would end with.
-    status: u8,
-}
-
 /// The file at a path, if there is one.
 fn file_at(path: &str) -> Option<Wire<TestReader<'static>>> {
     let bytes: &[u8] = match path {
@@ -28,15 +17,6 @@ fn file_at(path: &str) -> Option<Wire<TestReader<'static>>> {
         _ => return None,
     };
     Some(Wire::new(TestReader::whole(bytes)))
-}
-
-/// Options and forced names of a session with these words.
-fn settings(alloc: Global, all: &[&str]) -> Result<(Options, Forced), Fail> {
-    let call = parse(alloc, words(alloc, all)?)?;
-    match call {
-        Call::Session { options, forced } => Ok((options, forced)),
-        _ => Err(Fail::from("no session")),
-    }
 }
 
 /// What a line asks for.
@@ -54,69 +34,102 @@ fn command_of(line: Line) -> Command<TestReader<'static>> {
     }
 }
 
-/// A session that is played.
+/// What a session did.
 #[derive(Drop)]
-struct Playing {
-    session: Session,
-    options: Options,
+struct Played {
+    /// Its answers.
     answers: Wire<TestWriter>,
-    played: Played,
+    /// The file that was stored last; no bytes where none was.
+    stored: Vec<u8>,
+    /// The status that the program would end with.
+    status: u8,
 }
 
-impl Playing {
+impl Played {
     /// A link is stored over memory, and answered.
     fn store(&mut self, alloc: Global, linked: &Linked) -> Result<u8, Fail> {
-        self.played.stored = Some(written(alloc, &linked.file)?);
+        self.stored = written(alloc, &linked.file)?;
         Ok(link_answer(linked, "out", Stored::Kept, &mut self.answers)?)
     }
 
     /// Answers a line.
-    fn answer(&mut self, alloc: Global, line: Line) -> Result<(), Fail> {
+    fn answer(
+        &mut self,
+        alloc: Global,
+        session: &mut Session,
+        options: &Options,
+        line: Line,
+    ) -> Result<(), Fail> {
         let command = command_of(line);
-        let answers = &mut self.answers;
-        let status = match step(alloc, &mut self.session, &self.options, command, answers)? {
+        let status = match step(alloc, session, options, command, &mut self.answers)? {
             Step::Done => 0,
             Step::Refused => 1,
             Step::ToStore(linked) => self.store(alloc, &linked)?,
         };
-        self.played.status |= status;
+        self.status |= status;
         Ok(())
     }
 
     /// Answers the lines of a script.
-    fn play(&mut self, alloc: Global, script: &mut Script<TestReader<'_>>) -> Result<(), Fail> {
+    fn play(
+        &mut self,
+        alloc: Global,
+        session: &mut Session,
+        options: &Options,
+        script: &[u8],
+    ) -> Result<(), Fail> {
+        let mut script = Script::new(alloc, Wire::new(TestReader::whole(script)))?;
         for _ in 0..100 {
             let Some(line) = script.next_line()? else {
                 break;
             };
-            self.answer(alloc, line)?;
+            self.answer(alloc, session, options, line)?;
         }
         Ok(())
     }
+
+    /// Whether these were the answers, with this status.
+    fn is_answered(self, answers: &[u8], status: u8) -> bool {
+        let writer = self.answers.into_inner();
+        self.status == status && writer.taken() == answers
+    }
 }
 
-/// Plays a script. Its links are all to `out`.
-fn play(alloc: Global, all: &[&str], script: &[u8]) -> Result<Played, Fail> {
-    let (options, forced) = settings(alloc, all)?;
-    let mut script = Script::new(alloc, Wire::new(TestReader::whole(script)))?;
-    let mut playing = Playing {
-        session: Session::with_forced(alloc, &forced)?,
-        options,
+/// Plays a script in a session without objects.
+fn play_in(
+    alloc: Global,
+    session: &mut Session,
+    options: &Options,
+    script: &[u8],
+) -> Result<Played, Fail> {
+    let mut played = Played {
         answers: Wire::new(TestWriter::whole(Vec::new(alloc))),
-        played: Played {
-            answers: Vec::new(alloc),
-            stored: None,
-            status: 0,
-        },
+        stored: Vec::new(alloc),
+        status: 0,
     };
-    playing.play(alloc, &mut script)?;
-    let Playing {
-        answers,
-        mut played,
-        ..
-    } = playing;
-    played.answers = answers.into_inner().into_taken();
+    played.play(alloc, session, options, script)?;
     Ok(played)
+}
+
+/// Plays a script in a session with these options and forced names.
+fn play_with(
+    alloc: Global,
+    options: &Options,
+    forced: &Forced,
+    script: &[u8],
+) -> Result<Played, Fail> {
+    match Session::with_forced(alloc, forced) {
+        Ok(mut session) => play_in(alloc, &mut session, options, script),
+        Err(fault) => Err(Fail::from(fault)),
+    }
+}
+
+/// Plays a script in a session with these words. Its links are all to `out`.
+fn play(alloc: Global, all: &[&str], script: &[u8]) -> Result<Played, Fail> {
+    match parse(alloc, words(alloc, all)?)? {
+        Call::Session { options, forced } => play_with(alloc, &options, &forced, script),
+        _ => Err(Fail::from("no session")),
+    }
 }
 
 /// Whether a script of these words is answered so, with this status.
@@ -127,16 +140,14 @@ fn is_played(
     answers: &[u8],
     status: u8,
 ) -> Result<bool, Fail> {
-    let played = play(alloc, all, script)?;
-    Ok(played.answers.as_slice() == answers && played.status == status)
+    Ok(play(alloc, all, script)?.is_answered(answers, status))
 }
 
 #[test]
 fn session_script(rt: HostRuntime) -> Result<(), Fail> {
     let played = play(rt.alloc(), &["session"], SCRIPT.as_bytes())?;
-    assert!(rt; played.answers.as_slice() == ANSWERS.as_bytes() && played.status == 1);
-    let file = played.stored.ok_or("no file")?;
-    assert!(rt; file.get(16..20) == Some([0xf7, 0x09, 0xfc, 0xff].as_slice()));
+    assert!(rt; played.stored.get(16..20) == Some([0xf7, 0x09, 0xfc, 0xff].as_slice()));
+    assert!(rt; played.is_answered(ANSWERS.as_bytes(), 1));
     Ok(())
 }
 
@@ -151,9 +162,8 @@ fn session_missing_file(rt: HostRuntime) -> Result<(), Fail> {
     let script = b"add nofile\nadd a.o\nlink out\n";
     let played = play(rt.alloc(), &["session"], script)?;
     let answers = b"nofile: cannot open\nadded a.o\nlinked out 0\n";
-    assert!(rt; played.answers.as_slice() == answers.as_slice() && played.status == 1);
-    let file = played.stored.ok_or("no file")?;
-    assert!(rt; file.as_slice() == ONE_OBJECT.as_slice());
+    assert!(rt; played.stored.as_slice() == ONE_OBJECT.as_slice());
+    assert!(rt; played.is_answered(answers, 1));
     Ok(())
 }
 

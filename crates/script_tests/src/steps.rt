@@ -32,6 +32,25 @@ fn scripted(alloc: Global, line: u8) -> Result<Command<TestReader<'static>>, All
     }
 }
 
+/// How a step ended.
+#[derive(Clone, Copy)]
+enum Ended {
+    Done,
+    Refused,
+    /// Its answer was not written.
+    Unwritten,
+    /// Another fault.
+    Failed,
+}
+
+/// How a step ended that has this fault.
+fn ended_by(fault: CliFault) -> Ended {
+    match fault {
+        CliFault::WriteFailed => Ended::Unwritten,
+        _ => Ended::Failed,
+    }
+}
+
 /// A session, and its answers.
 #[derive(Drop)]
 struct Asked {
@@ -48,25 +67,31 @@ impl Asked {
         }
     }
 
-    /// Takes a step, and answers a link as if its file were stored: whether the step was refused.
-    fn take(&mut self, alloc: Global, command: Command<TestReader<'_>>) -> Result<bool, CliFault> {
-        let options = plain(Keep::All);
-        let answers = &mut self.answers;
-        match step(alloc, &mut self.session, &options, command, answers)? {
-            Step::Done => Ok(false),
-            Step::Refused => Ok(true),
-            Step::ToStore(linked) => {
-                link_answer(&linked, "out", Stored::Kept, answers)?;
-                Ok(false)
-            }
+    /// Answers a link as if its file were stored.
+    fn store(&mut self, linked: &Linked) -> Ended {
+        match link_answer(linked, "out", Stored::Kept, &mut self.answers) {
+            Ok(_) => Ended::Done,
+            Err(fault) => ended_by(fault),
         }
     }
 
-    /// Whether the object of a reader is refused at a path, if a step is taken.
-    fn is_refused(&mut self, alloc: Global, path: &str, reader: TestReader<'_>) -> Option<bool> {
+    /// Takes a step, and answers its link.
+    fn take(&mut self, alloc: Global, command: Command<TestReader<'_>>) -> Ended {
+        let options = plain(Keep::All);
+        let answers = &mut self.answers;
+        match step(alloc, &mut self.session, &options, command, answers) {
+            Ok(Step::Done) => Ended::Done,
+            Ok(Step::Refused) => Ended::Refused,
+            Ok(Step::ToStore(linked)) => self.store(&linked),
+            Err(fault) => ended_by(fault),
+        }
+    }
+
+    /// Takes the step that adds the object of a reader at a path.
+    fn take_object(&mut self, alloc: Global, path: &str, reader: TestReader<'_>) -> Ended {
         match add(alloc, path, reader) {
-            Ok(command) => self.take(alloc, command).ok(),
-            Err(_) => None,
+            Ok(command) => self.take(alloc, command),
+            Err(_) => Ended::Failed,
         }
     }
 
@@ -82,7 +107,10 @@ impl Asked {
 
     /// Whether these bytes are added at a path.
     fn adds(&mut self, alloc: Global, path: &str, bytes: &[u8]) -> bool {
-        self.is_refused(alloc, path, TestReader::whole(bytes)) == Some(false)
+        matches!(
+            self.take_object(alloc, path, TestReader::whole(bytes)),
+            Ended::Done
+        )
     }
 }
 
@@ -91,7 +119,7 @@ fn refuses_to_link(alloc: Global, text: &[u8], data: &[u8], answers: &str) -> bo
     let mut asked = Asked::new(alloc, TestWriter::whole(Vec::new(alloc)));
     let is_refused = asked.adds(alloc, "t.o", text)
         && asked.adds(alloc, "d.o", data)
-        && matches!(asked.take(alloc, Command::Link), Ok(true));
+        && matches!(asked.take(alloc, Command::Link), Ended::Refused);
     asked.has(2, answers) && is_refused
 }
 
@@ -109,7 +137,7 @@ fn session_link_refused(rt: HostRuntime) -> Result<(), Fail> {
 fn refuses_to_add(alloc: Global, reader: TestReader<'_>, answers: &str) -> bool {
     let mut asked = Asked::new(alloc, TestWriter::whole(Vec::new(alloc)));
     let is_refused = asked.adds(alloc, "a.o", &A_O)
-        && asked.is_refused(alloc, "x.o", reader) == Some(true);
+        && matches!(asked.take_object(alloc, "x.o", reader), Ended::Refused);
     asked.has(1, answers) && is_refused
 }
 
@@ -140,22 +168,13 @@ fn is_link_answered(alloc: Global, linked: &Linked, stored: Stored, want: (&str,
     answer.ok() == Some(status) && writer.taken() == lines.as_bytes()
 }
 
-/// The step of a session that links.
-fn link_step(alloc: Global, session: &mut Session) -> Result<Step, CliFault> {
-    let command: Command<TestReader<'static>> = Command::Link;
-    let mut answers = Wire::new(TestWriter::whole(Vec::new(alloc)));
-    step(alloc, session, &plain(Keep::All), command, &mut answers)
-}
-
 /// Whether the link that a step of a session makes is answered by these lines, with this status.
-fn is_step_answered(
-    alloc: Global,
-    session: &mut Session,
-    stored: Stored,
-    want: (&str, u8),
-) -> bool {
-    match link_step(alloc, session) {
-        Ok(Step::ToStore(linked)) => is_link_answered(alloc, &linked, stored, want),
+fn is_step_answered(alloc: Global, asked: &mut Asked, stored: Stored, want: (&str, u8)) -> bool {
+    let command: Command<TestReader<'static>> = Command::Link;
+    let options = plain(Keep::All);
+    let answers = &mut asked.answers;
+    match step(alloc, &mut asked.session, &options, command, answers).ok() {
+        Some(Step::ToStore(linked)) => is_link_answered(alloc, &linked, stored, want),
         _ => false,
     }
 }
@@ -166,7 +185,7 @@ fn is_answered(alloc: Global, other: (&str, &[u8]), stored: Stored, want: (&str,
     let mut asked = Asked::new(alloc, TestWriter::whole(Vec::new(alloc)));
     asked.adds(alloc, "c.o", &C_O)
         && asked.adds(alloc, path, bytes)
-        && is_step_answered(alloc, &mut asked.session, stored, want)
+        && is_step_answered(alloc, &mut asked, stored, want)
 }
 
 #[test]
@@ -215,16 +234,20 @@ fn is_same(one: &Session, other: &Session) -> bool {
     same
 }
 
+/// Takes the step of the line of this number of `session_script`.
+fn take_scripted(alloc: Global, asked: &mut Asked, line: u8) -> Ended {
+    match scripted(alloc, line) {
+        Ok(command) => asked.take(alloc, command),
+        Err(_) => Ended::Failed,
+    }
+}
+
 /// Whether a step of `session_script` is told as failed exactly where its answers fail.
 fn is_told(alloc: Global, asked: &mut Asked, line: u8) -> bool {
-    let answer = match scripted(alloc, line) {
-        Ok(command) => asked.take(alloc, command),
-        Err(_) => Err(CliFault::Memory),
-    };
-    match answer {
-        Ok(_) => !asked.answers.failed(),
-        Err(CliFault::WriteFailed) => asked.answers.failed(),
-        Err(_) => false,
+    match take_scripted(alloc, asked, line) {
+        Ended::Done | Ended::Refused => !asked.answers.failed(),
+        Ended::Unwritten => asked.answers.failed(),
+        Ended::Failed => false,
     }
 }
 
@@ -237,18 +260,30 @@ fn is_alike(alloc: Global, line: u8, failing: &mut Asked, beside: &mut Asked) ->
         && is_same(&failing.session, &beside.session)
 }
 
+/// Whether the steps of `session_script` do what they should with answers that fail.
+fn are_alike(alloc: Global, failing: &mut Asked) -> bool {
+    let mut beside = Asked::new(alloc, TestWriter::whole(Vec::new(alloc)));
+    let mut are_alike = true;
+    for line in 0..9 {
+        are_alike = are_alike && is_alike(alloc, line, failing, &mut beside);
+    }
+    are_alike
+}
+
+/// Whether answers failed behind `n` bytes, which are those of `session_script`.
+fn failed_behind(answers: Wire<TestWriter>, n: usize) -> bool {
+    let has_failed = answers.failed();
+    let writer = answers.into_inner();
+    has_failed && Some(writer.taken()) == ANSWERS.as_bytes().get(..n)
+}
+
 /// Whether the steps of `session_script` do what they should with answers that fail behind `n` bytes.
 fn fails_behind(alloc: Global, n: usize, failing: Failing) -> bool {
     let answers = TestWriter::new(Vec::new(alloc), usize::MAX, n, failing);
     let mut short = Asked::new(alloc, answers);
-    let mut beside = Asked::new(alloc, TestWriter::whole(Vec::new(alloc)));
-    let mut alike = true;
-    for line in 0..9 {
-        alike = alike && is_alike(alloc, line, &mut short, &mut beside);
-    }
-    alike
-        && short.answers.failed()
-        && Some(short.answers.into_inner().taken()) == ANSWERS.as_bytes().get(..n)
+    let are_alike = are_alike(alloc, &mut short);
+    let has_failed = failed_behind(short.answers, n);
+    are_alike && has_failed
 }
 
 #[test]
