@@ -1,7 +1,7 @@
 //! Commands: their words, links over memory, whole runs on files, and lists.
 use crate::outcome::Outcome;
 use aout_core::samples::{A_O, B_O, S_O, TestReader, TestWriter};
-use aout_core::{File, Name, Symbol, Wire, read_file};
+use aout_core::{File, Name, Symbol, Wire};
 use fixtures::{TWO_OBJECTS, wires, words};
 use link_fixtures::plain;
 use link_out::{Keep, Linked, Options};
@@ -9,7 +9,7 @@ use link_session::Forced;
 use std::alloc::Global;
 use std::fs;
 use symtools::{NmOptions, ToolFault, line, nm, size};
-use v7tools::{Call, CliFault, command, ld, parse};
+use v7tools::{Call, command, ld, load, parse};
 
 /// Whether this is a link of one file into `out` with these options.
 fn is_link(call: Call, wanted: Options) -> bool {
@@ -36,8 +36,7 @@ pub fn parsing(alloc: Global) -> Outcome {
     };
     match parse(alloc, all) {
         Ok(call) => Outcome::done(is_link(call, plain(Keep::Nothing))),
-        Err(CliFault::Memory) => Outcome::Refused,
-        Err(_) => Outcome::Wrong,
+        Err(fault) => Outcome::failed(fault),
     }
 }
 
@@ -54,8 +53,7 @@ pub fn linking_inputs(alloc: Global) -> Outcome {
     };
     match ld(alloc, inputs, &Forced::none(), &plain(Keep::Nothing)) {
         Ok(linked) => Outcome::done(is_two_objects(&linked)),
-        Err(CliFault::Memory) => Outcome::Refused,
-        Err(_) => Outcome::Wrong,
+        Err(fault) => Outcome::failed(fault),
     }
 }
 
@@ -80,9 +78,9 @@ pub fn commanding(rt: &HostRuntime) -> Outcome {
 
 /// The file `s.o` with its path, where there is memory for it.
 fn s_o(alloc: Global) -> Option<Vec<(String, File)>> {
-    let file = read_file(alloc, &mut Wire::new(TestReader::whole(&S_O))).ok()?;
     let path = String::from_str(alloc, "s.o").ok()?;
-    Vec::from_array(alloc, [(path, file)]).ok()
+    let file = load(alloc, path, &mut Wire::new(TestReader::whole(&S_O))).ok()?;
+    Vec::from_array(alloc, [file]).ok()
 }
 
 /// nm's list of `s.o`, by name.
@@ -91,11 +89,14 @@ const BY_NAME: &[u8] = b"000002 t L1\n       U _f\n000000 T _m\n000004 C _x\n";
 /// nm's list of `s.o`, by value.
 const BY_VALUE: &[u8] = b"       U _f\n000000 T _m\n000002 t L1\n000004 C _x\n";
 
-/// A file is listed; refused memory, a prefix of the list was written.
-fn list(alloc: Global, by_value: bool, lines: &[u8]) -> Outcome {
-    let (Some(files), Ok(taken)) = (s_o(alloc), Vec::with_capacity(alloc, 64)) else {
-        return Outcome::Unready;
-    };
+/// Files are listed; refused memory, a prefix of the list was written.
+fn list_files(
+    alloc: Global,
+    files: &[(String, File)],
+    by_value: bool,
+    mut out: Wire<TestWriter>,
+    lines: &[u8],
+) -> Outcome {
     let options = NmOptions {
         external: false,
         undefined: false,
@@ -104,14 +105,29 @@ fn list(alloc: Global, by_value: bool, lines: &[u8]) -> Outcome {
         reverse: false,
         each_line: false,
     };
-    let mut out = Wire::new(TestWriter::whole(taken));
-    let answer = nm(alloc, &files, options, &mut out);
+    let answer = nm(alloc, files, options, &mut out);
     let is_failed = out.failed();
-    let taken = out.into_inner().into_taken();
+    let writer = out.into_inner();
     match answer {
-        Ok(()) => Outcome::done(taken.as_slice() == lines),
-        Err(ToolFault::Memory) => Outcome::refused(!is_failed && lines.starts_with(&taken)),
+        Ok(()) => Outcome::done(writer.taken() == lines),
+        Err(ToolFault::Memory) => {
+            Outcome::refused(!is_failed && lines.starts_with(writer.taken()))
+        }
         Err(_) => Outcome::Wrong,
+    }
+}
+
+/// The file `s.o` is listed.
+fn list(alloc: Global, by_value: bool, lines: &[u8]) -> Outcome {
+    let Some(files) = s_o(alloc) else {
+        return Outcome::Unready;
+    };
+    match Vec::with_capacity(alloc, 64) {
+        Ok(taken) => {
+            let out = Wire::new(TestWriter::whole(taken));
+            list_files(alloc, &files, by_value, out, lines)
+        }
+        Err(_) => Outcome::Unready,
     }
 }
 

@@ -3,7 +3,7 @@ use crate::outcome::Outcome;
 use aout_core::samples::{C_O, TestReader};
 use aout_core::{Object, ReadFault, Wire, read_file, strip_file, write_file};
 use std::alloc::Global;
-use v7tools::{CliFault, load};
+use v7tools::load;
 
 /// A file is read; refused memory, its reader is left right behind the header.
 pub fn reading(alloc: Global) -> Outcome {
@@ -16,18 +16,26 @@ pub fn reading(alloc: Global) -> Outcome {
     }
 }
 
-/// A file is read at a path.
+/// `c.o` is read at a path.
+fn load_c_o(alloc: Global, path: String, wire: &mut Wire<TestReader<'_>>) -> Outcome {
+    match load(alloc, path, wire) {
+        Ok((path, _)) => Outcome::done(path.as_str() == "c.o"),
+        Err(fault) => Outcome::failed(fault),
+    }
+}
+
+/// A file is read at a path; refused memory, its reader is left right behind the header, or before.
 pub fn loading(alloc: Global) -> Outcome {
     let Ok(path) = String::from_str(alloc, "c.o") else {
         return Outcome::Unready;
     };
     let mut wire = Wire::new(TestReader::whole(&C_O));
-    let answer = load(alloc, path, &mut wire);
+    let outcome = load_c_o(alloc, path, &mut wire);
     let left = wire.into_inner().left().len();
-    match answer {
-        Ok((path, _)) => Outcome::done(path.as_str() == "c.o" && left == 0),
-        Err(CliFault::Memory) => Outcome::refused(left <= 32),
-        Err(_) => Outcome::Wrong,
+    match outcome {
+        Outcome::Done => Outcome::done(left == 0),
+        Outcome::Refused => Outcome::refused(left <= 32),
+        other => other,
     }
 }
 

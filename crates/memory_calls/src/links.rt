@@ -70,39 +70,45 @@ fn two_linked(alloc: Global) -> Option<Linked> {
     linked_of(alloc, &DOUBLY_DEFINED, &plain(Keep::All))
 }
 
-/// A report is written, which takes no memory.
-pub fn reporting(alloc: Global) -> Outcome {
-    let Some(linked) = two_linked(alloc) else {
-        return Outcome::Unready;
-    };
+/// Whether the report of the two objects is written.
+fn is_reported(linked: &Linked) -> bool {
     let mut room = [0u8; 21];
     let mut out = Wire::new(room.as_mut_slice());
-    let is_written = linked.report.write(&mut out).is_ok();
-    Outcome::done(
-        is_written
-            && linked.report.status() == 1
-            && room.as_slice() == b"_f: Multiply defined\n".as_slice(),
-    )
+    linked.report.write(&mut out).is_ok()
+        && linked.report.status() == 1
+        && room.as_slice() == b"_f: Multiply defined\n".as_slice()
 }
 
-/// A link and the line of a fault are written, which takes no memory.
-pub fn emitting(alloc: Global) -> Outcome {
-    let Some(linked) = two_linked(alloc) else {
-        return Outcome::Unready;
-    };
+/// A report is written, which takes no memory.
+pub fn reporting(alloc: Global) -> Outcome {
+    match two_linked(alloc) {
+        Some(linked) => Outcome::done(is_reported(&linked)),
+        None => Outcome::Unready,
+    }
+}
+
+/// Whether the link of the two objects is written, and its report.
+fn is_emitted(linked: &Linked) -> bool {
     let mut file_room = [0u8; 34];
     let mut report_room = [0u8; 21];
     let mut file = Wire::new(file_room.as_mut_slice());
     let mut report = Wire::new(report_room.as_mut_slice());
-    let is_emitted = matches!(emit(&linked, &mut file, &mut report), Ok(1));
-    let mut line_room = [0u8; 17];
-    let mut line = Wire::new(line_room.as_mut_slice());
+    emit(linked, &mut file, &mut report).ok() == Some(1)
+        && report_room.as_slice() == b"_f: Multiply defined\n".as_slice()
+}
+
+/// Whether the line of a fault is written.
+fn is_told() -> bool {
+    let mut room = [0u8; 17];
+    let mut out = Wire::new(room.as_mut_slice());
     let fault = CliFault::NotLinked(LinkFault::DoesNotFit);
-    let is_told = fault.write(&mut line).is_ok();
-    Outcome::done(
-        is_emitted
-            && is_told
-            && report_room.as_slice() == b"_f: Multiply defined\n".as_slice()
-            && line_room.as_slice() == b"v7: does not fit\n".as_slice(),
-    )
+    fault.write(&mut out).is_ok() && room.as_slice() == b"v7: does not fit\n".as_slice()
+}
+
+/// A link and the line of a fault are written, which takes no memory.
+pub fn emitting(alloc: Global) -> Outcome {
+    match two_linked(alloc) {
+        Some(linked) => Outcome::done(is_emitted(&linked) && is_told()),
+        None => Outcome::Unready,
+    }
 }

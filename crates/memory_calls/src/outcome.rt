@@ -1,6 +1,7 @@
 //! How a call ended that may have been refused memory.
 use std::fmt;
 use std::fmt::{Display, Formatter, Write};
+use v7tools::CliFault;
 
 /// How a call ended.
 #[derive(Clone, Copy, Debug, PartialEq, Eq)]
@@ -22,6 +23,14 @@ impl Outcome {
             Outcome::Done
         } else {
             Outcome::Wrong
+        }
+    }
+
+    /// The end of a call that failed, and left nothing to look at.
+    pub(crate) fn failed(fault: CliFault) -> Outcome {
+        match fault {
+            CliFault::Memory => Outcome::Refused,
+            _ => Outcome::Wrong,
         }
     }
 

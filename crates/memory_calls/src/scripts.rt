@@ -7,7 +7,7 @@ use link_fixtures::{linked_of, plain};
 use link_out::{Keep, Linked};
 use link_session::{Cell, Session};
 use std::alloc::Global;
-use v7tools::{CliFault, Command, Line, Script, Step, Stored, link_answer, step};
+use v7tools::{Command, Line, Script, Step, Stored, link_answer, step};
 
 /// What a line says.
 fn line_text(line: &Line) -> &str {
@@ -20,26 +20,11 @@ fn line_text(line: &Line) -> &str {
     }
 }
 
-fn fault_text(fault: &CliFault) -> &str {
-    match fault {
-        CliFault::Memory => "no memory",
-        _ => "another fault",
-    }
-}
-
 /// What a line says, or the end.
 fn next_text(next: &Option<Line>) -> &str {
     match next {
         Some(line) => line_text(line),
         None => "end",
-    }
-}
-
-/// What an answer of the script says.
-fn told(answer: &Result<Option<Line>, CliFault>) -> &str {
-    match answer {
-        Ok(next) => next_text(next),
-        Err(fault) => fault_text(fault),
     }
 }
 
@@ -57,24 +42,35 @@ const LINES: [&str; 10] = [
     "end",
 ];
 
+/// A line is read that should say this.
+fn reading_line(script: &mut Script<TestReader<'_>>, line: &str) -> Outcome {
+    match script.next_line() {
+        Ok(next) => Outcome::done(next_text(&next) == line),
+        Err(fault) => Outcome::failed(fault),
+    }
+}
+
 /// A script is read to its end; refused memory, it stays refused.
-pub fn reading_lines(alloc: Global) -> Outcome {
-    let reader = Wire::new(TestReader::whole(SCRIPT.as_bytes()));
-    let mut script = match Script::new(alloc, reader) {
-        Ok(script) => script,
-        Err(CliFault::Memory) => return Outcome::Refused,
-        Err(_) => return Outcome::Wrong,
-    };
+fn reading_all(script: &mut Script<TestReader<'_>>) -> Outcome {
     for line in LINES {
-        let answer = script.next_line();
-        if told(&answer) == "no memory" {
-            return Outcome::refused(told(&script.next_line()) == "no memory");
-        }
-        if told(&answer) != line {
-            return Outcome::Wrong;
+        match reading_line(script, line) {
+            Outcome::Done => {}
+            Outcome::Refused => {
+                return Outcome::refused(reading_line(script, line) == Outcome::Refused);
+            }
+            other => return other,
         }
     }
     Outcome::Done
+}
+
+/// A script is made, and read to its end.
+pub fn reading_lines(alloc: Global) -> Outcome {
+    let reader = Wire::new(TestReader::whole(SCRIPT.as_bytes()));
+    match Script::new(alloc, reader) {
+        Ok(mut script) => reading_all(&mut script),
+        Err(fault) => Outcome::failed(fault),
+    }
 }
 
 /// A writer with room for the answers of a few steps.
@@ -125,6 +121,20 @@ impl Ready {
     }
 }
 
+/// Whether a step is refused; `None` where it fails.
+fn is_refused(
+    alloc: Global,
+    session: &mut Session,
+    command: Command<TestReader<'_>>,
+    out: &mut Wire<TestWriter>,
+) -> Option<bool> {
+    match step(alloc, session, &plain(Keep::All), command, out).ok()? {
+        Step::Done => Some(false),
+        Step::Refused => Some(true),
+        Step::ToStore(_) => Some(false),
+    }
+}
+
 /// A step is taken; refused memory, its answer says so and the session is as it was.
 fn stepping(
     alloc: Global,
@@ -134,14 +144,14 @@ fn stepping(
     line: &[u8],
 ) -> Outcome {
     let Ready { mut out, shown } = ready;
-    let answer = step(alloc, session, &plain(Keep::All), command, &mut out);
-    let text = out.into_inner().into_taken();
-    match answer {
-        Ok(Step::Refused) => Outcome::refused(
-            text.as_slice() == b"no memory\n".as_slice() && shown.is_kept(session),
+    let is_refused = is_refused(alloc, session, command, &mut out);
+    let writer = out.into_inner();
+    match is_refused {
+        Some(true) => Outcome::refused(
+            writer.taken() == b"no memory\n".as_slice() && shown.is_kept(session),
         ),
-        Ok(_) => Outcome::done(text.as_slice() == line),
-        Err(_) => Outcome::Wrong,
+        Some(false) => Outcome::done(writer.taken() == line),
+        None => Outcome::Wrong,
     }
 }
 
@@ -192,48 +202,33 @@ pub fn linking_by_a_step(alloc: Global) -> Outcome {
 const ANSWERS: &[u8] =
     b"       U _f\n_f\nwithdrew c.o\nnothing to withdraw\nbad command\nUndefined:\n_f\nlinked out 1\n";
 
-/// Whether a step is taken or refused, and does not fail.
-fn is_taken(
-    alloc: Global,
-    session: &mut Session,
-    command: Command<TestReader<'static>>,
-    out: &mut Wire<TestWriter>,
-) -> bool {
-    step(alloc, session, &plain(Keep::All), command, out).is_ok()
-}
-
 /// Whether the steps are taken that take no memory.
 fn are_taken(alloc: Global, session: &mut Session, out: &mut Wire<TestWriter>) -> bool {
-    is_taken(alloc, session, Command::Externals, out)
-        && is_taken(alloc, session, Command::Undefined, out)
-        && is_taken(alloc, session, Command::Withdraw, out)
-        && is_taken(alloc, session, Command::Withdraw, out)
-        && is_taken(alloc, session, Command::Bad, out)
+    is_refused(alloc, session, Command::Externals, out).is_some()
+        && is_refused(alloc, session, Command::Undefined, out).is_some()
+        && is_refused(alloc, session, Command::Withdraw, out).is_some()
+        && is_refused(alloc, session, Command::Withdraw, out).is_some()
+        && is_refused(alloc, session, Command::Bad, out).is_some()
 }
 
 /// `c.o` is added to a session, and the steps and the answer to a link are written as they should be.
-fn step_through(
-    alloc: Global,
-    session: &mut Session,
-    linked: &Linked,
-    mut out: Wire<TestWriter>,
-) -> Outcome {
+fn step_through(alloc: Global, session: &mut Session, linked: &Linked) -> Outcome {
     if !adds(session, alloc, &[("c.o", &C_O)]) {
         return Outcome::Unready;
     }
+    let Some(mut out) = answers(alloc) else {
+        return Outcome::Unready;
+    };
     let is_answered = are_taken(alloc, session, &mut out)
-        && matches!(link_answer(linked, "out", Stored::Kept, &mut out), Ok(1));
+        && link_answer(linked, "out", Stored::Kept, &mut out).ok() == Some(1);
     let writer = out.into_inner();
     Outcome::done(is_answered && writer.taken() == ANSWERS)
 }
 
 /// Steps that take no memory, and the answer to a link.
 pub fn other_steps(alloc: Global) -> Outcome {
-    let (Some(linked), Some(out)) = (
-        linked_of(alloc, &[("c.o", &C_O)], &plain(Keep::All)),
-        answers(alloc),
-    ) else {
-        return Outcome::Unready;
-    };
-    step_through(alloc, &mut Session::new(alloc), &linked, out)
+    match linked_of(alloc, &[("c.o", &C_O)], &plain(Keep::All)) {
+        Some(linked) => step_through(alloc, &mut Session::new(alloc), &linked),
+        None => Outcome::Unready,
+    }
 }

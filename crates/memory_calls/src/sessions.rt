@@ -1,9 +1,9 @@
 //! Sessions made, added to and withdrawn from.
 use crate::outcome::Outcome;
-use aout_core::Name;
 use aout_core::samples::{C_O, G_O, K_O, L_O};
+use aout_core::{Name, Object};
 use fixtures::{adds, forced, object};
-use link_session::{AddFault, Cell, Forced, Session, State};
+use link_session::{AddFault, AddRefused, Cell, Forced, Session, State};
 use std::alloc::Global;
 
 /// A session with a forced name is made.
@@ -51,23 +51,33 @@ fn is_withdrawn(session: &mut Session, label: &str) -> bool {
     }
 }
 
-/// Adds an object behind another; refused memory, it comes back and the session is as it was.
-fn add_second(alloc: Global, session: &mut Session, bytes: &[u8]) -> Outcome {
-    let (Some(shown), Some(second), Ok(label)) = (
-        Shown::of(alloc, session),
-        object(alloc, bytes),
-        String::from_str(alloc, "second.o"),
-    ) else {
-        return Outcome::Unready;
-    };
+/// Whether an addition was refused memory, its label came back, and the session is as it was.
+fn is_given_back(session: &mut Session, refused: &AddRefused, shown: &Shown) -> bool {
+    refused.cause == AddFault::Memory
+        && refused.label.as_str() == "second.o"
+        && shown.is_kept(session)
+        && is_withdrawn(session, "first.o")
+}
+
+/// Adds an object behind another that shows this; refused memory, it comes back and the session is as it was.
+fn add_labelled(session: &mut Session, label: String, second: Object, shown: &Shown) -> Outcome {
     match session.add(label, second) {
         Ok(()) => Outcome::done(session.entries().len() == 2),
-        Err(refused) => Outcome::refused(
-            refused.cause == AddFault::Memory
-                && refused.label.as_str() == "second.o"
-                && shown.is_kept(session)
-                && is_withdrawn(session, "first.o"),
-        ),
+        Err(refused) => Outcome::refused(is_given_back(session, &refused, shown)),
+    }
+}
+
+/// Adds the object that the bytes spell behind another.
+fn add_second(alloc: Global, session: &mut Session, bytes: &[u8]) -> Outcome {
+    let Some(shown) = Shown::of(alloc, session) else {
+        return Outcome::Unready;
+    };
+    let Some(second) = object(alloc, bytes) else {
+        return Outcome::Unready;
+    };
+    match String::from_str(alloc, "second.o") {
+        Ok(label) => add_labelled(session, label, second, &shown),
+        Err(_) => Outcome::Unready,
     }
 }
 
