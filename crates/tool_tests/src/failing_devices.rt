@@ -7,8 +7,15 @@ use link_out::{Keep, Linked};
 use link_session::Forced;
 use std::alloc::{AllocError, Global};
 use std::io::ErrorKind;
+use std::process::Abort;
 use std::test::Fail;
 use v7tools::{CliFault, emit, ld};
+
+/// The link of bytes in memory, each with its path, without options but those that say which symbols are kept.
+pub fn link(alloc: Global, inputs: &[(&str, &[u8])], keep: Keep) -> Result<Linked, CliFault> {
+    let inputs = wires(alloc, inputs)?;
+    ld(alloc, inputs, &Forced::none(), &plain(keep))
+}
 
 /// `c.o` on a reader that fails behind so many bytes.
 fn failing_reader(place: usize, kind: ErrorKind) -> Wire<TestReader<'static>> {
@@ -20,15 +27,21 @@ fn fails_to_read(alloc: Global, place: usize, kind: ErrorKind) -> bool {
     read_file(alloc, &mut failing_reader(place, kind)).err() == Some(ReadFault::Device)
 }
 
+/// Whether this fault tells that the device of `c.o` failed.
+fn is_device_fault(fault: CliFault) -> bool {
+    match fault {
+        CliFault::BadFile(path, ReadFault::Device) => path.as_str() == "c.o",
+        _ => false,
+    }
+}
+
 /// Whether a link of `c.o` tells that its device failed.
 fn fails_to_link(alloc: Global, place: usize, kind: ErrorKind) -> Result<bool, AllocError> {
     let path = String::from_str(alloc, "c.o")?;
     let inputs = vec![in alloc; (path, failing_reader(place, kind))]?;
     match ld(alloc, inputs, &Forced::none(), &plain(Keep::All)) {
-        Err(CliFault::BadFile(path, fault)) => {
-            Ok(path.as_str() == "c.o" && fault == ReadFault::Device)
-        }
-        _ => Ok(false),
+        Ok(_) => Ok(false),
+        Err(fault) => Ok(is_device_fault(fault)),
     }
 }
 
@@ -61,6 +74,15 @@ pub fn in_memory(alloc: Global) -> Wire<TestWriter> {
     Wire::new(TestWriter::whole(Vec::new(alloc)))
 }
 
+/// Whether a link tells that it can't be written.
+fn fails_to_emit(
+    linked: &Linked,
+    file: &mut Wire<TestWriter>,
+    report: &mut Wire<TestWriter>,
+) -> bool {
+    matches!(emit(linked, file, report), Err(CliFault::WriteFailed))
+}
+
 /// Whether a link tells that its file can't be written behind so many bytes of these; its report is then not written.
 pub fn fails_to_write(
     alloc: Global,
@@ -71,29 +93,29 @@ pub fn fails_to_write(
 ) -> bool {
     let mut file = failing_writer(alloc, place, failing);
     let mut report = in_memory(alloc);
-    let is_told = matches!(
-        emit(linked, &mut file, &mut report),
-        Err(CliFault::WriteFailed)
-    );
+    let is_told = fails_to_emit(linked, &mut file, &mut report);
     let is_latched = file.failed() && !report.failed();
     let report = report.into_inner();
     let file = file.into_inner();
     is_told && is_latched && report.calls() == 0 && Some(file.taken()) == bytes.get(..place)
 }
 
-#[test]
-fn writer_fails_everywhere(rt: HostRuntime) -> Result<(), Fail> {
-    let alloc = rt.alloc();
-    let wires = wires(alloc, &[("a.o", &A_O), ("b.o", &B_O)])?;
-    let linked = ld(alloc, wires, &Forced::none(), &plain(Keep::Nothing))?;
+/// A link tells at each place that its file can't be written there.
+fn assert_fails_to_write(rt: &(impl Abort + AllocGlobal), linked: &Linked) {
     for place in 0..24 {
         for failing in FAILURES {
             assert!(rt;
-                fails_to_write(alloc, &linked, place, failing, &TWO_OBJECTS),
+                fails_to_write(rt.alloc(), linked, place, failing, &TWO_OBJECTS),
                 "{place} bytes"
             );
         }
     }
+}
+
+#[test]
+fn writer_fails_everywhere(rt: HostRuntime) -> Result<(), Fail> {
+    let linked = link(rt.alloc(), &[("a.o", &A_O), ("b.o", &B_O)], Keep::Nothing)?;
+    assert_fails_to_write(&rt, &linked);
     Ok(())
 }
 
@@ -107,28 +129,28 @@ fn fails_to_report(
 ) -> bool {
     let mut file = in_memory(alloc);
     let mut report = failing_writer(alloc, place, failing);
-    let is_told = matches!(
-        emit(linked, &mut file, &mut report),
-        Err(CliFault::WriteFailed)
-    );
+    let is_told = fails_to_emit(linked, &mut file, &mut report);
     let file = file.into_inner();
     let report = report.into_inner();
     is_told && file.taken() == UNDEFINED.as_slice() && Some(report.taken()) == lines.get(..place)
 }
 
-#[test]
-fn report_fails_everywhere(rt: HostRuntime) -> Result<(), Fail> {
-    let alloc = rt.alloc();
+/// A link tells at each place that its report can't be written there.
+fn assert_fails_to_report(rt: &(impl Abort + AllocGlobal), linked: &Linked) {
     let lines = b"Undefined:\n_f\n_g\n".as_slice();
-    let wires = wires(alloc, &[("c.o", &C_O), ("g.o", &G_O)])?;
-    let linked = ld(alloc, wires, &Forced::none(), &plain(Keep::All))?;
     for place in 0..17 {
         for failing in FAILURES {
             assert!(rt;
-                fails_to_report(alloc, &linked, place, failing, lines),
+                fails_to_report(rt.alloc(), linked, place, failing, lines),
                 "{place} bytes"
             );
         }
     }
+}
+
+#[test]
+fn report_fails_everywhere(rt: HostRuntime) -> Result<(), Fail> {
+    let linked = link(rt.alloc(), &[("c.o", &C_O), ("g.o", &G_O)], Keep::All)?;
+    assert_fails_to_report(&rt, &linked);
     Ok(())
 }

@@ -1,21 +1,14 @@
 //! The faults: their lines and texts, and links and loads that meet them.
-use crate::failing_devices::{fails_to_write, in_memory};
+use crate::failing_devices::{fails_to_write, in_memory, link};
 use aout_core::samples::{A_O, B_O, Failing, TestReader, TestWriter};
-use aout_core::{File, ObjectFault, ReadFault, Wire};
-use fixtures::{TWO_OBJECTS, is_told, sized, wires};
-use link_fixtures::plain;
+use aout_core::{ObjectFault, ReadFault, Wire};
+use fixtures::{TWO_OBJECTS, is_told, sized};
 use link_out::{Keep, LinkFault, Linked};
-use link_session::{AddFault, Forced};
+use link_session::AddFault;
 use std::alloc::{AllocError, Global};
 use std::io::ErrorKind;
 use std::test::Fail;
-use v7tools::{CliFault, emit, ld, load};
-
-/// The link of bytes in memory, each with its path, without options but `-s`.
-fn link_stripped(alloc: Global, inputs: &[(&str, &[u8])]) -> Result<Linked, CliFault> {
-    let inputs = wires(alloc, inputs)?;
-    ld(alloc, inputs, &Forced::none(), &plain(Keep::Nothing))
-}
+use v7tools::{CliFault, emit, load};
 
 /// Whether the fault writes this line, over a writer that takes 3 bytes a call.
 fn writes(alloc: Global, fault: &CliFault, line: &str) -> bool {
@@ -26,11 +19,16 @@ fn writes(alloc: Global, fault: &CliFault, line: &str) -> bool {
     is_written && writer.taken() == line.as_bytes()
 }
 
+/// The same of a fault that is let go.
+fn has_line(alloc: Global, fault: CliFault, line: &str) -> bool {
+    writes(alloc, &fault, line)
+}
+
 /// Whether the link is refused with this line.
 fn is_refused(alloc: Global, inputs: &[(&str, &[u8])], line: &str) -> bool {
-    match link_stripped(alloc, inputs) {
-        Ok(_) => false,
-        Err(fault) => writes(alloc, &fault, line),
+    match link(alloc, inputs, Keep::Nothing).err() {
+        Some(fault) => has_line(alloc, fault, line),
+        None => false,
     }
 }
 
@@ -43,16 +41,17 @@ fn no_room_for_data(rt: HostRuntime) -> Result<(), Fail> {
     Ok(())
 }
 
+/// Whether a link tells that its file can't be written behind ten bytes.
+fn fails_behind_ten(alloc: Global, linked: &Linked) -> bool {
+    let interrupted = Failing::Fails(ErrorKind::Interrupted);
+    fails_to_write(alloc, linked, 10, interrupted, &TWO_OBJECTS)
+        && fails_to_write(alloc, linked, 10, Failing::TakesNothing, &TWO_OBJECTS)
+}
+
 #[test]
 fn failing_devices_writing(rt: HostRuntime) -> Result<(), Fail> {
-    let alloc = rt.alloc();
-    let linked = link_stripped(alloc, &[("a.o", &A_O), ("b.o", &B_O)])?;
-    for failing in [
-        Failing::Fails(ErrorKind::Interrupted),
-        Failing::TakesNothing,
-    ] {
-        assert!(rt; fails_to_write(alloc, &linked, 10, failing, &TWO_OBJECTS));
-    }
+    let linked = link(rt.alloc(), &[("a.o", &A_O), ("b.o", &B_O)], Keep::Nothing)?;
+    assert!(rt; fails_behind_ten(rt.alloc(), &linked));
     Ok(())
 }
 
@@ -65,7 +64,7 @@ fn is_two_objects(linked: &Linked) -> bool {
 
 #[test]
 fn read_always_memory(rt: HostRuntime) -> Result<(), Fail> {
-    let linked = link_stripped(rt.alloc(), &[("a.o", &A_O), ("b.o", &B_O)])?;
+    let linked = link(rt.alloc(), &[("a.o", &A_O), ("b.o", &B_O)], Keep::Nothing)?;
     assert!(rt; is_two_objects(&linked));
     Ok(())
 }
@@ -74,7 +73,7 @@ fn read_always_memory(rt: HostRuntime) -> Result<(), Fail> {
 fn is_written(alloc: Global, linked: &Linked, bytes: &[u8]) -> bool {
     let mut file = in_memory(alloc);
     let mut report = in_memory(alloc);
-    let is_emitted = matches!(emit(linked, &mut file, &mut report), Ok(0));
+    let is_emitted = emit(linked, &mut file, &mut report).ok() == Some(0);
     let is_latched = file.failed() || report.failed();
     let file = file.into_inner();
     let report = report.into_inner();
@@ -83,7 +82,7 @@ fn is_written(alloc: Global, linked: &Linked, bytes: &[u8]) -> bool {
 
 #[test]
 fn latch_without_error(rt: HostRuntime) -> Result<(), Fail> {
-    let linked = link_stripped(rt.alloc(), &[("a.o", &A_O), ("b.o", &B_O)])?;
+    let linked = link(rt.alloc(), &[("a.o", &A_O), ("b.o", &B_O)], Keep::Nothing)?;
     assert!(rt; is_written(rt.alloc(), &linked, &TWO_OBJECTS));
     Ok(())
 }
@@ -141,36 +140,39 @@ fn fault_lines(rt: HostRuntime) -> Result<(), Fail> {
     Ok(())
 }
 
-/// Whether a fault writes the line of no memory.
-fn is_memory(alloc: Global, fault: CliFault) -> bool {
-    writes(alloc, &fault, "v7: no memory\n")
-}
-
 #[test]
 fn fault_lines_of_refused_growths(rt: HostRuntime) -> Result<(), Fail> {
     let alloc = rt.alloc();
+    let line = "v7: no memory\n";
     let path = String::from_str(alloc, "x.o")?;
-    let again = path.clone()?;
-    assert!(rt; is_memory(alloc, CliFault::BadFile(again, ReadFault::Memory)));
-    assert!(rt; is_memory(alloc, CliFault::NotAdded(path, AddFault::Memory)));
-    assert!(rt; is_memory(alloc, CliFault::NotLinked(LinkFault::Memory)));
+    assert!(rt; has_line(alloc, CliFault::BadFile(path, ReadFault::Memory), line));
+    let path = String::from_str(alloc, "x.o")?;
+    assert!(rt; has_line(alloc, CliFault::NotAdded(path, AddFault::Memory), line));
+    assert!(rt; has_line(alloc, CliFault::NotLinked(LinkFault::Memory), line));
     Ok(())
 }
 
-/// The path and the file that are loaded from these bytes, or the fault.
-fn load_bytes(alloc: Global, path: String, bytes: &[u8]) -> Result<(String, File), CliFault> {
-    load(alloc, path, &mut Wire::new(TestReader::whole(bytes)))
+/// Whether `a.o` is loaded at its path.
+fn is_loaded(alloc: Global, path: String) -> bool {
+    match load(alloc, path, &mut Wire::new(TestReader::whole(&A_O))).ok() {
+        Some((path, file)) => path.as_str() == "a.o" && file.data_words() == [0o42].as_slice(),
+        None => false,
+    }
+}
+
+/// Whether the load of the first bytes of `a.o` is refused with its line.
+fn is_cut(alloc: Global, path: String) -> bool {
+    match load(alloc, path, &mut Wire::new(TestReader::whole(&A_O[..17]))).err() {
+        Some(fault) => has_line(alloc, fault, "v7: a.o: truncated\n"),
+        None => false,
+    }
 }
 
 #[test]
 fn failing_devices_loading(rt: HostRuntime) -> Result<(), Fail> {
-    let alloc = rt.alloc();
-    let (path, file) = load_bytes(alloc, String::from_str(alloc, "a.o")?, &A_O)?;
-    assert!(rt; path.as_str() == "a.o" && file.data_words() == [0o42].as_slice());
-    let is_cut = match load_bytes(alloc, path, &A_O[..17]) {
-        Ok(_) => false,
-        Err(fault) => writes(alloc, &fault, "v7: a.o: truncated\n"),
-    };
-    assert!(rt; is_cut);
+    let path = String::from_str(rt.alloc(), "a.o")?;
+    assert!(rt; is_loaded(rt.alloc(), path));
+    let path = String::from_str(rt.alloc(), "a.o")?;
+    assert!(rt; is_cut(rt.alloc(), path));
     Ok(())
 }

@@ -67,37 +67,40 @@ impl Asked<'_> {
         is_same
     }
 
-    fn are_files(&self, alloc: Global, files: &[String]) -> Result<bool, AllocError> {
-        Ok(files == words_of(alloc, self.files)?.as_slice())
+    fn are_files(&self, alloc: Global, files: &[String]) -> bool {
+        match words_of(alloc, self.files) {
+            Ok(wanted) => files == wanted.as_slice(),
+            Err(_) => false,
+        }
     }
 
     /// Whether a call is this.
-    fn is_call(&self, alloc: Global, call: Call) -> Result<bool, AllocError> {
+    fn is_call(&self, alloc: Global, call: &Call) -> bool {
         match call {
             Call::Ld {
                 options,
                 forced,
                 out,
                 files,
-            } => Ok(
-                self.are_options(options)
-                    && self.are_forced(&forced)
+            } => {
+                self.are_options(*options)
+                    && self.are_forced(forced)
                     && out.as_str() == self.out
-                    && self.are_files(alloc, &files)?,
-            ),
-            Call::Session { options, forced } => {
-                Ok(self.are_options(options) && self.are_forced(&forced) && self.out.is_empty())
+                    && self.are_files(alloc, files)
             }
-            _ => Ok(false),
+            Call::Session { options, forced } => {
+                self.are_options(*options) && self.are_forced(forced) && self.out.is_empty()
+            }
+            _ => false,
         }
     }
 
     /// Whether the words ask for this.
     fn is_asked(&self, alloc: Global) -> Result<bool, AllocError> {
-        let Ok(call) = parse(alloc, words_of(alloc, self.line)?) else {
-            return Ok(false);
-        };
-        self.is_call(alloc, call)
+        match parse(alloc, words_of(alloc, self.line)?).ok() {
+            Some(call) => Ok(self.is_call(alloc, &call)),
+            None => Ok(false),
+        }
     }
 }
 
@@ -111,7 +114,7 @@ fn assert_asked(rt: &(impl Abort + AllocGlobal), all: &[Asked<'_>]) -> Result<()
 }
 
 fn is_usage(alloc: Global, words: Vec<String>) -> bool {
-    matches!(parse(alloc, words), Err(CliFault::Usage))
+    matches!(parse(alloc, words).err(), Some(CliFault::Usage))
 }
 
 /// The words of each line are refused.
@@ -480,24 +483,41 @@ fn words_of_a_session(rt: HostRuntime) -> Result<(), Fail> {
     assert_usage(&rt, &NO_SESSIONS)
 }
 
-/// Whether the words of a line ask for a list of the file at this path, with all or none of the options that say which
-/// symbols it has, and all or none of those that say in which order.
-fn is_list(alloc: Global, line: &str, which: bool, order: bool, path: &str) -> Result<bool, Fail> {
-    let Ok(Call::Nm { options, files }) = parse(alloc, words_of(alloc, line)?) else {
-        return Ok(false);
-    };
-    let is_which = options.external == which
-        && options.undefined == which
-        && options.each_line == which;
-    let is_order = options.by_value == order
-        && options.table_order == order
-        && options.reverse == order;
-    Ok(is_which && is_order && files == words_of(alloc, path)?)
+/// Whether a call is a list of these files, with all or none of the options that say which symbols it has, and all or
+/// none of those that say in which order.
+fn is_list(call: &Call, which: bool, order: bool, wanted: &[String]) -> bool {
+    match call {
+        Call::Nm { options, files } => {
+            options.external == which
+                && options.undefined == which
+                && options.each_line == which
+                && options.by_value == order
+                && options.table_order == order
+                && options.reverse == order
+                && files.as_slice() == wanted
+        }
+        _ => false,
+    }
+}
+
+/// Whether the words of a line ask for such a list of the file at this path.
+fn asks_for_list(
+    alloc: Global,
+    line: &str,
+    which: bool,
+    order: bool,
+    path: &str,
+) -> Result<bool, Fail> {
+    let wanted = words_of(alloc, path)?;
+    match parse(alloc, words_of(alloc, line)?).ok() {
+        Some(call) => Ok(is_list(&call, which, order, &wanted)),
+        None => Ok(false),
+    }
 }
 
 #[test]
 fn words_of_the_lists(rt: HostRuntime) -> Result<(), Fail> {
-    assert!(rt; is_list(rt.alloc(), "nm -gu -o", true, false, "a.out")?);
-    assert!(rt; is_list(rt.alloc(), "nm -npr s.o", false, true, "s.o")?);
+    assert!(rt; asks_for_list(rt.alloc(), "nm -gu -o", true, false, "a.out")?);
+    assert!(rt; asks_for_list(rt.alloc(), "nm -npr s.o", false, true, "s.o")?);
     Ok(())
 }
