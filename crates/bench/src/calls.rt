@@ -59,8 +59,10 @@ fn write_counted(rt: &HostRuntime, linked: &Linked, calls: &Cell<u32>) -> Result
     let device = Vec::new(rt.alloc());
     let mut file = Wire::new(Counted { device, calls });
     let mut report = Wire::new(Vec::new(rt.alloc()));
-    emit(linked, &mut file, &mut report).map_err(|_| anyhow!("write error"))?;
-    Ok(file.into_inner().device.len())
+    match emit(linked, &mut file, &mut report) {
+        Ok(_) => Ok(file.into_inner().device.len()),
+        Err(_) => Err(anyhow!("write error")),
+    }
 }
 
 /// Links the objects, and answers how many bytes the file has.
@@ -97,9 +99,7 @@ fn print_link(rt: &HostRuntime, objects: &[Vec<u8>], name: &str, options: &Optio
 pub fn print_calls(rt: &HostRuntime, size: Size) -> Result<()> {
     let objects = object_files(rt.alloc(), size)?;
     for (name, relocatable, keep) in [("-s", false, Keep::Nothing), ("-r", true, Keep::All)] {
-        let options = Options::new(Layout::Plain, relocatable, keep, None).map_err(|_| anyhow!(
-            "the options exclude one another"
-        ))?;
+        let options = Options::new(Layout::Plain, relocatable, keep, None)?;
         print_link(rt, objects.as_slice(), name, &options)?;
     }
     Ok(())

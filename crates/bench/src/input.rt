@@ -1,7 +1,7 @@
 //! Objects for the benchmark.
 use anyhow::{Result, anyhow};
 use aout_core::{File, Header, Name, Object, Parts, Reloc, Symbol, Wire, write_file};
-use std::alloc::Global;
+use std::alloc::{AllocError, Global};
 
 /// How many names each referring object mentions.
 const NAMES: u16 = 25;
@@ -15,10 +15,31 @@ pub struct Size {
     pub references: u16,
 }
 
+/// The last digit of a number.
+fn last_digit(number: u16) -> u8 {
+    b'0' + (number % 10) as u8
+}
+
 /// `n` and four digits.
 fn name(number: u16) -> Name {
-    let digit = |place: u16| b'0' + (number / place % 10) as u8;
-    Name::from_bytes(&[b'n', digit(1000), digit(100), digit(10), digit(1)])
+    let thousands = last_digit(number / 1000);
+    let hundreds = last_digit(number / 100);
+    let tens = last_digit(number / 10);
+    Name::from_bytes(&[b'n', thousands, hundreds, tens, last_digit(number)])
+}
+
+/// The header of an object of so many words of text and so many symbols.
+fn header_of(words: usize, symbols: usize) -> Result<Header> {
+    Ok(Header {
+        magic: 0o407,
+        text_size: u16::try_from(words.saturating_mul(2))?,
+        data_size: 0,
+        bss_size: 0,
+        symbol_size: u16::try_from(symbols.saturating_mul(12))?,
+        entry_point: 0,
+        unused: 0,
+        flag: 0,
+    })
 }
 
 fn object(
@@ -27,18 +48,8 @@ fn object(
     symbols: Vec<Symbol>,
     alloc: Global,
 ) -> Result<Object> {
-    let header = Header {
-        magic: 0o407,
-        text_size: u16::try_from(2 * text_words.len() as u64)?,
-        data_size: 0,
-        bss_size: 0,
-        symbol_size: u16::try_from(12 * symbols.len() as u64)?,
-        entry_point: 0,
-        unused: 0,
-        flag: 0,
-    };
     let parts = Parts {
-        header,
+        header: header_of(text_words.len(), symbols.len())?,
         text_words,
         data_words: Vec::new(alloc),
         text_reloc,
@@ -48,12 +59,14 @@ fn object(
     if !parts.fits() {
         return Err(anyhow!("the parts of an object do not fit"));
     }
-    Object::from_file(File::from_parts(parts)).map_err(|(_, fault)| anyhow!("{fault}"))
+    match Object::from_file(File::from_parts(parts)) {
+        Ok(object) => Ok(object),
+        Err((_, fault)) => Err(fault.into()),
+    }
 }
 
-/// An object that mentions names of its own, and refers to each several times; with words that refer to none it has
-/// 162 or 163 words of text.
-pub fn referring(alloc: Global, size: Size, number: u16) -> Result<Object> {
+/// The names that an object mentions.
+fn mentions(alloc: Global, number: u16) -> Result<Vec<Symbol>, AllocError> {
     let mut symbols = Vec::new(alloc);
     for index in 0..NAMES {
         symbols.push(Symbol {
@@ -62,19 +75,47 @@ pub fn referring(alloc: Global, size: Size, number: u16) -> Result<Object> {
             value: 0,
         })?;
     }
-    let mut text_words = Vec::new(alloc);
-    let mut text_reloc = Vec::new(alloc);
-    for _ in 0..size.references {
+    Ok(symbols)
+}
+
+/// Puts a word of text and its relocation word behind the others.
+fn push_word(
+    words: &mut Vec<u16>,
+    relocs: &mut Vec<Reloc>,
+    word: u16,
+    reloc: u16,
+) -> Result<(), AllocError> {
+    words.push(word)?;
+    relocs.push(Reloc(reloc))?;
+    Ok(())
+}
+
+/// The text of an object: the words that refer to its names, and then those that refer to none.
+fn push_text(
+    words: &mut Vec<u16>,
+    relocs: &mut Vec<Reloc>,
+    references: u16,
+    length: usize,
+) -> Result<(), AllocError> {
+    for _ in 0..references {
         for index in 0..NAMES {
-            text_words.push(index)?;
-            text_reloc.push(Reloc(0o10 + 16 * index))?;
+            push_word(words, relocs, index, 0o10 + 16 * index)?;
         }
     }
-    for _ in text_words.len()..162 + number as usize % 2 {
-        text_words.push(0o240)?;
-        text_reloc.push(Reloc(0))?;
+    for _ in words.len()..length {
+        push_word(words, relocs, 0o240, 0)?;
     }
-    object(text_words, text_reloc, symbols, alloc)
+    Ok(())
+}
+
+/// An object that mentions names of its own, and refers to each several times; with words that refer to none it has
+/// 162 or 163 words of text.
+pub fn referring(alloc: Global, size: Size, number: u16) -> Result<Object> {
+    let length = 162 + number as usize % 2;
+    let mut words = Vec::new(alloc);
+    let mut relocs = Vec::new(alloc);
+    push_text(&mut words, &mut relocs, size.references, length)?;
+    object(words, relocs, mentions(alloc, number)?, alloc)
 }
 
 /// An object that defines one of the names as absolute.
@@ -104,12 +145,16 @@ fn defining_all(alloc: Global, size: Size) -> Result<Object> {
 
 fn bytes_of(alloc: Global, object: &Object) -> Result<Vec<u8>> {
     let mut out = Wire::new(Vec::new(alloc));
-    write_file(object.file(), &mut out).map_err(|_| anyhow!("write error"))?;
+    write_file(object.file(), &mut out)?;
     Ok(out.into_inner())
 }
 
 fn referring_file(alloc: Global, size: Size, number: u16) -> Result<Vec<u8>> {
     bytes_of(alloc, &referring(alloc, size, number)?)
+}
+
+fn defining_file(alloc: Global, size: Size) -> Result<Vec<u8>> {
+    bytes_of(alloc, &defining_all(alloc, size)?)
 }
 
 /// The files of all objects that refer to names, and of one that defines all the names.
@@ -118,8 +163,7 @@ pub fn object_files(alloc: Global, size: Size) -> Result<Vec<Vec<u8>>> {
     for number in 0..size.objects {
         files.push(referring_file(alloc, size, number)?)?;
     }
-    let all = defining_all(alloc, size)?;
-    files.push(bytes_of(alloc, &all)?)?;
+    files.push(defining_file(alloc, size)?)?;
     Ok(files)
 }
 

@@ -16,8 +16,8 @@ use command::time_command;
 use input::{Size, defining, referring};
 use link_session::{Mark, Session};
 use repeat::repeat;
-use std::env;
 use std::time::{Duration, Instant};
+use std::{env, io};
 
 /// The full run: 65,000 bytes of text with 20,000 words that refer to 5,000 names.
 const FULL: Size = Size {
@@ -66,15 +66,21 @@ fn add_all(rt: &HostRuntime, session: &mut Session, size: Size) -> Result<usize>
     Ok(cells)
 }
 
-/// Adds objects and withdraws each, and answers how many earlier cells were visited: bound, and put back.
-fn add_and_withdraw(rt: &HostRuntime, session: &mut Session, size: Size) -> Result<usize> {
+/// Adds an object and withdraws it, and answers how many earlier cells were visited: bound, and put back.
+fn add_and_withdraw(rt: &HostRuntime, session: &mut Session, object: Object) -> Result<usize> {
+    let cells = add(rt, session, "defining.o", object)?;
+    match session.withdraw() {
+        Some(_) => Ok(cells),
+        None => Err(anyhow!("nothing to withdraw")),
+    }
+}
+
+/// Adds objects and withdraws each, and answers how many earlier cells were visited.
+fn add_and_withdraw_all(rt: &HostRuntime, session: &mut Session, size: Size) -> Result<usize> {
     let mut cells: usize = 0;
     for number in 0..withdrawals(size) {
         let object = defining(rt.alloc(), number)?;
-        cells = cells.saturating_add(add(rt, session, "defining.o", object)?);
-        if session.withdraw().is_none() {
-            return Err(anyhow!("nothing to withdraw"));
-        }
+        cells = cells.saturating_add(add_and_withdraw(rt, session, object)?);
     }
     Ok(cells)
 }
@@ -95,7 +101,7 @@ fn time_adding(rt: &HostRuntime, session: &mut Session, size: Size) -> Result<Ti
 
 fn time_withdrawing(rt: &HostRuntime, session: &mut Session, size: Size) -> Result<Times> {
     let start = Instant::now(rt)?;
-    let cells = add_and_withdraw(rt, session, size)?;
+    let cells = add_and_withdraw_all(rt, session, size)?;
     let time = start.elapsed(rt)?;
     Ok(Times { time, cells })
 }
@@ -140,7 +146,7 @@ fn time_session(rt: &HostRuntime, size: Size, is_full: bool) -> Result<()> {
 }
 
 /// The words after the program's name.
-fn words(rt: &HostRuntime) -> Result<Vec<String>> {
+fn words(rt: &HostRuntime) -> io::Result<Vec<String>> {
     let mut words = Vec::new(rt.alloc());
     for word in env::args(rt)?.skip(1) {
         words.push(word)?;
@@ -148,19 +154,29 @@ fn words(rt: &HostRuntime) -> Result<Vec<String>> {
     Ok(words)
 }
 
+/// Adds and withdraws an object of this kind so many times, behind so many others.
+fn repeat_as_told(rt: &HostRuntime, kind: &str, objects: &str, times: &str) -> Result<()> {
+    let objects = objects.parse::<u16>()?;
+    let size = Size { objects, ..FULL };
+    repeat(rt, size, kind, times.parse::<u32>()?)
+}
+
+fn run_full(rt: &HostRuntime) -> Result<()> {
+    time_session(rt, FULL, true)?;
+    print_calls(rt, FULL)?;
+    time_command(rt, FULL)
+}
+
+fn run_small(rt: &HostRuntime) -> Result<()> {
+    time_session(rt, SMALL, false)?;
+    print_calls(rt, SMALL)
+}
+
 fn main(rt: HostRuntime) -> Result<()> {
     let words = words(&rt)?;
-    if words.len() >= 3 {
-        let objects = words[1].as_str().parse::<u16>()?;
-        let size = Size { objects, ..FULL };
-        let times = words[2].as_str().parse::<u32>()?;
-        repeat(&rt, size, words[0].as_str(), times)
-    } else if words.len() > 0 {
-        time_session(&rt, FULL, true)?;
-        print_calls(&rt, FULL)?;
-        time_command(&rt, FULL)
-    } else {
-        time_session(&rt, SMALL, false)?;
-        print_calls(&rt, SMALL)
+    match words.as_slice() {
+        [] => run_small(&rt),
+        [kind, objects, times, ..] => repeat_as_told(&rt, kind, objects, times),
+        _ => run_full(&rt),
     }
 }
