@@ -1,9 +1,10 @@
 //! Links of sessions: what is written of them, and of those that are left by a withdrawal.
-use crate::outputs::{is_output, link_and_withdraw, links};
+use crate::outputs::{links, links_and_withdraws};
 use aout_core::samples::{C_O, D_O, D2_O, G_O, K_O, L_O};
 use fixtures::{UNDEFINED, file_of, sized};
 use link_fixtures::{laid_out, plain};
 use link_out::{Keep, Layout};
+use std::alloc::Global;
 use std::test::Fail;
 
 #[test]
@@ -15,20 +16,24 @@ fn nothing_added_but_linked(rt: HostRuntime) {
 #[test]
 fn undefined_report_linked(rt: HostRuntime) -> Result<(), Fail> {
     let alloc = rt.alloc();
-    let (whole, rest) = link_and_withdraw(alloc, &[&C_O, &G_O], &plain(Keep::All))?;
-    assert!(rt; is_output(&whole, &UNDEFINED, "Undefined:\n_f\n_g\n"));
-    assert!(rt; rest.report.as_slice() == b"Undefined:\n_f\n".as_slice() && rest.status == 1);
+    let header = [0o407, 4, 0, 0, 24, 0, 0, 1];
+    let rows = [("L1", 0o2, 0), ("_f", 0o40, 0)];
+    let rest = file_of(alloc, header, &[0o4767, 0o177774], &rows)?;
+    let whole: (&[u8], &str) = (&UNDEFINED, "Undefined:\n_f\n_g\n");
+    assert!(rt; links_and_withdraws(alloc, &[&C_O, &G_O], whole, (&rest, "Undefined:\n_f\n")));
     Ok(())
 }
 
 #[test]
 fn multiply_defined_linked(rt: HostRuntime) -> Result<(), Fail> {
     let alloc = rt.alloc();
+    let rows = [("_f", 0o42, 2)];
     let header = [0o407, 6, 0, 0, 12, 0, 0, 1];
-    let file = file_of(alloc, header, &[0o240, 0o207, 0o207], &[("_f", 0o42, 2)])?;
-    let (whole, rest) = link_and_withdraw(alloc, &[&D_O, &D2_O], &plain(Keep::All))?;
-    assert!(rt; is_output(&whole, &file, "_f: Multiply defined\n"));
-    assert!(rt; rest.report.is_empty() && rest.status == 0);
+    let file = file_of(alloc, header, &[0o240, 0o207, 0o207], &rows)?;
+    let header = [0o407, 4, 0, 0, 12, 0, 0, 1];
+    let rest = file_of(alloc, header, &[0o240, 0o207], &rows)?;
+    let whole: (&[u8], &str) = (&file, "_f: Multiply defined\n");
+    assert!(rt; links_and_withdraws(alloc, &[&D_O, &D2_O], whole, (&rest, "")));
     Ok(())
 }
 
@@ -65,33 +70,33 @@ fn reserved_defined(rt: HostRuntime) -> Result<(), Fail> {
     Ok(())
 }
 
+/// Whether data behind so many bytes of pure text ends at this address.
+fn ends_at(alloc: Global, text: u16, data_end: u16) -> Result<bool, Fail> {
+    let object = sized(alloc, text, 2, 0, &[("_edata", 0o40, 0)])?;
+    let words = vec![in alloc; 0; usize::from(text / 2) + 1]?;
+    let header = [0o410, text, 2, 0, 12, 0, 0, 1];
+    let file = file_of(alloc, header, &words, &[("_edata", 0o43, data_end)])?;
+    Ok(links(alloc, &[&object], &laid_out(Layout::Pure), &file, ""))
+}
+
+static DATA_ENDS: [(u16, u16); 3] = [(8_190, 0o20002), (8_192, 0o20002), (8_194, 0o40002)];
+
 #[test]
 fn pure_boundary(rt: HostRuntime) -> Result<(), Fail> {
-    let alloc = rt.alloc();
-    let options = laid_out(Layout::Pure);
-    for (text, data_end) in [(8_190, 0o20002), (8_192, 0o20002), (8_194, 0o40002)] {
-        let object = sized(alloc, text, 2, 0, &[("_edata", 0o40, 0)])?;
-        let words = vec![in alloc; 0; usize::from(text / 2) + 1]?;
-        let header = [0o410, text, 2, 0, 12, 0, 0, 1];
-        let file = file_of(alloc, header, &words, &[("_edata", 0o43, data_end)])?;
-        assert!(rt; links(alloc, &[&object], &options, &file, ""), "{text}");
+    for (text, data_end) in &DATA_ENDS {
+        assert!(rt; ends_at(rt.alloc(), *text, *data_end)?, "{text}");
     }
     Ok(())
 }
 
-/// Whether these bytes stand at a place of a file.
-fn has_bytes(file: &[u8], place: usize, bytes: &[u8]) -> bool {
-    match file.get(place..) {
-        Some(rest) => rest.starts_with(bytes),
-        None => false,
-    }
-}
-
 #[test]
 fn bind_and_unbind_linked(rt: HostRuntime) -> Result<(), Fail> {
-    let (whole, rest) = link_and_withdraw(rt.alloc(), &[&K_O, &L_O], &plain(Keep::All))?;
-    assert!(rt; has_bytes(&whole.file, 16, &[0x08, 0x00, 0xfe, 0xff]));
-    assert!(rt; has_bytes(&rest.file, 16, &[0x06, 0x00, 0xfc, 0xff]));
-    assert!(rt; has_bytes(&rest.file, 6, &[0x04, 0x00]));
+    let alloc = rt.alloc();
+    let header = [0o407, 4, 4, 0, 12, 0, 0, 1];
+    let words = [0o10, 0o177776, 1, 2];
+    let whole = file_of(alloc, header, &words, &[("_x", 0o43, 6)])?;
+    let header = [0o407, 4, 0, 4, 12, 0, 0, 1];
+    let rest = file_of(alloc, header, &[0o6, 0o177774], &[("_x", 0o44, 4)])?;
+    assert!(rt; links_and_withdraws(alloc, &[&K_O, &L_O], (&whole, ""), (&rest, "")));
     Ok(())
 }

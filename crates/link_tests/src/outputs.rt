@@ -1,10 +1,9 @@
 //! Links of objects in memory. What holds a session or a link has few ways out.
 use fixtures::try_add;
-use link_fixtures::{Output, output_of};
-use link_out::{LinkFault, Options, finish};
+use link_fixtures::{output_of, plain};
+use link_out::{Keep, LinkFault, Linked, Options, finish};
 use link_session::{Forced, Session};
 use std::alloc::Global;
-use std::test::Fail;
 
 /// Adds these objects: whether each is added.
 fn adds(session: &mut Session, alloc: Global, objects: &[&[u8]]) -> bool {
@@ -15,32 +14,25 @@ fn adds(session: &mut Session, alloc: Global, objects: &[&[u8]]) -> bool {
     are_added
 }
 
-/// What the link of a session writes.
-fn output(alloc: Global, session: &Session, options: &Options) -> Option<Output> {
+/// Whether a link writes this file and this report, with the status that the report asks for.
+fn is_written(alloc: Global, linked: &Linked, file: &[u8], report: &str) -> bool {
+    match output_of(alloc, linked) {
+        Ok(output) => {
+            output.file.as_slice() == file
+                && output.report.as_slice() == report.as_bytes()
+                && output.status == u8::from(!report.is_empty())
+        }
+        Err(_) => false,
+    }
+}
+
+/// Whether the link of a session writes this file and this report.
+fn writes(alloc: Global, session: &Session, options: &Options, want: (&[u8], &str)) -> bool {
+    let (file, report) = want;
     match finish(alloc, session, options) {
-        Ok(linked) => output_of(alloc, &linked).ok(),
-        Err(_) => None,
+        Ok(linked) => is_written(alloc, &linked, file, report),
+        Err(_) => false,
     }
-}
-
-/// What the link of a session with these objects writes.
-fn link_in(
-    alloc: Global,
-    session: &mut Session,
-    objects: &[&[u8]],
-    options: &Options,
-) -> Option<Output> {
-    if !adds(session, alloc, objects) {
-        return None;
-    }
-    output(alloc, session, options)
-}
-
-/// Whether this file and this report are written, with the status that the report asks for.
-pub fn is_output(output: &Output, file: &[u8], report: &str) -> bool {
-    output.file.as_slice() == file
-        && output.report.as_slice() == report.as_bytes()
-        && output.status == u8::from(!report.is_empty())
 }
 
 /// Whether the link of a session with these objects writes this file and this report.
@@ -51,11 +43,7 @@ fn links_in(
     options: &Options,
     want: (&[u8], &str),
 ) -> bool {
-    let (file, report) = want;
-    match link_in(alloc, session, objects, options) {
-        Some(output) => is_output(&output, file, report),
-        None => false,
-    }
+    adds(session, alloc, objects) && writes(alloc, session, options, want)
 }
 
 /// Whether the link of these objects writes this file and this report.
@@ -89,48 +77,48 @@ pub fn links_behind(
     }
 }
 
-/// What the link of a session with these objects writes, and what it writes once the last of them is taken out.
-fn with_and_without_last(
+/// Whether the link of a session with these objects writes the first file and report, and the second ones once the last
+/// object is taken out.
+fn links_and_withdraws_in(
+    alloc: Global,
+    session: &mut Session,
+    objects: &[&[u8]],
+    whole: (&[u8], &str),
+    rest: (&[u8], &str),
+) -> bool {
+    let options = plain(Keep::All);
+    links_in(alloc, session, objects, &options, whole)
+        && session.withdraw().is_some()
+        && writes(alloc, session, &options, rest)
+}
+
+/// The same for a session that is made for it.
+pub fn links_and_withdraws(
+    alloc: Global,
+    objects: &[&[u8]],
+    whole: (&[u8], &str),
+    rest: (&[u8], &str),
+) -> bool {
+    links_and_withdraws_in(alloc, &mut Session::new(alloc), objects, whole, rest)
+}
+
+/// Whether these objects are added, and the link of the session is refused for this, or is not refused.
+fn has_refusal_in(
     alloc: Global,
     session: &mut Session,
     objects: &[&[u8]],
     options: &Options,
-) -> (Option<Output>, Option<Output>) {
-    let whole = link_in(alloc, session, objects, options);
-    let _ = session.withdraw();
-    (whole, output(alloc, session, options))
+    refusal: Option<LinkFault>,
+) -> bool {
+    adds(session, alloc, objects) && finish(alloc, session, options).err() == refusal
 }
 
-/// What the link of these objects writes, and what it writes once the last of them is taken out.
-pub fn link_and_withdraw(
+/// Whether the link of these objects is refused for this, or is not refused.
+pub fn has_refusal(
     alloc: Global,
     objects: &[&[u8]],
     options: &Options,
-) -> Result<(Output, Output), Fail> {
-    let session = &mut Session::new(alloc);
-    let (whole, rest) = with_and_without_last(alloc, session, objects, options);
-    Ok((whole.ok_or("no link")?, rest.ok_or("no link")?))
-}
-
-/// Whether these objects are added, and why their link is refused, if it is.
-fn refusal_in(
-    alloc: Global,
-    session: &mut Session,
-    objects: &[&[u8]],
-    options: &Options,
-) -> (bool, Option<LinkFault>) {
-    let are_added = adds(session, alloc, objects);
-    (are_added, finish(alloc, session, options).err())
-}
-
-/// Why the link of these objects is refused, if it is.
-pub fn refusal(
-    alloc: Global,
-    objects: &[&[u8]],
-    options: &Options,
-) -> Result<Option<LinkFault>, Fail> {
-    match refusal_in(alloc, &mut Session::new(alloc), objects, options) {
-        (true, fault) => Ok(fault),
-        (false, _) => Err(Fail::from("an object is not added")),
-    }
+    refusal: Option<LinkFault>,
+) -> bool {
+    has_refusal_in(alloc, &mut Session::new(alloc), objects, options, refusal)
 }

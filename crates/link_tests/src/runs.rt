@@ -6,19 +6,27 @@ use link_session::{AddFault, Forced};
 use std::alloc::Global;
 use std::test::Fail;
 
+/// Puts the addition of an object of so many bytes of text and data behind the others.
+fn push_sized(
+    edits: &mut Vec<Edit>,
+    alloc: Global,
+    label: &str,
+    text: u16,
+    data: u16,
+) -> Result<(), Fail> {
+    let bytes = sized(alloc, text, data, 0, &[])?;
+    let edit = adding(alloc, label, &bytes).ok_or("no edit")?;
+    edits.push(edit)?;
+    Ok(())
+}
+
 /// Text of 65,534 bytes, then data of 2, then text of 2.
 fn one_text_too_many(alloc: Global) -> Result<Vec<Edit>, Fail> {
-    let text = sized(alloc, 65_534, 0, 0, &[])?;
-    let data = sized(alloc, 0, 2, 0, &[])?;
-    let more = sized(alloc, 2, 0, 0, &[])?;
-    let (Some(text), Some(data), Some(more)) = (
-        adding(alloc, "large.o", &text),
-        adding(alloc, "data.o", &data),
-        adding(alloc, "text.o", &more),
-    ) else {
-        return Err(Fail::from("no edits"));
-    };
-    Ok(Vec::from_array(alloc, [text, data, more])?)
+    let mut edits = Vec::new(alloc);
+    push_sized(&mut edits, alloc, "large.o", 65_534, 0)?;
+    push_sized(&mut edits, alloc, "data.o", 0, 2)?;
+    push_sized(&mut edits, alloc, "text.o", 2, 0)?;
+    Ok(edits)
 }
 
 /// The link of `d.o` alone.
