@@ -17,13 +17,13 @@ use std::time::Duration;
 /// no command asks for: what is passed on is proved sooner than what is left out.
 #[derive(Clone, Drop)]
 pub struct Console<'a, R> {
-    rt: R,
+    rt: &'a R,
     input: &'a [u8],
     refused: &'a str,
 }
 
 impl<'a, R> Console<'a, R> {
-    pub fn new(rt: R, input: &'a [u8], refused: &'a str) -> Console<'a, R> {
+    pub fn new(rt: &'a R, input: &'a [u8], refused: &'a str) -> Console<'a, R> {
         Console { rt, input, refused }
     }
 }
@@ -31,8 +31,8 @@ impl<'a, R> Console<'a, R> {
 impl<R: Files + AllocGlobal> Console<'_, R> {
     /// Writes bytes behind those of the file of a standard stream.
     fn keep(&self, stream: &str, bytes: &[u8]) -> io::Result<()> {
-        ask(&self.rt, self.refused, "write", stream)?;
-        append(&self.rt, stream, bytes)
+        ask(self.rt, self.refused, "write", stream)?;
+        append(self.rt, stream, bytes)
     }
 }
 
@@ -122,11 +122,10 @@ impl<'a, R: Runtime + AllocGlobal> Files for Console<'a, R> {
 
     fn open_file(&self, how: &OpenOptions, path: &str) -> io::Result<Device<'a, R, R::File>> {
         let word = if how.asks_write() { "create" } else { "open" };
-        ask(&self.rt, self.refused, word, path)?;
+        ask(self.rt, self.refused, word, path)?;
         let own_path = String::from_str(self.rt.alloc(), path)?;
-        let rt = self.rt.clone()?;
-        let file = rt.open_file(how, path)?;
-        Ok(Device::new(rt, self.refused, own_path, file))
+        let file = self.rt.open_file(how, path)?;
+        Ok(Device::new(self.rt, self.refused, own_path, file))
     }
 
     fn open_dir(&self, path: &str) -> io::Result<R::Dir> {

@@ -40,14 +40,14 @@ pub fn ask<R: Files + AllocGlobal>(
 /// An open file of a console.
 #[derive(Drop)]
 pub struct Device<'a, R, F> {
-    rt: R,
+    rt: &'a R,
     refused: &'a str,
     path: String,
     file: F,
 }
 
 impl<'a, R: Runtime + AllocGlobal, F: Drop> Device<'a, R, F> {
-    pub fn new(rt: R, refused: &'a str, path: String, file: F) -> Device<'a, R, F> {
+    pub fn new(rt: &'a R, refused: &'a str, path: String, file: F) -> Device<'a, R, F> {
         Device {
             rt,
             refused,
@@ -57,7 +57,7 @@ impl<'a, R: Runtime + AllocGlobal, F: Drop> Device<'a, R, F> {
     }
 
     fn ask(&self, word: &str) -> io::Result<()> {
-        ask(&self.rt, self.refused, word, self.path.as_str())
+        ask(self.rt, self.refused, word, self.path.as_str())
     }
 }
 

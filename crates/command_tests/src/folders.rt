@@ -93,7 +93,7 @@ pub fn enter_sized<R: Runtime + AllocGlobal>(
 
 /// The command of words, one of whose requests is refused: its status.
 fn status_of_words<R: Runtime + AllocGlobal>(
-    rt: R,
+    rt: &R,
     words: Vec<String>,
     input: &str,
     refused: &str,
@@ -108,60 +108,48 @@ fn status_of<R: Runtime + AllocGlobal>(
     line: &str,
     input: &str,
     refused: &str,
-) -> Result<u8, Fail> {
+) -> io::Result<u8> {
     clear_outputs(rt)?;
-    let own = rt.clone()?;
     let words = words_of(rt.alloc(), line)?;
-    Ok(status_of_words(own, words, input, refused))
+    Ok(status_of_words(rt, words, input, refused))
 }
 
-/// A file has this text.
-fn assert_text<R: Runtime + AllocGlobal + Abort>(
-    rt: &R,
-    path: &str,
-    want: &str,
-    line: &str,
-) -> Result<(), Fail> {
-    let text = fs::read_to_string(rt, path)?;
-    assert!(rt; text.as_str() == want, "{line}: {path}: {text}");
-    Ok(())
+/// Whether a file has these bytes.
+pub fn has_bytes<R: Files + AllocGlobal>(rt: &R, path: &str, want: &[u8]) -> bool {
+    match fs::read(rt, path) {
+        Ok(bytes) => bytes.as_slice() == want,
+        Err(_) => false,
+    }
 }
 
-/// A file has these bytes.
-pub fn assert_file<R: Runtime + AllocGlobal + Abort>(
-    rt: &R,
-    path: &str,
-    want: &[u8],
-) -> Result<(), Fail> {
-    let bytes = fs::read(rt, path)?;
-    assert!(rt; bytes.as_slice() == want, "{path}");
-    Ok(())
-}
-
-/// Runs the command of a line, one of whose requests is refused: it ends with this status, prints this, and these are its
+/// Whether the command of a line, one of whose requests is refused, ends with this status, prints this, and these are its
 /// faults. The file `asked` then lists its requests.
-fn assert_runs_refused<R: Runtime + AllocGlobal + Abort>(
+fn runs_refused<R: Runtime + AllocGlobal>(
     rt: &R,
     line: &str,
     input: &str,
     refused: &str,
     want: (u8, &str, &str),
-) -> Result<(), Fail> {
+) -> bool {
     let (wanted, stdout, stderr) = want;
-    let status = status_of(rt, line, input, refused)?;
-    assert!(rt; status == wanted, "{line}: {status}");
-    assert_text(rt, "stdout", stdout, line)?;
-    assert_text(rt, "stderr", stderr, line)
+    match status_of(rt, line, input, refused) {
+        Ok(status) => {
+            status == wanted
+                && has_bytes(rt, "stdout", stdout.as_bytes())
+                && has_bytes(rt, "stderr", stderr.as_bytes())
+        }
+        Err(_) => false,
+    }
 }
 
-/// Runs the command of a line: it ends with this status, prints this, and these are its faults.
-pub fn assert_runs<R: Runtime + AllocGlobal + Abort>(
+/// Whether the command of a line ends with this status, prints this, and these are its faults.
+pub fn runs<R: Runtime + AllocGlobal>(
     rt: &R,
     line: &str,
     input: &str,
     want: (u8, &str, &str),
-) -> Result<(), Fail> {
-    assert_runs_refused(rt, line, input, "", want)
+) -> bool {
+    runs_refused(rt, line, input, "", want)
 }
 
 /// A step of a test.
@@ -178,29 +166,30 @@ pub enum Step<'a> {
     Lacks(&'a str),
 }
 
-/// Takes a step.
-fn take<R: Runtime + AllocGlobal + Abort>(rt: &R, step: &Step<'_>) -> Result<(), Fail> {
-    match *step {
-        Step::Put(path, bytes) => Ok(fs::write(rt, path, bytes)?),
-        Step::Run(line, input, want) => assert_runs(rt, line, input, want),
-        Step::Has(path, bytes) => assert_file(rt, path, bytes),
-        Step::Same(path, other) => {
-            let bytes = fs::read(rt, other)?;
-            assert_file(rt, path, &bytes)
-        }
-        Step::Lacks(path) => {
-            assert!(rt; fs::read(rt, path).is_err(), "{path}");
-            Ok(())
-        }
+/// Whether two files have the same bytes.
+fn are_same<R: Files + AllocGlobal>(rt: &R, path: &str, other: &str) -> bool {
+    match fs::read(rt, other) {
+        Ok(bytes) => has_bytes(rt, path, &bytes),
+        Err(_) => false,
     }
 }
 
-/// Takes these steps, one after another.
-pub fn take_all<R: Runtime + AllocGlobal + Abort>(rt: &R, steps: &[Step<'_>]) -> Result<(), Fail> {
-    for step in steps {
-        take(rt, step)?;
+/// Takes a step: whether it comes out so.
+fn comes_out<R: Runtime + AllocGlobal>(rt: &R, step: &Step<'_>) -> bool {
+    match *step {
+        Step::Put(path, bytes) => fs::write(rt, path, bytes).is_ok(),
+        Step::Run(line, input, want) => runs(rt, line, input, want),
+        Step::Has(path, bytes) => has_bytes(rt, path, bytes),
+        Step::Same(path, other) => are_same(rt, path, other),
+        Step::Lacks(path) => fs::read(rt, path).is_err(),
     }
-    Ok(())
+}
+
+/// Takes these steps, one after another. Where one does not come out so, its place among them is told.
+pub fn take_all<R: Runtime + AllocGlobal + Abort>(rt: &R, steps: &[Step<'_>]) {
+    for (place, step) in steps.iter().enumerate() {
+        assert!(rt; comes_out(rt, step), "step {place}");
+    }
 }
 
 /// Takes these steps in an empty folder of the test's own.
@@ -210,7 +199,8 @@ pub fn take_in_folder<R: Runtime + AllocGlobal + Abort>(
     steps: &[Step<'_>],
 ) -> Result<(), Fail> {
     enter_folder(rt, name)?;
-    take_all(rt, steps)
+    take_all(rt, steps);
+    Ok(())
 }
 
 /// Takes these steps in a folder of the test's own, where the objects are.
@@ -220,7 +210,8 @@ pub fn take_among_objects<R: Runtime + AllocGlobal + Abort>(
     steps: &[Step<'_>],
 ) -> Result<(), Fail> {
     enter_objects(rt, name)?;
-    take_all(rt, steps)
+    take_all(rt, steps);
+    Ok(())
 }
 
 /// A command of a line, what it reads, and a request of its that is refused; and what then comes of it: the status, the
@@ -243,14 +234,15 @@ fn is_left<R: Files + AllocGlobal>(rt: &R, path: &str, want: &[u8]) -> bool {
     }
 }
 
-/// The command of a case comes out so, and its file is then gone. Where that is to be left with no bytes, it was not there.
-fn assert_case<R: Runtime + AllocGlobal + Abort>(rt: &R, case: &Case<'_>) -> Result<(), Fail> {
-    assert_runs_refused(rt, case.line, case.input, case.refused, case.want)?;
-    assert_text(rt, "asked", case.asked, case.line)?;
+/// Whether the command of a case comes out so. Its file is then gone; where that is to be left with no bytes, it was not
+/// there.
+fn is_right<R: Runtime + AllocGlobal>(rt: &R, case: &Case<'_>) -> bool {
     let (path, want) = case.left;
-    assert!(rt; is_left(rt, path, want), "{}: {path}", case.line);
+    let is_right = runs_refused(rt, case.line, case.input, case.refused, case.want)
+        && has_bytes(rt, "asked", case.asked.as_bytes())
+        && is_left(rt, path, want);
     let _ = fs::remove_file(rt, path);
-    Ok(())
+    is_right
 }
 
 /// The commands of these cases come out so, each among the objects as they were before, in a folder of the test's own.
@@ -262,7 +254,7 @@ pub fn assert_cases<R: Runtime + AllocGlobal + Abort>(
     enter_folder(rt, name)?;
     for case in cases {
         write_objects(rt)?;
-        assert_case(rt, case)?;
+        assert!(rt; is_right(rt, case), "{}: {}", case.line, case.refused);
     }
     Ok(())
 }

