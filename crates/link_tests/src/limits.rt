@@ -59,14 +59,15 @@ fn adds_most_names(session: &mut Session, alloc: Global) -> bool {
 }
 
 /// Whether the link of the most names is refused for the number of its symbols.
-fn are_refused(alloc: Global, session: &mut Session) -> bool {
+fn are_refused(alloc: Global) -> bool {
+    let session = &mut Session::new(alloc);
     adds_most_names(session, alloc)
         && finish(alloc, session, &plain(Keep::Externals)).err() == Some(LinkFault::TooManySymbols)
 }
 
 #[test]
 fn many_names_linked(rt: HostRuntime) {
-    assert!(rt; are_refused(rt.alloc(), &mut Session::new(rt.alloc())));
+    assert!(rt; are_refused(rt.alloc()));
 }
 
 /// How many lines a text has.
@@ -91,20 +92,23 @@ fn is_header_and_report(alloc: Global, linked: &Linked) -> bool {
         && linked.report.undefined.len() == 65_535
 }
 
-/// Whether the link of the most names without symbols reports them all.
-fn are_reported(alloc: Global, session: &mut Session) -> bool {
-    if !adds_most_names(session, alloc) {
-        return false;
-    }
+/// Whether the link without symbols of a session with the most names reports them all.
+fn reports_all(alloc: Global, session: &Session) -> bool {
     match finish(alloc, session, &plain(Keep::Nothing)) {
         Ok(linked) => is_header_and_report(alloc, &linked),
         Err(_) => false,
     }
 }
 
+/// Whether the link of the most names without symbols reports them all.
+fn are_reported(alloc: Global) -> bool {
+    let session = &mut Session::new(alloc);
+    adds_most_names(session, alloc) && reports_all(alloc, session)
+}
+
 #[test]
 fn many_names_reported(rt: HostRuntime) {
-    assert!(rt; are_reported(rt.alloc(), &mut Session::new(rt.alloc())));
+    assert!(rt; are_reported(rt.alloc()));
 }
 
 /// The size of the symbol table that a link of these objects has.

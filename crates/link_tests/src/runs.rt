@@ -76,11 +76,23 @@ fn refusal(alloc: Global, edits: Vec<Edit>) -> Option<RunFault> {
     run(alloc, &Forced::none(), edits, &laid_out(Layout::Plain)).err()
 }
 
-/// What is replied to these edits, with split spaces.
-fn replies(alloc: Global, edits: Vec<Edit>) -> Option<Vec<Reply>> {
+/// Whether the last of three additions alone is refused, for its text.
+fn is_last_refused(replies: &[Reply]) -> bool {
+    match replies {
+        [
+            Reply::Added,
+            Reply::Added,
+            Reply::Refused(AddFault::TextFull),
+        ] => true,
+        _ => false,
+    }
+}
+
+/// Whether these edits are replied to so, with split spaces.
+fn refuses_the_last(alloc: Global, edits: Vec<Edit>) -> bool {
     match run(alloc, &Forced::none(), edits, &laid_out(Layout::Split)) {
-        Ok((replies, _)) => Some(replies),
-        Err(_) => None,
+        Ok((replies, _)) => is_last_refused(&replies),
+        Err(_) => false,
     }
 }
 
@@ -89,15 +101,7 @@ fn runs_of_edits_that_do_not_fit(rt: HostRuntime) -> Result<(), Fail> {
     let alloc = rt.alloc();
     let unlinked = refusal(alloc, one_text_too_many(alloc)?);
     assert!(rt; unlinked == Some(RunFault::Link(LinkFault::DoesNotFit)));
-    let replies = replies(alloc, one_text_too_many(alloc)?).ok_or("no link")?;
-    let [
-        Reply::Added,
-        Reply::Added,
-        Reply::Refused(AddFault::TextFull),
-    ] = replies.as_slice()
-    else {
-        return Err("other replies".into());
-    };
+    assert!(rt; refuses_the_last(alloc, one_text_too_many(alloc)?));
     Ok(())
 }
 
