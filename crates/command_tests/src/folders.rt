@@ -2,15 +2,15 @@
 use crate::consoles::Console;
 use aout_core::samples::{A_O, B_O, C_O, D_O, D2_O, G_O, I_O, K_O, P_O, Q_O, R_O, S_O, Y1_O, Y2_O};
 use fixtures::{sized, words_of};
+use std::alloc::AllocError;
 use std::path::PathBuf;
-use std::process::Abort;
-use std::rt::{Env, Files, Runtime};
+use std::rt::Runtime;
 use std::test::Fail;
 use std::{env, fs, io};
 use v7tools::command;
 
 /// The path of a folder that is the test's own, in the folder for temporary files. Each run of the tests has one of its own.
-fn folder_path<R: Env + AllocGlobal>(rt: &R, name: &str) -> io::Result<PathBuf> {
+fn folder_path(rt: &HostRuntime, name: &str) -> io::Result<PathBuf> {
     let unique = format!(in rt.alloc(); "v7-{name}")?;
     let mut folder = env::temp_dir(rt)?;
     folder.push(unique.as_str())?;
@@ -18,7 +18,7 @@ fn folder_path<R: Env + AllocGlobal>(rt: &R, name: &str) -> io::Result<PathBuf> 
 }
 
 /// Goes to a new folder, which is the test's own.
-pub fn enter_folder<R: Runtime + AllocGlobal>(rt: &R, name: &str) -> io::Result<()> {
+pub fn enter_folder(rt: &HostRuntime, name: &str) -> io::Result<()> {
     let folder = folder_path(rt, name)?;
     let _ = fs::remove_dir_all(rt, folder.as_path());
     fs::create_dir(rt, folder.as_path())?;
@@ -43,7 +43,7 @@ static OBJECTS: [(&str, &[u8]); 14] = [
 ];
 
 /// Writes the objects to the folder.
-fn write_objects<R: Files>(rt: &R) -> io::Result<()> {
+fn write_objects(rt: &HostRuntime) -> io::Result<()> {
     for (path, bytes) in &OBJECTS {
         fs::write(rt, *path, *bytes)?;
     }
@@ -51,7 +51,7 @@ fn write_objects<R: Files>(rt: &R) -> io::Result<()> {
 }
 
 /// Goes to a folder of the test's own, where the objects are.
-pub fn enter_objects<R: Runtime + AllocGlobal>(rt: &R, name: &str) -> io::Result<()> {
+pub fn enter_objects(rt: &HostRuntime, name: &str) -> io::Result<()> {
     enter_folder(rt, name)?;
     write_objects(rt)
 }
@@ -60,7 +60,7 @@ pub fn enter_objects<R: Runtime + AllocGlobal>(rt: &R, name: &str) -> io::Result
 static OUTPUTS: [&str; 4] = ["stdout", "stderr", "asked", "last"];
 
 /// Empties the files that a console writes.
-fn clear_outputs<R: Files>(rt: &R) -> io::Result<()> {
+fn clear_outputs(rt: &HostRuntime) -> io::Result<()> {
     for path in &OUTPUTS {
         fs::write(rt, *path, "")?;
     }
@@ -68,22 +68,13 @@ fn clear_outputs<R: Files>(rt: &R) -> io::Result<()> {
 }
 
 /// Writes an object of so many bytes of text and data.
-fn write_sized<R: Files + AllocGlobal>(
-    rt: &R,
-    path: &str,
-    text: u16,
-    data: u16,
-) -> Result<(), Fail> {
+fn write_sized(rt: &HostRuntime, path: &str, text: u16, data: u16) -> Result<(), Fail> {
     let bytes = sized(rt.alloc(), text, data, 0, &[])?;
     Ok(fs::write(rt, path, bytes.as_slice())?)
 }
 
 /// Goes to a folder of the test's own, with objects of so many bytes of text and data.
-pub fn enter_sized<R: Runtime + AllocGlobal>(
-    rt: &R,
-    name: &str,
-    objects: &[(&str, u16, u16)],
-) -> Result<(), Fail> {
+pub fn enter_sized(rt: &HostRuntime, name: &str, objects: &[(&str, u16, u16)]) -> Result<(), Fail> {
     enter_folder(rt, name)?;
     for (path, text, data) in objects {
         write_sized(rt, path, *text, *data)?;
@@ -103,19 +94,14 @@ fn status_of_words<R: Runtime + AllocGlobal>(
 
 /// The command of a line, one of whose requests is refused: its status. What it writes stands in the files `stdout` and
 /// `stderr`, and its requests are listed in the file `asked`.
-fn status_of<R: Runtime + AllocGlobal>(
-    rt: &R,
-    line: &str,
-    input: &str,
-    refused: &str,
-) -> io::Result<u8> {
+fn status_of(rt: &HostRuntime, line: &str, input: &str, refused: &str) -> io::Result<u8> {
     clear_outputs(rt)?;
     let words = words_of(rt.alloc(), line)?;
     Ok(status_of_words(rt, words, input, refused))
 }
 
 /// Whether a file has these bytes.
-pub fn has_bytes<R: Files + AllocGlobal>(rt: &R, path: &str, want: &[u8]) -> bool {
+pub fn has_bytes(rt: &HostRuntime, path: &str, want: &[u8]) -> bool {
     match fs::read(rt, path) {
         Ok(bytes) => bytes.as_slice() == want,
         Err(_) => false,
@@ -124,8 +110,8 @@ pub fn has_bytes<R: Files + AllocGlobal>(rt: &R, path: &str, want: &[u8]) -> boo
 
 /// Whether the command of a line, one of whose requests is refused, ends with this status, prints this, and these are its
 /// faults. The file `asked` then lists its requests.
-fn runs_refused<R: Runtime + AllocGlobal>(
-    rt: &R,
+fn runs_refused(
+    rt: &HostRuntime,
     line: &str,
     input: &str,
     refused: &str,
@@ -143,12 +129,7 @@ fn runs_refused<R: Runtime + AllocGlobal>(
 }
 
 /// Whether the command of a line ends with this status, prints this, and these are its faults.
-pub fn runs<R: Runtime + AllocGlobal>(
-    rt: &R,
-    line: &str,
-    input: &str,
-    want: (u8, &str, &str),
-) -> bool {
+pub fn runs(rt: &HostRuntime, line: &str, input: &str, want: (u8, &str, &str)) -> bool {
     runs_refused(rt, line, input, "", want)
 }
 
@@ -167,7 +148,7 @@ pub enum Step<'a> {
 }
 
 /// Whether two files have the same bytes.
-fn are_same<R: Files + AllocGlobal>(rt: &R, path: &str, other: &str) -> bool {
+fn are_same(rt: &HostRuntime, path: &str, other: &str) -> bool {
     match fs::read(rt, other) {
         Ok(bytes) => has_bytes(rt, path, &bytes),
         Err(_) => false,
@@ -175,7 +156,7 @@ fn are_same<R: Files + AllocGlobal>(rt: &R, path: &str, other: &str) -> bool {
 }
 
 /// Takes a step: whether it comes out so.
-fn comes_out<R: Runtime + AllocGlobal>(rt: &R, step: &Step<'_>) -> bool {
+fn comes_out(rt: &HostRuntime, step: &Step<'_>) -> bool {
     match *step {
         Step::Put(path, bytes) => fs::write(rt, path, bytes).is_ok(),
         Step::Run(line, input, want) => runs(rt, line, input, want),
@@ -185,33 +166,34 @@ fn comes_out<R: Runtime + AllocGlobal>(rt: &R, step: &Step<'_>) -> bool {
     }
 }
 
-/// Takes these steps, one after another. Where one does not come out so, its place among them is told.
-pub fn take_all<R: Runtime + AllocGlobal + Abort>(rt: &R, steps: &[Step<'_>]) {
+/// The place of the first step that does not come out so, if there is one.
+fn wrong_step(rt: &HostRuntime, steps: &[Step<'_>]) -> Option<usize> {
     for (place, step) in steps.iter().enumerate() {
-        assert!(rt; comes_out(rt, step), "step {place}");
+        if !comes_out(rt, step) {
+            return Some(place);
+        }
+    }
+    None
+}
+
+/// Takes these steps, one after another. It fails with the place of the first that does not come out so.
+pub fn take_all(rt: &HostRuntime, steps: &[Step<'_>]) -> Result<(), Fail> {
+    match wrong_step(rt, steps) {
+        None => Ok(()),
+        Some(place) => Err(Fail::new(format!(in rt.alloc(); "step {place}")?)),
     }
 }
 
 /// Takes these steps in an empty folder of the test's own.
-pub fn take_in_folder<R: Runtime + AllocGlobal + Abort>(
-    rt: &R,
-    name: &str,
-    steps: &[Step<'_>],
-) -> Result<(), Fail> {
+pub fn take_in_folder(rt: &HostRuntime, name: &str, steps: &[Step<'_>]) -> Result<(), Fail> {
     enter_folder(rt, name)?;
-    take_all(rt, steps);
-    Ok(())
+    take_all(rt, steps)
 }
 
 /// Takes these steps in a folder of the test's own, where the objects are.
-pub fn take_among_objects<R: Runtime + AllocGlobal + Abort>(
-    rt: &R,
-    name: &str,
-    steps: &[Step<'_>],
-) -> Result<(), Fail> {
+pub fn take_among_objects(rt: &HostRuntime, name: &str, steps: &[Step<'_>]) -> Result<(), Fail> {
     enter_objects(rt, name)?;
-    take_all(rt, steps);
-    Ok(())
+    take_all(rt, steps)
 }
 
 /// A command of a line, what it reads, and a request of its that is refused; and what then comes of it: the status, the
@@ -227,7 +209,7 @@ pub struct Case<'a> {
 }
 
 /// Whether a file has these bytes. Where it is to have none, it may not be there.
-fn is_left<R: Files + AllocGlobal>(rt: &R, path: &str, want: &[u8]) -> bool {
+fn is_left(rt: &HostRuntime, path: &str, want: &[u8]) -> bool {
     match fs::read(rt, path) {
         Ok(bytes) => bytes.as_slice() == want,
         Err(_) => want.is_empty(),
@@ -236,7 +218,7 @@ fn is_left<R: Files + AllocGlobal>(rt: &R, path: &str, want: &[u8]) -> bool {
 
 /// Whether the command of a case comes out so. Its file is then gone; where that is to be left with no bytes, it was not
 /// there.
-fn is_right<R: Runtime + AllocGlobal>(rt: &R, case: &Case<'_>) -> bool {
+fn is_right(rt: &HostRuntime, case: &Case<'_>) -> bool {
     let (path, want) = case.left;
     let is_right = runs_refused(rt, case.line, case.input, case.refused, case.want)
         && has_bytes(rt, "asked", case.asked.as_bytes())
@@ -245,16 +227,20 @@ fn is_right<R: Runtime + AllocGlobal>(rt: &R, case: &Case<'_>) -> bool {
     is_right
 }
 
+/// The failure of a case.
+fn wrong_case(rt: &HostRuntime, case: &Case<'_>) -> Result<Fail, AllocError> {
+    let text = format!(in rt.alloc(); "{}, {} refused", case.line, case.refused)?;
+    Ok(Fail::new(text))
+}
+
 /// The commands of these cases come out so, each among the objects as they were before, in a folder of the test's own.
-pub fn assert_cases<R: Runtime + AllocGlobal + Abort>(
-    rt: &R,
-    name: &str,
-    cases: &[Case<'_>],
-) -> Result<(), Fail> {
+pub fn assert_cases(rt: &HostRuntime, name: &str, cases: &[Case<'_>]) -> Result<(), Fail> {
     enter_folder(rt, name)?;
     for case in cases {
         write_objects(rt)?;
-        assert!(rt; is_right(rt, case), "{}: {}", case.line, case.refused);
+        if !is_right(rt, case) {
+            return Err(wrong_case(rt, case)?);
+        }
     }
     Ok(())
 }

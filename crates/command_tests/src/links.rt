@@ -267,8 +267,7 @@ static NOT_TOGETHER: [Step<'static>; 2] = [
 #[test]
 fn entry_and_usage_linked(rt: HostRuntime) -> Result<(), Fail> {
     assert_links(&rt, "entry_and_usage_linked", &ENTERED)?;
-    take_all(&rt, &NOT_TOGETHER);
-    Ok(())
+    take_all(&rt, &NOT_TOGETHER)
 }
 
 static LINKED_STRIPPED: [Link<'static>; 1] = [Link {
@@ -289,8 +288,7 @@ static STRIPPED_TWICE: [Step<'static>; 5] = [
 #[test]
 fn strip_a_link(rt: HostRuntime) -> Result<(), Fail> {
     assert_links(&rt, "strip_a_link", &LINKED_STRIPPED)?;
-    take_all(&rt, &STRIPPED_TWICE);
-    Ok(())
+    take_all(&rt, &STRIPPED_TWICE)
 }
 
 static REPORTED: [Link<'static>; 1] = [Link {

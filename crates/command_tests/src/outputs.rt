@@ -7,17 +7,12 @@ use link_fixtures::{Output, output_of};
 use link_out::Options;
 use link_session::Forced;
 use std::alloc::{AllocError, Global};
-use std::process::Abort;
-use std::rt::{Files, Runtime};
 use std::test::Fail;
 use std::{fs, io};
 use v7tools::{Call, ld, parse};
 
 /// The bytes of the files at these paths, each with its path.
-fn read_all<R: Files + AllocGlobal>(
-    rt: &R,
-    paths: &[String],
-) -> io::Result<Vec<(String, Vec<u8>)>> {
+fn read_all(rt: &HostRuntime, paths: &[String]) -> io::Result<Vec<(String, Vec<u8>)>> {
     let mut all = Vec::new(rt.alloc());
     for path in paths {
         let bytes = fs::read(rt, path.as_str())?;
@@ -74,7 +69,7 @@ fn linked_bytes(
 }
 
 /// What the link that a line asks for writes, over memory.
-fn linked_over_memory<R: Files + AllocGlobal>(rt: &R, line: &str) -> Result<Option<Output>, Fail> {
+fn linked_over_memory(rt: &HostRuntime, line: &str) -> Result<Option<Output>, Fail> {
     let (options, forced, paths) = link_asked(rt.alloc(), line)?;
     let files = read_all(rt, &paths)?;
     Ok(linked_bytes(rt.alloc(), &files, &forced, &options))
@@ -116,8 +111,8 @@ fn is_output(output: &Output, file: &[u8], report: &str) -> bool {
 }
 
 /// Whether a link writes these bytes and this report over memory.
-fn is_linked_over_memory<R: Files + AllocGlobal>(
-    rt: &R,
+fn is_linked_over_memory(
+    rt: &HostRuntime,
     line: &str,
     file: &[u8],
     report: &str,
@@ -129,7 +124,7 @@ fn is_linked_over_memory<R: Files + AllocGlobal>(
 }
 
 /// Whether the link writes its file and its report, as a command and over memory.
-fn is_linked<R: Runtime + AllocGlobal>(rt: &R, link: &Link<'_>) -> Result<bool, Fail> {
+fn is_linked(rt: &HostRuntime, link: &Link<'_>) -> Result<bool, Fail> {
     let file = link.file.bytes(rt.alloc())?;
     let status = u8::from(!link.report.is_empty());
     let is_written = runs(rt, link.line, "", (status, link.report, ""))
@@ -138,12 +133,11 @@ fn is_linked<R: Runtime + AllocGlobal>(rt: &R, link: &Link<'_>) -> Result<bool, 
 }
 
 /// The links write their files and their reports, one after another.
-pub fn assert_more_links<R: Runtime + AllocGlobal + Abort>(
-    rt: &R,
-    links: &[Link<'_>],
-) -> Result<(), Fail> {
+pub fn assert_more_links(rt: &HostRuntime, links: &[Link<'_>]) -> Result<(), Fail> {
     for link in links {
-        assert!(rt; is_linked(rt, link)?, "{}", link.line);
+        if !is_linked(rt, link)? {
+            return Err(Fail::new(link.line));
+        }
         if let Some(path) = link.kept {
             fs::rename(rt, "out", path)?;
         }
@@ -152,11 +146,7 @@ pub fn assert_more_links<R: Runtime + AllocGlobal + Abort>(
 }
 
 /// The same in a folder of the test's own, where the objects are.
-pub fn assert_links<R: Runtime + AllocGlobal + Abort>(
-    rt: &R,
-    name: &str,
-    links: &[Link<'_>],
-) -> Result<(), Fail> {
+pub fn assert_links(rt: &HostRuntime, name: &str, links: &[Link<'_>]) -> Result<(), Fail> {
     enter_objects(rt, name)?;
     assert_more_links(rt, links)
 }

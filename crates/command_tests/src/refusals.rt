@@ -3,8 +3,6 @@ use crate::folders::{Step, enter_sized, runs, take_all, take_in_folder};
 use aout_core::samples::A_O;
 use fixtures::{TWO_OBJECTS, replaced};
 use std::fs;
-use std::process::Abort;
-use std::rt::Runtime;
 use std::test::Fail;
 
 static SIZED: [(&str, u16, u16); 3] = [("l.o", 65_534, 0), ("d.o", 0, 2), ("t.o", 2, 0)];
@@ -18,8 +16,7 @@ static NO_ROOM: [Step<'static>; 3] = [
 #[test]
 fn no_room_for_text(rt: HostRuntime) -> Result<(), Fail> {
     enter_sized(&rt, "no_room_for_text", &SIZED)?;
-    take_all(&rt, &NO_ROOM);
-    Ok(())
+    take_all(&rt, &NO_ROOM)
 }
 
 /// How many bytes there are of a file, and the line of what is then wrong.
@@ -59,12 +56,12 @@ static BAD_PLACES: [Step<'static>; 6] = [
 static WITH_X_O: &str = "ld -s -o out a.o x.o";
 
 /// Whether a link of `a.o` and these bytes is refused with this line.
-fn is_refused<R: Runtime + AllocGlobal>(rt: &R, bytes: &[u8], line: &str) -> bool {
+fn is_refused(rt: &HostRuntime, bytes: &[u8], line: &str) -> bool {
     fs::write(rt, "x.o", bytes).is_ok() && runs(rt, WITH_X_O, "", (2, "", line))
 }
 
 /// Whether a link of `a.o` and a front of it is refused with this line.
-fn is_cut_refused<R: Runtime + AllocGlobal>(rt: &R, length: usize, line: &str) -> bool {
+fn is_cut_refused(rt: &HostRuntime, length: usize, line: &str) -> bool {
     match A_O.get(..length) {
         Some(cut) => is_refused(rt, cut, line),
         None => false,
@@ -72,25 +69,31 @@ fn is_cut_refused<R: Runtime + AllocGlobal>(rt: &R, length: usize, line: &str) -
 }
 
 /// Whether a link of `a.o` and a copy of it with another byte at this place is refused with this line.
-fn is_damage_refused<R: Runtime + AllocGlobal>(rt: &R, place: usize, byte: u8, line: &str) -> bool {
+fn is_damage_refused(rt: &HostRuntime, place: usize, byte: u8, line: &str) -> bool {
     match replaced(rt.alloc(), &A_O, place, byte) {
         Ok(damaged) => is_refused(rt, &damaged, line),
         Err(_) => false,
     }
 }
 
-/// A link of `a.o` and each file that is no object is refused.
-fn assert_all_refused<R: Runtime + AllocGlobal + Abort>(rt: &R) {
+/// A link of `a.o` and a front of it is refused.
+fn assert_cuts_refused(rt: &HostRuntime) -> Result<(), Fail> {
     for (length, line) in &CUTS {
-        assert!(rt; is_cut_refused(rt, *length, line), "{length} bytes");
+        if !is_cut_refused(rt, *length, line) {
+            return Err(Fail::new(*length));
+        }
     }
+    Ok(())
+}
+
+/// A link of `a.o` and a damaged copy of it is refused.
+fn assert_damages_refused(rt: &HostRuntime) -> Result<(), Fail> {
     for (place, byte, line) in &DAMAGES {
-        assert!(rt;
-            is_damage_refused(rt, *place, *byte, line),
-            "{byte:o} at {place}"
-        );
+        if !is_damage_refused(rt, *place, *byte, line) {
+            return Err(Fail::new(*line));
+        }
     }
-    assert!(rt; is_refused(rt, &TWO_OBJECTS, "v7: x.o: no relocation\n"));
+    Ok(())
 }
 
 static WITH_A_O: [Step<'static>; 1] = [Step::Put("a.o", &A_O)];
@@ -98,7 +101,9 @@ static WITH_A_O: [Step<'static>; 1] = [Step::Put("a.o", &A_O)];
 #[test]
 fn damaged_inputs(rt: HostRuntime) -> Result<(), Fail> {
     take_in_folder(&rt, "damaged_inputs", &WITH_A_O)?;
-    assert_all_refused(&rt);
+    assert_cuts_refused(&rt)?;
+    assert_damages_refused(&rt)?;
+    assert!(rt; is_refused(&rt, &TWO_OBJECTS, "v7: x.o: no relocation\n"));
     Ok(())
 }
 
