@@ -183,7 +183,8 @@ fn multiply_defined(rt: HostRuntime) {
 }
 
 /// Whether a name that is defined twice alike is multiply defined by a third definition alone.
-fn differs_in_the_third(alloc: Global, session: &mut Session, one: &[u8], other: &[u8]) -> bool {
+fn differs_in_the_third(alloc: Global, one: &[u8], other: &[u8]) -> bool {
+    let session = &mut Session::new(alloc);
     adds(session, alloc, &[("7.o", one), ("again.o", one)])
         && is_multiple(session, None)
         && adds(session, alloc, &[("8.o", other)])
@@ -194,8 +195,7 @@ fn differs_in_the_third(alloc: Global, session: &mut Session, one: &[u8], other:
 fn multiply_defined_absolute_names(rt: HostRuntime) -> Result<(), Fail> {
     let seven = sized(rt.alloc(), 0, 0, 0, &[("_a", 0o41, 7)])?;
     let eight = sized(rt.alloc(), 0, 0, 0, &[("_a", 0o41, 8)])?;
-    let mut session = Session::new(rt.alloc());
-    assert!(rt; differs_in_the_third(rt.alloc(), &mut session, &seven, &eight));
+    assert!(rt; differs_in_the_third(rt.alloc(), &seven, &eight));
     Ok(())
 }
 

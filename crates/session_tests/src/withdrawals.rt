@@ -21,36 +21,54 @@ fn are_added_but(
         && session.entries().len() == objects.len()
 }
 
+/// The same in a session that is made for it.
+fn is_refused_behind(
+    alloc: Global,
+    objects: &[(&str, &[u8])],
+    more: &[u8],
+    cause: AddFault,
+) -> bool {
+    are_added_but(alloc, &mut Session::new(alloc), objects, more, cause)
+}
+
 #[test]
 fn limits_of_a_session(rt: HostRuntime) -> Result<(), Fail> {
     let alloc = rt.alloc();
     let text = sized(alloc, 65_534, 0, 0, &[])?;
     let data = sized(alloc, 0, 2, 0, &[])?;
     let more = sized(alloc, 2, 0, 0, &[])?;
-    let mut session = Session::new(alloc);
     let objects: [(&str, &[u8]); 2] = [("text.o", &text), ("data.o", &data)];
-    assert!(rt; are_added_but(alloc, &mut session, &objects, &more, AddFault::TextFull));
+    assert!(rt; is_refused_behind(alloc, &objects, &more, AddFault::TextFull));
     Ok(())
 }
+
+/// Whether a first object is added and another is refused for this, and so many bytes of bss are then in the session.
+fn is_full(alloc: Global, first: &[u8], more: &[u8], cause: AddFault, bss: u16) -> bool {
+    let mut session = Session::new(alloc);
+    are_added_but(alloc, &mut session, &[("first.o", first)], more, cause)
+        && session.bss_total() == bss
+}
+
+/// The sizes of data and bss of a first object, those of another, and why that is then refused.
+static FULL: [(u16, u16, u16, u16, AddFault); 2] = [
+    (65_534, 0, 2, 0, AddFault::DataFull),
+    (0, 65_534, 0, 2, AddFault::BssFull),
+];
 
 #[test]
 fn limits_of_a_session_of_data_and_bss(rt: HostRuntime) -> Result<(), Fail> {
     let alloc = rt.alloc();
-    for (data, bss, more_data, more_bss, want) in [
-        (65_534, 0, 2, 0, AddFault::DataFull),
-        (0, 65_534, 0, 2, AddFault::BssFull),
-    ] {
-        let first = sized(alloc, 0, data, bss, &[])?;
-        let more = sized(alloc, 0, more_data, more_bss, &[])?;
-        let mut session = Session::new(alloc);
-        let is_refused = are_added_but(alloc, &mut session, &[("first.o", &first)], &more, want);
-        assert!(rt; is_refused && session.bss_total() == bss);
+    for (data, bss, more_data, more_bss, cause) in &FULL {
+        let first = sized(alloc, 0, *data, *bss, &[])?;
+        let more = sized(alloc, 0, *more_data, *more_bss, &[])?;
+        assert!(rt; is_full(alloc, &first, &more, *cause, *bss));
     }
     Ok(())
 }
 
 /// Whether four more names are refused behind twelve objects of 5,461 names each, and three are added.
-fn fills_up(alloc: Global, session: &mut Session, four: &[u8], three: &[u8]) -> bool {
+fn fills_up(alloc: Global, four: &[u8], three: &[u8]) -> bool {
+    let session = &mut Session::new(alloc);
     adds_many_names(session, alloc)
         && session.external_count() == 65_532
         && is_refused(alloc, session, four, AddFault::NamesFull)
@@ -63,7 +81,7 @@ fn fills_up(alloc: Global, session: &mut Session, four: &[u8], three: &[u8]) -> 
 fn many_names(rt: HostRuntime) -> Result<(), Fail> {
     let three = names_of(rt.alloc(), b'z', 3)?;
     let four = names_of(rt.alloc(), b'z', 4)?;
-    assert!(rt; fills_up(rt.alloc(), &mut Session::new(rt.alloc()), &four, &three));
+    assert!(rt; fills_up(rt.alloc(), &four, &three));
     Ok(())
 }
 
