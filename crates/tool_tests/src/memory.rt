@@ -56,16 +56,11 @@ fn memory_refused_steps(rt: HostRuntime) {
 
 #[test]
 fn no_memory_needed(rt: HostRuntime) {
-    let alloc = rt.alloc();
-    for outcome in [
-        files::handling(alloc),
-        sessions::withdrawing(alloc),
-        links::reporting(alloc),
-        links::emitting(alloc),
-        commands::sizing(alloc),
-        commands::showing(alloc),
-        scripts::other_steps(alloc),
-    ] {
-        assert!(rt; outcome == Outcome::Done);
-    }
+    assert!(rt; files::handling(rt.alloc()) == Outcome::Done);
+    assert!(rt; sessions::withdrawing(rt.alloc()) == Outcome::Done);
+    assert!(rt; links::reporting(rt.alloc()) == Outcome::Done);
+    assert!(rt; links::emitting(rt.alloc()) == Outcome::Done);
+    assert!(rt; commands::sizing(rt.alloc()) == Outcome::Done);
+    assert!(rt; commands::showing(rt.alloc()) == Outcome::Done);
+    assert!(rt; scripts::other_steps(rt.alloc()) == Outcome::Done);
 }
