@@ -89,7 +89,7 @@ const NM_FLAGS: [(&str, char); 6] = [
     (UNDEFINED, 'u'),
 ];
 
-/// The names of the tools. Those that have no options of their own take files.
+/// The names of the tools. `size` and `strip` have no options: they take files alone.
 const TOOLS: [&str; 5] = ["ld", "nm", "size", "strip", "session"];
 
 /// A command without help and version.
