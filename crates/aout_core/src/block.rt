@@ -101,7 +101,7 @@ impl Block {
 
     /// Moves the first bytes that wait to the beginning of `out`, as many as both have, and returns how many. (own
     /// choice)
-    pub fn give_out(&mut self, out: &mut [u8]) -> usize
+    pub(crate) fn give_out(&mut self, out: &mut [u8]) -> usize
         ensures count { result ≡ min (length self.old) (length out.old) }
         ensures value { out.new ≡ take result self.old ++ drop result out.old }
         ensures left { self.new ≡ drop result self.old }
@@ -131,7 +131,7 @@ impl Block {
 
     /// Fills an empty block with the next `n` bytes, or with `BLOCK_SIZE` where that is less; fewer come only at
     /// the end of the device. (own choice)
-    pub fn fill<R: Read>(&mut self, n: usize, wire: &mut Wire<R>) -> Result<(), DeviceFault>
+    pub(crate) fn fill<R: Read>(&mut self, n: usize, wire: &mut Wire<R>) -> Result<(), DeviceFault>
         requires { self.old ≡ [] }
         ensures fault { IsErr result ↔ IsTrue wire.new.has_failed }
         ensures latched { IsTrue wire.old.has_failed → (wire.new ≡ wire.old) }
