@@ -1,0 +1,5 @@
+use Rattle.std.proofs.Common.{rules}
+use Rattle.aout_core.proofs.header.Header.to_bytes.Goals as goal
+
+pub returns : goal.returns
+returns c = search rules
