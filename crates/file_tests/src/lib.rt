@@ -1,4 +1,4 @@
-//! Tests of files: read, checked, stripped and written.
+//! Tests of files: read, checked, stripped, written and listed.
 #![tactic(auto)]
 
 #[cfg(test)]
@@ -7,5 +7,7 @@ mod fault_texts;
 mod files;
 #[cfg(test)]
 mod flushes;
+#[cfg(test)]
+mod listings;
 #[cfg(test)]
 mod pieces;

@@ -1,12 +1,22 @@
-//! Tests of the commands over memory: the words that they are given, their faults, devices that fail, and the calls that
-//! may be refused memory, while none is.
+//! Tests of the tools over memory: the words of commands, scripts, their steps and their answers, faults, devices that
+//! fail, and the calls that may be refused memory, while none is.
 #![tactic(auto)]
 
+#[cfg(test)]
+mod block_writes;
 #[cfg(test)]
 mod failing_devices;
 #[cfg(test)]
 mod faults;
 #[cfg(test)]
 mod memory;
+#[cfg(test)]
+mod script_calls;
+#[cfg(test)]
+mod scripts;
+#[cfg(test)]
+mod sessions;
+#[cfg(test)]
+mod steps;
 #[cfg(test)]
 mod words;

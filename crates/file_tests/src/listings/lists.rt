@@ -1,5 +1,5 @@
 //! The lines of nm.
-use crate::inputs::{Input, files_of, with_table};
+use crate::listings::inputs::{Input, files_of, with_table};
 use aout_core::Wire;
 use aout_core::samples::{B_O, E_O, S_O, TestWriter};
 use fixtures::Row;

@@ -1,6 +1,6 @@
 //! Lists and sizes on devices that fail.
-use crate::inputs::files_of;
-use crate::lists::{S_O_LIST, plain};
+use crate::listings::inputs::files_of;
+use crate::listings::lists::{S_O_LIST, plain};
 use aout_core::samples::{Failing, S_O, TestWriter};
 use aout_core::{File, Wire};
 use fixtures::is_told;

@@ -1,5 +1,5 @@
 //! The lines of size.
-use crate::inputs::{Input, files_of};
+use crate::listings::inputs::{Input, files_of};
 use aout_core::Wire;
 use aout_core::samples::{A_O, B_O, E_O, TestWriter};
 use fixtures::file_of;
