@@ -10,7 +10,7 @@ set -u
 cd "$(dirname "$0")/.."
 top=$PWD
 [ -x build/v7 ] || { echo "build/v7 is missing: make builds it"; exit 2; }
-[ $# -gt 0 ] || set -- man/*.1 man/*.5 README.md examples/README.md docs/*.md
+[ $# -gt 0 ] || set -- man/*.1 man/*.5 README.md examples/*.md docs/*.md
 room=$(mktemp -d)
 trap 'rm -rf "$room"' EXIT
 PATH=$top/build:$PATH
