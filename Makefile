@@ -68,8 +68,7 @@ crates/lesson/out/lesson: crates.txt $(shell find crates/aout_core crates/link_s
 	cd crates/lesson && rt run -- data/k.o data/l.o
 	touch crates/lesson/out/lesson
 
-# the manual pages: mandoc finds nothing to say of them, and their examples, and those of the documents, come out as shown.
-# The gate leaves the programs that the examples need
+# the manual pages: mandoc finds nothing to say of them, and their examples, and those of the documents, come out as shown
 check-manual: check-examples
 	cd man && mandoc -T lint *.1 *.5
 
@@ -77,6 +76,7 @@ check-manual: check-examples
 check-streams: build/v7
 	sh tests/streams.sh
 
+# the examples of the manual pages and of the documents come out as shown; the gate leaves the programs that they need
 check-examples: build/v7 build/lesson
 	cmp crates/write_object/stdout examples/main.o
 	cmp crates/lesson/data/k.o examples/k.o
