@@ -4,7 +4,7 @@ use Rattle.std.specs.List.{flat_map}
 use Rattle.aout_core.specs.Words.{all_word_bytes}
 use Rattle.aout_core.specs.Contents.{Contents}
 use Rattle.aout_core.specs.Spelling.{header_spelling, reloc_spelling, symbol_spelling, spelling}
-use Rattle.aout_core.specs.Wires.{AppendsFront}
+use Rattle.aout_core.specs.Wires.{AppendsPrefix}
 use Rattle.aout_core.specs.steps.Blocks.{AppendsBut}
 use Rattle.aout_core.proofs.OutgoingLemmas.{appends_but_more, broke_before, broke_more}
 
@@ -38,11 +38,11 @@ in_two c =
 at_table : (c : Contents) → spelling c ≡ to_table c ++ table c
 at_table c = in_two c ∙ sym (append_assoc (to_relocation c) (relocation c) (table c))
 
-pub broke_in_header : (c : Contents) (a b : Option (List ℕ)) → AppendsFront a b (header_spelling c.header) → AppendsFront a b (spelling c)
+pub broke_in_header : (c : Contents) (a b : Option (List ℕ)) → AppendsPrefix a b (header_spelling c.header) → AppendsPrefix a b (spelling c)
 broke_in_header c a b broke =
     broke_before a b (spelling c) (header_spelling c.header) (segments c ++ (relocation c ++ table c)) (in_two c ∙ append_assoc (header_spelling c.header) (segments c) (relocation c ++ table c)) broke
 
-pub broke_in_segments : (c : Contents) (a b d : Option (List ℕ)) (waiting : List ℕ) → AppendsBut a b waiting (header_spelling c.header) → AppendsFront b d (waiting ++ segments c) → AppendsFront a d (spelling c)
+pub broke_in_segments : (c : Contents) (a b d : Option (List ℕ)) (waiting : List ℕ) → AppendsBut a b waiting (header_spelling c.header) → AppendsPrefix b d (waiting ++ segments c) → AppendsPrefix a d (spelling c)
 broke_in_segments c a b d waiting sent broke =
     broke_before a d (spelling c) (to_relocation c) (relocation c ++ table c) (in_two c) (broke_more a b d waiting (header_spelling c.header) (segments c) sent broke)
 
@@ -50,14 +50,14 @@ broke_in_segments c a b d waiting sent broke =
 pub sent_segments : (c : Contents) (a b d : Option (List ℕ)) (waiting left : List ℕ) → AppendsBut a b waiting (header_spelling c.header) → AppendsBut b d left (waiting ++ segments c) → AppendsBut a d left (to_relocation c)
 sent_segments c a b d waiting left first second = appends_but_more a b d waiting left (header_spelling c.header) (segments c) first second
 
-pub broke_in_relocation : (c : Contents) (a b d : Option (List ℕ)) (waiting : List ℕ) → AppendsBut a b waiting (to_relocation c) → AppendsFront b d (waiting ++ relocation c) → AppendsFront a d (spelling c)
+pub broke_in_relocation : (c : Contents) (a b d : Option (List ℕ)) (waiting : List ℕ) → AppendsBut a b waiting (to_relocation c) → AppendsPrefix b d (waiting ++ relocation c) → AppendsPrefix a d (spelling c)
 broke_in_relocation c a b d waiting sent broke = broke_before a d (spelling c) (to_table c) (table c) (at_table c) (broke_more a b d waiting (to_relocation c) (relocation c) sent broke)
 
 pub sent_relocation : (c : Contents) (a b d : Option (List ℕ)) (waiting left : List ℕ) → AppendsBut a b waiting (to_relocation c) → AppendsBut b d left (waiting ++ relocation c) → AppendsBut a d left (to_table c)
 sent_relocation c a b d waiting left first second = appends_but_more a b d waiting left (to_relocation c) (relocation c) first second
 
-pub broke_in_table : (c : Contents) (a b d : Option (List ℕ)) (waiting : List ℕ) → AppendsBut a b waiting (to_table c) → AppendsFront b d (waiting ++ table c) → AppendsFront a d (spelling c)
-broke_in_table c a b d waiting sent broke = subst (AppendsFront a d) (sym (at_table c)) (broke_more a b d waiting (to_table c) (table c) sent broke)
+pub broke_in_table : (c : Contents) (a b d : Option (List ℕ)) (waiting : List ℕ) → AppendsBut a b waiting (to_table c) → AppendsPrefix b d (waiting ++ table c) → AppendsPrefix a d (spelling c)
+broke_in_table c a b d waiting sent broke = subst (AppendsPrefix a d) (sym (at_table c)) (broke_more a b d waiting (to_table c) (table c) sent broke)
 
 -- all went out but for what waits
 pub sent_symbols : (c : Contents) (a b d : Option (List ℕ)) (waiting left : List ℕ) → AppendsBut a b waiting (to_table c) → AppendsBut b d left (waiting ++ table c) → AppendsBut a d left (spelling c)

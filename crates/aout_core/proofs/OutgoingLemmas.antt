@@ -6,16 +6,16 @@ use Rattle.std.specs.Prelude.{Result, Ok, Err, IsErr}
 use Rattle.std.specs.List.{flat_map}
 use Rattle.std.specs.Io.KnownBytes.{Appends}
 use Rattle.std.proofs.KnownBytes.{Appends-trans}
-use Rattle.aout_core.specs.Wires.{AppendsFront, Puts}
+use Rattle.aout_core.specs.Wires.{AppendsPrefix, Puts}
 use Rattle.aout_core.specs.steps.Blocks.{AppendsBut, PutsBut}
 use Rattle.aout_core.proofs.PutsLemmas.{front_before, row_at}
 
 -- the text behind a text that broke off
-pub broke_before : (a b : Option (List ℕ)) (all first second : List ℕ) → all ≡ first ++ second → AppendsFront a b first → AppendsFront a b all
-broke_before a b all first second e broke = subst (AppendsFront a b) (sym e) (front_before a b first second broke)
+pub broke_before : (a b : Option (List ℕ)) (all first second : List ℕ) → all ≡ first ++ second → AppendsPrefix a b first → AppendsPrefix a b all
+broke_before a b all first second e broke = subst (AppendsPrefix a b) (sym e) (front_before a b first second broke)
 
 -- a write that broke off leaves a prefix, whatever waits
-pub broke_off : {T E : Type 0} (r : Result T E) (a b : Option (List ℕ)) (waiting bytes : List ℕ) → IsErr r → AppendsFront a b bytes → PutsBut r a b waiting bytes
+pub broke_off : {T E : Type 0} (r : Result T E) (a b : Option (List ℕ)) (waiting bytes : List ℕ) → IsErr r → AppendsPrefix a b bytes → PutsBut r a b waiting bytes
 broke_off (Ok x) a b waiting bytes h p = absurd (cc)
 broke_off (Err e) a b waiting bytes h p = p
 
@@ -28,7 +28,7 @@ appends_but_more a b d waiting left text bytes (sent, split, first) (later, rest
 )
 
 -- a text went out but for what waits, and then a prefix of that and more
-pub broke_more : (a b d : Option (List ℕ)) (waiting text bytes : List ℕ) → AppendsBut a b waiting text → AppendsFront b d (waiting ++ bytes) → AppendsFront a d (text ++ bytes)
+pub broke_more : (a b d : Option (List ℕ)) (waiting text bytes : List ℕ) → AppendsBut a b waiting text → AppendsPrefix b d (waiting ++ bytes) → AppendsPrefix a d (text ++ bytes)
 broke_more a b d waiting text bytes (sent, split, first) (front, rest, cut, second) = (
   sent ++ front,
   rest,
@@ -63,7 +63,7 @@ row_sent spelling items i item a b d old waiting left within is sent later =
     (appends_but_more a b d waiting left (old ++ before) (spelling item) sent later)
 
 pub row_broke : {A : Type 0} (spelling : A → List ℕ) (items : List A) (i : ℕ) (item : A) (a b d : Option (List ℕ)) (old waiting : List ℕ) → i < length items → item ≡ slice_index_or items i item →
-    AppendsBut a b waiting (old ++ flat_map spelling (take i items)) → AppendsFront b d (waiting ++ spelling item) → AppendsFront a d (old ++ flat_map spelling items)
+    AppendsBut a b waiting (old ++ flat_map spelling (take i items)) → AppendsPrefix b d (waiting ++ spelling item) → AppendsPrefix a d (old ++ flat_map spelling items)
 row_broke spelling items i item a b d old waiting within is sent broke =
     let before = flat_map spelling (take i items) in
     let rest = flat_map spelling (drop (i + 1) items) in

@@ -16,7 +16,7 @@ use Rattle.aout_core.specs.Spelling.{header_words, header_spelling, reloc_spelli
 use Rattle.aout_core.specs.Spells.{IsBehindNul, Spells}
 use Rattle.aout_core.specs.Front.{part, header_of, header_in, relocs_in, symbol_in, symbols_in, contents_in, front_with, front}
 use Rattle.aout_core.proofs.AlikeLemmas.{AreAlike, slice_get_front, slice_get_behind, alike_front, alike_back, alike_both, alike_more, alike_self, alike_same}
-use Rattle.aout_core.proofs.SpellingLemmas.{front-spelling, word_back, with_relocation-add, length-all_word_bytes, length-reloc_spelling, length-header_spelling, length-padded, length-symbol_spelling, length-symbols_spelling}
+use Rattle.aout_core.proofs.SpellingLemmas.{front-spelling, nul_free_head, word_back, with_relocation-add, length-all_word_bytes, length-reloc_spelling, length-header_spelling, length-padded, length-symbol_spelling, length-symbols_spelling}
 use Rattle.aout_core.proofs.FrontLemmas.{Passed, front_passed, front_fits}
 
 abbrev pub AreBytes : List ℕ → Type 0
@@ -75,10 +75,6 @@ name_spelt (suc n) (suc m) (b ∷ bs) e l i lt = by_test (eqb b 0) refl i lt (λ
     by_test true is (suc j) lt rest = inr (record { nul = 0; is_nul = ap (λ (k : ℕ). Some k) (eqb-true b 0 is); before = omega arith })
     by_test false is zero lt rest = inl refl
     by_test false is (suc j) lt rest = further j (rest j (omega arith))
-
-nul_free_head : (b : ℕ) (bs : List ℕ) (t : Bool) → cond t [] (b ∷ before_nul bs) ≡ b ∷ bs → (t ≡ false) × (before_nul bs ≡ bs)
-nul_free_head b bs true e = absurd (cc)
-nul_free_head b bs false e = (refl, cc)
 
 name_read : (n m : ℕ) (bytes name : List ℕ) → length bytes ≡ n → length name ≤ n → n ≤ m → before_nul name ≡ name →
     AreAlike bytes (take n (name ++ replicate m 0)) (HasNulBefore bytes) → before_nul bytes ≡ name

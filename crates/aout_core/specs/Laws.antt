@@ -20,3 +20,7 @@ ReadingLaw = (bytes : List ℕ) (c : Contents) → AllByRecursion (λ (b : ℕ).
 -- the same bytes encode one file at most
 abbrev pub OneFile : Type 0
 OneFile = (bytes : List ℕ) (c d : Contents) → IsSound c → IsSound d → Spells bytes c → Spells bytes d → c ≡ d
+
+-- bytes that encode a file, whatever follows them, are read as that file
+abbrev pub EncodedIsRead : Type 0
+EncodedIsRead = (bytes rest : List ℕ) (c : Contents) → IsSound c → Spells bytes c → front (bytes ++ rest) ≡ Ok c

@@ -11,12 +11,12 @@ pub record Latched (D : Type 0) : Type 0 where
   pub has_failed : Bool
 
 -- a prefix of the bytes went out
-abbrev pub AppendsFront : Option (List ℕ) → Option (List ℕ) → List ℕ → Type 0
-AppendsFront old new bytes = (front : List ℕ) × (rest : List ℕ) × (bytes ≡ front ++ rest) × Appends old new front
+abbrev pub AppendsPrefix : Option (List ℕ) → Option (List ℕ) → List ℕ → Type 0
+AppendsPrefix old new bytes = (sent : List ℕ) × (rest : List ℕ) × (bytes ≡ sent ++ rest) × Appends old new sent
 
 -- all the bytes went out, or on a fault a prefix of them
 abbrev pub Puts : {T E : Type 0} → Result T E → Option (List ℕ) → Option (List ℕ) → List ℕ → Type 0
-Puts result old new bytes = MatchResult result (λ _. Appends old new bytes) (λ _. AppendsFront old new bytes)
+Puts result old new bytes = MatchResult result (λ _. Appends old new bytes) (λ _. AppendsPrefix old new bytes)
 
 -- a write of the bytes `text` to a wire, where a device holds its `contents`: all of them go out, or on a fault a prefix of
 -- them; it is a fault exactly where the latch is on afterwards; and a wire whose latch was on is left as it was

@@ -100,7 +100,7 @@ impl Parts {
     }
 }
 
-// Some functions read a size only for its type: it is a word, and no list is longer than the header says.
+// Some functions read a size only for the prover, which then knows that it is a word: the clauses `short` rest on it.
 impl File {
     ghost use Rattle.std.specs.Prelude.{◌≡◌, ◌*◌, ◌^◌, ◌<◌, length};
     ghost use Rattle.aout_core.specs.Parts.{contents_of};
@@ -127,7 +127,6 @@ impl File {
         ensures value { result.now ≡ self.now.text_words }
         ensures short { 2 * length result.now < 2 ^ 16 }
     {
-        // the prover knows that the size is a word once it is read: the clause `short` rests on it
         let _size = self.parts.header.text_size;
         &self.parts.text_words
     }
@@ -137,7 +136,6 @@ impl File {
         ensures value { result.now ≡ self.now.data_words }
         ensures short { 2 * length result.now < 2 ^ 16 }
     {
-        // the prover knows that the size is a word once it is read: the clause `short` rests on it
         let _size = self.parts.header.data_size;
         &self.parts.data_words
     }
@@ -147,7 +145,6 @@ impl File {
         ensures value { result.now ≡ self.now.text_reloc }
         ensures short { 2 * length result.now < 2 ^ 16 }
     {
-        // the prover knows that the size is a word once it is read: the clause `short` rests on it
         let _size = self.parts.header.text_size;
         &self.parts.text_reloc
     }
@@ -157,7 +154,6 @@ impl File {
         ensures value { result.now ≡ self.now.data_reloc }
         ensures short { 2 * length result.now < 2 ^ 16 }
     {
-        // the prover knows that the size is a word once it is read: the clause `short` rests on it
         let _size = self.parts.header.data_size;
         &self.parts.data_reloc
     }
@@ -167,7 +163,6 @@ impl File {
         ensures value { result.now ≡ self.now.symbols }
         ensures short { 12 * length result.now < 2 ^ 16 }
     {
-        // the prover knows that the size is a word once it is read: the clause `short` rests on it
         let _size = self.parts.header.symbol_size;
         &self.parts.symbols
     }

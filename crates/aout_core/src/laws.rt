@@ -1,5 +1,13 @@
-//! Laws of the format, over its definitions alone: each is the contract of a function with an empty body.
-ghost use Rattle.aout_core.specs.Laws.{SpellingLaw, ReadingLaw, OneFile};
+//! Laws of the format, over its definitions alone: each is the contract of a function with an empty body, but for
+//! `sound_law`, whose body looks at each part of a file.
+ghost use Rattle.std.specs.List.{AllByRecursion};
+ghost use Rattle.aout_core.specs.Contents.{IsWord, AreWords, IsSymbol, IsSound};
+ghost use Rattle.aout_core.specs.Laws.{SpellingLaw, ReadingLaw, OneFile, EncodedIsRead};
+
+use crate::file::File;
+use crate::header::Header;
+use crate::reloc::Reloc;
+use crate::symbol::Symbol;
 
 /// What is written is read: the encoding of a file, whatever follows it, is read as that file. (a.out(5))
 pub fn spelling_law()
@@ -8,8 +16,72 @@ pub fn spelling_law()
 
 /// What is read is what the bytes encode: where bytes begin with a file, the first of them encode it, as many as its
 /// header says; they differ from what is written for it at most behind the first NUL of a name. And the same bytes
-/// encode one file at most. (a.out(5))
+/// encode one file at most, which is read of them, whatever follows. (a.out(5))
 pub fn reading_law()
     ensures spells { ReadingLaw }
     ensures one { OneFile }
+    ensures read { EncodedIsRead }
 {}
+
+fn are_words(words: &[u16])
+    ensures { AllByRecursion IsWord words.now }
+{
+    for word in words {
+        let _word = *word;
+    }
+}
+
+fn is_word(_word: u16)
+    ensures { IsWord _word }
+{}
+
+fn is_symbol(symbol: &Symbol)
+    ensures { IsSymbol symbol.now }
+{
+    let _name = symbol.name.as_bytes();
+    is_word(symbol.type_bits);
+    is_word(symbol.value);
+}
+
+fn are_reloc_words(relocs: &[Reloc])
+    ensures { AllByRecursion (λ (r : Reloc). IsWord r.0) relocs.now }
+{
+    for reloc in relocs {
+        let word = *reloc;
+        is_word(word.0);
+    }
+}
+
+fn are_symbols(symbols: &[Symbol])
+    ensures { AllByRecursion IsSymbol symbols.now }
+{
+    for symbol in symbols {
+        is_symbol(symbol);
+    }
+}
+
+fn is_header(header: &Header)
+    ensures { AreWords header.now }
+{
+    let _magic = header.magic;
+    let _text_size = header.text_size;
+    let _data_size = header.data_size;
+    let _bss_size = header.bss_size;
+    let _symbol_size = header.symbol_size;
+    let _entry_point = header.entry_point;
+    let _unused = header.unused;
+    let _flag = header.flag;
+}
+
+/// Each file is one that the laws are about: its words have 16 bits, and its names are at most eight bytes and no NUL.
+/// (a.out(5))
+pub fn sound_law(file: &File)
+    ensures { IsSound file.now }
+{
+    is_header(file.header());
+    are_words(file.text_words());
+    are_words(file.data_words());
+    are_reloc_words(file.text_reloc());
+    are_reloc_words(file.data_reloc());
+    are_symbols(file.symbols());
+}

@@ -70,6 +70,7 @@ impl Name {
     pub fn as_bytes(&self) -> &[u8]
         ensures value { result.now ≡ self.now }
         ensures short { length result.now ≤ 8 }
+        ensures no_nul { before_nul result.now ≡ result.now }
     {
         let end = end_of(&self.padded_bytes);
         &self.padded_bytes[..end]

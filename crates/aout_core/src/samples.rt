@@ -155,7 +155,7 @@ impl<'a> Model for TestReader<'a> {
 }
 
 impl<'a> TestReader<'a> {
-    /// A reader of these bytes.
+    /// A reader of these bytes. (own choice)
     pub fn new(
         bytes: &'a [u8],
         most: usize,
@@ -174,21 +174,21 @@ impl<'a> TestReader<'a> {
         }
     }
 
-    /// A reader of these bytes that never fails.
+    /// A reader of these bytes that never fails. (own choice)
     pub fn whole(bytes: &'a [u8]) -> TestReader<'a>
         ensures { result ≡ record { left = bytes.now; most = 2 ^ 64 - 1; before_failure = 2 ^ 64 - 1; failure = Other; calls = 0 } }
     {
         TestReader::new(bytes, usize::MAX, usize::MAX, ErrorKind::Other)
     }
 
-    /// The bytes that were not given yet.
+    /// The bytes that were not given yet. (own choice)
     pub fn left(&self) -> &'a [u8]
         ensures { result.now ≡ self.now.left }
     {
         self.left
     }
 
-    /// How often it was read; the count stays at its greatest value once it is reached.
+    /// How often it was read; the count stays at its greatest value once it is reached. (own choice)
     pub fn calls(&self) -> u32
         ensures { result ≡ self.now.calls }
     {
@@ -259,7 +259,7 @@ impl Model for TestWriter {
 }
 
 impl TestWriter {
-    /// A writer that appends to the bytes in `taken`.
+    /// A writer that appends to the bytes in `taken`. (own choice)
     pub fn new(taken: Vec<u8>, most: usize, before_failure: usize, failure: Failing) -> TestWriter
         ensures { result ≡ record { taken = taken.items; most = most; before_failure = before_failure; failure = failure; calls = 0; flushes = 0 } }
     {
@@ -273,21 +273,21 @@ impl TestWriter {
         }
     }
 
-    /// A writer that appends to the bytes in `taken`, and fails only where memory runs out.
+    /// A writer that appends to the bytes in `taken`, and fails only where memory runs out. (own choice)
     pub fn whole(taken: Vec<u8>) -> TestWriter
         ensures { result ≡ record { taken = taken.items; most = 2 ^ 64 - 1; before_failure = 2 ^ 64 - 1; failure = TakesNothing; calls = 0; flushes = 0 } }
     {
         TestWriter::new(taken, usize::MAX, usize::MAX, Failing::TakesNothing)
     }
 
-    /// The bytes that were taken.
+    /// The bytes that were taken. (own choice)
     pub fn taken(&self) -> &[u8]
         ensures { result.now ≡ self.now.taken }
     {
         &self.taken
     }
 
-    /// The bytes that were taken, owned.
+    /// The bytes that were taken, owned. (own choice)
     pub fn into_taken(self) -> Vec<u8>
         ensures { result.items ≡ self.taken }
     {
@@ -295,14 +295,14 @@ impl TestWriter {
         taken
     }
 
-    /// How often it was written to; the count stays at its greatest value once it is reached.
+    /// How often it was written to; the count stays at its greatest value once it is reached. (own choice)
     pub fn calls(&self) -> u32
         ensures { result ≡ self.now.calls }
     {
         self.calls
     }
 
-    /// How often it was flushed; the count stays at its greatest value once it is reached.
+    /// How often it was flushed; the count stays at its greatest value once it is reached. (own choice)
     pub fn flushes(&self) -> u32
         ensures { result ≡ self.now.flushes }
     {
@@ -311,7 +311,7 @@ impl TestWriter {
 }
 
 impl Write for TestWriter {
-    ghost use Rattle.std.specs.Prelude.{◌≡◌, ◌+◌, ◌-◌, ◌^◌, min, length, Some, IfOk, IfErr, IsErr};
+    ghost use Rattle.std.specs.Prelude.{◌≡◌, ◌+◌, ◌-◌, ◌^◌, ◌<◌, min, length, Some, IfOk, IfErr, IsErr, IsOk};
     ghost use Rattle.std.specs.IoError.{error_kind};
     ghost use Rattle.aout_core.specs.declared.samples.Failing.TheVariants.{Fails};
     ghost use Rattle.std.specs.Io.{WritesAtMost};
@@ -325,6 +325,8 @@ impl Write for TestWriter {
         ensures count { IfOk result (λ n. n ≡ min (min self.old.most self.old.before_failure) (length bytes.now)) }
         ensures fails { self.old.before_failure ≡ 0 → (kind : ErrorKind) → self.old.failure ≡ Fails kind → IfErr result (λ e. error_kind e ≡ kind) × IsErr result }
         ensures later { IfOk result (λ n. self.new.before_failure ≡ self.old.before_failure - n) }
+        ensures nothing { self.old.before_failure ≡ 0 → self.old.failure ≡ Failing.TakesNothing → IsOk result }
+        ensures failed { IfErr result (λ _. self.new.before_failure ≡ self.old.before_failure) }
         ensures counted { self.new.calls ≡ min (self.old.calls + 1) (2 ^ 32 - 1) }
         ensures flushes { self.new.flushes ≡ self.old.flushes }
         ensures most { self.new.most ≡ self.old.most }
@@ -346,6 +348,12 @@ impl Write for TestWriter {
     fn flush(&mut self) -> io::Result<()>
         ensures bytes { Keeps (Some self.old.taken) (Some self.new.taken) }
         ensures calls { self.new.calls ≡ self.old.calls }
+        ensures fails { self.old.before_failure ≡ 0 → (kind : ErrorKind) → self.old.failure ≡ Fails kind → IfErr result (λ e. error_kind e ≡ kind) × IsErr result }
+        ensures works { 0 < self.old.before_failure → IsOk result }
+        ensures nothing { self.old.failure ≡ Failing.TakesNothing → IsOk result }
+        ensures most { self.new.most ≡ self.old.most }
+        ensures before { self.new.before_failure ≡ self.old.before_failure }
+        ensures failure { self.new.failure ≡ self.old.failure }
         ensures counted { self.new.flushes ≡ min (self.old.flushes + 1) (2 ^ 32 - 1) }
     {
         self.flushes = self.flushes.saturating_add(1);

@@ -34,9 +34,9 @@ pub enum Call {
         /// The paths of the objects, at least one.
         files: Vec<String>,
     },
-    /// The list of the names in `files`.
+    /// The list of the symbols of `files`.
     Nm {
-        /// Which names, and how.
+        /// Which symbols, and in which order.
         options: NmOptions,
         /// The paths of the files, at least one.
         files: Vec<String>,
@@ -62,17 +62,17 @@ pub enum Call {
 
 /// The option that names the output.
 const OUT: &str = "out";
-/// The options of nm.
+/// The option of externals alone.
 const EXTERNAL: &str = "external";
-
+/// The option of the order by value.
 const BY_VALUE: &str = "by-value";
-
+/// The option that puts the file before each line.
 const EACH_LINE: &str = "each-line";
-
+/// The option of the order of the table.
 const TABLE_ORDER: &str = "table-order";
-
+/// The option of the other way round.
 const REVERSE: &str = "reverse";
-
+/// The option of undefined names alone.
 const UNDEFINED: &str = "undefined";
 /// The files.
 const FILE: &str = "file";

@@ -1,5 +1,5 @@
 -- The words of a segment of the objects, one behind another, and what is made of each.
-use Rattle.std.proofs.Common.{◌≡◌, ℕ, zero, suc, ◌+◌, ◌*◌, ◌/◌, Bool, cond, List, [], ◌∷◌, ◌++◌, map, length, Option, Some, None, refl, sym, ◌∙◌, ap, subst, arith, length-append, append_assoc, append-nil, inl, inr, ◌⊎◌}
+use Rattle.std.proofs.Common.{◌≡◌, ℕ, zero, suc, ◌+◌, ◌*◌, ◌/◌, List, [], ◌∷◌, ◌++◌, map, length, Option, Some, None, refl, sym, ◌∙◌, ap, subst, arith, length-append, append_assoc, append-nil, inl, inr, ◌⊎◌}
 use Rattle.std.specs.Prelude.{slice_get}
 use Rattle.std.specs.List.{AllByRecursion}
 use Rattle.std.proofs.lemmas.List.{length-map}
@@ -9,25 +9,21 @@ use Rattle.aout_core.specs.declared.symbol.Segment.{Segment}
 use Rattle.aout_core.specs.declared.symbol.Segment.TheVariants.{Undefined, Absolute, TextSeg, DataSeg, BssSeg, Other}
 use Rattle.aout_core.specs.declared.reloc.Reloc.{Reloc}
 use Rattle.aout_core.specs.declared.object.ObjectFault.{ObjectFault}
-use Rattle.aout_core.specs.Contents.{Contents, with_relocation}
-use Rattle.aout_core.specs.WellFormed.{word_fault, first_of, first_bad_word, IsWellFormed}
+use Rattle.aout_core.specs.Contents.{Contents}
+use Rattle.aout_core.specs.WellFormed.{word_fault, first_of, first_bad_word}
 use Rattle.aout_core.proofs.AlikeLemmas.{slice_get_behind}
 use Rattle.link_session.specs.Starts.{size_of, total}
 use Rattle.link_session.specs.Sessions.{IsObject}
 use Rattle.link_session.specs.Mentions.{mentions, names_of}
 use Rattle.link_session.specs.Cells.{referent, words_of}
+use Rattle.link_session.proofs.AdditionLemmas.{well_formed}
 use Rattle.link_session.proofs.CellLemmas.{RefersAmong, AllReferAmong}
+use Rattle.link_session.proofs.TotalLemmas.{with_all}
 use Rattle.link_session.proofs.WellFormedLemmas.{objects_refer, well_formed_parts}
-use Rattle.link_session.proofs.ListLemmas.{all_split, all_map, get_append, get_mapped}
+use Rattle.link_session.proofs.ListLemmas.{all_split, get_append, get_mapped}
 use Rattle.link_out.specs.Relocated.{segment_words, segment_relocs}
 use Rattle.link_out.proofs.IndexLemmas.{zip_get, zip_length, all_get, same_elements, get_either, get_back, zip_back}
 use Rattle.link_out.proofs.NeighbourMentions.{blocks, blocks-append}
-
-pub all_well : (os : List Contents) → AllByRecursion IsObject os → AllByRecursion IsWellFormed os
-all_well os h = all_map IsObject IsWellFormed (λ o k. k.well) os h
-
-has_relocation : (o : Contents) → IsWellFormed o → (size : ℕ) → with_relocation o.header size ≡ size
-has_relocation o h size = ap (λ (t : Bool). cond t size 0) (well_formed_parts o h).0
 
 both_as_long : (a b size : ℕ) → 2 * a ≡ size → 2 * b ≡ size → a ≡ b
 both_as_long a b size e f = omega arith
@@ -40,10 +36,10 @@ HasWords _ = ⊥
 
 object_words : (segment : Segment) → HasWords segment → (o : Contents) → IsObject o → 2 * length (words_of segment o) ≡ size_of segment o
 object_words TextSeg has o h =
-    let relocs : 2 * length o.text_reloc ≡ o.header.text_size = h.fits.text_relocation ∙ has_relocation o h.well o.header.text_size in
+    let relocs : 2 * length o.text_reloc ≡ o.header.text_size = h.fits.text_relocation ∙ with_all o h.well o.header.text_size in
     ap (λ (n : ℕ). 2 * n) (zip_length o.text_words o.text_reloc (both_as_long (length o.text_words) (length o.text_reloc) o.header.text_size h.fits.text relocs)) ∙ h.fits.text
 object_words DataSeg has o h =
-    let relocs : 2 * length o.data_reloc ≡ o.header.data_size = h.fits.data_relocation ∙ has_relocation o h.well o.header.data_size in
+    let relocs : 2 * length o.data_reloc ≡ o.header.data_size = h.fits.data_relocation ∙ with_all o h.well o.header.data_size in
     ap (λ (n : ℕ). 2 * n) (zip_length o.data_words o.data_reloc (both_as_long (length o.data_words) (length o.data_reloc) o.header.data_size h.fits.data relocs)) ∙ h.fits.data
 object_words Undefined has o h = absurd has
 object_words Absolute has o h = absurd has
@@ -179,7 +175,7 @@ module _ (forced : List (List ℕ)) (os before : List Contents) (k : Contents) (
   refers : (segment : Segment) (i w : ℕ) (r : Reloc) → slice_get (words_of segment k) i ≡ Some (w, r) → RefersAmong (names_of (mentions forced os)) (referent k r)
   refers segment i w r e =
       let refer : AllByRecursion (λ c. AllReferAmong (names_of (mentions forced os)) c (words_of segment c)) (before ++ k ∷ after) =
-      subst (λ (xs : List Contents). AllByRecursion (λ c. AllReferAmong (names_of (mentions forced os)) c (words_of segment c)) xs) all (objects_refer forced segment os (all_well os good)) in
+      subst (λ (xs : List Contents). AllByRecursion (λ c. AllReferAmong (names_of (mentions forced os)) c (words_of segment c)) xs) all (objects_refer forced segment os (well_formed os good)) in
       let here = all_split (λ c. AllReferAmong (names_of (mentions forced os)) c (words_of segment c)) before (k ∷ after) refer in
       all_get (λ wr. RefersAmong (names_of (mentions forced os)) (referent k wr.1)) (words_of segment k) i (w, r) here.1.0 e
 

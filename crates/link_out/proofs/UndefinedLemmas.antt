@@ -113,16 +113,13 @@ waiting_still p name (Wanted size) h = by_tests (plus p.at.data_end (common_offs
     by_tests a true true c h = refl
     by_tests a true false c h = reserved (bytes_eq name etext) (bytes_eq name edata) (bytes_eq name end_name) h
 
-false_true : false ≡ true → ⊥
-false_true e = cc
-
 pub missing_have_no_address : (forced : List (List ℕ)) (os : List Contents) (o : Choices) (x : Outcome) → o.keep ≢ Nothing → link forced os o ≡ Ok x →
     (name : List ℕ) → is_among x.report.undefined name ≡ true → (row : Symbol) × (entry_of x.file.symbols name ≡ Some row) × (row.type_bits ≡ 32) × (row.value ≡ 0)
 missing_have_no_address forced os o x others linked name h =
     by_relocation o.relocatable (ap (λ (f : Findings). is_among f.undefined name) (made_report (plan forced os o) os x linked) ∙ h)
   where
     by_relocation : (r : Bool) → is_among (cond r [] (undefined_names (mentions forced os))) name ≡ true → (row : Symbol) × (entry_of x.file.symbols name ≡ Some row) × (row.type_bits ≡ 32) × (row.value ≡ 0)
-    by_relocation true k = absurd (false_true k)
+    by_relocation true k = absurd (cc)
     by_relocation false k =
         let parts = filtered_among (λ n. is_undefined (state (mentions forced os) n) && not (is_among reserved_names n)) (names_by_first_mention (mentions forced os)) name k in
         let last : final (plan forced os o) name ≡ waiting 0 = waiting_still (plan forced os o) name (state (mentions forced os) name) parts.1 in (

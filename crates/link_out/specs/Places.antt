@@ -52,7 +52,7 @@ abbrev pub MissingHaveNoAddress : Type 0
 MissingHaveNoAddress = (forced : List (List ℕ)) (os : List Contents) (o : Choices) (x : Outcome) → o.keep ≢ Nothing → link forced os o ≡ Ok x →
     (name : List ℕ) → is_among x.report.undefined name ≡ true → (row : Symbol) × (entry_of x.file.symbols name ≡ Some row) × (row.type_bits ≡ 0o40) × (row.value ≡ 0)
 
--- the file of a link with relocation is an object, which may be added to a session
+-- the file of a link with relocation is an object that fits its header
 abbrev pub PartialMayBeAdded : Type 0
 PartialMayBeAdded = (forced : List (List ℕ)) (os : List Contents) (o : Choices) (x : Outcome) → AllByRecursion IsObject os →
     option_fault o.layout o.relocatable o.keep ≡ None → o.relocatable ≡ true → link forced os o ≡ Ok x → IsObject x.file

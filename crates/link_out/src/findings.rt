@@ -14,13 +14,9 @@ ghost use Rattle.link_out.specs.Outcomes.{findings_of};
 use crate::finals::{Final, is_named};
 use crate::linked::Report;
 use crate::options::Options;
-use crate::table::type_of;
-use aout_core::Name;
+use aout_core::{Name, Segment};
 use link_session::{Session, State};
 use std::alloc::{AllocError, Global};
-
-/// The type word of an external that is bound to text.
-const TEXT_EXTERNAL: u16 = 0o42;
 
 /// The entry point of a program.
 #[derive(Clone, Copy)]
@@ -137,10 +133,9 @@ fn undefined_names(
 fn text_address(last: &Final) -> Option<u16>
     ensures { result ≡ text_address (Some last.now) }
 {
-    if type_of(last.bound) == TEXT_EXTERNAL {
-        Some(last.address)
-    } else {
-        None
+    match last.bound {
+        Some(Segment::TextSeg) => Some(last.address),
+        _ => None,
     }
 }
 
@@ -173,15 +168,6 @@ pub(crate) fn entry_point(session: &Session, options: &Options, finals: &[Final]
     }
 }
 
-/// A copy of the names. An error: out of memory.
-fn copy_of(alloc: Global, names: &[Name]) -> Result<Vec<Name>, AllocError>
-    ensures { IfOk result (λ copy. copy.items ≡ names.now) }
-{
-    let mut copy = Vec::new(alloc);
-    copy.extend_from_slice(names)?;
-    Ok(copy)
-}
-
 /// The report of a link, with the name of an entry point that is not in text. An error: out of memory.
 pub(crate) fn report_of(
     alloc: Global,
@@ -193,7 +179,7 @@ pub(crate) fn report_of(
     ensures { IfOk result (λ report. findings_of report ≡ findings (plan_of session.now options.now)) }
 {
     Ok(Report {
-        multiples: copy_of(alloc, session.multiples())?,
+        multiples: session.multiples().to_vec(alloc)?,
         reserved: reserved_taken(alloc, session)?,
         entry_bad,
         undefined: undefined_names(alloc, session, options)?,

@@ -37,7 +37,8 @@ pub fn partial_law()
 /// - `room`, `apart`: commons that are laid out lie between data and bss, each on bytes of its own.
 /// - `entry`: the entry word is the address of its name where that is an external in text; else it is 0, and reported.
 /// - `missing`: a name that is reported undefined has a symbol without an address.
-/// - `added`: the file of a link with relocation is an object, so that a session takes it.
+/// - `added`: the file of a link with relocation is an object that fits its header; when a session takes it is said by
+///   `beyond_law`.
 /// - `layouts`: the links of two layouts differ by their magic, and by where data and bss begin, alone.
 pub fn meaning_law()
     ensures words { WordsAreRelocated }

@@ -116,11 +116,8 @@ impl Options {
         ensures { let c : Choices = record self { force_commons = true } in result ≡ c }
     {
         Options {
-            layout: self.layout,
-            relocatable: self.relocatable,
-            keep: self.keep,
-            entry: self.entry,
             force_commons: true,
+            ..self
         }
     }
 

@@ -171,7 +171,7 @@ fn kept_locals(
 }
 
 /// The type word of an external that is bound to this segment, if it is bound.
-pub(crate) fn type_of(bound: Option<Segment>) -> u16
+fn type_of(bound: Option<Segment>) -> u16
     ensures { result ≡ type_of bound }
 {
     match bound {

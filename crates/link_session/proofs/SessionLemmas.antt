@@ -3,7 +3,7 @@ use Rattle.std.proofs.Common.{◌≡◌, ℕ, suc, ◌-◌, ◌≤◌, List, [],
 use Rattle.std.specs.Prelude.{slice_get, filter}
 use Rattle.std.specs.List.{AllByRecursion}
 use Rattle.std.specs.Map.{keys_of}
-use Rattle.std.proofs.lemmas.List.{map-append, length-map}
+use Rattle.std.proofs.lemmas.List.{map-append, length-map, same_from_push}
 use Rattle.aout_core.specs.Contents.{Contents}
 use Rattle.link_session.specs.declared.state.State.{State}
 use Rattle.link_session.specs.declared.merged.Sizes.{Sizes}
@@ -104,16 +104,6 @@ module _ (forced : List (List ℕ)) (es : List Labelled) (steps : List Step) (m 
     few = taken_few forced (objects es) e.object t.heads step.marks.items s.good of_image;
   }
 
--- the last element of a list
-pub last_same : {A : Type 0} (xs ys : List A) (x y : A) → xs ++ x ∷ [] ≡ ys ++ y ∷ [] → (xs ≡ ys) × (x ≡ y)
-last_same [] [] x y e = (refl, cc)
-last_same [] (b ∷ ys) x y e = absurd (let n = ap (λ l. length l) e in omega (arith, length-append ys (y ∷ [])))
-last_same (a ∷ xs) [] x y e = absurd (let n = ap (λ l. length l) e in omega (arith, length-append xs (x ∷ [])))
-last_same {A = A} (a ∷ xs) (b ∷ ys) x y e =
-    let first : a ≡ b = cc in
-    let rest : xs ++ x ∷ [] ≡ ys ++ y ∷ [] = cc in
-    let both = last_same xs ys x y rest in ((λ i. first i ∷ both.0 i), both.1)
-
 module _ (forced : List (List ℕ)) (es : List Labelled) (steps : List Step) (m : Image) (t : Threads) (e : Labelled) (step : Step) (s : IsSession forced (es ++ e ∷ []) (steps ++ step ∷ []) m t) where
   abbrev one_less : objects (es ++ e ∷ []) ≡ objects es ++ e.object ∷ []
   one_less = map-append (λ (x : Labelled). x.object) es (e ∷ [])
@@ -123,7 +113,7 @@ module _ (forced : List (List ℕ)) (es : List Labelled) (steps : List Step) (m 
 
   pub kept_sizes : (map sizes_in steps ≡ sizes_before forced (objects es)) × (step.sizes ≡ sizes_of (image forced (objects es)))
   kept_sizes =
-      last_same (map sizes_in steps) (sizes_before forced (objects es)) step.sizes (sizes_of (image forced (objects es)))
+      same_from_push (map sizes_in steps) (sizes_before forced (objects es)) step.sizes (sizes_of (image forced (objects es)))
       (sym (map-append sizes_in steps (step ∷ [])) ∙ s.sizes ∙ ap (λ (xs : List Contents). sizes_before forced xs) one_less ∙ sizes_push forced (objects es) e.object)
 
   now : m ≡ image forced (objects es ++ e.object ∷ [])

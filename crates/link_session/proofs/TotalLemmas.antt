@@ -30,7 +30,7 @@ use Rattle.link_session.proofs.MentionedLemmas.{keys-named_states}
 use Rattle.link_session.proofs.WellFormedLemmas.{well_formed_parts}
 
 -- an object has its relocation words
-with_all : (o : Contents) → IsWellFormed o → (size : ℕ) → with_relocation o.header size ≡ size
+pub with_all : (o : Contents) → IsWellFormed o → (size : ℕ) → with_relocation o.header size ≡ size
 with_all o h size = ap (λ (t : Bool). cond t size 0) (well_formed_parts o h).0
 
 -- as many relocation words as words

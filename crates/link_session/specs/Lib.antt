@@ -10,4 +10,5 @@ pub mod Edits
 pub mod Undo
 pub mod Bounds
 pub mod Sessions
+pub mod Laws
 pub mod steps

@@ -31,14 +31,14 @@ impl Entry {
         Entry { label, object }
     }
 
-    /// The label that the object was added with.
+    /// The label that the object was added with. (own choice)
     pub fn label(&self) -> &str
         ensures { result.now ≡ self.now.label }
     {
         &self.label
     }
 
-    /// The object.
+    /// The object. (own choice)
     pub fn object(&self) -> &Object
         ensures { result.now ≡ self.now.object }
     {

@@ -49,7 +49,7 @@ pub(crate) struct Words<'a> {
 }
 
 impl Shifts {
-    /// What is added to an address in this segment; 0 to an absolute one.
+    /// What is added to an address in this segment; 0 to an absolute one. (own choice)
     pub fn of(&self, segment: Segment) -> u16
         ensures { result ≡ shift_by self.now segment }
     {
@@ -63,7 +63,7 @@ impl Shifts {
 }
 
 impl Starts {
-    /// Those of the first object.
+    /// Those of the first object. (own choice)
     pub fn first() -> Starts
         ensures { result ≡ no_starts }
     {
@@ -74,7 +74,7 @@ impl Starts {
         }
     }
 
-    /// Those of the object behind one with this header that starts here.
+    /// Those of the object behind one with this header that starts here. (own choice)
     pub fn behind(&self, header: &Header) -> Starts
         ensures { result ≡ next_starts self.now header.now }
     {
@@ -85,7 +85,7 @@ impl Starts {
         }
     }
 
-    /// The shifts of an object with this header that starts here.
+    /// The shifts of an object with this header that starts here. (own choice)
     pub fn shifts(&self, header: &Header) -> Shifts
         ensures { result ≡ shifts_at self.now header.now }
     {

@@ -134,7 +134,7 @@ impl Session {
         })
     }
 
-    /// How many of the first externals are forced.
+    /// How many of the first externals are forced. (own choice)
     pub fn forced_count(&self) -> u16
         ensures value { result ≡ length self.now.forced }
         ensures few { result ≤ 64 }
@@ -200,7 +200,7 @@ impl Session {
         Some(entry.into_parts())
     }
 
-    /// The objects, in order, each with its label. Together they pass no limit.
+    /// The objects, in order, each with its label. Together they pass no limit. (own choice)
     pub fn entries(&self) -> &[Entry]
         ensures value { result.now ≡ self.now.entries }
         ensures objects { AllByRecursion IsObject (objects self.now.entries) }
@@ -209,7 +209,7 @@ impl Session {
         &self.entries
     }
 
-    /// The cells of the merged text, in words.
+    /// The cells of the merged text, in words. (own choice)
     pub fn text_cells(&self) -> &[Cell]
         ensures value { result.now ≡ (image_of self.now).text_cells }
         ensures short { 2 * length result.now ≤ 65534 }
@@ -217,7 +217,7 @@ impl Session {
         &self.image.text_cells
     }
 
-    /// The cells of the merged data, in words.
+    /// The cells of the merged data, in words. (own choice)
     pub fn data_cells(&self) -> &[Cell]
         ensures value { result.now ≡ (image_of self.now).data_cells }
         ensures short { 2 * length result.now ≤ 65534 }
@@ -225,7 +225,7 @@ impl Session {
         &self.image.data_cells
     }
 
-    /// The size of the merged bss in bytes, without commons.
+    /// The size of the merged bss in bytes, without commons. (own choice)
     pub fn bss_total(&self) -> u16
         ensures value { result ≡ (image_of self.now).bss_total }
         ensures small { result ≤ 65534 }
@@ -233,7 +233,7 @@ impl Session {
         self.image.bss_total
     }
 
-    /// The external with this index, by first mention: its name, and what is known of it.
+    /// The external with this index, by first mention: its name, and what is known of it. (ld(1))
     pub fn external(&self, index: u16) -> Option<(Name, State)>
         ensures { result ≡ slice_get (image_of self.now).externals index }
     {
@@ -243,14 +243,14 @@ impl Session {
         }
     }
 
-    /// How many externals there are.
+    /// How many externals there are. (ld(1))
     pub fn external_count(&self) -> u16
         ensures { result ≡ length (image_of self.now).externals }
     {
         self.image.externals.len() as u16
     }
 
-    /// The index of an external name.
+    /// The index of an external name. (ld(1))
     pub fn find(&self, name: &Name) -> Option<u16>
         ensures { result ≡ position (bytes_eq name.now) (externals self.now.forced (objects self.now.entries)) }
     {
@@ -261,13 +261,14 @@ impl Session {
     }
 
     /// The names that are multiply defined: one for each symbol whose definition differs from the first of its name.
+    /// (ld(1))
     pub fn multiples(&self) -> &[Name]
         ensures { result.now ≡ (image_of self.now).multiples }
     {
         &self.image.multiples
     }
 
-    /// What the addition of the last object overwrote; empty without objects.
+    /// What the addition of the last object overwrote; empty without objects. (own choice)
     pub fn last_marks(&self) -> &[Mark]
         ensures value { result.now ≡ newest self.now.journal }
         ensures journal { IsJournal self.now.forced (objects self.now.entries) self.now.journal }

@@ -8,7 +8,7 @@ use Rattle.std.specs.List.{AllByRecursion}
 use Rattle.aout_core.specs.Wires.{Latched}
 use Rattle.aout_core.specs.Contents.{Contents}
 use Rattle.v7tools.specs.Deeds.{Deed, History, Extends, opened, opens, paths_of, stored}
-use Rattle.v7tools.specs.declared.link_answers.Stored.{Stored}
+use Rattle.v7tools.specs.declared.office.Stored.{Stored}
 use Rattle.v7tools.specs.parts.Openings.{sources}
 use Rattle.v7tools.specs.LinkRuns.{StopsAt}
 

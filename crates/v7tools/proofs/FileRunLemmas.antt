@@ -1,36 +1,22 @@
 -- Files that are read and stored one after another, and lists of them, from their parts.
 use Rattle.std.specs.declared.alloc.Global.{Global}
-use Rattle.std.proofs.Common.{◌≡◌, ℕ, List, [], ◌∷◌, ◌++◌, map, Option, Some, None, Result, Ok, Err, refl, sym, ap, ◌∙◌, subst, inr}
+use Rattle.std.proofs.Common.{◌≡◌, ℕ, List, [], ◌∷◌, ◌++◌, map, Option, Some, Ok, Err, refl, sym, ap, ◌∙◌, subst, inr}
 use Rattle.std.specs.Prelude.{String, string_bytes, IfSome}
 use Rattle.aout_core.specs.Contents.{Contents}
 use Rattle.aout_core.specs.Front.{front}
-use Rattle.aout_core.specs.Reading.{IsReadOf, LeavesAfter}
 use Rattle.aout_core.specs.Strip.{stripped}
 use Rattle.v7tools.specs.Deeds.{Deed, History, Extends, Opened, opened, stored}
-use Rattle.v7tools.specs.FileRuns.{AreRead, IsKept, IsLoadAt, IsStripping, Loaded, Reads, ReadsNotAll, strips}
-use Rattle.v7tools.specs.Loads.{read_of}
+use Rattle.v7tools.specs.FileRuns.{AreRead, IsStored, IsLoadAt, IsStripping, Loaded, Reads, ReadsNotAll, strips}
 use Rattle.v7tools.specs.declared.fault.CliFault.{CliFault}
-use Rattle.v7tools.specs.declared.link_answers.Stored.{Stored}
-use Rattle.v7tools.specs.declared.link_answers.Stored.TheVariants.{Kept, NotCreated, Failed}
-use Rattle.v7tools.proofs.DeedLemmas.{asked_behind, map-append, nothing_asked, one_more}
-
--- what a reader answered of known bytes
-abbrev Told : Option (List ℕ) → Option (List ℕ) → Result Loaded CliFault → Type 0
-Told known left r = IfSome known (λ bytes. IsReadOf (read_of r) bytes × LeavesAfter (read_of r) bytes left)
-
-told_alone : (P Q : List ℕ → Type 0) (known : Option (List ℕ)) → IfSome known (λ bytes. P bytes × Q bytes) → IfSome known P
-told_alone P Q None h = tt
-told_alone P Q (Some bytes) h = h.0
+use Rattle.v7tools.specs.declared.office.Stored.{Stored}
+use Rattle.v7tools.specs.declared.office.Stored.TheVariants.{Written, NotCreated, Failed}
+use Rattle.v7tools.proofs.DeedLemmas.{asked_behind, map-append, one_more}
 
 read_behind : (found : List Opened) (loaded : List Loaded) (known : Option (List ℕ)) (l : Loaded) → AreRead found loaded → IfSome known (λ bytes. front bytes ≡ Ok l.1) → AreRead (found ++ (string_bytes l.0, known) ∷ []) (loaded ++ l ∷ [])
 read_behind [] [] known l h k = ((refl, k), tt)
 read_behind [] (m ∷ ms) known l h k = absurd h
 read_behind (f ∷ fs) [] known l h k = absurd h
 read_behind (f ∷ fs) (m ∷ ms) known l h k = (h.0, read_behind fs ms known l h.1 k)
-
--- nothing is read yet
-pub reads_none : (a : History) → Reads a a []
-reads_none a = record { found = []; read = tt; asked = nothing_asked a }
 
 -- one more file is read
 pub reads_more : (a b c : History) (loaded : List Loaded) (path : String Global) (l : Loaded) → Reads a b loaded → IsLoadAt b c path (Ok l) → Reads a c (loaded ++ l ∷ [])
@@ -62,17 +48,17 @@ stops_reading a b c files left later loaded path fault h order e k = inr (record
 -- ---- strip
 
 abbrev pub strips_all : List Loaded → List Deed
-strips_all loaded = map (λ l. strips l Kept) loaded
+strips_all loaded = map (λ l. strips l Written) loaded
 
 -- one more file is stored
-pub strips_more : (a b c : History) (done : List Loaded) (l : Loaded) (what : Stored) → Extends a b (strips_all done) → Extends b c (strips l what ∷ []) → IsKept l.0 what (Ok tt) → Extends a c (strips_all (done ++ l ∷ []))
-strips_more a b c done l Kept h k is = subst (Extends a c) (sym (map-append _ done (l ∷ []))) (asked_behind a b c _ _ h k)
+pub strips_more : (a b c : History) (done : List Loaded) (l : Loaded) (what : Stored) → Extends a b (strips_all done) → Extends b c (strips l what ∷ []) → IsStored l.0 what (Ok tt) → Extends a c (strips_all (done ++ l ∷ []))
+strips_more a b c done l Written h k is = subst (Extends a c) (sym (map-append _ done (l ∷ []))) (asked_behind a b c _ _ h k)
 strips_more a b c done l NotCreated h k is = absurd (cc)
 strips_more a b c done l Failed h k is = absurd (cc)
 
 -- one is not stored
 pub stops_storing : (a b c : History) (loaded done left later : List Loaded) (l : Loaded) (what : Stored) (fault : CliFault) → loaded ≡ done ++ left → left ≡ l ∷ later → Extends a b (strips_all done) → Extends b c (strips l what ∷ []) →
-    IsKept l.0 what (Err fault) → IsStripping a c loaded (Err fault)
+    IsStored l.0 what (Err fault) → IsStripping a c loaded (Err fault)
 stops_storing a b c loaded done left later l what fault order e h k is = record {
   front = done;
   last = l;

@@ -4,7 +4,7 @@ use Rattle.std.specs.declared.alloc.Global.{Global}
 use Rattle.std.specs.Prelude.{IfErr, IfOk, IsErr, IsTrue, ◌↔◌, String, string_bytes}
 use Rattle.std.specs.Io.KnownBytes.{Appends, Keeps}
 use Rattle.std.proofs.KnownBytes.{Appends-kept}
-use Rattle.aout_core.specs.Wires.{AppendsFront, Latched, Puts}
+use Rattle.aout_core.specs.Wires.{AppendsPrefix, Latched, Puts}
 use Rattle.link_session.specs.Edits.{last_of}
 use Rattle.link_session.specs.Labelled.{Labelled, objects}
 use Rattle.link_session.specs.Undo.{Kept}
@@ -27,7 +27,7 @@ use Rattle.v7tools.specs.declared.commands.Step.{Step}
 use Rattle.v7tools.specs.declared.commands.Command.TheVariants.{Add, Withdraw, Externals, Undefined, Link, Bad}
 use Rattle.v7tools.specs.declared.fault.CliFault.{CliFault}
 use Rattle.v7tools.specs.declared.fault.CliFault.TheVariants as faults
-use Rattle.v7tools.specs.declared.link_answers.Stored.{Stored}
+use Rattle.v7tools.specs.declared.office.Stored.{Stored}
 use Rattle.v7tools.proofs.DeedLemmas.{nothing_asked}
 use Rattle.v7tools.proofs.StepLemmas.{link_refused_by, no_value, refused_as}
 use Rattle.aout_core.proofs.PutsLemmas.{put_broke_off}
@@ -76,7 +76,7 @@ module _ {R : Type 0} (remaining : R → Option (List ℕ)) where
 
 module _ {W : Type 0} (contents : W → Option (List ℕ)) where
   -- an answer of which a prefix went out
-  broke_off : (v : Verdict) (answer : List ℕ) (fault : CliFault) (before after : Latched W) → GoesOut contents v answer (Err fault) before after → IsTrue after.has_failed × AppendsFront (contents before.device) (contents after.device) answer
+  broke_off : (v : Verdict) (answer : List ℕ) (fault : CliFault) (before after : Latched W) → GoesOut contents v answer (Err fault) before after → IsTrue after.has_failed × AppendsPrefix (contents before.device) (contents after.device) answer
   broke_off done answer fault before after h = (h.fault.0 refl, h.bytes)
   broke_off refused answer fault before after h = (h.fault.0 refl, h.bytes)
   broke_off (to_store x) answer fault before after h = absurd (cc)
@@ -201,7 +201,7 @@ module _ {W : Type 0} (contents : W → Option (List ℕ)) where
     }
 
   -- the whole answer is behind a flush that failed
-  pub not_passed : (a b c : Option (List ℕ)) (answer : List ℕ) → Appends a b answer → Keeps b c → AppendsFront a c answer
+  pub not_passed : (a b c : Option (List ℕ)) (answer : List ℕ) → Appends a b answer → Keeps b c → AppendsPrefix a c answer
   not_passed a b c answer sent kept = (answer, [], sym (append-nil answer), Appends-kept a b c answer sent kept)
 
   -- a line was answered, and its answer is not passed on

@@ -12,7 +12,7 @@ use Rattle.v7tools.specs.parts.Openings.{sources, IsOpening, OpensAll}
 use Rattle.v7tools.specs.LinkRuns.{all_told, IsLinkOfFiles, IsLinkRun, ReportsIf}
 use Rattle.v7tools.specs.declared.fault.CliFault.{CliFault}
 use Rattle.v7tools.specs.declared.fault.CliFault.TheVariants as faults
-use Rattle.v7tools.specs.declared.link_answers.Stored.{Stored}
+use Rattle.v7tools.specs.declared.office.Stored.{Stored}
 use Rattle.v7tools.proofs.DeedLemmas.{asked_behind, paths_opened}
 
 module _ {R : Type 0} (remaining : R → Option (List ℕ)) where

@@ -7,7 +7,7 @@ use Rattle.std.proofs.KnownBytes.{Appends-trans}
 use Rattle.std.proofs.lemmas.Grind.{flat_map-append}
 use Rattle.std.proofs.lemmas.List.{take_more, take_all}
 use Rattle.std.proofs.lemmas.Option.{slice_get_within, get_or_from_slice_get}
-use Rattle.aout_core.specs.Wires.{AppendsFront}
+use Rattle.aout_core.specs.Wires.{AppendsPrefix}
 use Rattle.aout_core.proofs.PutsLemmas.{front_of_row}
 use Rattle.link_session.specs.Image.{named_states}
 use Rattle.link_session.specs.Labelled.{Labelled, objects}
@@ -33,7 +33,7 @@ sent_next spelling items i item a b c at sent next =
 
 -- of the next text a prefix went out
 pub stops_next : {A : Type 0} (spelling : A → List ℕ) (items : List A) (i : ℕ) (item : A) (a b c : Option (List ℕ)) → slice_get items i ≡ Some item →
-    Appends a b (flat_map spelling (take i items)) → AppendsFront b c (spelling item) → AppendsFront a c (flat_map spelling items)
+    Appends a b (flat_map spelling (take i items)) → AppendsPrefix b c (spelling item) → AppendsPrefix a c (flat_map spelling items)
 stops_next spelling items i item a b c at sent next =
     front_of_row spelling items i item a b c (slice_get_within items i item at) (is_at items i item at) sent next
 

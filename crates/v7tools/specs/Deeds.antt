@@ -4,7 +4,7 @@
 -- to be stored, and whether it was. The list of these deeds, in order, is what a command did.
 use Rattle.std.specs.Prelude.{◌≡◌, ℕ, List, ◌++◌, map, Option, Some, None, ⊤}
 use Rattle.aout_core.specs.Contents.{Contents}
-use Rattle.v7tools.specs.declared.link_answers.Stored.{Stored}
+use Rattle.v7tools.specs.declared.office.Stored.{Stored}
 
 -- a file could not be opened (`None`), or was, and its bytes are told where they are known; or a file was to be stored
 pub data Deed : Type 0 where

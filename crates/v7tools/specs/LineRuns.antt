@@ -12,7 +12,7 @@ use Rattle.v7tools.specs.Answers.{absent, failing, adding, withdrawing, listing_
 use Rattle.v7tools.specs.Deeds.{Deed, opened, stored}
 use Rattle.v7tools.specs.Scripts.{Asked, to_add, to_withdraw, for_externals, for_undefined, to_link, for_nothing}
 use Rattle.v7tools.specs.Steps.{AddsIf, IsAddOn, IsLinkBy, WithdrawsIf, without_memory}
-use Rattle.v7tools.specs.declared.link_answers.Stored.{Stored}
+use Rattle.v7tools.specs.declared.office.Stored.{Stored}
 
 -- a line: what it asked for, what it asked of the office, its answer, its status, and what is kept behind it
 pub record LineRun : Type 0 where

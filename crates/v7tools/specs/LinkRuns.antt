@@ -1,6 +1,6 @@
 -- What ld does: what it opens, what it stores, what it writes, and its status. (ld(1); the order of these: own choice)
 --
--- All inputs are opened before any is read. Only a link is stored, and only what was stored is reported.
+-- All inputs are opened, whatever they hold, or the first that can't be is the fault. Only a link is stored, and only what was stored is reported.
 use Rattle.std.specs.declared.alloc.Global.{Global}
 use Rattle.std.specs.Prelude.{◌≡◌, ◌↔◌, ◌⊎◌, ℕ, List, [], ◌∷◌, ◌++◌, Option, Some, None, Result, Ok, Err, IfErr, IfOk, IfSome, IsErr, IsTrue, String, string_bytes}
 use Rattle.aout_core.specs.Wires.{Latched, Puts}
@@ -12,8 +12,8 @@ use Rattle.v7tools.specs.Deeds.{History, Extends, Opened, opened, opens, paths_o
 use Rattle.v7tools.specs.LinkAnswers.{and_told, IsLinkOf, IsPossible, said_by}
 use Rattle.v7tools.specs.declared.fault.CliFault.{CliFault}
 use Rattle.v7tools.specs.declared.fault.CliFault.TheVariants as faults
-use Rattle.v7tools.specs.declared.link_answers.Stored.{Stored}
-use Rattle.v7tools.specs.declared.link_answers.Stored.TheVariants.{Kept, NotCreated, Failed}
+use Rattle.v7tools.specs.declared.office.Stored.{Stored}
+use Rattle.v7tools.specs.declared.office.Stored.TheVariants.{Written, NotCreated, Failed}
 
 -- the files were opened one after another up to the one at this path, which can't be
 pub record StopsAt (old new : History) (files : List (List ℕ)) (path : List ℕ) : Type 0 where
@@ -41,7 +41,7 @@ pub record Reports {W : Type 0} (contents : W → Option (List ℕ)) (f : Findin
 
 -- the report goes out only where the file is stored
 abbrev pub ReportsIf : {W : Type 0} → (W → Option (List ℕ)) → Stored → String Global → Findings → Result ℕ CliFault → Latched W → Latched W → Type 0
-ReportsIf contents Kept out f result before after = Reports contents f result before after
+ReportsIf contents Written out f result before after = Reports contents f result before after
 ReportsIf contents NotCreated out f result before after = (result ≡ Err (faults.CannotCreate out)) × (after ≡ before)
 ReportsIf contents Failed out f result before after = (result ≡ Err faults.WriteFailed) × (after ≡ before)
 

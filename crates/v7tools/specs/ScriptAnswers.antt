@@ -1,7 +1,7 @@
 -- What the reader of a script returns, call by call. (own choice)
 --
 -- Each call returns the next line that the bytes give, or the end, or a fault; the end and a fault are returned for good. What was
--- read and not used waits, and no more is asked of the reader than is needed for the next line.
+-- read and not used waits, less than a block of it, and the reader is asked only where that does not tell the next line.
 use Rattle.std.specs.Prelude.{◌≡◌, ◌≢◌, ◌↔◌, ◌⊎◌, ◌+◌, ◌≤◌, ℕ, cond, eqb, List, [], ◌∷◌, ◌++◌, drop, length, Option, Some, None, Result, Ok, Err, IfSome, IsSome, string_bytes}
 use Rattle.std.specs.Io.KnownBytes.{prepend_known}
 use Rattle.aout_core.specs.Wires.{Latched}

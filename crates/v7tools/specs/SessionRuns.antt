@@ -7,7 +7,6 @@ use Rattle.std.specs.Prelude.{◌≡◌, ◌⊎◌, ℕ, max, List, [], ◌∷�
 use Rattle.std.specs.List.{flat_map}
 use Rattle.std.specs.Io.KnownBytes.{Appends}
 use Rattle.aout_core.specs.Wires.{Latched}
-use Rattle.link_session.specs.Labelled.{objects}
 use Rattle.link_session.specs.Sessions.{nothing_kept}
 use Rattle.link_session.specs.Undo.{Kept}
 use Rattle.link_out.specs.Choices.{Choices}

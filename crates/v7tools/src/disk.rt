@@ -1,7 +1,6 @@
 //! The files of a runtime, as an office. No contract can say what a file gives or takes, so these lines are to be read: a
 //! file is opened and stored at the very path that is asked for.
-use crate::link_answers::Stored;
-use crate::office::Office;
+use crate::office::{Office, Stored};
 use aout_core::{File, Wire, write_file};
 use std::fs;
 use std::rt::{Files, Runtime};
@@ -33,6 +32,6 @@ impl<H: Runtime> Office for Disk<'_, H> {
         if write_file(file, &mut out).is_err() || out.flush().is_err() {
             return Stored::Failed;
         }
-        Stored::Kept
+        Stored::Written
     }
 }

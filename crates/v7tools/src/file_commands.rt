@@ -3,13 +3,12 @@ ghost use Rattle.std.specs.Prelude.{◌≤◌, IfOk};
 ghost use Rattle.symtools.specs.Files.{by_bytes};
 ghost use Rattle.symtools.specs.NmLists.{nm_text};
 ghost use Rattle.symtools.specs.SizeLines.{size_text};
-ghost use Rattle.v7tools.specs.FileRuns.{IsKept, IsListRun, IsLoadAt, IsStripping, IsStripRun, Lists, OnlyWriteFailed, OrMemory};
+ghost use Rattle.v7tools.specs.FileRuns.{IsStored, IsListRun, IsLoadAt, IsStripping, IsStripRun, Lists, OnlyWriteFailed, OrMemory};
 ghost use Rattle.v7tools.specs.parts.Openings.{IsLoading};
 
 use crate::fault::CliFault;
-use crate::link_answers::Stored;
 use crate::loading::load;
-use crate::office::Office;
+use crate::office::{Office, Stored};
 use aout_core::{File, Wire, strip_file};
 use std::alloc::Global;
 use std::io::Write;
@@ -45,7 +44,7 @@ fn load_all<O: Office>(
     Ok(loaded)
 }
 
-/// Writes the names in the files. What is listed before memory runs out is written too.
+/// Writes the list of the files' symbols. What is listed before memory runs out is written too.
 fn put_names<W: Write>(
     alloc: Global,
     options: NmOptions,
@@ -71,7 +70,7 @@ fn put_sizes<W: Write>(files: &[(String, File)], output: &mut Wire<W>) -> Result
     Ok(0)
 }
 
-/// Lists the names in the files.
+/// Lists the symbols of the files.
 pub(crate) fn list_files<O: Office, W: Write>(
     alloc: Global,
     office: &mut O,
@@ -101,11 +100,11 @@ pub(crate) fn size_files<O: Office, W: Write>(
 }
 
 /// The fault where a file is not stored.
-fn kept(path: String, stored: Stored) -> Result<(), CliFault>
-    ensures { IsKept path stored result }
+fn check_stored(path: String, stored: Stored) -> Result<(), CliFault>
+    ensures { IsStored path stored result }
 {
     match stored {
-        Stored::Kept => Ok(()),
+        Stored::Written => Ok(()),
         Stored::NotCreated => Err(CliFault::CannotCreate(path)),
         Stored::Failed => Err(CliFault::WriteFailed),
     }
@@ -118,7 +117,7 @@ fn store_stripped<O: Office>(office: &mut O, loaded: Vec<(String, File)>) -> Res
 {
     for (path, file) in loaded {
         let stored = office.store(path.as_str(), &strip_file(file));
-        kept(path, stored)?;
+        check_stored(path, stored)?;
     }
     Ok(0)
 }

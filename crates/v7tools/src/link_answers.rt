@@ -9,21 +9,11 @@ ghost use Rattle.v7tools.specs.FaultTexts.{at_file};
 
 use crate::fault::CliFault;
 use crate::fault_text::says_of;
+use crate::office::Stored;
 use aout_core::{DeviceFault, Wire};
 use itoa::Buffer;
 use link_out::Linked;
 use std::io::Write;
-
-/// What became of the file of a link. (own choice)
-#[derive(Clone, Copy, Debug, PartialEq, Eq)]
-pub enum Stored {
-    /// It is written whole.
-    Kept,
-    /// No file can be made at its path.
-    NotCreated,
-    /// Its device failed while it was written.
-    Failed,
-}
 
 /// Writes a path, what is said of it, and a newline.
 fn put_path_line<W: Write>(path: &str, text: &str, answers: &mut Wire<W>) -> Result<(), DeviceFault>
@@ -63,7 +53,7 @@ fn put_link_answer<W: Write>(
     ensures { Writes W.contents result answers.old answers.new (link_answer_text (findings_of linked.now.report) path.now stored) }
 {
     match stored {
-        Stored::Kept => {
+        Stored::Written => {
             linked.report.write(answers)?;
             put_linked_line(path, linked.report.status(), answers)
         }
@@ -89,7 +79,7 @@ pub fn link_answer<W: Write>(
 {
     put_link_answer(linked, path, stored, answers)?;
     Ok(match stored {
-        Stored::Kept => linked.report.status(),
+        Stored::Written => linked.report.status(),
         Stored::NotCreated | Stored::Failed => 1,
     })
 }

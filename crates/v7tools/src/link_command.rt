@@ -5,9 +5,8 @@ ghost use Rattle.v7tools.specs.LinkRuns.{IsLinkRun, Reports, ReportsIf};
 ghost use Rattle.v7tools.specs.parts.Openings.{IsOpening};
 
 use crate::fault::CliFault;
-use crate::link_answers::Stored;
 use crate::linking::ld;
-use crate::office::Office;
+use crate::office::{Office, Stored};
 use aout_core::Wire;
 use link_out::{Linked, Options, Report};
 use link_session::Forced;
@@ -53,7 +52,7 @@ fn report_stored<W: Write>(
     ensures run { ReportsIf W.contents stored out (findings_of report.now) result output.old output.new }
 {
     match stored {
-        Stored::Kept => put_report(report, output),
+        Stored::Written => put_report(report, output),
         Stored::NotCreated => Err(CliFault::CannotCreate(out)),
         Stored::Failed => Err(CliFault::WriteFailed),
     }

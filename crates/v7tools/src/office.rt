@@ -3,9 +3,19 @@ ghost use Rattle.std.specs.Prelude.{[], ◌∷◌, List, None, Option};
 ghost use Rattle.std.specs.Option.{option_map};
 ghost use Rattle.v7tools.specs.Deeds.{Deed, Extends, opened, stored};
 
-use crate::link_answers::Stored;
 use aout_core::File;
 use std::io::Read;
+
+/// What became of a file that was to be stored. (own choice)
+#[derive(Clone, Copy, Debug, PartialEq, Eq)]
+pub enum Stored {
+    /// It is written whole.
+    Written,
+    /// No file can be made at its path.
+    NotCreated,
+    /// Its device failed while it was written.
+    Failed,
+}
 
 /// The files of a command, by their paths. Its `history` lists what it was asked, where that is known. (own choice)
 pub trait Office {
@@ -14,11 +24,11 @@ pub trait Office {
 
     ghost history: { Self → Option (List Deed) } = { λ _. None };
 
-    /// Opens the file at a path; `None` where there is none, or it may not be read.
+    /// Opens the file at a path; `None` where there is none, or it may not be read. (own choice)
     fn open(&mut self, path: &str) -> Option<Self::Source>
         ensures { Extends (history self.old) (history self.new) (opened path.now (option_map Self.Source.remaining result) ∷ []) };
 
-    /// Makes a file at a path, or empties the one that is there, and writes it; returns what became of it.
+    /// Makes a file at a path, or empties the one that is there, and writes it; returns what became of it. (own choice)
     fn store(&mut self, path: &str, file: &File) -> Stored
         ensures { Extends (history self.old) (history self.new) (stored path.now file.now result ∷ []) };
 }

@@ -4,7 +4,7 @@ use Rattle.std.specs.Io.KnownBytes.{Appends, Consumes, prepend_known}
 use Rattle.aout_core.specs.declared.file.ReadFault.{ReadFault}
 use Rattle.aout_core.specs.declared.file.ReadFault.TheVariants.{Truncated, Device}
 use Rattle.aout_core.specs.steps.ReadParts.{EndsEarly}
-use Rattle.aout_core.specs.Wires.{AppendsFront}
+use Rattle.aout_core.specs.Wires.{AppendsPrefix}
 
 -- all the bytes went out but those that wait
 abbrev pub AppendsBut : Option (List ℕ) → Option (List ℕ) → List ℕ → List ℕ → Type 0
@@ -12,7 +12,7 @@ AppendsBut old new waiting bytes = (sent : List ℕ) × (bytes ≡ sent ++ waiti
 
 -- all the bytes went out but those that wait, or on a fault a prefix of them
 abbrev pub PutsBut : {T E : Type 0} → Result T E → Option (List ℕ) → Option (List ℕ) → List ℕ → List ℕ → Type 0
-PutsBut result old new waiting bytes = MatchResult result (λ _. AppendsBut old new waiting bytes) (λ _. AppendsFront old new bytes)
+PutsBut result old new waiting bytes = MatchResult result (λ _. AppendsBut old new waiting bytes) (λ _. AppendsPrefix old new bytes)
 
 -- the bytes that were read and not taken, and how many were not read
 pub record Awaited : Type 0 where

@@ -2,7 +2,7 @@ use Rattle.std.proofs.Common.{◌≡◌, ◌++◌, ◌∙◌, ap, subst, rules}
 use Rattle.std.specs.List.{flat_map}
 use Rattle.aout_core.specs.Words.{all_word_bytes}
 use Rattle.aout_core.specs.Spelling.{header_spelling, reloc_spelling, symbol_spelling, spelling}
-use Rattle.aout_core.specs.Wires.{AppendsFront}
+use Rattle.aout_core.specs.Wires.{AppendsPrefix}
 use Rattle.aout_core.specs.steps.Blocks.{AppendsBut}
 use Rattle.aout_core.proofs.PutsLemmas.{writes_in_part}
 use Rattle.aout_core.proofs.OutgoingLemmas.{put_at_last}
@@ -16,7 +16,7 @@ returns-in_err-put g c =
     let b = g.W.Write.contents c.put.new.wire.device in
     let header : c.new-outgoing.result ++ c.to_bytes.result ≡ header_spelling f.header = ap (λ l. l ++ c.to_bytes.result) c.new-outgoing.ensures ∙ c.to_bytes.ensures ∙ ap header_spelling c.header.ensures.value in
     writes_in_part c.from_residual.ensures.0 (search rules) (search rules)
-    (broke_in_header f a b (subst (AppendsFront a b) header c.in_err-put.ensures.bytes))
+    (broke_in_header f a b (subst (AppendsPrefix a b) header c.in_err-put.ensures.bytes))
 
 pub returns-in_err-put_both : goal.returns-in_err-put_both
 returns-in_err-put_both g c =
@@ -29,7 +29,7 @@ returns-in_err-put_both g c =
     let words : all_word_bytes c.text_words.result.now ++ all_word_bytes c.data_words.result.now ≡ segments f =
     ap (λ ws. all_word_bytes ws ++ all_word_bytes c.data_words.result.now) c.text_words.ensures.value ∙ ap (λ ws. all_word_bytes f.text_words ++ all_word_bytes ws) c.data_words.ensures.value in
     writes_in_part c.from_residual-in_err-put_both.ensures.0 (search rules) (search rules)
-    (broke_in_segments f a b d c.put.new.self sent_header (subst (λ l. AppendsFront b d (c.put.new.self ++ l)) words c.in_err-put_both.ensures.bytes))
+    (broke_in_segments f a b d c.put.new.self sent_header (subst (λ l. AppendsPrefix b d (c.put.new.self ++ l)) words c.in_err-put_both.ensures.bytes))
 
 pub returns-in_err-put_both-2 : goal.returns-in_err-put_both-2
 returns-in_err-put_both-2 g c =
@@ -46,7 +46,7 @@ returns-in_err-put_both-2 g c =
     let relocs : reloc_spelling c.text_reloc.result.now ++ reloc_spelling c.data_reloc.result.now ≡ relocation f =
     ap (λ rs. reloc_spelling rs ++ reloc_spelling c.data_reloc.result.now) c.text_reloc.ensures.value ∙ ap (λ rs. reloc_spelling f.text_reloc ++ reloc_spelling rs) c.data_reloc.ensures.value in
     writes_in_part c.from_residual-in_err-put_both-2.ensures.0 (search rules) (search rules)
-    (broke_in_relocation f a d e c.put_both.new.outgoing sent_words (subst (λ l. AppendsFront d e (c.put_both.new.outgoing ++ l)) relocs c.in_err-put_both-2.ensures.bytes))
+    (broke_in_relocation f a d e c.put_both.new.outgoing sent_words (subst (λ l. AppendsPrefix d e (c.put_both.new.outgoing ++ l)) relocs c.in_err-put_both-2.ensures.bytes))
 
 pub returns-in_err-put_items : goal.returns-in_err-put_items
 returns-in_err-put_items g c =
@@ -66,7 +66,7 @@ returns-in_err-put_items g c =
     let h = g.W.Write.contents c.put_items.new.wire.device in
     let table : flat_map symbol_spelling c.symbols.result.now ≡ flat_map symbol_spelling f.symbols = ap (flat_map symbol_spelling) c.symbols.ensures.value in
     writes_in_part c.from_residual-in_err-put_items.ensures.0 (search rules) (search rules)
-    (broke_in_table f a e h c.put_both-2.new.outgoing sent_relocs (subst (λ l. AppendsFront e h (c.put_both-2.new.outgoing ++ l)) table c.in_err-put_items.ensures.bytes))
+    (broke_in_table f a e h c.put_both-2.new.outgoing sent_relocs (subst (λ l. AppendsPrefix e h (c.put_both-2.new.outgoing ++ l)) table c.in_err-put_items.ensures.bytes))
 
 pub returns : goal.returns
 returns g c =

@@ -2,7 +2,7 @@ use Rattle.std.proofs.Common.{◌++◌, ◌∷◌, [], ◌∙◌, if◌then◌el
 use Rattle.std.specs.List.{flat_map}
 use Rattle.std.specs.Io.KnownBytes.{Appends}
 use Rattle.std.proofs.KnownBytes.{Appends-trans}
-use Rattle.aout_core.specs.Wires.{AppendsFront}
+use Rattle.aout_core.specs.Wires.{AppendsPrefix}
 use Rattle.aout_core.specs.declared.symbol.Symbol.{Symbol}
 use Rattle.symtools.specs.SymbolLines.{symbol_line}
 use Rattle.aout_core.proofs.PutsLemmas.{front_before, front_behind, put_broke_off}
@@ -15,7 +15,7 @@ returns-in_err-put_front-clause-bytes g c =
 pub returns-in_err-put_lines-clause-bytes : goal.returns-in_err-put_lines-clause-bytes
 returns-in_err-put_lines-clause-bytes g c =
     let text = λ (s : Symbol). (if c.args.options.each_line then c.args.path.now ++ 58 ∷ [] else []) ++ symbol_line s in
-    let lines = subst (AppendsFront _ _) (ap (flat_map text) (c.deref.ensures.value ∙ c.in_ok-symbols.ensures.ok)) c.in_err-put_lines.ensures.bytes in
+    let lines = subst (AppendsPrefix _ _) (ap (flat_map text) (c.deref.ensures.value ∙ c.in_ok-symbols.ensures.ok)) c.in_err-put_lines.ensures.bytes in
     put_broke_off c.from_residual-in_err-put_lines.result _ _ _ c.from_residual-in_err-put_lines.ensures.0 (front_behind _ _ _ _ _ c.in_ok-put_front.ensures.bytes lines)
 
 pub returns-clause-bytes : goal.returns-clause-bytes

@@ -1,7 +1,7 @@
 use Rattle.std.proofs.Common.{◌++◌, ◌∷◌, [], if◌then◌else◌, length, subst, take_all, filter, ap, ◌∙◌}
 use Rattle.std.specs.List.{flat_map}
 use Rattle.std.specs.Io.KnownBytes.{Appends}
-use Rattle.aout_core.specs.Wires.{AppendsFront}
+use Rattle.aout_core.specs.Wires.{AppendsPrefix}
 use Rattle.symtools.specs.SymbolLines.{symbol_line}
 use Rattle.symtools.specs.NmLists.{is_shown, arranged}
 use Rattle.aout_core.proofs.PutsLemmas.{front_of_row, put_broke_off}
@@ -16,12 +16,12 @@ returns-in_err-list_file-clause-bytes g c =
     let path = c.deref.ensures in
     let table = c.symbols.ensures.value in
     let headed = c.loop-path.invariant.1 in
-    let entry = subst (AppendsFront _ _)
+    let entry = subst (AppendsPrefix _ _)
     (λ i. (if headed i then path i ++ 58 ∷ 10 ∷ [] else [])
     ++ flat_map (λ s. (if o.each_line then path i ++ 58 ∷ [] else []) ++ symbol_line s) (arranged o (filter (is_shown o) (table i))))
     c.in_err-list_file.ensures.bytes in
     put_broke_off c.from_residual.result _ _ _ c.from_residual.ensures.0
-    (subst (AppendsFront _ _) (nm_text-listed o files)
+    (subst (AppendsPrefix _ _) (nm_text-listed o files)
     (front_of_row (listed o (length files)) files c.loop-path.path-index c.loop-path-item.result _ _ _ c.loop-path-test.true c.loop-path-item.is c.loop-path.invariant.2 entry))
 
 pub loop-path-preserved : goal.loop-path-preserved

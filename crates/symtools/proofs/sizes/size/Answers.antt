@@ -1,7 +1,7 @@
 use Rattle.std.proofs.Common.{rules, ◌++◌, ◌∷◌, [], if◌then◌else◌, nat_lt, length, subst, take_all, ap, ◌∙◌}
 use Rattle.std.specs.List.{flat_map}
 use Rattle.std.specs.Io.KnownBytes.{Appends}
-use Rattle.aout_core.specs.Wires.{AppendsFront}
+use Rattle.aout_core.specs.Wires.{AppendsPrefix}
 use Rattle.symtools.specs.SizeLines.{size_line}
 use Rattle.aout_core.proofs.PutsLemmas.{front_of_row, writes_in_part}
 use Rattle.symtools.proofs.PutsLemmas.{row_more}
@@ -13,9 +13,9 @@ returns-in_err-put_size-clause-written g c =
     let files = c.args.files.now in
     let path = c.deref.ensures in
     let header = c.header.ensures.value in
-    let entry = subst (AppendsFront _ _) (λ i. (if nat_lt 1 (length files) then path i ++ 58 ∷ 32 ∷ [] else []) ++ size_line (header i) ++ 10 ∷ []) c.in_err-put_size.ensures.bytes in
+    let entry = subst (AppendsPrefix _ _) (λ i. (if nat_lt 1 (length files) then path i ++ 58 ∷ 32 ∷ [] else []) ++ size_line (header i) ++ 10 ∷ []) c.in_err-put_size.ensures.bytes in
     writes_in_part c.from_residual.ensures.0 (search rules) (search rules)
-    (subst (AppendsFront _ _) (size_text-sized files)
+    (subst (AppendsPrefix _ _) (size_text-sized files)
     (front_of_row (sized (length files)) files c.loop-path.path-index c.loop-path-item.result _ _ _ c.loop-path-test.true c.loop-path-item.is c.loop-path.invariant.1 entry))
 
 pub loop-path-preserved : goal.loop-path-preserved

@@ -1,7 +1,7 @@
 use Rattle.std.proofs.Common.{ℕ, List, ◌∙◌, sym, subst, arith, rules}
 use Rattle.std.specs.Io.KnownBytes.{Appends}
 use Rattle.aout_core.specs.declared.symbol.Symbol.{Symbol}
-use Rattle.aout_core.specs.Wires.{AppendsFront}
+use Rattle.aout_core.specs.Wires.{AppendsPrefix}
 use Rattle.aout_core.proofs.PutsLemmas.{writes_in_part}
 use Rattle.link_session.specs.declared.state.State.{State}
 use Rattle.link_session.specs.Undo.{image_of}
@@ -19,7 +19,7 @@ returns-in_err-line g c =
     let entry = c.unwrap-name.result in
     writes_in_part c.from_residual.ensures.0 (search rules) (search rules)
     (stops_next spelling (image_of c.args.session.now).externals c.loop-index.index (entry.0, entry.1) old mid new (sym c.external.ensures ∙ c.unwrap-name.ensures) c.loop-index.invariant.gone
-    (subst (λ (s : Symbol). AppendsFront mid new (symbol_line s)) c.entry_of.ensures c.in_err-line.ensures.bytes))
+    (subst (λ (s : Symbol). AppendsPrefix mid new (symbol_line s)) c.entry_of.ensures c.in_err-line.ensures.bytes))
 
 pub loop-index-preserved : goal.loop-index-preserved
 loop-index-preserved g c =

@@ -1,6 +1,6 @@
 use Rattle.std.proofs.Common.{◌∙◌, sym, subst, arith, rules}
 use Rattle.std.specs.Io.KnownBytes.{Appends}
-use Rattle.aout_core.specs.Wires.{AppendsFront}
+use Rattle.aout_core.specs.Wires.{AppendsPrefix}
 use Rattle.aout_core.proofs.PutsLemmas.{writes_in_part}
 use Rattle.link_session.specs.Undo.{image_of}
 use Rattle.v7tools.specs.parts.StepParts.{missing_line}
@@ -15,7 +15,7 @@ returns-in_err-put_if_missing g c =
     let new = g.W.Write.contents c.put_if_missing.new.answers.device in
     let entry = c.unwrap-name.result in
     writes_in_part c.from_residual.ensures.0 (search rules) (search rules)
-    (subst (AppendsFront old new) (missing-text s.forced s.entries)
+    (subst (AppendsPrefix old new) (missing-text s.forced s.entries)
     (stops_next missing_line (image_of s).externals c.loop-index.index (entry.0, entry.1) old mid new (sym c.external.ensures ∙ c.unwrap-name.ensures) c.loop-index.invariant.gone c.in_err-put_if_missing.ensures.bytes))
 
 pub loop-index-preserved : goal.loop-index-preserved

@@ -1,4 +1,4 @@
-use Rattle.std.proofs.Common.{◌≡◌, ℕ, List, [], ◌≤◌, None, length, map, replicate, sym, ap, ◌∙◌, subst, arith, rules}
+use Rattle.std.proofs.Common.{◌≡◌, [], ◌≤◌, None, length, map, replicate, sym, ap, subst, rules}
 use Rattle.link_session.specs.Mentions.{forced_mention}
 use Rattle.link_session.specs.steps.Additions.{all_mentioned}
 use Rattle.link_session.specs.steps.Threads.{Threads}
