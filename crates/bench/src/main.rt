@@ -176,7 +176,8 @@ fn main(rt: HostRuntime) -> Result<()> {
     let words = words(&rt)?;
     match words.as_slice() {
         [] => run_small(&rt),
-        [kind, objects, times, ..] => repeat_as_told(&rt, kind, objects, times),
-        _ => run_full(&rt),
+        [word] if word.as_str() == "full" => run_full(&rt),
+        [kind, objects, times] => repeat_as_told(&rt, kind, objects, times),
+        _ => Err(anyhow!("usage: bench [full | referring OBJECTS TIMES | defining OBJECTS TIMES]")),
     }
 }

@@ -4,7 +4,7 @@ use crate::add_all;
 use crate::input::{Size, defining, referring};
 use anyhow::{Result, anyhow};
 use aout_core::Object;
-use link_session::{Session, add_and_withdraw};
+use link_session::Session;
 
 /// The object: one that refers to names, or one that defines a name.
 fn repeated(rt: &HostRuntime, size: Size, kind: &str) -> Result<Object> {
@@ -12,6 +12,21 @@ fn repeated(rt: &HostRuntime, size: Size, kind: &str) -> Result<Object> {
         "referring" => referring(rt.alloc(), size, 200),
         "defining" => defining(rt.alloc(), 180),
         _ => Err(anyhow!("neither referring nor defining")),
+    }
+}
+
+/// Adds an object and withdraws it: it comes back with its label.
+fn add_and_withdraw(
+    session: &mut Session,
+    label: String,
+    object: Object,
+) -> Result<(String, Object)> {
+    if let Err(refused) = session.add(label, object) {
+        return Err(anyhow!("{}", refused.cause));
+    }
+    match session.withdraw() {
+        Some(back) => Ok(back),
+        None => Err(anyhow!("nothing to withdraw")),
     }
 }
 
@@ -25,10 +40,7 @@ fn add_and_withdraw_often(
     let mut kept = (label, object);
     for _ in 0..times {
         let (label, object) = kept;
-        kept = match add_and_withdraw(session, label, object) {
-            Ok(back) => back,
-            Err(refused) => return Err(anyhow!("{}", refused.cause)),
-        };
+        kept = add_and_withdraw(session, label, object)?;
     }
     Ok(())
 }

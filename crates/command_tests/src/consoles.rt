@@ -145,10 +145,12 @@ impl<'a, R: Runtime + AllocGlobal> Files for Console<'a, R> {
     }
 
     fn rename(&self, from: &str, to: &str) -> io::Result<()> {
+        ask(self.rt, self.refused, "rename", from)?;
         self.rt.rename(from, to)
     }
 
     fn remove_file(&self, path: &str) -> io::Result<()> {
+        ask(self.rt, self.refused, "remove", path)?;
         self.rt.remove_file(path)
     }
 
@@ -177,6 +179,7 @@ impl<'a, R: Runtime + AllocGlobal> Files for Console<'a, R> {
     }
 
     fn set_permissions(&self, path: &str, permissions: Permissions) -> io::Result<()> {
+        ask(self.rt, self.refused, "change", path)?;
         self.rt.set_permissions(path, permissions)
     }
 

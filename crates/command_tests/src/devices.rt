@@ -12,10 +12,15 @@ pub fn append<R: Files + AllocGlobal>(rt: &R, path: &str, bytes: &[u8]) -> io::R
     file.write_all(bytes)
 }
 
-/// Lists a request, once for all that follow one another and are the same. The last one stands in the file `last`.
-fn list<R: Files + AllocGlobal>(rt: &R, line: &str) -> io::Result<()> {
+/// Whether requests of this word are listed once where they follow one another and are the same.
+fn is_listed_once(word: &str) -> bool {
+    word == "read" || word.starts_with("write")
+}
+
+/// Lists a request. The last one stands in the file `last`.
+fn list<R: Files + AllocGlobal>(rt: &R, word: &str, line: &str) -> io::Result<()> {
     let last = fs::read_to_string(rt, "last")?;
-    if last.as_str() == line {
+    if is_listed_once(word) && last.as_str() == line {
         return Ok(());
     }
     fs::write(rt, "last", line)?;
@@ -30,20 +35,21 @@ pub fn ask<R: Files + AllocGlobal>(
     path: &str,
 ) -> io::Result<()> {
     let line = format!(in rt.alloc(); "{word} {path}\n")?;
-    list(rt, line.as_str())?;
+    list(rt, word, line.as_str())?;
     if line.strip_suffix('\n') == Some(refused) {
         return Err(Error::from(ErrorKind::PermissionDenied));
     }
     Ok(())
 }
 
-/// An open file of a console.
+/// An open file of a console. Its first write is listed as `write`, and those behind it as `write more`.
 #[derive(Drop)]
 pub struct Device<'a, R, F> {
     rt: &'a R,
     refused: &'a str,
     path: String,
     file: F,
+    is_begun: bool,
 }
 
 impl<'a, R: Runtime + AllocGlobal, F: Drop> Device<'a, R, F> {
@@ -53,6 +59,7 @@ impl<'a, R: Runtime + AllocGlobal, F: Drop> Device<'a, R, F> {
             refused,
             path,
             file,
+            is_begun: false,
         }
     }
 
@@ -70,7 +77,9 @@ impl<R: Runtime + AllocGlobal, F: Read + Drop> Read for Device<'_, R, F> {
 
 impl<R: Runtime + AllocGlobal, F: Write + Drop> Write for Device<'_, R, F> {
     fn write(&mut self, buf: &[u8]) -> io::Result<usize> {
-        self.ask("write")?;
+        let word = if self.is_begun { "write more" } else { "write" };
+        self.is_begun = true;
+        self.ask(word)?;
         self.file.write(buf)
     }
 
@@ -85,12 +94,13 @@ impl<R, F: Seek> Seek for Device<'_, R, F> {
     }
 }
 
-impl<R, F: OpenFile> OpenFile for Device<'_, R, F> {
+impl<R: Runtime + AllocGlobal, F: OpenFile + Drop> OpenFile for Device<'_, R, F> {
     fn metadata(&self) -> io::Result<Metadata> {
         self.file.metadata()
     }
 
     fn set_len(&self, size: u64) -> io::Result<()> {
+        self.ask("truncate")?;
         self.file.set_len(size)
     }
 

@@ -110,7 +110,7 @@ pub fn has_bytes(rt: &HostRuntime, path: &str, want: &[u8]) -> bool {
 
 /// Whether the command of a line, one of whose requests is refused, ends with this status, prints this, and these are its
 /// faults. The file `asked` then lists its requests.
-fn runs_refused(
+pub fn runs_refused(
     rt: &HostRuntime,
     line: &str,
     input: &str,
@@ -141,18 +141,8 @@ pub enum Step<'a> {
     Run(&'a str, &'a str, (u8, &'a str, &'a str)),
     /// A file has these bytes.
     Has(&'a str, &'a [u8]),
-    /// Two files have the same bytes.
-    Same(&'a str, &'a str),
     /// There is no such file.
     Lacks(&'a str),
-}
-
-/// Whether two files have the same bytes.
-fn are_same(rt: &HostRuntime, path: &str, other: &str) -> bool {
-    match fs::read(rt, other) {
-        Ok(bytes) => has_bytes(rt, path, &bytes),
-        Err(_) => false,
-    }
 }
 
 /// Takes a step: whether it comes out so.
@@ -161,7 +151,6 @@ fn comes_out(rt: &HostRuntime, step: &Step<'_>) -> bool {
         Step::Put(path, bytes) => fs::write(rt, path, bytes).is_ok(),
         Step::Run(line, input, want) => runs(rt, line, input, want),
         Step::Has(path, bytes) => has_bytes(rt, path, bytes),
-        Step::Same(path, other) => are_same(rt, path, other),
         Step::Lacks(path) => fs::read(rt, path).is_err(),
     }
 }

@@ -6,8 +6,6 @@ mod consoles;
 #[cfg(test)]
 mod devices;
 #[cfg(test)]
-mod examples;
-#[cfg(test)]
 mod folders;
 #[cfg(test)]
 mod forced_names;

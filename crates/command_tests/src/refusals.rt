@@ -1,5 +1,5 @@
 //! Commands that are refused: files that do not fit, are damaged, or can't be opened, read, made or written.
-use crate::folders::{Step, enter_sized, runs, take_all, take_in_folder};
+use crate::folders::{Step, enter_sized, has_bytes, runs, runs_refused, take_all, take_in_folder};
 use aout_core::samples::A_O;
 use fixtures::{TWO_OBJECTS, replaced};
 use std::fs;
@@ -110,4 +110,32 @@ fn damaged_inputs(rt: HostRuntime) -> Result<(), Fail> {
 #[test]
 fn bad_places(rt: HostRuntime) -> Result<(), Fail> {
     take_in_folder(&rt, "bad_places", &BAD_PLACES)
+}
+
+/// An object whose link is a file of 616 bytes, which goes out in two blocks.
+static LONG: [(&str, u16, u16); 1] = [("l.o", 600, 0)];
+
+/// Whether the file `out` is the first block of the file `whole`.
+fn is_first_block(rt: &HostRuntime) -> bool {
+    let Ok(whole) = fs::read(rt, "whole") else {
+        return false;
+    };
+    match whole.get(..512) {
+        Some(block) => whole.len() == 616 && has_bytes(rt, "out", block),
+        None => false,
+    }
+}
+
+/// Whether a link whose second block can't be written ends with a write error.
+fn is_stopped(rt: &HostRuntime) -> bool {
+    let want = (2, "", "v7: write error\n");
+    runs_refused(rt, "ld -o out l.o", "", "write more out", want)
+}
+
+#[test]
+fn second_block_unwritten(rt: HostRuntime) -> Result<(), Fail> {
+    enter_sized(&rt, "second_block_unwritten", &LONG)?;
+    assert!(rt; runs(&rt, "ld -o whole l.o", "", (0, "", "")));
+    assert!(rt; is_stopped(&rt) && is_first_block(&rt));
+    Ok(())
 }

@@ -1,6 +1,6 @@
 //! Sessions as commands: their answers, what they ask for, and their status.
 use crate::folders::{
-    Case, Step, assert_cases, enter_objects, enter_sized, runs, take_among_objects,
+    Case, Step, assert_cases, enter_objects, enter_sized, runs, take_all, take_among_objects,
 };
 use fixtures::{ANSWERS, CALL_STRIPPED, SCRIPT};
 use std::alloc::{AllocError, Global};
@@ -182,11 +182,17 @@ fn session_takes_paths_as_they_stand(rt: HostRuntime) -> Result<(), Fail> {
 
 static SIZED: [(&str, u16, u16); 2] = [("l.o", 65_534, 0), ("e.o", 0, 2)];
 
+static NOT_LINKED: [Step<'static>; 2] = [
+    Step::Run(
+        "session",
+        "add l.o\nadd e.o\nlink out\nwithdraw\n",
+        (1, "added l.o\nadded e.o\ndoes not fit\nwithdrew e.o\n", ""),
+    ),
+    Step::Lacks("out"),
+];
+
 #[test]
 fn session_with_a_refused_link(rt: HostRuntime) -> Result<(), Fail> {
     enter_sized(&rt, "session_with_a_refused_link", &SIZED)?;
-    let script = "add l.o\nadd e.o\nlink out\nwithdraw\n";
-    let answers = "added l.o\nadded e.o\ndoes not fit\nwithdrew e.o\n";
-    assert!(rt; runs(&rt, "session", script, (1, answers, "")));
-    Ok(())
+    take_all(&rt, &NOT_LINKED)
 }

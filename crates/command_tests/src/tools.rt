@@ -1,6 +1,6 @@
 //! nm, size and strip on files.
 use crate::folders::{Step, take_in_folder};
-use aout_core::samples::{A_O, B_O, S_O};
+use aout_core::samples::{A_O, B_O, E_O, S_O};
 use fixtures::{CALL, ONE_OBJECT};
 use std::test::Fail;
 
@@ -85,4 +85,89 @@ static LISTED: [Step<'static>; 15] = [
 #[test]
 fn lists_as_commands(rt: HostRuntime) -> Result<(), Fail> {
     take_in_folder(&rt, "lists_as_commands", &LISTED)
+}
+
+/// Symbols `L1` 02 2, `L1` 02 0.
+const EQUAL_NAMES: [u8; 40] = [
+    0x07, 0x01, 0x00, 0x00, 0x00, 0x00, 0x00, 0x00, 0x18, 0x00, 0x00, 0x00, 0x00, 0x00, 0x00, 0x00,
+    0x4c, 0x31, 0x00, 0x00, 0x00, 0x00, 0x00, 0x00, 0x02, 0x00, 0x02, 0x00, 0x4c, 0x31, 0x00, 0x00,
+    0x00, 0x00, 0x00, 0x00, 0x02, 0x00, 0x00, 0x00,
+];
+
+/// Symbols `_longnam` 042 0.
+const LONG_NAME: [u8; 28] = [
+    0x07, 0x01, 0x00, 0x00, 0x00, 0x00, 0x00, 0x00, 0x0c, 0x00, 0x00, 0x00, 0x00, 0x00, 0x00, 0x00,
+    0x5f, 0x6c, 0x6f, 0x6e, 0x67, 0x6e, 0x61, 0x6d, 0x22, 0x00, 0x00, 0x00,
+];
+
+/// Text 000000, 000000; data 000000; bss 2 bytes; no relocation.
+const SIZES: [u8; 22] = [
+    0x07, 0x01, 0x04, 0x00, 0x02, 0x00, 0x02, 0x00, 0x00, 0x00, 0x00, 0x00, 0x00, 0x00, 0x01, 0x00,
+    0x00, 0x00, 0x00, 0x00, 0x00, 0x00,
+];
+
+/// The list of `s.o` by name.
+const BY_NAME: &str = "000002 t L1\n       U _f\n000000 T _m\n000004 C _x\n";
+
+/// The list of `s.o` by value.
+const BY_VALUE: &str = "       U _f\n000000 T _m\n000002 t L1\n000004 C _x\n";
+
+/// The list of `s.o` by name, the last first.
+const REVERSED: &str = "000004 C _x\n000000 T _m\n       U _f\n000002 t L1\n";
+
+/// The list of `s.o` in the order of its table.
+const IN_TABLE_ORDER: &str = "       U _f\n000004 C _x\n000002 t L1\n000000 T _m\n";
+
+/// The list of `s.o` by name, each line behind its path.
+const BEHIND_PATHS: &str = "s.o:000002 t L1\ns.o:       U _f\ns.o:000000 T _m\ns.o:000004 C _x\n";
+
+/// The external symbols of `s.o` by name.
+const EXTERNAL: &str = "       U _f\n000000 T _m\n000004 C _x\n";
+
+/// Two equal names, the greater value first.
+const FALLING: &str = "000002 t L1\n000000 t L1\n";
+
+/// Two equal names, the smaller value first.
+const RISING: &str = "000000 t L1\n000002 t L1\n";
+
+/// The sizes of `a.o` and `b.o`.
+const TWO_SIZES: &str = "a.o: 4+2+0 = 6b = 06b\nb.o: 2+0+0 = 2b = 02b\n";
+
+static FLAGGED: [Step<'static>; 27] = [
+    Step::Put("a.o", &A_O),
+    Step::Put("b.o", &B_O),
+    Step::Put("e.o", &E_O),
+    Step::Put("s.o", &S_O),
+    Step::Put("l.o", &EQUAL_NAMES),
+    Step::Put("n.o", &LONG_NAME),
+    Step::Put("z.o", &SIZES),
+    Step::Run("nm s.o", "", (0, BY_NAME, "")),
+    Step::Run("nm -g s.o", "", (0, EXTERNAL, "")),
+    Step::Run("nm -n s.o", "", (0, BY_VALUE, "")),
+    Step::Run("nm -r s.o", "", (0, REVERSED, "")),
+    Step::Run("nm -p s.o", "", (0, IN_TABLE_ORDER, "")),
+    Step::Run("nm -u s.o", "", (0, "       U _f\n", "")),
+    Step::Run("nm -o s.o", "", (0, BEHIND_PATHS, "")),
+    Step::Run("nm -o b.o s.o", "", (0, BEHIND_PATHS, "")),
+    Step::Run("nm b.o e.o", "", (0, "b.o:\ne.o:\n", "")),
+    Step::Run("nm n.o", "", (0, "000000 T _longnam\n", "")),
+    Step::Run("nm -p -n -r s.o", "", (0, IN_TABLE_ORDER, "")),
+    Step::Run("nm -g -u s.o", "", (0, "       U _f\n", "")),
+    Step::Run(
+        "nm -g -n -r s.o",
+        "",
+        (0, "000004 C _x\n000000 T _m\n       U _f\n", ""),
+    ),
+    Step::Run("nm l.o", "", (0, FALLING, "")),
+    Step::Run("nm -r l.o", "", (0, RISING, "")),
+    Step::Run("nm -n l.o", "", (0, RISING, "")),
+    Step::Run("nm -n -r l.o", "", (0, FALLING, "")),
+    Step::Run("size z.o", "", (0, "4+2+2 = 8b = 010b\n", "")),
+    Step::Run("size a.o b.o", "", (0, TWO_SIZES, "")),
+    Step::Run("size e.o", "", (0, "0+0+0 = 0b = 00b\n", "")),
+];
+
+#[test]
+fn lists_with_flags_as_commands(rt: HostRuntime) -> Result<(), Fail> {
+    take_in_folder(&rt, "lists_with_flags_as_commands", &FLAGGED)
 }

@@ -29,7 +29,8 @@ fn call_files_and_sessions(rt: &HostRuntime) -> io::Result<()> {
     report(rt, "add, forced", sessions::adding_behind_forced(alloc))?;
     let outcome = sessions::adding_a_name_behind_forced(alloc);
     report(rt, "add, a name and forced", outcome)?;
-    report(rt, "withdraw", sessions::withdrawing(alloc))
+    report(rt, "withdraw", sessions::withdrawing(alloc))?;
+    report(rt, "views", sessions::looking(alloc))
 }
 
 fn call_links(rt: &HostRuntime) -> io::Result<()> {
@@ -37,7 +38,8 @@ fn call_links(rt: &HostRuntime) -> io::Result<()> {
     report(rt, "finish", links::linking(alloc))?;
     report(rt, "run", links::running(alloc))?;
     report(rt, "write of a report", links::reporting(alloc))?;
-    report(rt, "emit", links::emitting(alloc))
+    report(rt, "emit", links::emitting(alloc))?;
+    report(rt, "force_commons", links::forcing_commons(alloc))
 }
 
 fn call_commands(rt: &HostRuntime) -> io::Result<()> {

@@ -57,7 +57,16 @@ pub fn linking_inputs(alloc: Global) -> Outcome {
     }
 }
 
-/// A link of two files is run as a command.
+/// The bytes of the file that a command writes, if it is there. One request at most is refused, so it is read twice at most.
+fn output(rt: &HostRuntime) -> Option<Vec<u8>> {
+    match fs::read(rt, "out") {
+        Ok(bytes) => Some(bytes),
+        Err(_) => fs::read(rt, "out").ok(),
+    }
+}
+
+/// A link of two files is run as a command; refused memory, its status is 2 and no file is there. tests/memory.sh reads
+/// the line of its fault.
 pub fn commanding(rt: &HostRuntime) -> Outcome {
     let _ = fs::remove_file(rt, "out");
     let are_written = fs::write(rt, "a.o", A_O.as_slice()).is_ok()
@@ -69,10 +78,9 @@ pub fn commanding(rt: &HostRuntime) -> Outcome {
         return Outcome::Unready;
     };
     let status = command(rt, all);
-    match fs::read(rt, "out") {
-        Ok(bytes) => Outcome::done(status == 0 && bytes.as_slice() == TWO_OBJECTS.as_slice()),
-        Err(_) if status == 0 => Outcome::Unready,
-        Err(_) => Outcome::refused(status == 2),
+    match output(rt) {
+        Some(bytes) => Outcome::done(status == 0 && bytes.as_slice() == TWO_OBJECTS.as_slice()),
+        None => Outcome::refused(status == 2),
     }
 }
 

@@ -1,6 +1,6 @@
 //! Files read, checked, stripped and written.
 use crate::outcome::Outcome;
-use aout_core::samples::{C_O, TestReader};
+use aout_core::samples::{C_O, TestReader, TestWriter};
 use aout_core::{Object, ReadFault, Wire, read_file, strip_file, write_file};
 use std::alloc::Global;
 use v7tools::load;
@@ -39,7 +39,21 @@ pub fn loading(alloc: Global) -> Outcome {
     }
 }
 
-/// A file is checked, written, stripped and taken apart, which takes no memory.
+/// Whether a device gives its first bytes to a wire.
+fn is_read() -> bool {
+    let mut wire = Wire::new(TestReader::whole(&C_O));
+    let mut room = [0u8; 16];
+    wire.read(room.as_mut_slice()).ok() == Some(16) && room.as_slice() == &C_O[..16]
+}
+
+/// Whether a wire has its device pass on what it holds back.
+fn is_flushed(alloc: Global) -> bool {
+    let mut out = Wire::new(TestWriter::whole(Vec::new(alloc)));
+    let is_flushed = out.flush().is_ok();
+    is_flushed && out.into_inner().flushes() == 1
+}
+
+/// A file is checked, written, stripped and taken apart, and a wire reads and is flushed, which takes no memory.
 pub fn handling(alloc: Global) -> Outcome {
     let Ok(file) = read_file(alloc, &mut Wire::new(TestReader::whole(&C_O))) else {
         return Outcome::Unready;
@@ -51,5 +65,6 @@ pub fn handling(alloc: Global) -> Outcome {
     let mut out = Wire::new(device.as_mut_slice());
     let is_written = write_file(object.file(), &mut out).is_ok();
     let parts = strip_file(object.into_file()).into_parts();
-    Outcome::done(is_written && parts.fits() && parts.symbols.is_empty())
+    let is_stripped = parts.fits() && parts.symbols.is_empty();
+    Outcome::done(is_written && is_stripped && is_read() && is_flushed(alloc))
 }

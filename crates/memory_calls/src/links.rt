@@ -1,9 +1,9 @@
 //! Links of sessions, runs of edits, and what is written of them.
 use crate::outcome::Outcome;
-use aout_core::samples::{D_O, D2_O};
+use aout_core::samples::{D_O, D2_O, K_O};
 use aout_core::{Name, Segment, Wire};
 use fixtures::adds;
-use link_fixtures::{linked_of, plain, there_and_back};
+use link_fixtures::{linked_of, plain, relocatable, there_and_back};
 use link_out::{Keep, LinkFault, Linked, RunFault, finish, run};
 use link_session::{Forced, Session, State};
 use std::alloc::Global;
@@ -109,6 +109,22 @@ fn is_told() -> bool {
 pub fn emitting(alloc: Global) -> Outcome {
     match two_linked(alloc) {
         Some(linked) => Outcome::done(is_emitted(&linked) && is_told()),
+        None => Outcome::Unready,
+    }
+}
+
+/// Whether a link is that of `k.o` alone, its common laid out.
+fn is_laid_out(linked: &Linked) -> bool {
+    linked.file.text_words() == [6, 0o177774].as_slice() && linked.file.header().bss_size == 4
+}
+
+/// Options are told to lay commons out, which takes no memory.
+pub fn forcing_commons(alloc: Global) -> Outcome {
+    let Ok(options) = relocatable(Keep::All) else {
+        return Outcome::Wrong;
+    };
+    match linked_of(alloc, &[("k.o", &K_O)], &options.force_commons()) {
+        Some(linked) => Outcome::done(is_laid_out(&linked)),
         None => Outcome::Unready,
     }
 }

@@ -105,18 +105,21 @@ const BEHIND_FORCED: [Word; 2] = [
     (0o177774, Target::External(1), true),
 ];
 
-static WITH_FORCED: [Step<'static>; 11] = [
+static WITH_FORCED: [Step<'static>; 14] = [
     Shows(Forced(1)),
+    Shows(Names(1)),
     Adds("c.o", &C_O),
     Shows(Names(2)),
     Shows(External(0, "_z", State::Wanted(0))),
     Shows(External(1, "_f", State::Wanted(0))),
     Shows(Text(&BEHIND_FORCED)),
     Withdraws("c.o", &C_O),
+    Shows(Forced(1)),
     Shows(Names(1)),
     Shows(External(0, "_z", State::Wanted(0))),
     HasNothing,
     Shows(Forced(1)),
+    Shows(Names(1)),
 ];
 
 /// Whether the steps come out as they should in a session with these forced names.

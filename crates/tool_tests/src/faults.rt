@@ -1,7 +1,7 @@
 //! The faults: their lines and texts, and links and loads that meet them.
 use crate::failing_devices::{fails_to_write, in_memory, link};
 use aout_core::samples::{A_O, B_O, Failing, TestReader, TestWriter};
-use aout_core::{ObjectFault, ReadFault, Wire};
+use aout_core::{File, ObjectFault, ReadFault, Wire};
 use fixtures::{TWO_OBJECTS, is_told, sized};
 use link_out::{Keep, LinkFault, Linked};
 use link_session::AddFault;
@@ -152,10 +152,17 @@ fn fault_lines_of_refused_growths(rt: HostRuntime) -> Result<(), Fail> {
     Ok(())
 }
 
+/// Whether this is the file of `a.o`.
+fn is_a_o(file: &File) -> bool {
+    file.header().to_bytes().as_slice() == &A_O[..16]
+        && file.text_words() == [0o12700, 4].as_slice()
+        && file.data_words() == [0o42].as_slice()
+}
+
 /// Whether `a.o` is loaded at its path.
 fn is_loaded(alloc: Global, path: String) -> bool {
     match load(alloc, path, &mut Wire::new(TestReader::whole(&A_O))).ok() {
-        Some((path, file)) => path.as_str() == "a.o" && file.data_words() == [0o42].as_slice(),
+        Some((path, file)) => path.as_str() == "a.o" && is_a_o(&file),
         None => false,
     }
 }

@@ -1,5 +1,5 @@
-//! Tests of the tools over memory: the words of commands, scripts, their steps and their answers, faults, devices that
-//! fail, and the calls that may be refused memory, while none is.
+//! Tests of the tools over memory: scripts, their steps and their answers, faults, devices that fail, and the calls that
+//! may be refused memory, while none is.
 #![tactic(auto)]
 
 #[cfg(test)]
@@ -18,5 +18,3 @@ mod scripts;
 mod sessions;
 #[cfg(test)]
 mod steps;
-#[cfg(test)]
-mod words;

@@ -58,6 +58,8 @@ fn memory_refused_steps(rt: HostRuntime) {
 fn no_memory_needed(rt: HostRuntime) {
     assert!(rt; files::handling(rt.alloc()) == Outcome::Done);
     assert!(rt; sessions::withdrawing(rt.alloc()) == Outcome::Done);
+    assert!(rt; sessions::looking(rt.alloc()) == Outcome::Done);
+    assert!(rt; links::forcing_commons(rt.alloc()) == Outcome::Done);
     assert!(rt; links::reporting(rt.alloc()) == Outcome::Done);
     assert!(rt; links::emitting(rt.alloc()) == Outcome::Done);
     assert!(rt; commands::sizing(rt.alloc()) == Outcome::Done);

@@ -90,17 +90,19 @@ fn long_line(alloc: Global, path_length: usize) -> Result<Vec<u8>, Fail> {
     Ok(line)
 }
 
-/// Whether the next line of a script asks to add a path of 4,092 bytes.
-fn adds_longest(script: &mut Script<TestReader<'_>>) -> bool {
+/// Whether the next line of a script asks to add a path of these 4,092 bytes.
+fn adds_longest(script: &mut Script<TestReader<'_>>, wanted: &[u8]) -> bool {
     let answer = script.next_line();
     let (command, path) = told(&answer);
-    command == "add" && path.len() == 4092
+    command == "add" && path.len() == 4092 && path.as_bytes() == wanted
 }
 
-/// Whether a script that is read so asks to add a path of 4,092 bytes, and then ends.
-fn is_longest(alloc: Global, reader: TestReader<'_>) -> bool {
+/// Whether a script that is read so asks to add a path of these 4,092 bytes, and then ends.
+fn is_longest(alloc: Global, reader: TestReader<'_>, wanted: &[u8]) -> bool {
     match Script::new(alloc, Wire::new(reader)).ok() {
-        Some(mut script) => adds_longest(&mut script) && tells_next(&mut script, ("end", "")),
+        Some(mut script) => {
+            adds_longest(&mut script, wanted) && tells_next(&mut script, ("end", ""))
+        }
         None => false,
     }
 }
@@ -108,13 +110,14 @@ fn is_longest(alloc: Global, reader: TestReader<'_>) -> bool {
 #[test]
 fn session_longest_line(rt: HostRuntime) -> Result<(), Fail> {
     let alloc = rt.alloc();
+    let path = vec![in alloc; b'x'; 4092]?;
     let mut line = long_line(alloc, 4092)?;
-    assert!(rt; is_longest(alloc, in_pieces(&line, 1)));
-    assert!(rt; is_longest(alloc, in_pieces(&line, 512)));
+    assert!(rt; is_longest(alloc, in_pieces(&line, 1), &path));
+    assert!(rt; is_longest(alloc, in_pieces(&line, 512), &path));
     line.push(b'\n')?;
-    assert!(rt; is_longest(alloc, in_pieces(&line, 1)));
-    assert!(rt; is_longest(alloc, in_pieces(&line, 5)));
-    assert!(rt; is_longest(alloc, in_pieces(&line, 512)));
+    assert!(rt; is_longest(alloc, in_pieces(&line, 1), &path));
+    assert!(rt; is_longest(alloc, in_pieces(&line, 5), &path));
+    assert!(rt; is_longest(alloc, in_pieces(&line, 512), &path));
     Ok(())
 }
 

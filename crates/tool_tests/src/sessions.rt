@@ -49,7 +49,7 @@ impl Played {
     /// A link is stored over memory, and answered.
     fn store(&mut self, alloc: Global, linked: &Linked) -> Result<u8, Fail> {
         self.stored = written(alloc, &linked.file)?;
-        Ok(link_answer(linked, "out", Stored::Kept, &mut self.answers)?)
+        Ok(link_answer(linked, "out", Stored::Written, &mut self.answers)?)
     }
 
     /// Answers a line.

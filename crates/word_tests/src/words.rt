@@ -1,12 +1,12 @@
 //! What the words of a command ask for.
 use aout_core::Name;
+use command_words::{Call, WordsFault, parse};
 use fixtures::{words, words_of};
 use link_out::{Keep, Layout, Options};
 use link_session::Forced;
 use std::alloc::{AllocError, Global};
 use std::process::Abort;
 use std::test::Fail;
-use v7tools::{Call, CliFault, parse};
 
 /// The words of a link or a session, and what they ask for. A session has no output and no files.
 #[derive(Clone, Copy)]
@@ -114,7 +114,7 @@ fn assert_asked(rt: &(impl Abort + AllocGlobal), all: &[Asked<'_>]) -> Result<()
 }
 
 fn is_usage(alloc: Global, words: Vec<String>) -> bool {
-    matches!(parse(alloc, words).err(), Some(CliFault::Usage))
+    matches!(parse(alloc, words).err(), Some(WordsFault::Usage))
 }
 
 /// The words of each line are refused.
@@ -483,17 +483,16 @@ fn words_of_a_session(rt: HostRuntime) -> Result<(), Fail> {
     assert_usage(&rt, &NO_SESSIONS)
 }
 
-/// Whether a call is a list of these files, with all or none of the options that say which symbols it has, and all or
-/// none of those that say in which order.
-fn is_list(call: &Call, which: bool, order: bool, wanted: &[String]) -> bool {
+/// Whether a call is a list of these files, with the options of these letters and no others.
+fn is_list(call: &Call, letters: &[u8], wanted: &[String]) -> bool {
     match call {
         Call::Nm { options, files } => {
-            options.external == which
-                && options.undefined == which
-                && options.each_line == which
-                && options.by_value == order
-                && options.table_order == order
-                && options.reverse == order
+            options.external == letters.contains(&b'g')
+                && options.undefined == letters.contains(&b'u')
+                && options.each_line == letters.contains(&b'o')
+                && options.by_value == letters.contains(&b'n')
+                && options.table_order == letters.contains(&b'p')
+                && options.reverse == letters.contains(&b'r')
                 && files.as_slice() == wanted
         }
         _ => false,
@@ -501,23 +500,31 @@ fn is_list(call: &Call, which: bool, order: bool, wanted: &[String]) -> bool {
 }
 
 /// Whether the words of a line ask for such a list of the file at this path.
-fn asks_for_list(
-    alloc: Global,
-    line: &str,
-    which: bool,
-    order: bool,
-    path: &str,
-) -> Result<bool, Fail> {
+fn asks_for_list(alloc: Global, line: &str, letters: &str, path: &str) -> Result<bool, Fail> {
     let wanted = words_of(alloc, path)?;
     match parse(alloc, words_of(alloc, line)?).ok() {
-        Some(call) => Ok(is_list(&call, which, order, &wanted)),
+        Some(call) => Ok(is_list(&call, letters.as_bytes(), &wanted)),
         None => Ok(false),
     }
 }
 
+/// The words of a list, the letters of its options and its file.
+static LISTS: [(&str, &str, &str); 9] = [
+    ("nm", "", "a.out"),
+    ("nm -g", "g", "a.out"),
+    ("nm -u s.o", "u", "s.o"),
+    ("nm -o s.o", "o", "s.o"),
+    ("nm -n", "n", "a.out"),
+    ("nm -p s.o", "p", "s.o"),
+    ("nm s.o -r", "r", "s.o"),
+    ("nm -gu -o", "guo", "a.out"),
+    ("nm -npr s.o", "npr", "s.o"),
+];
+
 #[test]
 fn words_of_the_lists(rt: HostRuntime) -> Result<(), Fail> {
-    assert!(rt; asks_for_list(rt.alloc(), "nm -gu -o", true, false, "a.out")?);
-    assert!(rt; asks_for_list(rt.alloc(), "nm -npr s.o", false, true, "s.o")?);
+    for (line, letters, path) in &LISTS {
+        assert!(rt; asks_for_list(rt.alloc(), line, letters, path)?, "{line}");
+    }
     Ok(())
 }
