@@ -1,13 +1,15 @@
 #!/bin/sh
 # Runs the program `memory`, which makes each call that may be refused memory, with the first, the second, .. of the calls'
 # requests refused, and prints for each call how many refusals it met, and in how many runs what it needs beforehand was
-# refused. It fails where a call did something else, or where the last runs met a refusal still.
+# refused. It fails where a call did something else, or where the last runs met a refusal still; and where the command was
+# refused and standard error is not one line, that there is no memory or that a file can't be opened or created, or where
+# it was not and there is a line.
 #
 # The program is built once. The toolchain refuses the request of a fixed number, and each run reads how many requests to
 # make before its calls do, so that another of theirs is refused.
 set -u
 cd "$(dirname "$0")/../crates/memory"
-requests=${1:-600}
+requests=${1:-640}
 work=$(mktemp -d)
 trap 'rm -rf "$work"' EXIT
 mkdir "$work/cases"
@@ -16,16 +18,32 @@ while [ "$n" -le "$requests" ]; do
     printf '%05d\n' $((requests - n)) >"$work/cases/$(printf '%05d' "$n")"
     n=$((n + 1))
 done
-rt try --steps 1 --fail-alloc $((requests + 1)) --cases "$work/cases" >"$work/log" 2>&1
-runs=$(grep -c '^case=.* run=ended status=0 ' "$work/log")
+rt try --steps 1 --fail-alloc $((requests + 1)) --cases "$work/cases" >"$work/log" 2>"$work/errors"
+runs=$(grep -c '^case=.* run=ended status=0 ' "$work/errors")
 grep -E ': (refused|unready|wrong)$' "$work/log" | sort | uniq -c
 if [ "$runs" -ne "$requests" ]; then
-    grep '^case=' "$work/log" | grep -v ' run=ended status=0 '
-    tail -n 3 "$work/log"
+    grep '^case=' "$work/errors" | grep -v ' run=ended status=0 '
+    tail -n 3 "$work/errors"
     echo "$runs of $requests runs ended as they should"
     exit 1
 fi
 if grep -q ': wrong$' "$work/log"; then
+    exit 1
+fi
+if ! awk '
+    FNR == NR && /^== / { name = $2 }
+    FNR == NR && /^command: refused$/ { refused[name] = 1 }
+    FNR == NR { next }
+    /^v7: / { lines++ }
+    /^v7: (no memory|[ab]\.o: cannot open|out: cannot create)$/ { allowed++ }
+    /^case=/ {
+        wanted = refused[substr($1, 6)] + 0
+        if (lines != wanted || allowed != wanted) { print $1 ": another line of a fault"; is_wrong = 1 }
+        lines = 0
+        allowed = 0
+    }
+    END { exit is_wrong }
+' "$work/log" "$work/errors"; then
     exit 1
 fi
 if tail -n 200 "$work/log" | grep -qE ': (refused|unready)$'; then

@@ -1,6 +1,7 @@
 #!/bin/sh
 # Runs the program with standard streams closed, and compares its files, faults and statuses: what goes to a closed stream
-# is a write error, what is read from one is a read error, and no file that a command opens takes the place of one.
+# is a write error, what is read from one is a read error, and no file that a command opens takes the place of one. A word
+# that is not UTF-8 is refused.
 #
 # usage: tests/streams.sh       the program has to stand in build/v7
 set -u
@@ -33,6 +34,11 @@ expect 'ld without one' 0 ''
 cp whole stripped
 "$v7" strip stripped 2>fault; status=$?
 expect 'strip' 0 ''
+
+# a word that is not UTF-8
+"$v7" nm "$(printf '\377')" >answers 2>fault; status=$?
+expect 'a word that is not UTF-8' 2 'v7: usage'
+same answers /dev/null
 
 # standard output closed
 "$v7" ld -o out main.o count.o >&- 2>fault; status=$?
