@@ -8,7 +8,7 @@ use Rattle.aout_core.specs.Words.{words_in}
 use Rattle.aout_core.specs.Contents.{Contents, is_magic, has_whole_sizes, Fits}
 use Rattle.aout_core.specs.Spelling.{file_length}
 use Rattle.aout_core.specs.Front.{header_of, header_in, contents_in, front_with, front}
-use Rattle.aout_core.specs.Reading.{IsFileHeader, IsReadOf, LeavesAfter}
+use Rattle.aout_core.specs.Reading.{IsFileHeader, HasHeader, IsReadOf, LeavesAfter}
 use Rattle.aout_core.specs.steps.ReadParts.{TakesHeader, TakesBody, EndsEarly, IsHeaderRead, IsBodyRead}
 use Rattle.aout_core.proofs.FrontLemmas.{contents_in_fits}
 
@@ -113,11 +113,12 @@ read_behind (Ok c) bytes (Some rest) left h t good body = file_behind c bytes re
 read_behind (Err ShortHeader) bytes (Some rest) left h t good body = absurd body
 read_behind (Err BadMagic) bytes (Some rest) left h t good body = absurd body
 read_behind (Err OddSize) bytes (Some rest) left h t good body = absurd body
-read_behind (Err Memory) bytes (Some rest) None h t good body = absurd body
+read_behind (Err Memory) bytes (Some rest) None h t good body = absurd body.0
 read_behind (Err Memory) bytes (Some rest) (Some more) h t good body =
     let b = begins bytes rest h t in
     let size = length-begins bytes rest h b in
-    (record { long = omega arith; header = subst IsFileHeader (sym b.spelt) good }, ap Some (body ∙ rest_behind bytes rest h b))
+    let header : HasHeader bytes = record { long = omega arith; header = subst IsFileHeader (sym b.spelt) good } in
+    ((header, subst (λ (x : Header). 16 < file_length x) (sym b.spelt) body.1), ap Some (body.0 ∙ rest_behind bytes rest h b))
 read_behind (Err Truncated) bytes (Some rest) left h t good body =
     let end = early_end rest left 16 (file_length h) body in
     (truncated bytes rest h (begins bytes rest h t) good end.0, end.1)

@@ -9,7 +9,7 @@ use Rattle.std.proofs.lemmas.Option.{slice_get_within}
 use Rattle.aout_core.specs.declared.header.Header.{Header}
 use Rattle.aout_core.specs.declared.reloc.Reloc.{Reloc}
 use Rattle.aout_core.specs.declared.symbol.Symbol.{Symbol}
-use Rattle.aout_core.specs.Words.{word_bytes, all_word_bytes, words_in}
+use Rattle.aout_core.specs.Words.{AreBytes, word_bytes, all_word_bytes, words_in}
 use Rattle.aout_core.specs.Names.{before_nul, padded, IsName}
 use Rattle.aout_core.specs.Contents.{Contents, with_relocation, Fits, IsWord, IsSymbol, IsSound}
 use Rattle.aout_core.specs.Spelling.{header_words, header_spelling, reloc_spelling, symbol_spelling, relocation_at, symbols_at, file_length, spelling}
@@ -18,9 +18,6 @@ use Rattle.aout_core.specs.Front.{part, header_of, header_in, relocs_in, symbol_
 use Rattle.aout_core.proofs.AlikeLemmas.{AreAlike, slice_get_front, slice_get_behind, alike_front, alike_back, alike_both, alike_more, alike_self, alike_same}
 use Rattle.aout_core.proofs.SpellingLemmas.{front-spelling, nul_free_head, word_back, with_relocation-add, length-all_word_bytes, length-reloc_spelling, length-header_spelling, length-padded, length-symbol_spelling, length-symbols_spelling}
 use Rattle.aout_core.proofs.FrontLemmas.{Passed, front_passed, front_fits}
-
-abbrev pub AreBytes : List ℕ → Type 0
-AreBytes bytes = AllByRecursion (λ (b : ℕ). b < 256) bytes
 
 bytes_take : (n : ℕ) (bytes : List ℕ) → AreBytes bytes → AreBytes (take n bytes)
 bytes_take zero bytes h = tt
@@ -437,6 +434,14 @@ relocs_below : (ws : List ℕ) → AllByRecursion IsWord ws → AllByRecursion (
 relocs_below [] h = tt
 relocs_below (w ∷ ws) h = (h.0, relocs_below ws h.1)
 
+bytes_before_nul : (bytes : List ℕ) → AreBytes bytes → AreBytes (before_nul bytes)
+bytes_before_nul [] h = tt
+bytes_before_nul (b ∷ bs) h = by_test (eqb b 0) (bytes_before_nul bs h.1)
+  where
+    by_test : (t : Bool) → AreBytes (before_nul bs) → AreBytes (cond t [] (b ∷ before_nul bs))
+    by_test true k = tt
+    by_test false k = (h.0, k)
+
 short_name : (bytes : List ℕ) → length (before_nul bytes) ≤ length bytes
 short_name [] = omega arith
 short_name (b ∷ bs) = by_test (eqb b 0) (short_name bs)
@@ -459,7 +464,11 @@ symbols_below (suc n) bytes h =
     let x = take 12 bytes in
     let words = words_below (part 8 4 x) (bytes_take 4 (drop 8 x) (bytes_drop 8 x (bytes_take 12 bytes h))) in (
       record {
-        name = record { short = omega (arith, short_name (take 8 x), length-take 8 x); no_nul = free_name (take 8 x) };
+        name = record {
+          short = omega (arith, short_name (take 8 x), length-take 8 x);
+          no_nul = free_name (take 8 x);
+          bytes = bytes_before_nul (take 8 x) (bytes_take 8 x (bytes_take 12 bytes h));
+        };
         type_bits = word_at (words_in (part 8 4 x)) 0 words;
         value = word_at (words_in (part 8 4 x)) 1 words;
       },

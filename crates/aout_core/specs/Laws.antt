@@ -1,8 +1,8 @@
 -- The laws of the format, each proved by a function of the module `laws`.
 --
 -- What was written is read back, whatever follows it; what is read is what the bytes encode; and bytes encode one file at most.
-use Rattle.std.specs.Prelude.{◌≡◌, ℕ, ◌<◌, List, ◌++◌, take, Ok}
-use Rattle.std.specs.List.{AllByRecursion}
+use Rattle.std.specs.Prelude.{◌≡◌, ℕ, List, ◌++◌, take, Ok}
+use Rattle.aout_core.specs.Words.{AreBytes}
 use Rattle.aout_core.specs.Contents.{Contents, IsSound}
 use Rattle.aout_core.specs.Spelling.{file_length, spelling}
 use Rattle.aout_core.specs.Front.{front}
@@ -14,7 +14,7 @@ SpellingLaw = (c : Contents) (rest : List ℕ) → IsSound c → front (spelling
 
 -- the file that is read from bytes is sound, and the bytes up to its end encode it
 abbrev pub ReadingLaw : Type 0
-ReadingLaw = (bytes : List ℕ) (c : Contents) → AllByRecursion (λ (b : ℕ). b < 256) bytes → front bytes ≡ Ok c →
+ReadingLaw = (bytes : List ℕ) (c : Contents) → AreBytes bytes → front bytes ≡ Ok c →
     IsSound c × Spells (take (file_length c.header) bytes) c
 
 -- the same bytes encode one file at most

@@ -2,7 +2,7 @@
 --
 -- It returns the file that the bytes begin with, or the first refusal, and takes no byte behind the file. Two things the bytes
 -- do not tell: whether memory runs out for the lists, and whether the device fails.
-use Rattle.std.specs.Prelude.{◌≡◌, ℕ, ◌≤◌, List, [], drop, length, Option, Some, Result, Ok, Err, IsTrue}
+use Rattle.std.specs.Prelude.{◌≡◌, ℕ, ◌<◌, ◌≤◌, List, [], drop, length, Option, Some, Result, Ok, Err, IsTrue}
 use Rattle.aout_core.specs.declared.header.Header.{Header}
 use Rattle.aout_core.specs.declared.file.ReadFault.{ReadFault}
 use Rattle.aout_core.specs.declared.file.ReadFault.TheVariants.{ShortHeader, Memory, Truncated, Device}
@@ -20,10 +20,11 @@ pub record HasHeader (bytes : List ℕ) : Type 0 where
   pub long : 16 ≤ length bytes
   pub header : IsFileHeader (header_in bytes)
 
--- the result is the file that the bytes begin with, or the refusal, unless memory ran out or the device failed
+-- the result is the file that the bytes begin with, or the refusal, unless the device failed, or memory ran out for what the
+-- header announces behind its 16 bytes
 abbrev pub IsReadOf : Result Contents ReadFault → List ℕ → Type 0
 IsReadOf (Ok c) bytes = front bytes ≡ Ok c
-IsReadOf (Err Memory) bytes = HasHeader bytes
+IsReadOf (Err Memory) bytes = HasHeader bytes × (16 < file_length (header_in bytes))
 IsReadOf (Err Device) bytes = Unit {0}
 IsReadOf (Err fault) bytes = front bytes ≡ Err fault
 

@@ -1,6 +1,7 @@
 //! Laws of the format, over its definitions alone: each is the contract of a function with an empty body, but for
 //! `sound_law`, whose body looks at each part of a file.
 ghost use Rattle.std.specs.List.{AllByRecursion};
+ghost use Rattle.aout_core.specs.Words.{AreBytes};
 ghost use Rattle.aout_core.specs.Contents.{IsWord, AreWords, IsSymbol, IsSound};
 ghost use Rattle.aout_core.specs.Laws.{SpellingLaw, ReadingLaw, OneFile, EncodedIsRead};
 
@@ -31,6 +32,14 @@ fn are_words(words: &[u16])
     }
 }
 
+fn are_bytes(bytes: &[u8])
+    ensures { AreBytes bytes.now }
+{
+    for byte in bytes {
+        let _byte = *byte;
+    }
+}
+
 fn is_word(_word: u16)
     ensures { IsWord _word }
 {}
@@ -38,7 +47,7 @@ fn is_word(_word: u16)
 fn is_symbol(symbol: &Symbol)
     ensures { IsSymbol symbol.now }
 {
-    let _name = symbol.name.as_bytes();
+    are_bytes(symbol.name.as_bytes());
     is_word(symbol.type_bits);
     is_word(symbol.value);
 }

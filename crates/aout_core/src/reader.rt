@@ -1,7 +1,8 @@
 //! Reading a file.
-ghost use Rattle.std.specs.Prelude.{◌≡◌, ◌↔◌, false, IfOk, IfErr, IfSome, IsTrue};
+ghost use Rattle.std.specs.Prelude.{◌≡◌, ◌↔◌, ◌<◌, false, IfOk, IfErr, OnErr, IfSome, IsTrue};
 ghost use Rattle.aout_core.specs.Contents.{has_whole_sizes};
 ghost use Rattle.aout_core.specs.Parts.{contents_of};
+ghost use Rattle.aout_core.specs.Spelling.{file_length};
 ghost use Rattle.aout_core.specs.steps.ReadParts.{HasNoItems, HasRoom, IsBodyRead, IsHeaderRead, TakesBody};
 ghost use Rattle.aout_core.specs.Reading.{IsFileHeader, IsReadOf, LeavesAfter};
 
@@ -16,7 +17,8 @@ use std::io::Read;
 /// Makes room in the lists of parts for what their header announces.
 fn make_room(parts: &mut Parts) -> Result<(), AllocError>
     requires { HasNoItems parts.old }
-    ensures { IfOk result (λ _. HasRoom parts.old.header parts.new) }
+    ensures room { IfOk result (λ _. HasRoom parts.old.header parts.new) }
+    ensures announced { OnErr result (16 < file_length parts.old.header) }
 {
     let text = parts.header.text_size as usize;
     let data = parts.header.data_size as usize;
@@ -32,7 +34,8 @@ fn make_room(parts: &mut Parts) -> Result<(), AllocError>
 
 /// Empty parts with room for what the header announces.
 fn parts_with_room(alloc: Global, header: Header) -> Result<Parts, AllocError>
-    ensures { IfOk result (HasRoom header) }
+    ensures room { IfOk result (HasRoom header) }
+    ensures announced { OnErr result (16 < file_length header) }
 {
     let mut parts = Parts {
         header,
@@ -113,7 +116,7 @@ fn read_body<R: Read>(alloc: Global, header: Header, wire: &mut Wire<R>) -> Resu
 ///
 /// Errors, the first that applies: `ShortHeader`, 1, at an early end of the 16 bytes; `BadMagic`, 2, where no file
 /// begins so; `OddSize`, 3, where a size is not whole; `Memory`, 4, where memory runs out for what the header
-/// announces; `Truncated`, 5, at an early end of the rest; and `Device`, 6, wherever the device failed, in this call
+/// announces behind it; `Truncated`, 5, at an early end of the rest; and `Device`, 6, wherever the device failed, in this call
 /// or before it. After `BadMagic`, `OddSize` and `Memory` all behind the 16 bytes of the header is still unread.
 pub fn read_file<R: Read>(alloc: Global, wire: &mut Wire<R>) -> Result<File, ReadFault>
     ensures device { (result ≡ Err ReadFault.Device) ↔ IsTrue wire.new.has_failed }

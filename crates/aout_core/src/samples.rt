@@ -326,6 +326,7 @@ impl Write for TestWriter {
         ensures fails { self.old.before_failure ≡ 0 → (kind : ErrorKind) → self.old.failure ≡ Fails kind → IfErr result (λ e. error_kind e ≡ kind) × IsErr result }
         ensures later { IfOk result (λ n. self.new.before_failure ≡ self.old.before_failure - n) }
         ensures nothing { self.old.before_failure ≡ 0 → self.old.failure ≡ Failing.TakesNothing → IsOk result }
+        ensures memory { 0 < self.old.before_failure → IfErr result (λ e. error_kind e ≡ ErrorKind.OutOfMemory) }
         ensures failed { IfErr result (λ _. self.new.before_failure ≡ self.old.before_failure) }
         ensures counted { self.new.calls ≡ min (self.old.calls + 1) (2 ^ 32 - 1) }
         ensures flushes { self.new.flushes ≡ self.old.flushes }

@@ -1,5 +1,5 @@
 //! A device with a latch that stays on once the device has failed.
-ghost use Rattle.std.specs.Prelude.{◌≡◌, ◌↔◌, ◌≤◌, ◌<◌, ◌++◌, length, take, false, IfOk, IsErr, IsTrue};
+ghost use Rattle.std.specs.Prelude.{◌≡◌, ◌↔◌, ◌≤◌, ◌<◌, ◌++◌, [], length, take, false, IfOk, IsErr, IsTrue};
 ghost use Rattle.std.specs.Io.{ReadsAtMost};
 ghost use Rattle.std.specs.Io.KnownBytes.{Consumes, IsAtEnd, Keeps, ReadConsumes};
 ghost use Rattle.aout_core.specs.Wires.{Writes};
@@ -112,10 +112,11 @@ impl<R: Read> Wire<R> {
 }
 
 impl<W: Write> Wire<W> {
-    /// Writes all the bytes, or on a fault a prefix of them. Where the latch is on, to write no bytes is a fault too.
-    /// (own choice)
+    /// Writes all the bytes, or on a fault a prefix of them. To write no bytes leaves the wire as it was; where the
+    /// latch is on, it is a fault too. (own choice)
     pub fn put(&mut self, bytes: &[u8]) -> Result<(), DeviceFault>
-        ensures { Writes W.contents result self.old self.new bytes.now }
+        ensures writes { Writes W.contents result self.old self.new bytes.now }
+        ensures nothing { bytes.now ≡ [] → self.new ≡ self.old }
     {
         if self.has_failed {
             return Err(DeviceFault);

@@ -26,7 +26,8 @@ nothing_kept forced = record { forced = forced; entries = []; journal = [] }
 abbrev pub labelled : String Global → Contents → Labelled
 labelled label object = record { label = string_bytes label; object = object }
 
--- an object was appended, and its marks take it back: they lie inside the old image, and are no more than they need be
+-- an object was appended, and its marks take it back: they lie inside the old image, and are no more than the cells that wait
+-- for the names which it defines, and its external symbols
 pub record Adds (old new : Kept) (e : Labelled) : Type 0 where
   pub forced : new.forced ≡ old.forced
   pub entries : new.entries ≡ old.entries ++ e ∷ []

@@ -9,7 +9,8 @@ pub enum Place {
     InData(u16),
 }
 
-/// What stood at a place before an addition overwrote it. (own choice)
+/// What stood at a place before it was overwritten. The first mark of a place has what stood there before the addition,
+/// and a later one of the same place what stood there in between. (own choice)
 #[derive(Clone, Copy, Debug, PartialEq, Eq)]
 pub enum Mark {
     /// A cell that was bound.

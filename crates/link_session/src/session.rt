@@ -1,5 +1,5 @@
 //! The session: the objects that are kept, their merged image, and the journal.
-ghost use Rattle.std.specs.Prelude.{◌≡◌, ◌*◌, ◌≤◌, ◌<◌, ◌++◌, ◌∷◌, [], None, Some, length, map, replicate, position, slice_get, bytes_eq, IfOk, IfErr, OnOk, OnErr, IfSome, IsNone, vec_len, vec_capacity};
+ghost use Rattle.std.specs.Prelude.{◌≡◌, ◌*◌, ◌≤◌, ◌<◌, ◌++◌, ◌∷◌, [], None, Some, length, map, replicate, position, slice_get, bytes_eq, IsOk, IfOk, IfErr, OnOk, OnErr, IfSome, IsNone, vec_len, vec_capacity};
 ghost use Rattle.std.specs.List.{AllByRecursion};
 ghost use Rattle.std.specs.Map.{keys_of};
 ghost use Rattle.indexmap.specs.IndexMap.{spare};
@@ -94,6 +94,7 @@ fn enter_forced(
     requires no_heads { heads.old.items ≡ [] }
     ensures names { OnOk result (externals.new.entries ≡ all_mentioned [] (map forced_mention names.now)) }
     ensures heads { OnOk result (heads.new.items ≡ replicate (length externals.new.entries) None) }
+    ensures none { names.now ≡ [] → IsOk result }
 {
     externals.reserve(names.len())?;
     heads.reserve(names.len())?;
@@ -119,9 +120,10 @@ impl Session {
     /// A session of no objects, whose first externals are the forced names, each wanted at size 0. (ld(1), the option
     /// `-u`)
     ///
-    /// Errors: `Memory`, where memory runs out.
+    /// Errors: `Memory`, where memory runs out for the names.
     pub fn with_forced(alloc: Global, forced: &Forced) -> Result<Session, Memory>
-        ensures { IfOk result (λ session. session ≡ nothing_kept forced.now) }
+        ensures kept { IfOk result (λ session. session ≡ nothing_kept forced.now) }
+        ensures none { forced.now ≡ [] → IsOk result }
     {
         let mut image = Merged::new(alloc);
         enter_forced(&mut image.externals, &mut image.heads, forced.names())?;
@@ -268,7 +270,8 @@ impl Session {
         &self.image.multiples
     }
 
-    /// What the addition of the last object overwrote; empty without objects. (own choice)
+    /// What the addition of the last object overwrote; empty without objects. The first mark of a place has what stood
+    /// there before the addition, and a later one of the same place what stood there in between. (own choice)
     pub fn last_marks(&self) -> &[Mark]
         ensures value { result.now ≡ newest self.now.journal }
         ensures journal { IsJournal self.now.forced (objects self.now.entries) self.now.journal }
