@@ -14,7 +14,7 @@ pub enum WordsFault {
     /// 1: the words ask for nothing that there is.
     #[error("usage")]
     Usage,
-    /// 9: no memory.
+    /// 9: memory ran out.
     #[error("no memory")]
     Memory,
 }

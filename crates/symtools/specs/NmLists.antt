@@ -2,8 +2,9 @@
 --
 -- The symbols that the options ask for, in the order that they ask for, a line each. With several files, the path of each file
 -- stands above its lines; by `-o` it stands before each line instead.
-use Rattle.std.specs.Prelude.{ℕ, Bool, not, ◌&&◌, ◌||◌, cond, eqb, nat_lt, if◌then◌else◌, List, [], ◌∷◌, ◌++◌, filter, reverse, length, codes}
+use Rattle.std.specs.Prelude.{◌≡◌, ◌≢◌, ℕ, Option, Bool, not, ◌&&◌, ◌||◌, cond, eqb, nat_lt, if◌then◌else◌, List, [], ◌∷◌, ◌++◌, filter, reverse, length, codes}
 use Rattle.std.specs.List.{flat_map}
+use Rattle.std.specs.Io.KnownBytes.{Appends}
 use Rattle.std.specs.Cmp.Lexicographic.{slice_cmp}
 use Rattle.std.specs.Ordering.{nat_cmp, is_lt}
 use Rattle.aout_core.specs.declared.symbol.Symbol.{Symbol}
@@ -55,3 +56,12 @@ file_lines o files file c = heading o files file ++ flat_map (λ s. line_front o
 
 abbrev pub nm_text : NmOptions → List (List ℕ × Contents) → List ℕ
 nm_text o files = flat_map (λ f. file_lines o (length files) f.0 f.1) files
+
+-- what went out where memory ran out for one file, of which symbols are shown: all lines of the files before it, and nothing else
+pub record ListsUpTo (o : NmOptions) (files : List (List ℕ × Contents)) (old new : Option (List ℕ)) : Type 0 where
+  pub front : List (List ℕ × Contents)
+  pub last : List ℕ × Contents
+  pub rest : List (List ℕ × Contents)
+  pub order : files ≡ front ++ last ∷ rest
+  pub shows : filter (is_shown o) last.1.symbols ≢ []
+  pub sent : Appends old new (flat_map (λ f. file_lines o (length files) f.0 f.1) front)

@@ -1,10 +1,10 @@
 //! The list of nm.
-ghost use Rattle.std.specs.Prelude.{◌≡◌, ◌↔◌, ◌++◌, ◌∷◌, [], false, if◌then◌else◌, IfErr, IfOk, OnOk, IsTrue, Err, filter};
+ghost use Rattle.std.specs.Prelude.{◌≡◌, ◌≢◌, ◌↔◌, ◌++◌, ◌∷◌, [], false, if◌then◌else◌, IfErr, IfOk, IsOk, IsTrue, OnErr, OnOk, Err, filter};
 ghost use Rattle.std.specs.List.{flat_map};
 ghost use Rattle.aout_core.specs.Wires.{Puts, Writes};
 ghost use Rattle.symtools.specs.Files.{by_bytes};
 ghost use Rattle.symtools.specs.SymbolLines.{symbol_line};
-ghost use Rattle.symtools.specs.NmLists.{is_shown, name_before, value_before, in_order, arranged, nm_text};
+ghost use Rattle.symtools.specs.NmLists.{is_shown, name_before, value_before, in_order, arranged, nm_text, ListsUpTo};
 ghost use Rattle.symtools.specs.declared.fault.ToolFault.TheVariants.{Memory, Device};
 
 use crate::fault::ToolFault;
@@ -30,6 +30,7 @@ pub fn nm<W: Write>(
     ensures device { (result ≡ Err Device) ↔ IsTrue out.new.has_failed }
     ensures latched { IsTrue out.old.has_failed → (out.new ≡ out.old) }
     ensures bytes { Puts result (W.contents out.old.device) (W.contents out.new.device) (nm_text options (by_bytes files.now)) }
+    ensures memory { result ≡ Err Memory → ListsUpTo options (by_bytes files.now) (W.contents out.old.device) (W.contents out.new.device) }
 {
     if out.failed() {
         return Err(ToolFault::Device);
@@ -52,6 +53,8 @@ fn list_file<W: Write>(
 ) -> Result<(), ToolFault>
     requires { out.old.has_failed ≡ false }
     ensures device { (result ≡ Err Device) ↔ IsTrue out.new.has_failed }
+    ensures memory { result ≡ Err Memory → (out.new ≡ out.old) }
+    ensures shows { result ≡ Err Memory → filter (is_shown options) table.now ≢ [] }
     ensures bytes { Puts result (W.contents out.old.device) (W.contents out.new.device)
         ((if is_headed then path.now ++ (58 ∷ 10 ∷ []) else [])
         ++ flat_map (λ s. (if options.each_line then path.now ++ 58 ∷ [] else []) ++ symbol_line s) (arranged options (filter (is_shown options) table.now))) }
@@ -83,6 +86,7 @@ fn put_lines<W: Write>(
 fn shown(alloc: Global, table: &[Symbol], options: NmOptions) -> Result<Vec<Symbol>, ToolFault>
     ensures ok { IfOk result (λ list. list.items ≡ arranged options (filter (is_shown options) table.now)) }
     ensures err { IfErr result (λ e. e ≡ Memory) }
+    ensures shows { OnErr result (filter (is_shown options) table.now ≢ []) }
 {
     let mut list = kept(alloc, table, options)?;
     if options.table_order {
@@ -102,6 +106,7 @@ fn shown(alloc: Global, table: &[Symbol], options: NmOptions) -> Result<Vec<Symb
 fn kept(alloc: Global, table: &[Symbol], options: NmOptions) -> Result<Vec<Symbol>, ToolFault>
     ensures ok { IfOk result (λ list. list.items ≡ filter (is_shown options) table.now) }
     ensures err { IfErr result (λ e. e ≡ Memory) }
+    ensures shows { OnErr result (filter (is_shown options) table.now ≢ []) }
 {
     let mut list = Vec::new(alloc);
     for symbol in table {
@@ -121,14 +126,16 @@ fn is_shown(symbol: &Symbol, options: NmOptions) -> bool
 
 /// Sorts by name; symbols of one name keep their order.
 fn sort_by_name(list: &mut Vec<Symbol>) -> Result<(), AllocError>
-    ensures { OnOk result (list.new.items ≡ in_order name_before list.old.items) }
+    ensures sorted { OnOk result (list.new.items ≡ in_order name_before list.old.items) }
+    ensures succeeds { list.old.items ≡ [] → IsOk result }
 {
     list.sort_by_key(|symbol| symbol.name)
 }
 
 /// Sorts by value, and by name where values are equal; symbols of one value and name keep their order.
 fn sort_by_value(list: &mut Vec<Symbol>) -> Result<(), AllocError>
-    ensures { OnOk result (list.new.items ≡ in_order value_before list.old.items) }
+    ensures sorted { OnOk result (list.new.items ≡ in_order value_before list.old.items) }
+    ensures succeeds { list.old.items ≡ [] → IsOk result }
 {
     list.sort_by_key(|symbol| (symbol.value, symbol.name))
 }

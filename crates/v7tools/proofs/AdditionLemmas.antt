@@ -53,7 +53,7 @@ behind_header (Some bytes) o (inr e) = by_front (front bytes) refl e
 -- the reader had the header when it wanted memory
 header_read : (known left : Option (List ℕ)) → IsReadWhereKnown known left (Err reads.Memory) → IfSome known HasHeader
 header_read None left h = tt
-header_read (Some bytes) left h = h.0
+header_read (Some bytes) left h = h.0.0
 
 -- ---- why a file is not added
 
@@ -192,14 +192,14 @@ module _ (bytes : List ℕ) (old : Kept) (path : String Global) where
           (ap (at_path (string_bytes path)) (ap (kept_with old.forced old.entries (string_bytes path)) (sym e) ∙ h.refuses))
 
 -- the fault of a device names the path
+pub device_at : (path at : String Global) (cause : Cause) → fault_at path cause ≡ faults.BadFile at reads.Device → string_bytes path ≡ string_bytes at
+device_at path at cannot_open e = absurd (cc)
+device_at path at (bad_file f) e = cc
+device_at path at (bad_object f) e = absurd (cc)
+device_at path at (not_added f) e = absurd (cc)
+
 broke_at : (known : Option (List ℕ)) (old : Kept) (path : String Global) (bytes : List ℕ) (fault : CliFault) → IsRefusal known old path fault → BreaksAt old.forced old.entries ((string_bytes path, bytes) ∷ []) fault
-broke_at known old path bytes fault h at is = inl (by_cause h.cause (sym h.names ∙ is))
-  where
-    by_cause : (cause : Cause) → fault_at path cause ≡ faults.BadFile at reads.Device → string_bytes path ≡ string_bytes at
-    by_cause cannot_open e = absurd (cc)
-    by_cause (bad_file f) e = cc
-    by_cause (bad_object f) e = absurd (cc)
-    by_cause (not_added f) e = absurd (cc)
+broke_at known old path bytes fault h at is = inl (device_at path at h.cause (sym h.names ∙ is))
 
 pub addition_taken : (known : Option (List ℕ)) (old new : Kept) (path : String Global) (r : Result (Unit {0}) CliFault) → IfErr r (λ fault. IsPossible (said_by fault)) → IsAddition known old new path r →
     IfSome known (λ bytes. IsTaken old new (string_bytes path) bytes r)

@@ -168,7 +168,7 @@ refused_by links.SymbolNumber x answer e h = e ∙ ap link_or_refusal h
 refused_by links.Memory x answer e h = tt
 
 -- it is no fault of a device
-no_device : (cause : LinkFault) (path : String Global) → fault_of_link cause ≡ faults.BadFile path reads.Device → ⊥
+pub no_device : (cause : LinkFault) (path : String Global) → fault_of_link cause ≡ faults.BadFile path reads.Device → ⊥
 no_device links.DoesNotFit path e = absurd (cc)
 no_device links.TooManySymbols path e = absurd (cc)
 no_device links.SymbolNumber path e = absurd (cc)

@@ -1,6 +1,6 @@
 -- The lines of a script, run one after another on a session.
 use Rattle.std.proofs.Common.{◌≡◌, ℕ, ◌+◌, ◌≤◌, max, List, [], ◌∷◌, ◌++◌, Option, Some, None, Result, Ok, Err, refl, sym, ap, ◌∙◌, subst, inl, inr, append_assoc, append-nil, arith}
-use Rattle.std.specs.Prelude.{IfSome, IsSome, ◌⊎◌}
+use Rattle.std.specs.Prelude.{IfSome, IsSome, IsTrue, ◌⊎◌}
 use Rattle.std.specs.List.{flat_map}
 use Rattle.std.specs.Io.KnownBytes.{Appends, prepend_known}
 use Rattle.std.proofs.KnownBytes.{Appends-nil, Appends-trans}
@@ -199,7 +199,7 @@ module _ {R W : Type 0} (remaining : R → Option (List ℕ)) (contents : W → 
   pub runs_none : (o : Choices) (start : Kept) (begun : Progress R) (old : History) (before : Latched W) → begun.line_count ≡ 0 → begun.settled ≡ None → Running o start start begun begun old old before before 0
   runs_none o start begun old before none e = record {
     runs = [];
-    ran = record { chain = refl; asked = nothing_asked old; answers = Appends-nil (contents before.device); working = λ t. t };
+    ran = record { chain = refl; asked = nothing_asked old; answers = Appends-nil (contents before.device); working = λ t. t; latched = λ t. (refl, refl) };
     reading = subst (λ (k : ℕ). Reading (left_of remaining begun) (left_of remaining begun) k begun.settled []) (sym none) (reads_first (left_of remaining begun) begun.settled e);
     worst_so_far = refl;
   }
@@ -210,8 +210,8 @@ module _ {R W : Type 0} (remaining : R → Option (List ℕ)) (contents : W → 
 
     -- one more line
     pub runs_more : (next : Progress R) (it : Line) (left : Kept) (new : History) (after : Latched W) (answered : ℕ) → Reading (left_of remaining begun) (left_of remaining next) next.line_count next.settled (asked_so_far ++ asked_by it ∷ []) →
-        AnswersLine contents o (asked_by it) mid left between new (Ok answered) during after → Running o start left begun next old new before after (max status answered)
-    runs_more next it left new after answered reading line = record {
+        AnswersLine contents o (asked_by it) mid left between new (Ok answered) during after → (IsTrue during.has_failed → after ≡ during) → Running o start left begun next old new before after (max status answered)
+    runs_more next it left new after answered reading line stays = record {
       runs = h.runs ++ line.run ∷ [];
       ran = record {
         chain = chains_more o start mid left h.runs line.run h.ran.chain line.is_run line.leaves;
@@ -219,6 +219,11 @@ module _ {R W : Type 0} (remaining : R → Option (List ℕ)) (contents : W → 
         answers = subst (Appends (contents before.device) (contents after.device)) (sym (row_more (λ (r : LineRun). r.answer) h.runs line.run))
             (Appends-trans (contents before.device) (contents during.device) (contents after.device) (answers_of h.runs) line.run.answer h.ran.answers line.bytes);
         working = λ t. absurd (let bad = line.fault.1 t in cc);
+        latched = λ t.
+            let (none, same) = h.ran.latched t in
+            let failed : IsTrue during.has_failed = subst (λ (w : Latched W). IsTrue w.has_failed) (sym same) t in
+            let bad = line.fault.1 (subst (λ (w : Latched W). IsTrue w.has_failed) (sym (stays failed)) failed) in
+            absurd (cc);
       };
       reading = subst (Reading (left_of remaining begun) (left_of remaining next) next.line_count next.settled) (sym (map-append (λ (r : LineRun). r.line) h.runs (line.run ∷ []) ∙ ap (λ (a : Asked). asked_so_far ++ a ∷ []) line.line)) reading;
       worst_so_far = ap (λ (k : ℕ). max k answered) h.worst_so_far ∙ ap (max (worst h.runs)) line.status ∙ sym (worst_more h.runs line.run);
@@ -250,8 +255,8 @@ module _ {R W : Type 0} (remaining : R → Option (List ℕ)) (contents : W → 
       })))
 
       pub broke_off : (next : Progress R) (it : Line) (left : Kept) (new : History) (after : Latched W) (fault : CliFault) → Reading (left_of remaining begun) (left_of remaining next) next.line_count next.settled (asked_so_far ++ asked_by it ∷ []) →
-          AnswersLine contents o (asked_by it) mid left between new (Err fault) during after → result ≡ Err fault → IsSessionRun contents forced o (remaining source.device) old new result before after
-      broke_off next it left new after fault reading line answer =
+          AnswersLine contents o (asked_by it) mid left between new (Err fault) during after → (IsTrue during.has_failed → after ≡ during) → result ≡ Err fault → IsSessionRun contents forced o (remaining source.device) old new result before after
+      broke_off next it left new after fault reading line stays answer =
           let (part, rest, split, sent) = line.bytes in
           inr (inr (inr (record {
             runs = h.runs;
@@ -267,6 +272,9 @@ module _ {R W : Type 0} (remaining : R → Option (List ℕ)) (contents : W → 
             split = split;
             answers = Appends-trans (contents before.device) (contents during.device) (contents after.device) (answers_of h.runs) part h.ran.answers sent;
             failed = line.fault.0 refl;
+            latched = λ t.
+                let (none, same) = h.ran.latched t in
+                (none, stays (subst (λ (w : Latched W). IsTrue w.has_failed) (sym same) t) ∙ same);
             refusal = answer ∙ ap (λ (f : CliFault). let r : Result ℕ CliFault = Err f in r) line.write_failed;
           })))
 

@@ -180,6 +180,12 @@ pub worked_before : {R : Type 0} (before after : Latched R) (path : String Globa
     ((Ok tt ≡ failed_with (faults.BadFile path reads.Device)) ↔ IsTrue after.has_failed) → before.has_failed ≡ false
 worked_before before after path latched device = false_from_ne_true before.has_failed (λ failed. let bad = failed_before before after (Ok tt) path latched device failed in absurd (cc))
 
+-- nor had that of a file that is refused, but for the fault of a device
+pub worked_unless : {R : Type 0} (before after : Latched R) (path : String Global) (fault : CliFault) → (IsTrue before.has_failed → after ≡ before) →
+    ((failed_with fault ≡ failed_with (faults.BadFile path reads.Device)) ↔ IsTrue after.has_failed) → (fault ≡ faults.BadFile path reads.Device → ⊥) → before.has_failed ≡ false
+worked_unless before after path fault latched device other =
+    false_from_ne_true before.has_failed (λ failed. other (let e = failed_before before after (failed_with fault) path latched device failed in cc))
+
 -- nor has it behind the addition
 pub worked_after : {R : Type 0} (after : Latched R) (path : String Global) → ((Ok tt ≡ failed_with (faults.BadFile path reads.Device)) ↔ IsTrue after.has_failed) → after.has_failed ≡ false
 worked_after after path device = false_from_ne_true after.has_failed (λ failed. let bad = device.1 failed in absurd (cc))

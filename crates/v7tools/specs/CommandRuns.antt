@@ -21,7 +21,7 @@ use Rattle.v7tools.specs.declared.fault.CliFault.{CliFault}
 -- a call was run, with a script of these bytes, where they are known
 abbrev pub IsCallRun : {W : Type 0} → (W → Option (List ℕ)) → Option (List ℕ) → Call → History → History → Result ℕ CliFault → Latched W → Latched W → Type 0
 IsCallRun contents script (Ld options forced out files) old new result before after = IsLinkRun contents forced options out (map string_bytes files.items) old new result before after
-IsCallRun contents script (Nm options files) old new result before after = IsListRun contents OrMemory (nm_text options) files.items old new result before after
+IsCallRun contents script (Nm options files) old new result before after = IsListRun contents (OrMemory options) (nm_text options) files.items old new result before after
 IsCallRun contents script (Size files) old new result before after = IsListRun contents OnlyWriteFailed size_text files.items old new result before after
 IsCallRun contents script (Strip files) old new result before after = IsStripRun old new files.items result × (after ≡ before)
 IsCallRun contents script (Session options forced) old new result before after = IsSessionRun contents forced options script old new result before after

@@ -11,6 +11,8 @@ use Rattle.aout_core.specs.Reading.{HasHeader, IsReadOf}
 use Rattle.aout_core.specs.Strip.{stripped}
 use Rattle.aout_core.specs.Wires.{Latched, Puts}
 use Rattle.symtools.specs.Files.{by_bytes}
+use Rattle.symtools.specs.NmLists.{ListsUpTo}
+use Rattle.symtools.specs.declared.options.NmOptions.{NmOptions}
 use Rattle.v7tools.specs.Deeds.{Deed, History, Extends, Opened, opened, opens, stored}
 use Rattle.v7tools.specs.LinkRuns.{Refuses}
 use Rattle.v7tools.specs.declared.fault.CliFault.{CliFault}
@@ -64,24 +66,26 @@ ReadsAll old new files loaded = (files ≡ map (λ l. l.0) loaded) × Reads old 
 abbrev pub ReadsNotAll : History → History → List (String Global) → CliFault → Type 0
 ReadsNotAll old new files fault = ((fault ≡ faults.Memory) × Extends old new []) ⊎ ReadsUpTo old new files fault
 
-abbrev pub OnlyWriteFailed : CliFault → Type 0
-OnlyWriteFailed fault = fault ≡ faults.WriteFailed
+-- a list of files is cut short only where a device failed
+abbrev pub OnlyWriteFailed : List (List ℕ × Contents) → CliFault → Option (List ℕ) → Option (List ℕ) → Type 0
+OnlyWriteFailed files fault old new = fault ≡ faults.WriteFailed
 
-abbrev pub OrMemory : CliFault → Type 0
-OrMemory fault = (fault ≡ faults.WriteFailed) ⊎ (fault ≡ faults.Memory)
+-- or also where memory ran out for one file; then all lines of the files before it went out, and nothing else
+abbrev pub OrMemory : NmOptions → List (List ℕ × Contents) → CliFault → Option (List ℕ) → Option (List ℕ) → Type 0
+OrMemory o files fault old new = (fault ≡ faults.WriteFailed) ⊎ ((fault ≡ faults.Memory) × ListsUpTo o files old new)
 
 -- the text went out, or on a fault a prefix of it
-pub record Lists {W : Type 0} (contents : W → Option (List ℕ)) (may_be : CliFault → Type 0) (text : List ℕ) (result : Result ℕ CliFault) (before after : Latched W) : Type 0 where
+pub record Lists {W : Type 0} (contents : W → Option (List ℕ)) (cut_short : CliFault → Option (List ℕ) → Option (List ℕ) → Type 0) (text : List ℕ) (result : Result ℕ CliFault) (before after : Latched W) : Type 0 where
   pub status : IfOk result (λ status. status ≡ 0)
-  pub other : IfErr result may_be
+  pub other : IfErr result (λ fault. cut_short fault (contents before.device) (contents after.device))
   pub failed : (result ≡ Err faults.WriteFailed) ↔ IsTrue after.has_failed
   pub bytes : Puts result (contents before.device) (contents after.device) text
 
 -- nothing is written before all files are read
-abbrev pub IsListRun : {W : Type 0} → (W → Option (List ℕ)) → (CliFault → Type 0) → (List (List ℕ × Contents) → List ℕ) → List (String Global) → History → History → Result ℕ CliFault → Latched W → Latched W → Type 0
-IsListRun contents may_be text files old new result before after =
+abbrev pub IsListRun : {W : Type 0} → (W → Option (List ℕ)) → (List (List ℕ × Contents) → CliFault → Option (List ℕ) → Option (List ℕ) → Type 0) → (List (List ℕ × Contents) → List ℕ) → List (String Global) → History → History → Result ℕ CliFault → Latched W → Latched W → Type 0
+IsListRun contents cut_short text files old new result before after =
     ((fault : CliFault) × ReadsNotAll old new files fault × Refuses fault result before after)
-    ⊎ ((loaded : List Loaded) × ReadsAll old new files loaded × Lists contents may_be (text (by_bytes loaded)) result before after)
+    ⊎ ((loaded : List Loaded) × ReadsAll old new files loaded × Lists contents (cut_short (by_bytes loaded)) (text (by_bytes loaded)) result before after)
 
 -- a file is stored, or the fault says why it is not
 abbrev pub IsStored : String Global → Stored → Result (Unit {0}) CliFault → Type 0

@@ -4,6 +4,7 @@
 -- run out.
 use Rattle.std.specs.declared.alloc.Global.{Global}
 use Rattle.std.specs.Prelude.{◌≡◌, ◌⊎◌, ℕ, false, List, [], ◌∷◌, Option, Some, None, Result, Ok, Err, IsOkAnd, String, string_bytes}
+use Rattle.std.specs.List.{AllByRecursion}
 use Rattle.aout_core.specs.declared.file.ReadFault.TheVariants as reads
 use Rattle.aout_core.specs.Wires.{Latched}
 use Rattle.link_session.specs.declared.entry.AddFault.TheVariants as adds
@@ -59,6 +60,22 @@ abbrev pub IsTrueOf : {A : Type 0} → Said → Result A Refusal → Type 0
 IsTrueOf (refuses r) answer = answer ≡ Err r
 IsTrueOf says_nothing answer = Unit {0}
 IsTrueOf never answer = ⊥
+
+-- one of the inputs is at this path, this holds of it, and the wires of those before it have not failed
+abbrev pub StandsAt : {R : Type 0} → (String Global × Latched R → Type 0) → List ℕ → List (String Global × Latched R) → Type 0
+StandsAt holds path [] = ⊥
+StandsAt holds path (i ∷ is) = ((string_bytes i.0 ≡ path) × holds i) ⊎ (IsWorking i × StandsAt holds path is)
+
+-- what is said is of an input up to which no wire has failed, or of all inputs where none has
+abbrev pub IsOfWorking : {R : Type 0} → List (String Global × Latched R) → Said → Type 0
+IsOfWorking inputs (refuses (of_input path cause)) = StandsAt IsWorking path inputs
+IsOfWorking inputs (refuses (not_linked fault)) = AllByRecursion IsWorking inputs
+IsOfWorking inputs _ = Unit {0}
+
+-- a wire that has failed is not passed: the fault of a device is that of the first input whose wire has failed or fails
+abbrev pub PassesNone : {R : Type 0} → List (String Global × Latched R) → CliFault → Type 0
+PassesNone inputs fault =
+    IsOfWorking inputs (said_by fault) × ((path : String Global) → fault ≡ faults.BadFile path reads.Device → StandsAt (λ i. Unit {0}) (string_bytes path) inputs)
 
 -- the inputs before one at this path are all taken
 abbrev pub IsReached : List (List ℕ) → List Labelled → List ℕ → List (List ℕ × List ℕ) → Type 0

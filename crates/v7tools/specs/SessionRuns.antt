@@ -37,12 +37,13 @@ abbrev pub worst : List LineRun → ℕ
 worst [] = 0
 worst (r ∷ rs) = max r.status (worst rs)
 
--- the lines were run on a session, and their answers went out whole
+-- the lines were run on a session, and their answers went out whole; on a wire that had failed before none was
 pub record Ran {W : Type 0} (contents : W → Option (List ℕ)) (o : Choices) (start kept : Kept) (runs : List LineRun) (old new : History) (before after : Latched W) : Type 0 where
   pub chain : Chains o start runs kept
   pub asked : Extends old new (deeds_of runs)
   pub answers : Appends (contents before.device) (contents after.device) (answers_of runs)
   pub working : IsTrue after.has_failed → IsTrue before.has_failed
+  pub latched : IsTrue before.has_failed → (runs ≡ []) × (after ≡ before)
 
 -- what a script gives, by its bytes
 abbrev pub given : List ℕ → Given
@@ -81,7 +82,8 @@ pub record RunsUpTo {W : Type 0} (contents : W → Option (List ℕ)) (forced : 
   pub stops : StopsBehind script (lines_asked runs) fault
   pub refusal : result ≡ Err fault
 
--- behind the lines whose answers went out whole one more was run, and of its answer a prefix went out
+-- behind the lines whose answers went out whole one more was run, and of its answer a prefix went out; on a wire that had
+-- failed before it is the first, and nothing went out
 pub record BreaksOff {W : Type 0} (contents : W → Option (List ℕ)) (forced : List (List ℕ)) (o : Choices) (script : Option (List ℕ)) (old new : History) (result : Result ℕ CliFault) (before after : Latched W) : Type 0 where
   pub runs : List LineRun
   pub kept : Kept
@@ -95,6 +97,7 @@ pub record BreaksOff {W : Type 0} (contents : W → Option (List ℕ)) (forced :
   pub split : last.answer ≡ part ++ rest
   pub answers : Appends (contents before.device) (contents after.device) (answers_of runs ++ part)
   pub failed : IsTrue after.has_failed
+  pub latched : IsTrue before.has_failed → (runs ≡ []) × (after ≡ before)
   pub refusal : result ≡ Err faults.WriteFailed
 
 -- a session that begins with these forced names and no objects: memory runs out before a line is read, all lines are

@@ -2,7 +2,7 @@
 use aout_core::Wire;
 use link_out::Linked;
 
-/// What one line of a script asks for. (own choice)
+/// What a step is asked to do: a line of a script, with the file at its path opened. (own choice)
 #[derive(Drop)]
 pub enum Command<R> {
     /// Adds the object at this path. An absent wire is a file that can't be opened.
@@ -11,7 +11,7 @@ pub enum Command<R> {
     Withdraw,
     /// Lists the external names.
     Externals,
-    /// Lists the names that nothing defines.
+    /// Lists the names that nothing defines, but for commons and `_etext`, `_edata` and `_end`.
     Undefined,
     /// Links the objects.
     Link,

@@ -23,7 +23,7 @@ use symtools::ToolFault;
 pub enum CliFault {
     /// 1: the words ask for nothing that there is.
     Usage,
-    /// 2: there is no file at this path, or it may not be read.
+    /// 2: the file at this path can't be opened: there is none, it may not be read, or too many are open.
     CannotOpen(String),
     /// 3: what stands at this path is no a.out file, or its device failed.
     BadFile(String, ReadFault),
@@ -37,7 +37,7 @@ pub enum CliFault {
     CannotCreate(String),
     /// 8: a device failed while it was written.
     WriteFailed,
-    /// 9: no memory.
+    /// 9: memory ran out.
     Memory,
     /// 11: a line of a script has more than 4,096 bytes.
     LongLine,

@@ -52,7 +52,7 @@ fn put_names<W: Write>(
     output: &mut Wire<W>,
 ) -> Result<u8, CliFault>
     ensures small { IfOk result (λ status. status ≤ 1) }
-    ensures run { Lists W.contents OrMemory (nm_text options (by_bytes files.now)) result output.old output.new }
+    ensures run { Lists W.contents (OrMemory options (by_bytes files.now)) (nm_text options (by_bytes files.now)) result output.old output.new }
 {
     let listed = nm(alloc, files, options, output);
     output.flush()?;
@@ -63,7 +63,7 @@ fn put_names<W: Write>(
 /// Writes the sizes of the files.
 fn put_sizes<W: Write>(files: &[(String, File)], output: &mut Wire<W>) -> Result<u8, CliFault>
     ensures small { IfOk result (λ status. status ≤ 1) }
-    ensures run { Lists W.contents OnlyWriteFailed (size_text (by_bytes files.now)) result output.old output.new }
+    ensures run { Lists W.contents (OnlyWriteFailed (by_bytes files.now)) (size_text (by_bytes files.now)) result output.old output.new }
 {
     size(files, output)?;
     output.flush()?;
@@ -79,7 +79,7 @@ pub(crate) fn list_files<O: Office, W: Write>(
     output: &mut Wire<W>,
 ) -> Result<u8, CliFault>
     ensures small { IfOk result (λ status. status ≤ 1) }
-    ensures run { IsListRun W.contents OrMemory (nm_text options) files.items (O.history office.old) (O.history office.new) result output.old output.new }
+    ensures run { IsListRun W.contents (OrMemory options) (nm_text options) files.items (O.history office.old) (O.history office.new) result output.old output.new }
 {
     let loaded = load_all(alloc, office, files)?;
     put_names(alloc, options, &loaded, output)

@@ -3,7 +3,7 @@ ghost use Rattle.std.specs.Prelude.{◌≡◌, ◌↔◌, true, IfErr, IfOk, IfS
 ghost use Rattle.std.specs.List.{AllByRecursion};
 ghost use Rattle.aout_core.specs.WellFormed.{IsWellFormed};
 ghost use Rattle.v7tools.specs.parts.InputParts.{AreTaken, IsDeviceFault, without_wire};
-ghost use Rattle.v7tools.specs.LinkAnswers.{IsLinkOf, IsPossible, IsWorking, said_by, told};
+ghost use Rattle.v7tools.specs.LinkAnswers.{IsLinkOf, IsPossible, IsWorking, PassesNone, said_by, told};
 
 use crate::additions::add_file;
 use crate::fault::CliFault;
@@ -23,6 +23,7 @@ fn take_inputs<R: Read + Drop>(
     ensures device { IfErr result (λ refused. IsDeviceFault refused.0 ↔ IsTrue refused.1.has_failed) }
     ensures faults { IfErr result (λ refused. IsPossible (said_by refused.0)) }
     ensures working { IfOk result (λ _. AllByRecursion IsWorking inputs.items) }
+    ensures latched { IfErr result (λ refused. PassesNone inputs.items refused.0) }
     ensures forced { session.new.forced ≡ session.old.forced }
     ensures value { IfSome (told R.remaining inputs.items) (λ bytes. AreTaken session.old session.new bytes (without_wire result)) }
 {
@@ -39,8 +40,8 @@ fn take_inputs<R: Read + Drop>(
 /// object, which can be linked again. (ld(1))
 ///
 /// Errors: for the first input that is refused, with its path, `BadFile`, 3, where it is no file or its device
-/// failed, `BadObject`, 4, where it is no object, or `NotAdded`, 5, where it passes a limit; behind the last input
-/// `NotLinked`, 6, where there is no link; `Memory`, 9, wherever memory runs out.
+/// failed, now or before, `BadObject`, 4, where it is no object, or `NotAdded`, 5, where it passes a limit; behind the
+/// last input `NotLinked`, 6, where there is no link; `Memory`, 9, wherever memory runs out.
 pub fn ld<R: Read + Drop>(
     alloc: Global,
     inputs: Vec<(String, Wire<R>)>,
@@ -49,6 +50,7 @@ pub fn ld<R: Read + Drop>(
 ) -> Result<Linked, CliFault>
     ensures faults { IfErr result (λ fault. IsPossible (said_by fault)) }
     ensures working { IfOk result (λ _. AllByRecursion IsWorking inputs.items) }
+    ensures latched { IfErr result (λ fault. PassesNone inputs.items fault) }
     ensures value { IfSome (told R.remaining inputs.items) (λ bytes. IsLinkOf forced.now options.now bytes result) }
     ensures object { options.now.relocatable ≡ true → IfOk result (λ linked. IsWellFormed linked.file) }
 {

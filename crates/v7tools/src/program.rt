@@ -22,12 +22,12 @@ use std::rt::Runtime;
 fn run_call<O: Office, R: Read + Drop, W: Write>(
     alloc: Global,
     office: &mut O,
-    script: Wire<R>,
+    script: R,
     output: &mut Wire<W>,
     call: Call,
 ) -> Result<u8, CliFault>
     ensures small { IfOk result (λ status. status ≤ 1) }
-    ensures run { IsCallRun W.contents (R.remaining script.device) call (O.history office.old) (O.history office.new) result output.old output.new }
+    ensures run { IsCallRun W.contents (R.remaining script) call (O.history office.old) (O.history office.new) result output.old output.new }
 {
     match call {
         Call::Ld {
@@ -49,30 +49,31 @@ fn run_call<O: Office, R: Read + Drop, W: Write>(
 fn run_words<O: Office, R: Read + Drop, W: Write>(
     alloc: Global,
     office: &mut O,
-    script: Wire<R>,
+    script: R,
     output: &mut Wire<W>,
     words: Vec<String>,
 ) -> Result<u8, CliFault>
     ensures small { IfOk result (λ status. status ≤ 1) }
-    ensures run { RunsWords W.contents (map string_bytes words.items) (R.remaining script.device) (O.history office.old) (O.history office.new) result output.old output.new }
+    ensures run { RunsWords W.contents (map string_bytes words.items) (R.remaining script) (O.history office.old) (O.history office.new) result output.old output.new }
 {
     let call = parse(alloc, words)?;
     run_call(alloc, office, script, output, call)
 }
 
 /// Does what the words after the program's name ask for, over any office and any streams: a session's script, standard
-/// output and standard error. It returns the status of the program: 0, or 1 where there was something to report, or 2
-/// for a fault, whose line goes to standard error; without a fault nothing goes there. (own choice)
+/// output and standard error. It returns the status of the program: 0, or 1 where there was something to report or a
+/// session refused a line or could not store a link, or 2 for a fault, whose line goes to standard error; without a
+/// fault nothing goes there. (own choice)
 pub fn perform<O: Office, R: Read + Drop, W: Write, E: Write>(
     alloc: Global,
     office: &mut O,
-    script: Wire<R>,
+    script: R,
     output: &mut Wire<W>,
     error: &mut Wire<E>,
     words: Vec<String>,
 ) -> u8
     ensures small { result ≤ 2 }
-    ensures run { Performs W.contents E.contents (map string_bytes words.items) (R.remaining script.device) (O.history office.old) (O.history office.new) result output.old output.new error.old error.new }
+    ensures run { Performs W.contents E.contents (map string_bytes words.items) (R.remaining script) (O.history office.old) (O.history office.new) result output.old output.new error.old error.new }
 {
     match run_words(alloc, office, script, output, words) {
         Ok(status) => status,
@@ -84,20 +85,20 @@ pub fn perform<O: Office, R: Read + Drop, W: Write, E: Write>(
 }
 
 /// Does what the words after the program's name ask for, and returns the status of the program: 0, or 1 where there was
-/// something to report, or 2 for a fault, whose line goes to standard error. With 2 the words or an input were refused
-/// before any output, or memory ran out, or no file could be made at a path, or a device failed while it was written,
-/// or a script could not be answered to its end; what was stored before then stays. (own choice)
+/// something to report or a session refused a line or could not store a link, or 2 for a fault, whose line goes to
+/// standard error. With 2 the words or an input were refused before any output, or memory ran out, or no file could be
+/// made at a path, or a device failed while it was written, or a script could not be answered to its end; what was
+/// stored before then stays. (own choice)
 pub fn command<H: Runtime + AllocGlobal>(rt: &H, words: Vec<String>) -> u8
     ensures { result ≤ 2 }
 {
     let mut office = Disk::new(rt);
-    let script = Wire::new(rt.reader());
     let mut output = Wire::new(BlockWriter::new(io::writer(rt)));
     let mut error = Wire::new(StandardError::new(rt));
     perform(
         rt.alloc(),
         &mut office,
-        script,
+        rt.reader(),
         &mut output,
         &mut error,
         words,

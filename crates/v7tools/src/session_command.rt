@@ -1,9 +1,9 @@
 //! The session as a command, over any office: each line of a script is answered before the next one is asked for.
-ghost use Rattle.std.specs.Prelude.{◌≡◌, ◌≤◌, ℕ, List, [], string_bytes, IfErr, IfOk};
+ghost use Rattle.std.specs.Prelude.{◌≡◌, ◌↔◌, ◌≤◌, ℕ, List, [], string_bytes, Err, IfErr, IfOk, IsTrue};
 ghost use Rattle.aout_core.specs.Wires.{Writes};
 ghost use Rattle.link_session.specs.Sessions.{nothing_kept};
 ghost use Rattle.link_out.specs.Reports.{line};
-ghost use Rattle.v7tools.specs.declared.fault.CliFault.TheVariants.{WriteFailed};
+ghost use Rattle.v7tools.specs.declared.fault.CliFault.TheVariants.{ScriptFailed, WriteFailed};
 ghost use Rattle.v7tools.specs.FaultTexts.{cli_text};
 ghost use Rattle.v7tools.specs.Scripts.{to_add, to_link};
 ghost use Rattle.v7tools.specs.ScriptAnswers.{asked_by};
@@ -41,6 +41,7 @@ fn take_step<R: Read + Drop, W: Write>(
 ) -> Result<u8, CliFault>
     requires { IsNoLink command }
     ensures small { IfOk result (λ status. status ≤ 1) }
+    ensures latched { IsTrue answers.old.has_failed → (answers.new ≡ answers.old) }
     ensures run { TakesPlainStep R.remaining W.contents options.now command session.old session.new result answers.old answers.new }
 {
     match step(alloc, session, options, command, answers)? {
@@ -60,6 +61,7 @@ fn answer_add<O: Office, W: Write>(
     answers: &mut Wire<W>,
 ) -> Result<u8, CliFault>
     ensures small { IfOk result (λ status. status ≤ 1) }
+    ensures latched { IsTrue answers.old.has_failed → (answers.new ≡ answers.old) }
     ensures run { AnswersLine W.contents options.now (to_add (string_bytes path)) session.old session.new (O.history office.old) (O.history office.new) result answers.old answers.new }
 {
     let wire = open_wire(office, path.as_str());
@@ -86,6 +88,7 @@ fn answer_link<O: Office, W: Write>(
     answers: &mut Wire<W>,
 ) -> Result<u8, CliFault>
     ensures small { IfOk result (λ status. status ≤ 1) }
+    ensures latched { IsTrue answers.old.has_failed → (answers.new ≡ answers.old) }
     ensures run { AnswersLine W.contents options.now (to_link path.now) session.now session.now (O.history office.old) (O.history office.new) result answers.old answers.new }
 {
     match finish(alloc, session, options) {
@@ -108,6 +111,7 @@ fn answer_line<O: Office, W: Write>(
     answers: &mut Wire<W>,
 ) -> Result<u8, CliFault>
     ensures small { IfOk result (λ status. status ≤ 1) }
+    ensures latched { IsTrue answers.old.has_failed → (answers.new ≡ answers.old) }
     ensures run { AnswersLine W.contents options.now (asked_by line) session.old session.new (O.history office.old) (O.history office.new) result answers.old answers.new }
 {
     let command: Command<O::Source> = match line {
@@ -133,6 +137,7 @@ fn pass_answer<O: Office, W: Write>(
     answers: &mut Wire<W>,
 ) -> Result<u8, CliFault>
     ensures small { IfOk result (λ status. status ≤ 1) }
+    ensures latched { IsTrue answers.old.has_failed → (answers.new ≡ answers.old) }
     ensures run { AnswersLine W.contents options.now (asked_by line) session.old session.new (O.history office.old) (O.history office.new) result answers.old answers.new }
 {
     let status = answer_line(alloc, office, session, options, line, answers)?;
@@ -153,6 +158,7 @@ fn answer_lines<O: Office, R: Read + Drop, W: Write>(
     requires count { script.old.line_count ≡ 0 }
     requires settled { script.old.settled ≡ None }
     ensures small { IfOk result (λ status. status ≤ 1) }
+    ensures failed { (result ≡ Err ScriptFailed) ↔ IsTrue script.new.wire.has_failed }
     ensures run { (forced : List (List ℕ)) → session.old ≡ nothing_kept forced → IsSessionRun W.contents forced options.now (R.remaining script.old.wire.device) (O.history office.old) (O.history office.new) result answers.old answers.new }
 {
     let mut status = 0;
@@ -167,19 +173,19 @@ fn answer_lines<O: Office, R: Read + Drop, W: Write>(
     unreachable!()
 }
 
-/// Answers the script on a wire, on a session that keeps nothing yet.
-fn answer_wire<O: Office, R: Read + Drop, W: Write>(
+/// Answers the script that a reader gives, on a session that keeps nothing yet.
+fn answer_reader<O: Office, R: Read + Drop, W: Write>(
     alloc: Global,
     office: &mut O,
     session: &mut Session,
     options: &Options,
-    wire: Wire<R>,
+    reader: R,
     answers: &mut Wire<W>,
 ) -> Result<u8, CliFault>
     ensures small { IfOk result (λ status. status ≤ 1) }
-    ensures run { (forced : List (List ℕ)) → session.old ≡ nothing_kept forced → IsSessionRun W.contents forced options.now (R.remaining wire.device) (O.history office.old) (O.history office.new) result answers.old answers.new }
+    ensures run { (forced : List (List ℕ)) → session.old ≡ nothing_kept forced → IsSessionRun W.contents forced options.now (R.remaining reader) (O.history office.old) (O.history office.new) result answers.old answers.new }
 {
-    let mut script = Script::new(alloc, wire)?;
+    let mut script = Script::new(alloc, Wire::new(reader))?;
     answer_lines(alloc, office, session, options, &mut script, answers)
 }
 
@@ -189,12 +195,12 @@ pub(crate) fn answer_script<O: Office, R: Read + Drop, W: Write>(
     office: &mut O,
     options: &Options,
     forced: &Forced,
-    script: Wire<R>,
+    script: R,
     answers: &mut Wire<W>,
 ) -> Result<u8, CliFault>
     ensures small { IfOk result (λ status. status ≤ 1) }
-    ensures run { IsSessionRun W.contents forced.now options.now (R.remaining script.device) (O.history office.old) (O.history office.new) result answers.old answers.new }
+    ensures run { IsSessionRun W.contents forced.now options.now (R.remaining script) (O.history office.old) (O.history office.new) result answers.old answers.new }
 {
     let mut session = Session::with_forced(alloc, forced)?;
-    answer_wire(alloc, office, &mut session, options, script, answers)
+    answer_reader(alloc, office, &mut session, options, script, answers)
 }

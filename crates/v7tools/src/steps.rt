@@ -125,8 +125,8 @@ fn make_link<W: Write>(
 /// is `Refused` leaves the session as it was, also where there is no memory, which answers `no memory`. Memory is taken
 /// to add and to link alone. (own choice)
 ///
-/// Errors: `WriteFailed`, 8, where the answers' wire failed, now or before: a prefix of the answer went out, and the
-/// session is as after the command.
+/// Errors: `WriteFailed`, 8, where the answers' wire failed, now or before, but for a link that is made, which writes
+/// nothing: a prefix of the answer went out, and the session is as after the command.
 pub fn step<R: Read + Drop, W: Write>(
     alloc: Global,
     session: &mut Session,

@@ -1,4 +1,4 @@
-use Rattle.std.proofs.Common.{◌++◌, ◌∷◌, [], ◌∙◌, if◌then◌else◌, ap, subst}
+use Rattle.std.proofs.Common.{rules, ◌++◌, ◌∷◌, [], ◌∙◌, if◌then◌else◌, ap, subst}
 use Rattle.std.specs.List.{flat_map}
 use Rattle.std.specs.Io.KnownBytes.{Appends}
 use Rattle.std.proofs.KnownBytes.{Appends-trans}
@@ -8,9 +8,12 @@ use Rattle.symtools.specs.SymbolLines.{symbol_line}
 use Rattle.aout_core.proofs.PutsLemmas.{front_before, front_behind, put_broke_off}
 use Rattle.symtools.proofs.listing.list_file.Goals as goal
 
+pub returns-in_err-symbols-clause-memory : goal.returns-in_err-symbols-clause-memory
+returns-in_err-symbols-clause-memory g c = search rules
+
 pub returns-in_err-put_front-clause-bytes : goal.returns-in_err-put_front-clause-bytes
 returns-in_err-put_front-clause-bytes g c =
-    put_broke_off c.from_residual-in_err-put_front.result _ _ _ c.from_residual-in_err-put_front.ensures.0 (front_before _ _ _ _ c.in_err-put_front.ensures.bytes)
+    put_broke_off _ _ _ _ (search rules) (front_before _ _ _ _ c.in_err-put_front.ensures.bytes)
 
 pub returns-in_err-put_lines-clause-bytes : goal.returns-in_err-put_lines-clause-bytes
 returns-in_err-put_lines-clause-bytes g c =

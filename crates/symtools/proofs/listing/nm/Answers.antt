@@ -1,12 +1,13 @@
-use Rattle.std.proofs.Common.{◌++◌, ◌∷◌, [], if◌then◌else◌, length, subst, take_all, filter, ap, ◌∙◌}
+use Rattle.std.proofs.Common.{◌++◌, ◌∷◌, [], if◌then◌else◌, length, subst, take, take_all, filter, ap, sym, ◌∙◌}
 use Rattle.std.specs.List.{flat_map}
 use Rattle.std.specs.Io.KnownBytes.{Appends}
+use Rattle.std.proofs.lemmas.Result.{err_from_is_err_and}
 use Rattle.aout_core.specs.Wires.{AppendsPrefix}
 use Rattle.symtools.specs.SymbolLines.{symbol_line}
 use Rattle.symtools.specs.NmLists.{is_shown, arranged}
 use Rattle.aout_core.proofs.PutsLemmas.{front_of_row, put_broke_off}
 use Rattle.symtools.proofs.PutsLemmas.{not_failed, row_more}
-use Rattle.symtools.proofs.TextLemmas.{listed, nm_text-listed}
+use Rattle.symtools.proofs.TextLemmas.{listed, lists_up_to, nm_text-listed}
 use Rattle.symtools.proofs.listing.nm.Goals as goal
 
 pub returns-in_err-list_file-clause-bytes : goal.returns-in_err-list_file-clause-bytes
@@ -23,6 +24,18 @@ returns-in_err-list_file-clause-bytes g c =
     put_broke_off c.from_residual.result _ _ _ c.from_residual.ensures.0
     (subst (AppendsPrefix _ _) (nm_text-listed o files)
     (front_of_row (listed o (length files)) files c.loop-path.path-index c.loop-path-item.result _ _ _ c.loop-path-test.true c.loop-path-item.is c.loop-path.invariant.2 entry))
+
+pub returns-in_err-list_file-clause-memory : goal.returns-in_err-list_file-clause-memory
+returns-in_err-list_file-clause-memory g c = λ memory.
+    let files = c.args.files.now in
+    let o = c.args.options in
+    let old = g.W.Write.contents c.args.out.now.device in
+    let fault = err_from_is_err_and c.from_residual.result c.from_residual.ensures.1 in
+    let silent = c.in_err-list_file.ensures.memory (cc) in
+    let shows = c.in_err-list_file.ensures.shows (cc) in
+    lists_up_to o files c.loop-path.path-index c.loop-path-item.result old (g.W.Write.contents c.list_file.new.out.device) c.loop-path-test.true c.loop-path-item.is
+    (λ none. shows (ap (filter (is_shown o)) c.symbols.ensures.value ∙ none))
+    (subst (λ w. Appends old (g.W.Write.contents w.device) (flat_map (listed o (length files)) (take c.loop-path.path-index files))) (sym silent) c.loop-path.invariant.2)
 
 pub loop-path-preserved : goal.loop-path-preserved
 loop-path-preserved g c =

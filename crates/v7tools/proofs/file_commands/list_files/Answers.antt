@@ -14,5 +14,5 @@ returns-clause-run g c =
     inr (
       c.in_ok-loaded.loaded.items,
       c.in_ok-loaded.ensures,
-      subst (λ files. Lists g.W.Write.contents OrMemory (nm_text c.args.options (by_bytes files)) c.put_names.result c.args.output.now c.put_names.new.output) same c.put_names.ensures.run,
+      subst (λ files. Lists g.W.Write.contents (OrMemory c.args.options (by_bytes files)) (nm_text c.args.options (by_bytes files)) c.put_names.result c.args.output.now c.put_names.new.output) same c.put_names.ensures.run,
     )

@@ -14,5 +14,5 @@ returns-clause-run g c =
     inr (
       c.in_ok-loaded.loaded.items,
       c.in_ok-loaded.ensures,
-      subst (λ files. Lists g.W.Write.contents OnlyWriteFailed (size_text (by_bytes files)) c.put_sizes.result c.args.output.now c.put_sizes.new.output) same c.put_sizes.ensures.run,
+      subst (λ files. Lists g.W.Write.contents (OnlyWriteFailed (by_bytes files)) (size_text (by_bytes files)) c.put_sizes.result c.args.output.now c.put_sizes.new.output) same c.put_sizes.ensures.run,
     )

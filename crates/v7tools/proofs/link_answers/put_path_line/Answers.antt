@@ -6,4 +6,4 @@ pub returns-in_err-write : goal.returns-in_err-write
 returns-in_err-write g c = writes_no_more (10 ∷ []) c.from_residual.ensures.0 (rw c.says_of.ensures at c.in_err-write.ensures)
 
 pub returns : goal.returns
-returns g c = writes_both (rw c.says_of.ensures at c.in_ok-write.ensures) c.put.ensures
+returns g c = writes_both (rw c.says_of.ensures at c.in_ok-write.ensures) c.put.ensures.writes

@@ -64,7 +64,7 @@ returns-in_err-answered-clause-run g c = λ forced empty.
     forced c.args.script.now.wire empty c.requires.held refl r next it c.pass_answer.new.session (g.O.Office.history c.pass_answer.new.office) c.pass_answer.new.answers fault
     (reads_given (left_of remaining begun) (left_of remaining script) (left_of remaining next) script.line_count script.settled next.settled (lines_asked running.runs) running.reading c.in_ok-line.field-0 it next.line_count
     is (stays_alone script.settled (Ok c.in_ok-line.field-0) (next ≡ script) told.stays) told.settles told.next told.count)
-    c.in_err-answered.ensures.run (passed_on r fault c.from_residual-in_err-answered.ensures.1)
+    c.in_err-answered.ensures.run c.pass_answer.ensures.latched (passed_on r fault c.from_residual-in_err-answered.ensures.1)
 
 pub loop-preserved : goal.loop-preserved
 loop-preserved g c =
@@ -82,7 +82,7 @@ loop-preserved g c =
     next it c.pass_answer.new.session (g.O.Office.history c.pass_answer.new.office) c.pass_answer.new.answers answered
     (reads_given (left_of remaining begun) (left_of remaining script) (left_of remaining next) script.line_count script.settled next.settled (lines_asked running.runs) running.reading c.in_ok-line.field-0 it next.line_count
     is (stays_alone script.settled (Ok c.in_ok-line.field-0) (next ≡ script) told.stays) told.settles told.next told.count)
-    c.in_ok-answered.ensures.run in
+    c.in_ok-answered.ensures.run c.pass_answer.ensures.latched in
     record {
       small = rw c.max-status.ensures (larger_small c.loop.status answered c.loop.invariant.small c.in_ok-answered.ensures.small);
       count = count ∙ ap (λ k. k + 1) c.loop.invariant.count;

@@ -6,4 +6,4 @@ pub returns-in_err-write_named : goal.returns-in_err-write_named
 returns-in_err-write_named g c = writes_no_more (10 ∷ []) c.from_residual.ensures.0 c.in_err-write_named.ensures
 
 pub returns : goal.returns
-returns g c = writes_both c.in_ok-write_named.ensures c.put.ensures
+returns g c = writes_both c.in_ok-write_named.ensures c.put.ensures.writes

@@ -12,8 +12,8 @@ returns-in_err-put_front g c =
 
 pub returns-in_err-put : goal.returns-in_err-put
 returns-in_err-put g c =
-    writes_no_more (spelt_index c.args.self.now.index) c.from_residual-in_err-put.ensures.0 (writes_both c.in_ok-put_front.ensures (rw c.as_bytes.ensures.value at c.in_err-put.ensures))
+    writes_no_more (spelt_index c.args.self.now.index) c.from_residual-in_err-put.ensures.0 (writes_both c.in_ok-put_front.ensures (rw c.as_bytes.ensures.value at c.in_err-put.ensures.writes))
 
 pub returns : goal.returns
 returns g c =
-    writes_both (writes_both c.in_ok-put_front.ensures (rw c.as_bytes.ensures.value at c.in_ok-put.ensures)) c.put_index.ensures
+    writes_both (writes_both c.in_ok-put_front.ensures (rw c.as_bytes.ensures.value at c.in_ok-put.ensures.writes)) c.put_index.ensures
