@@ -1,6 +1,6 @@
 -- Premises of the laws that are needed: each law without one of them, and a link for which it is then false.
 use Rattle.std.proofs.Common.{◌≡◌, ◌≢◌, ℕ, ◌+◌, ◌≤◌, true, false, List, [], ◌∷◌, ◌++◌, map, length, Some, None, refl, sym, ◌∙◌, ap, arith, inl, inr, eq-eqb}
-use Rattle.std.specs.Prelude.{eqb, filter, Result, Ok, slice_get}
+use Rattle.std.specs.Prelude.{eqb, filter, Result, Ok, slice_get, sum_by}
 use Rattle.std.specs.List.{AllByRecursion}
 use Rattle.aout_core.specs.declared.symbol.Symbol.{Symbol}
 use Rattle.aout_core.specs.declared.symbol.Segment.{Segment}
@@ -20,7 +20,7 @@ use Rattle.link_out.specs.Partials.{KeepsNoMore, IsPartialLink, without_multiple
 use Rattle.link_out.specs.Relocated.{entry_of, segment_words, segment_relocs, IsRelocated, HoldsObjects, IsEntry}
 use Rattle.link_out.specs.Meaning.{IsDefined}
 use Rattle.link_out.specs.Places.{IsCommon, HasRoom}
-use Rattle.conformance.specs.Samples.{sym as entry, sized, _f, _x, _z, c_o, d_o, d2_o, x4_o, plain, plain_s, relocatable, with_keep, with_entry}
+use Rattle.conformance.specs.Samples.{sym as entry, sized, _f, _x, _z, c_o, d_o, d2_o, x4_o, plain, plain_s, relocatable, relocatable_d, with_keep, with_entry}
 use Rattle.conformance.proofs.LawExamples.{outcome_of}
 use Rattle.conformance.proofs.ClauseLemmas.{as_object, only_wanted}
 
@@ -155,6 +155,15 @@ partial_keeps_more law =
     let m : Outcome = link_of (c_o ∷ []) (with_keep NotL relocatable) in
     counts (λ (r : Result Outcome LinkFault). length (outcome_of r).file.symbols) (without_multiples (link [] (m.file ∷ []) plain)) (without_multiples (link [] (c_o ∷ []) plain)) refl
     (law [] (c_o ∷ []) (with_keep NotL relocatable) plain m (refl, tt) c_partial)
+
+-- commons that the partial link laid out: a later link that keeps relocation leaves those of the objects as they are
+partial_lays_commons : ((forced : List (List ℕ)) (os : List Contents) (by o : Choices) (x : Outcome) → AllByRecursion IsWellFormed os →
+    option_fault by.layout by.relocatable by.keep ≡ None → by.relocatable ≡ true → link forced os by ≡ Ok x → KeepsNoMore o.keep by.keep →
+    without_multiples (link forced (x.file ∷ []) o) ≡ without_multiples (link forced os o)) → ⊥
+partial_lays_commons law =
+    let m : Outcome = link_of (x4_o ∷ []) relocatable_d in
+    counts (λ (r : Result Outcome LinkFault). sum_by (λ (s : Symbol). s.type_bits) (outcome_of r).file.symbols) (without_multiples (link [] (m.file ∷ []) relocatable)) (without_multiples (link [] (x4_o ∷ []) relocatable)) refl
+    (law [] (x4_o ∷ []) relocatable_d relocatable m (refl, tt) refl refl refl (λ name h. h))
 
 z_partial : IsPartialLink (_z ∷ []) [] relocatable (outcome_of (link (_z ∷ []) [] relocatable))
 z_partial = record { allowed = refl; relocatable = refl; no_commons = refl; linked = refl }

@@ -13,10 +13,10 @@ pub fn strip_law()
     ensures once { StripsOnce }
 {}
 
-/// A partial link stands for its objects. Its file is an object. Linked alone it gives what its objects give, but for
-/// the multiples reported; linked among others it gives what its objects give among them, if no name is multiply
-/// defined. Both are of links that keep no local which the partial link dropped, with the same forced names. (ld(1),
-/// the option `-r`)
+/// A partial link is one with `-r` and without `-d`. It stands for its objects. Linked alone it gives what its objects
+/// give, but for the multiples reported; linked among others it gives what its objects give among them, if no name is
+/// multiply defined. Both are of links that keep no local which the partial link dropped, with the same forced names.
+/// The file of any link with `-r` is an object. (ld(1), the options `-r` and `-d`)
 pub fn partial_law()
     ensures object { PartialIsObject }
     ensures alone { PartialStandsAlone }
@@ -35,11 +35,13 @@ pub fn partial_law()
 /// - `names`: without relocation, and where no name is reported undefined, each external symbol gives an address.
 /// - `once`: each external of the objects, and each forced name, has one external symbol, in order of first mention.
 /// - `room`, `apart`: commons that are laid out lie between data and bss, each on bytes of its own.
-/// - `entry`: the entry word is the address of its name where that is an external in text; else it is 0, and reported.
+/// - `entry`: where a name is asked for, the entry word is its address if it is an external in text; else the word is
+///   0, and the name is reported. Where none is, it is 0.
 /// - `missing`: a name that is reported undefined has a symbol without an address.
-/// - `added`: the file of a link with relocation is an object that fits its header; when a session takes it is said by
-///   `beyond_law`.
-/// - `layouts`: the links of two layouts differ by their magic, and by where data and bss begin, alone.
+/// - `added`: the file of a link with relocation is an object that fits its header; when a session takes that of a
+///   partial link is said by `beyond_law`.
+/// - `layouts`: the links of two layouts differ by their magic, and their symbols by where data and bss begin, alone;
+///   the words: see `words`.
 pub fn meaning_law()
     ensures words { WordsAreRelocated }
     ensures fill { ObjectsFill }
@@ -55,16 +57,17 @@ pub fn meaning_law()
     ensures layouts { LayoutsDiffer }
 {}
 
-/// Partial links under weaker premises than those of `partial_law`, again and again, and grouped in any way. The
-/// names that were forced in the partial link are a part of those that are forced later, or none. (ld(1), the option
-/// `-r`)
+/// Partial links under weaker premises than those of `partial_law`, again and again, and grouped in any way. A partial
+/// link is one with `-r` and without `-d`. It dropped no local that is kept later, and the names that were forced in it
+/// are a part of those that are forced later, or none. (ld(1), the options `-r` and `-d`)
 ///
 /// - `stands`: it stands for its objects, but for the multiples, where the whole defines the names that these define
 ///   as they do.
 /// - `always`: linked alone it always does.
 /// - `others`: multiples included, if its objects define none of the names that are multiply defined in the whole.
-/// - `again`: linked again alone by its own options it is itself, and has no multiples to report.
-/// - `grouping`: where no name is multiply defined, links with `-r` grouped in any way change nothing.
+/// - `again`: linked again alone by its own options and forced names it is itself, and has no multiples to report.
+/// - `grouping`: where no name is multiply defined, partial links that keep what is kept later, grouped in any way,
+///   change nothing.
 /// - `accepted`: a session takes it where it takes its objects, and refuses it at the same limit.
 pub fn beyond_law()
     ensures stands { PartialStandsFor }
