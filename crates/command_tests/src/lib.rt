@@ -2,12 +2,6 @@
 #![tactic(auto)]
 
 #[cfg(test)]
-mod consoles;
-#[cfg(test)]
-mod devices;
-#[cfg(test)]
-mod folders;
-#[cfg(test)]
 mod forced_names;
 #[cfg(test)]
 mod links;

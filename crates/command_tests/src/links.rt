@@ -1,6 +1,6 @@
 //! Links without relocation: words, symbols, addresses and the report.
-use crate::folders::{Step, take_all, take_among_objects, take_in_folder};
 use crate::outputs::{Link, Written, assert_links, assert_more_links};
+use command_fixtures::{Step, take_all, take_among_objects, take_in_folder};
 use fixtures::{CALL, CALL_STRIPPED, COMMONS, ONE_OBJECT, TWO_OBJECTS, UNDEFINED};
 use std::test::Fail;
 

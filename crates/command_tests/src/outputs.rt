@@ -1,7 +1,7 @@
 //! Links of files, as commands and over memory, and what they write.
-use crate::folders::{enter_objects, has_bytes, runs};
 use aout_core::Wire;
 use aout_core::samples::TestReader;
+use command_fixtures::{enter_objects, has_bytes, runs};
 use fixtures::{Row, file_of, wires, words_of};
 use link_fixtures::{Output, output_of};
 use link_out::Options;

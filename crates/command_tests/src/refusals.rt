@@ -1,6 +1,8 @@
 //! Commands that are refused: files that do not fit, are damaged, or can't be opened, read, made or written.
-use crate::folders::{Step, enter_sized, has_bytes, runs, runs_refused, take_all, take_in_folder};
 use aout_core::samples::A_O;
+use command_fixtures::{
+    Step, enter_sized, has_bytes, runs, runs_refused, take_all, take_in_folder,
+};
 use fixtures::{TWO_OBJECTS, replaced};
 use std::fs;
 use std::test::Fail;

@@ -1,7 +1,7 @@
 //! What commands ask for, in order: files that are opened, read, created and written, and what goes to the streams; also
 //! where one of these is refused.
-use crate::folders::{Case, assert_cases};
 use aout_core::samples::{B_O, D_O};
+use command_fixtures::{Case, assert_cases};
 use fixtures::{ONE_OBJECT, UNDEFINED};
 use std::test::Fail;
 

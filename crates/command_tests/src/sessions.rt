@@ -1,5 +1,5 @@
 //! Sessions as commands: their answers, what they ask for, and their status.
-use crate::folders::{
+use command_fixtures::{
     Case, Step, assert_cases, enter_objects, enter_sized, runs, take_all, take_among_objects,
 };
 use fixtures::{ANSWERS, CALL_STRIPPED, SCRIPT};

@@ -1,6 +1,6 @@
 //! nm, size and strip on files.
-use crate::folders::{Step, take_in_folder};
 use aout_core::samples::{A_O, B_O, E_O, S_O};
+use command_fixtures::{Step, take_in_folder};
 use fixtures::{CALL, ONE_OBJECT};
 use std::test::Fail;
 

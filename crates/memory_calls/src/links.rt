@@ -87,6 +87,13 @@ pub fn reporting(alloc: Global) -> Outcome {
     }
 }
 
+/// What the link of the two objects writes: text 000240, 000207, 000207; symbol `_f` 042 2.
+const TWO_DEFINITIONS: [u8; 34] = [
+    0x07, 0x01, 0x06, 0x00, 0x00, 0x00, 0x00, 0x00, 0x0c, 0x00, 0x00, 0x00, 0x00, 0x00, 0x01, 0x00,
+    0xa0, 0x00, 0x87, 0x00, 0x87, 0x00, 0x5f, 0x66, 0x00, 0x00, 0x00, 0x00, 0x00, 0x00, 0x22, 0x00,
+    0x02, 0x00,
+];
+
 /// Whether the link of the two objects is written, and its report.
 fn is_emitted(linked: &Linked) -> bool {
     let mut file_room = [0u8; 34];
@@ -94,6 +101,7 @@ fn is_emitted(linked: &Linked) -> bool {
     let mut file = Wire::new(file_room.as_mut_slice());
     let mut report = Wire::new(report_room.as_mut_slice());
     emit(linked, &mut file, &mut report).ok() == Some(1)
+        && file_room.as_slice() == TWO_DEFINITIONS.as_slice()
         && report_room.as_slice() == b"_f: Multiply defined\n".as_slice()
 }
 

@@ -11,6 +11,8 @@ mod faults;
 #[cfg(test)]
 mod memory;
 #[cfg(test)]
+mod memory_office;
+#[cfg(test)]
 mod script_calls;
 #[cfg(test)]
 mod scripts;

@@ -1,6 +1,6 @@
 //! A runtime for commands: standard input is bytes in memory, the outputs are kept in the files `stdout` and `stderr`, and
 //! what a command asks for is listed in the file `asked`.
-use crate::devices::{Device, append, ask};
+use crate::device::{Device, append, ask};
 use std::alloc::Allocator;
 use std::env::FillError;
 use std::fmt::Display;
@@ -13,8 +13,8 @@ use std::path::PathBuf;
 use std::rt::{Clock, Env, Files, Runtime};
 use std::time::Duration;
 
-/// Each request is listed, and the one whose line is `refused` fails. All but the standard streams is passed on, also what
-/// no command asks for: what is passed on is proved sooner than what is left out.
+/// What opens, reads, writes or changes a file is listed, and the request whose line is `refused` fails. All but the
+/// standard streams is passed on, also what no command asks for: what is passed on is proved sooner than what is left out.
 #[derive(Clone, Drop)]
 pub struct Console<'a, R> {
     rt: &'a R,
@@ -141,6 +141,7 @@ impl<'a, R: Runtime + AllocGlobal> Files for Console<'a, R> {
     }
 
     fn copy(&self, from: &str, to: &str) -> io::Result<u64> {
+        ask(self.rt, self.refused, "copy", from)?;
         self.rt.copy(from, to)
     }
 
@@ -155,14 +156,17 @@ impl<'a, R: Runtime + AllocGlobal> Files for Console<'a, R> {
     }
 
     fn create_dir(&self, path: &str) -> io::Result<()> {
+        ask(self.rt, self.refused, "make", path)?;
         self.rt.create_dir(path)
     }
 
     fn remove_dir(&self, path: &str) -> io::Result<()> {
+        ask(self.rt, self.refused, "remove", path)?;
         self.rt.remove_dir(path)
     }
 
     fn remove_dir_all<B: Allocator>(&self, alloc: B, path: &str) -> io::Result<()> {
+        ask(self.rt, self.refused, "remove", path)?;
         self.rt.remove_dir_all(alloc, path)
     }
 
@@ -175,6 +179,7 @@ impl<'a, R: Runtime + AllocGlobal> Files for Console<'a, R> {
     }
 
     fn hard_link(&self, original: &str, link: &str) -> io::Result<()> {
+        ask(self.rt, self.refused, "link", link)?;
         self.rt.hard_link(original, link)
     }
 
@@ -184,6 +189,7 @@ impl<'a, R: Runtime + AllocGlobal> Files for Console<'a, R> {
     }
 
     fn symlink(&self, original: &str, link: &str) -> io::Result<()> {
+        ask(self.rt, self.refused, "link", link)?;
         self.rt.symlink(original, link)
     }
 
@@ -192,14 +198,17 @@ impl<'a, R: Runtime + AllocGlobal> Files for Console<'a, R> {
     }
 
     fn chown(&self, path: &str, user: Option<u32>, group: Option<u32>) -> io::Result<()> {
+        ask(self.rt, self.refused, "change", path)?;
         self.rt.chown(path, user, group)
     }
 
     fn lchown(&self, path: &str, user: Option<u32>, group: Option<u32>) -> io::Result<()> {
+        ask(self.rt, self.refused, "change", path)?;
         self.rt.lchown(path, user, group)
     }
 
     fn create_dir_with_mode(&self, path: &str, mode: u32) -> io::Result<()> {
+        ask(self.rt, self.refused, "make", path)?;
         self.rt.create_dir_with_mode(path, mode)
     }
 
