@@ -116,8 +116,9 @@ fn read_body<R: Read>(alloc: Global, header: Header, wire: &mut Wire<R>) -> Resu
 ///
 /// Errors, the first that applies: `ShortHeader`, 1, at an early end of the 16 bytes; `BadMagic`, 2, where no file
 /// begins so; `OddSize`, 3, where a size is not whole; `Memory`, 4, where memory runs out for what the header
-/// announces behind it; `Truncated`, 5, at an early end of the rest; and `Device`, 6, wherever the device failed, in this call
-/// or before it. After `BadMagic`, `OddSize` and `Memory` all behind the 16 bytes of the header is still unread.
+/// announces behind it; `Truncated`, 5, at an early end of the rest; and `Device`, 6, wherever the device failed, in
+/// this call or before it. After `BadMagic`, `OddSize` and `Memory` all behind the 16 bytes of the header is still
+/// unread.
 pub fn read_file<R: Read>(alloc: Global, wire: &mut Wire<R>) -> Result<File, ReadFault>
     ensures device { (result ≡ Err ReadFault.Device) ↔ IsTrue wire.new.has_failed }
     ensures latched { IsTrue wire.old.has_failed → (wire.new ≡ wire.old) }

@@ -239,7 +239,7 @@ pub enum Failing {
 
 /// A writer over memory: it takes at most `most` bytes a call, and once `before_failure` bytes were taken each call
 /// returns an error or takes 0 bytes. A flush then returns that error too. A write for which memory runs out returns
-/// an error as well. It counts its calls. (own choice)
+/// an error of the kind `OutOfMemory`. It counts its calls. (own choice)
 #[derive(Drop)]
 pub struct TestWriter {
     taken: Vec<u8>,

@@ -235,7 +235,8 @@ impl Session {
         self.image.bss_total
     }
 
-    /// The external with this index, by first mention: its name, and what is known of it. (ld(1))
+    /// The external with this index, by first mention: its name, and what is known of it; `None` where there are fewer.
+    /// (ld(1))
     pub fn external(&self, index: u16) -> Option<(Name, State)>
         ensures { result ≡ slice_get (image_of self.now).externals index }
     {
@@ -252,7 +253,7 @@ impl Session {
         self.image.externals.len() as u16
     }
 
-    /// The index of an external name. (ld(1))
+    /// The index of an external name; `None` where nothing mentions it. (ld(1))
     pub fn find(&self, name: &Name) -> Option<u16>
         ensures { result ≡ position (bytes_eq name.now) (externals self.now.forced (objects self.now.entries)) }
     {

@@ -153,7 +153,7 @@ impl<R> Model for Script<R> {
 impl<R: Read + Drop> Script<R> {
     /// A script of which no line was read. It makes the room for a line. (own choice)
     ///
-    /// Errors: `Memory`, 9, where there is no room for a line.
+    /// Errors: `Memory`, 9, where memory runs out for a line.
     pub fn new(alloc: Global, wire: Wire<R>) -> Result<Script<R>, CliFault>
         ensures ok { IfOk result (λ s. (s.wire ≡ wire) × (s.held ≡ []) × (s.line_count ≡ 0) × (s.settled ≡ None)) }
         ensures err { IfErr result (λ fault. fault ≡ Memory) }
@@ -174,7 +174,7 @@ impl<R: Read + Drop> Script<R> {
     /// of one, and no byte behind the last line that it may give. What a read gives is used at once. (own choice)
     ///
     /// Errors: `LongLine`, 11, for more than 4,096 bytes before a newline; `ManyLines`, 12, where there is anything
-    /// behind 1,000,000 lines; `ScriptFailed`, 13, where the device failed; `Memory`, 9, where there is no room for a
+    /// behind 1,000,000 lines; `ScriptFailed`, 13, where the device failed; `Memory`, 9, where memory runs out for a
     /// path. Every later call returns the fault again.
     pub fn next_line(&mut self) -> Result<Option<Line>, CliFault>
         ensures stays { IfSome self.old.settled (λ answer. (result ≡ answer) × (self.new ≡ self.old)) }
