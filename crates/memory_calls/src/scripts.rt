@@ -220,7 +220,7 @@ fn step_through(alloc: Global, session: &mut Session, linked: &Linked) -> Outcom
         return Outcome::Unready;
     };
     let is_answered = are_taken(alloc, session, &mut out)
-        && link_answer(linked, "out", Stored::Written, &mut out).ok() == Some(1);
+        && link_answer(linked, "out", Stored::Kept, &mut out).ok() == Some(1);
     let writer = out.into_inner();
     Outcome::done(is_answered && writer.taken() == ANSWERS)
 }

@@ -133,7 +133,7 @@ impl<R: Abort + AllocGlobal> Office for MemoryOffice<'_, R> {
     }
 
     fn store(&mut self, path: &str, file: &File) -> Stored {
-        self.list(Asked::Stored(self.owned(path), self.copied(file), Stored::Written));
-        Stored::Written
+        self.list(Asked::Stored(self.owned(path), self.copied(file), Stored::Kept));
+        Stored::Kept
     }
 }

@@ -69,7 +69,7 @@ impl Asked {
 
     /// Answers a link as if its file were stored.
     fn store(&mut self, linked: &Linked) -> Ended {
-        match link_answer(linked, "out", Stored::Written, &mut self.answers) {
+        match link_answer(linked, "out", Stored::Kept, &mut self.answers) {
             Ok(_) => Ended::Done,
             Err(fault) => ended_by(fault),
         }
@@ -193,7 +193,7 @@ fn link_answers(rt: HostRuntime) {
     let alloc = rt.alloc();
     let lines = "Undefined:\n_f\n_g\nlinked out 1\n";
     let not_created = "out: cannot create\n";
-    assert!(rt; is_answered(alloc, ("g.o", &G_O), Stored::Written, (lines, 1)));
+    assert!(rt; is_answered(alloc, ("g.o", &G_O), Stored::Kept, (lines, 1)));
     assert!(rt; is_answered(alloc, ("g.o", &G_O), Stored::NotCreated, (not_created, 1)));
     assert!(rt;
         is_answered(
@@ -208,7 +208,7 @@ fn link_answers(rt: HostRuntime) {
 #[test]
 fn link_answers_without_a_report(rt: HostRuntime) {
     let alloc = rt.alloc();
-    assert!(rt; is_answered(alloc, ("d.o", &D_O), Stored::Written, ("linked out 0\n", 0)));
+    assert!(rt; is_answered(alloc, ("d.o", &D_O), Stored::Kept, ("linked out 0\n", 0)));
     assert!(rt;
         is_answered(
             alloc,

@@ -9,7 +9,7 @@ use Rattle.v7tools.specs.Deeds.{Deed, History, Extends, Opened, opened, stored}
 use Rattle.v7tools.specs.FileRuns.{AreRead, IsStored, IsLoadAt, IsStripping, Loaded, Reads, ReadsNotAll, strips}
 use Rattle.v7tools.specs.declared.fault.CliFault.{CliFault}
 use Rattle.v7tools.specs.declared.office.Stored.{Stored}
-use Rattle.v7tools.specs.declared.office.Stored.TheVariants.{Written, NotCreated, Failed}
+use Rattle.v7tools.specs.declared.office.Stored.TheVariants.{Kept, NotCreated, Failed}
 use Rattle.v7tools.proofs.DeedLemmas.{asked_behind, map-append, one_more}
 
 read_behind : (found : List Opened) (loaded : List Loaded) (known : Option (List ℕ)) (l : Loaded) → AreRead found loaded → IfSome known (λ bytes. front bytes ≡ Ok l.1) → AreRead (found ++ (string_bytes l.0, known) ∷ []) (loaded ++ l ∷ [])
@@ -48,11 +48,11 @@ stops_reading a b c files left later loaded path fault h order e k = inr (record
 -- ---- strip
 
 abbrev pub strips_all : List Loaded → List Deed
-strips_all loaded = map (λ l. strips l Written) loaded
+strips_all loaded = map (λ l. strips l Kept) loaded
 
 -- one more file is stored
 pub strips_more : (a b c : History) (done : List Loaded) (l : Loaded) (what : Stored) → Extends a b (strips_all done) → Extends b c (strips l what ∷ []) → IsStored l.0 what (Ok tt) → Extends a c (strips_all (done ++ l ∷ []))
-strips_more a b c done l Written h k is = subst (Extends a c) (sym (map-append _ done (l ∷ []))) (asked_behind a b c _ _ h k)
+strips_more a b c done l Kept h k is = subst (Extends a c) (sym (map-append _ done (l ∷ []))) (asked_behind a b c _ _ h k)
 strips_more a b c done l NotCreated h k is = absurd (cc)
 strips_more a b c done l Failed h k is = absurd (cc)
 

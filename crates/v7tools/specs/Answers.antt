@@ -21,7 +21,7 @@ use Rattle.symtools.specs.SymbolLines.{symbol_line}
 use Rattle.v7tools.specs.Inputs.{Cause, cannot_open, bad_file, with_input}
 use Rattle.v7tools.specs.FaultTexts.{cause_text, link_text, at_file}
 use Rattle.v7tools.specs.declared.office.Stored.{Stored}
-use Rattle.v7tools.specs.declared.office.Stored.TheVariants.{Written, NotCreated, Failed}
+use Rattle.v7tools.specs.declared.office.Stored.TheVariants.{Kept, NotCreated, Failed}
 
 -- what a path leads to: nothing, a device that fails, or these bytes
 pub data Source : Type 0 where
@@ -88,10 +88,10 @@ step forced o kept anything_else = record { verdict = refused; answer = line (co
 
 -- the answer of a link, once it is known what became of its file
 abbrev pub link_answer_text : Findings → List ℕ → Stored → List ℕ
-link_answer_text f path Written = report_text f ++ line (codes "linked " ++ path ++ codes " " ++ decimal (status_of f))
+link_answer_text f path Kept = report_text f ++ line (codes "linked " ++ path ++ codes " " ++ decimal (status_of f))
 link_answer_text f path NotCreated = line (at_file path (codes "cannot create"))
 link_answer_text f path Failed = line (at_file path (codes "write error"))
 
 abbrev pub link_status : Findings → Stored → ℕ
-link_status f Written = status_of f
+link_status f Kept = status_of f
 link_status f _ = 1

@@ -18,7 +18,7 @@ use Rattle.v7tools.specs.LinkRuns.{Refuses}
 use Rattle.v7tools.specs.declared.fault.CliFault.{CliFault}
 use Rattle.v7tools.specs.declared.fault.CliFault.TheVariants as faults
 use Rattle.v7tools.specs.declared.office.Stored.{Stored}
-use Rattle.v7tools.specs.declared.office.Stored.TheVariants.{Written, NotCreated, Failed}
+use Rattle.v7tools.specs.declared.office.Stored.TheVariants.{Kept, NotCreated, Failed}
 
 -- a path with what was read there
 abbrev pub Loaded : Type 0
@@ -89,7 +89,7 @@ IsListRun contents cut_short text files old new result before after =
 
 -- a file is stored, or the fault says why it is not
 abbrev pub IsStored : String Global → Stored → Result (Unit {0}) CliFault → Type 0
-IsStored path Written result = result ≡ Ok tt
+IsStored path Kept result = result ≡ Ok tt
 IsStored path NotCreated result = result ≡ Err (faults.CannotCreate path)
 IsStored path Failed result = result ≡ Err faults.WriteFailed
 
@@ -104,12 +104,12 @@ pub record StripsUpTo (old new : History) (loaded : List Loaded) (fault : CliFau
   pub rest : List Loaded
   pub what : Stored
   pub order : loaded ≡ front ++ last ∷ rest
-  pub asked : Extends old new (map (λ l. strips l Written) front ++ strips last what ∷ [])
+  pub asked : Extends old new (map (λ l. strips l Kept) front ++ strips last what ∷ [])
   pub fails : IsStored last.0 what (Err fault)
 
 -- each file is stored stripped at its own path, in order, up to the first that can't be
 abbrev pub IsStripping : History → History → List Loaded → Result ℕ CliFault → Type 0
-IsStripping old new loaded (Ok status) = (status ≡ 0) × Extends old new (map (λ l. strips l Written) loaded)
+IsStripping old new loaded (Ok status) = (status ≡ 0) × Extends old new (map (λ l. strips l Kept) loaded)
 IsStripping old new loaded (Err fault) = StripsUpTo old new loaded fault
 
 -- nothing is stored before all files are read

@@ -13,7 +13,7 @@ use Rattle.v7tools.specs.LinkAnswers.{and_told, IsLinkOf, IsPossible, said_by}
 use Rattle.v7tools.specs.declared.fault.CliFault.{CliFault}
 use Rattle.v7tools.specs.declared.fault.CliFault.TheVariants as faults
 use Rattle.v7tools.specs.declared.office.Stored.{Stored}
-use Rattle.v7tools.specs.declared.office.Stored.TheVariants.{Written, NotCreated, Failed}
+use Rattle.v7tools.specs.declared.office.Stored.TheVariants.{Kept, NotCreated, Failed}
 
 -- the files were opened one after another up to the one at this path, which can't be
 pub record StopsAt (old new : History) (files : List (List ℕ)) (path : List ℕ) : Type 0 where
@@ -41,7 +41,7 @@ pub record Reports {W : Type 0} (contents : W → Option (List ℕ)) (f : Findin
 
 -- the report goes out only where the file is stored
 abbrev pub ReportsIf : {W : Type 0} → (W → Option (List ℕ)) → Stored → String Global → Findings → Result ℕ CliFault → Latched W → Latched W → Type 0
-ReportsIf contents Written out f result before after = Reports contents f result before after
+ReportsIf contents Kept out f result before after = Reports contents f result before after
 ReportsIf contents NotCreated out f result before after = (result ≡ Err (faults.CannotCreate out)) × (after ≡ before)
 ReportsIf contents Failed out f result before after = (result ≡ Err faults.WriteFailed) × (after ≡ before)
 

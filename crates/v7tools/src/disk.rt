@@ -32,6 +32,6 @@ impl<H: Runtime> Office for Disk<'_, H> {
         if write_file(file, &mut out).is_err() || out.flush().is_err() {
             return Stored::Failed;
         }
-        Stored::Written
+        Stored::Kept
     }
 }

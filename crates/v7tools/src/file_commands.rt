@@ -104,7 +104,7 @@ fn check_stored(path: String, stored: Stored) -> Result<(), CliFault>
     ensures { IsStored path stored result }
 {
     match stored {
-        Stored::Written => Ok(()),
+        Stored::Kept => Ok(()),
         Stored::NotCreated => Err(CliFault::CannotCreate(path)),
         Stored::Failed => Err(CliFault::WriteFailed),
     }

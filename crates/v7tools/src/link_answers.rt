@@ -53,7 +53,7 @@ fn put_link_answer<W: Write>(
     ensures { Writes W.contents result answers.old answers.new (link_answer_text (findings_of linked.now.report) path.now stored) }
 {
     match stored {
-        Stored::Written => {
+        Stored::Kept => {
             linked.report.write(answers)?;
             put_linked_line(path, linked.report.status(), answers)
         }
@@ -79,7 +79,7 @@ pub fn link_answer<W: Write>(
 {
     put_link_answer(linked, path, stored, answers)?;
     Ok(match stored {
-        Stored::Written => linked.report.status(),
+        Stored::Kept => linked.report.status(),
         Stored::NotCreated | Stored::Failed => 1,
     })
 }

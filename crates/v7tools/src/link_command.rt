@@ -52,7 +52,7 @@ fn report_stored<W: Write>(
     ensures run { ReportsIf W.contents stored out (findings_of report.now) result output.old output.new }
 {
     match stored {
-        Stored::Written => put_report(report, output),
+        Stored::Kept => put_report(report, output),
         Stored::NotCreated => Err(CliFault::CannotCreate(out)),
         Stored::Failed => Err(CliFault::WriteFailed),
     }

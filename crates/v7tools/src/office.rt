@@ -9,8 +9,8 @@ use std::io::Read;
 /// What became of a file that was to be stored. (own choice)
 #[derive(Clone, Copy, Debug, PartialEq, Eq)]
 pub enum Stored {
-    /// It is written whole.
-    Written,
+    /// It is stored whole.
+    Kept,
     /// No file can be made at its path.
     NotCreated,
     /// Its device failed while it was written.
