@@ -1,19 +1,23 @@
 -- What edits of a session do, one alone and one after the other.
-use Rattle.std.proofs.Common.{◌≡◌, ℕ, List, [], ◌∷◌, ◌++◌, map, Option, None, Some, String, refl, sym, ◌∙◌, ap}
-use Rattle.std.proofs.lemmas.List.{map-append}
+use Rattle.std.proofs.Common.{◌≡◌, ℕ, Bool, true, false, if◌then◌else◌, nat_lt, length, List, [], ◌∷◌, ◌++◌, map, Option, None, Some, Result, Ok, Err, String, Vec, refl, sym, subst, ◌∙◌, ap}
+use Rattle.std.specs.Prelude.{IfErr}
+use Rattle.std.proofs.lemmas.List.{append_assoc, map-append}
 use Rattle.std.specs.declared.alloc.Global.{Global}
 use Rattle.aout_core.specs.Contents.{Contents}
 use Rattle.link_session.specs.declared.entry.AddFault.{AddFault}
-use Rattle.link_session.specs.declared.entry.AddFault.TheVariants.{Memory}
+use Rattle.link_session.specs.declared.entry.AddFault.TheVariants.{TextFull, DataFull, BssFull, NamesFull, Memory}
+use Rattle.aout_core.specs.declared.symbol.Segment.TheVariants.{TextSeg, DataSeg, BssSeg}
+use Rattle.link_session.specs.Mentions.{externals}
+use Rattle.link_session.specs.Starts.{total}
 use Rattle.link_session.specs.Labelled.{Labelled, objects}
 use Rattle.link_session.specs.Undo.{Kept}
 use Rattle.link_session.specs.Sessions.{Adds, Withdraws, IsCause, labelled}
-use Rattle.link_session.specs.Edits.{Change, addition, withdrawal, refusal, last_of, without_last, kept_unless, kept_after, answer_by, withdrawn_answer, answer_to, survivors_from, answers_from}
+use Rattle.link_session.specs.Edits.{Change, addition, withdrawal, Answer, added, refused, withdrew, nothing, refusal, last_of, without_last, kept_unless, kept_after, answer_by, withdrawn_answer, answer_to, survivors_from, answers_from}
 use Rattle.link_out.specs.declared.edit.Edit.{Edit}
 use Rattle.link_out.specs.declared.edit.Reply.{Reply}
 use Rattle.link_out.specs.declared.edit.Reply.TheVariants as replies
-use Rattle.link_out.specs.Runs.{change_of, answer_of}
-use Rattle.link_out.specs.steps.Replies.{IsDone, IsReplied, AreDone}
+use Rattle.link_out.specs.Runs.{change_of, answer_of, HasAdded}
+use Rattle.link_out.specs.steps.Replies.{IsDone, IsReplied, AreDone, Lists}
 
 -- an accepted addition
 pub added_done : (old new : Kept) (e : Labelled) → refusal old.forced (objects old.entries) e.object ≡ None → Adds old new e →
@@ -27,6 +31,21 @@ added_done old new e fits h = record {
 pub limit_is : (r : Option AddFault) (cause : AddFault) → IsCause r cause → (cause ≡ Memory → ⊥) → r ≡ Some cause
 limit_is None cause h other = absurd (other h)
 limit_is (Some limit) cause h other = ap Some (sym h)
+
+-- memory runs out for an object that is within all limits
+pub within_limits : (forced : List (List ℕ)) (os : List Contents) (o : Contents) → IsCause (refusal forced os o) Memory → refusal forced os o ≡ None
+within_limits forced os o h =
+    by_tests (nat_lt 65534 (total TextSeg (os ++ o ∷ []))) (nat_lt 65534 (total DataSeg (os ++ o ∷ []))) (nat_lt 65534 (total BssSeg (os ++ o ∷ []))) (nat_lt 65535 (length (externals forced (os ++ o ∷ [])))) h
+  where
+    limit_by : Bool → Bool → Bool → Bool → Option AddFault
+    limit_by text datas bss names = if text then Some TextFull else (if datas then Some DataFull else (if bss then Some BssFull else (if names then Some NamesFull else None)))
+
+    by_tests : (text datas bss names : Bool) → IsCause (limit_by text datas bss names) Memory → limit_by text datas bss names ≡ None
+    by_tests true datas bss names h = absurd (cc)
+    by_tests false true bss names h = absurd (cc)
+    by_tests false false true names h = absurd (cc)
+    by_tests false false false true h = absurd (cc)
+    by_tests false false false false h = refl
 
 -- an addition that was refused, for another cause than memory
 pub refused_done : (old new : Kept) (e : Labelled) (cause : AddFault) → IsCause (refusal old.forced (objects old.entries) e.object) cause → (cause ≡ Memory → ⊥) → new ≡ old →
@@ -77,33 +96,63 @@ answers-one_more forced kept [] c = refl
 answers-one_more forced kept (d ∷ cs) c = ap (λ xs. answer_to forced kept d ∷ xs) (answers-one_more forced (kept_after forced kept d) cs c)
 
 -- no changes
-pub none_done : (k : Kept) → AreDone k k [] []
-none_done k = record { forced = refl; kept = refl; answers = refl }
+pub none_done : (k : Kept) (replies : Option (Vec Reply Global)) → Lists replies [] → AreDone k k [] replies
+none_done k replies none = record { forced = refl; kept = refl; told = []; lists = none; answers = refl }
 
-pub replied : (old new : Kept) (change : Change) (before after : List Reply) (reply : Reply) → IsDone old new change reply → after ≡ before ++ reply ∷ [] → IsReplied old new change before after
-replied old new change before after reply done put = record { reply = reply; done = done; put = put }
+-- an addition that is accepted, among other changes
+has_added_first : (a : Answer) (told : List Answer) → a ≡ added → HasAdded (a ∷ told)
+has_added_first a told is = subst (λ (b : Answer). HasAdded (b ∷ told)) (sym is) tt
+
+has_added_behind : (a : Answer) (told : List Answer) → HasAdded told → HasAdded (a ∷ told)
+has_added_behind added told h = tt
+has_added_behind (refused cause) told h = h
+has_added_behind (withdrew label) told h = h
+has_added_behind nothing told h = h
+
+has_added : (forced : List (List ℕ)) (kept : List Labelled) (cs : List Change) (c : Change) (left : List Change) → answer_to forced (survivors_from forced kept cs) c ≡ added →
+    HasAdded (answers_from forced kept (cs ++ c ∷ left))
+has_added forced kept [] c left is = has_added_first (answer_to forced kept c) (answers_from forced (kept_after forced kept c) left) is
+has_added forced kept (d ∷ cs) c left is =
+    has_added_behind (answer_to forced kept d) (answers_from forced (kept_after forced kept d) (cs ++ c ∷ left)) (has_added forced (kept_after forced kept d) cs c left is)
+
+pub accepted_among : (old new : Kept) (before : List Edit) (edit : Edit) (left all : List Edit) (replies : Option (Vec Reply Global)) → AreDone old new (map change_of before) replies → all ≡ before ++ edit ∷ left →
+    answer_to new.forced new.entries (change_of edit) ≡ added → HasAdded (answers_from old.forced old.entries (map change_of all))
+accepted_among old new before edit left all replies h order is =
+    let cs = map change_of before in
+    let changes : map change_of all ≡ cs ++ change_of edit ∷ map change_of left = ap (map change_of) order ∙ map-append change_of before (edit ∷ left) in
+    let accepted : answer_to old.forced (survivors_from old.forced old.entries cs) (change_of edit) ≡ added = sym (λ i. answer_to (h.forced i) (h.kept i) (change_of edit)) ∙ is in
+    subst (λ (ds : List Change). HasAdded (answers_from old.forced old.entries ds)) (sym changes) (has_added old.forced old.entries cs (change_of edit) (map change_of left) accepted)
+
+-- what holds whatever the error is
+pub if_error : {T E : Type 0} (r : Result T E) (P : Type 0) → P → IfErr r (λ _. P)
+if_error (Ok x) P h = tt
+if_error (Err e) P h = h
+
+-- the edits so far, and those left behind one more
+pub one_more_left : (all before rest left : List Edit) (edit : Edit) → all ≡ before ++ rest → rest ≡ edit ∷ left → all ≡ (before ++ edit ∷ []) ++ left
+one_more_left all before rest left edit order split = order ∙ ap (λ (r : List Edit). before ++ r) split ∙ sym (append_assoc before (edit ∷ []) left)
 
 -- one more edit
-pub one_more_done : (old new last : Kept) (edits : List Edit) (edit : Edit) (told next : List Reply) (reply : Reply) →
-    AreDone old new (map change_of edits) told → IsDone new last (change_of edit) reply → next ≡ told ++ reply ∷ [] →
-    AreDone old last (map change_of (edits ++ edit ∷ [])) next
-one_more_done old new last edits edit told next reply h one push =
+pub one_more_done : (old new last : Kept) (edits : List Edit) (edit : Edit) (replies next : Option (Vec Reply Global)) → AreDone old new (map change_of edits) replies →
+    IsReplied new last (change_of edit) replies next → AreDone old last (map change_of (edits ++ edit ∷ [])) next
+one_more_done old new last edits edit replies next h one =
     let cs = map change_of edits in
     let more : map change_of (edits ++ edit ∷ []) ≡ cs ++ change_of edit ∷ [] = map-append change_of edits (edit ∷ []) in
     record {
-      forced = one.forced ∙ h.forced;
+      forced = one.done.forced ∙ h.forced;
       kept =
-          one.kept
+          one.done.kept
           ∙ (λ i. kept_after (h.forced i) (h.kept i) (change_of edit))
           ∙ sym (survivors-one_more old.forced old.entries cs (change_of edit))
           ∙ ap (survivors_from old.forced old.entries) (sym more);
+      told = h.told ++ one.reply ∷ [];
+      lists = one.put h.told h.lists;
       answers =
-          ap (map answer_of) push
-          ∙ map-append answer_of told (reply ∷ [])
-          ∙ (λ i. h.answers i ++ one.answer i ∷ [])
+          map-append answer_of h.told (one.reply ∷ [])
+          ∙ (λ i. h.answers i ++ one.done.answer i ∷ [])
           ∙ (λ i. answers_from old.forced old.entries cs ++ answer_to (h.forced i) (h.kept i) (change_of edit) ∷ [])
           ∙ sym (answers-one_more old.forced old.entries cs (change_of edit))
           ∙ ap (answers_from old.forced old.entries) (sym more);
     }
 
-pub ruleset by_edit = (added_done, refused_done, withdrew_done, nothing_done, none_done, replied)
+pub ruleset by_edit = (added_done, refused_done, within_limits, withdrew_done, nothing_done)

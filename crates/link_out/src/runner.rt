@@ -1,12 +1,12 @@
 //! Runs: edits of a session in order, then the link.
-ghost use Rattle.std.specs.Prelude.{◌≡◌, true, map, IfOk};
+ghost use Rattle.std.specs.Prelude.{◌≡◌, ℕ, ◌+◌, [], None, true, map, IfOk, IfErr};
 ghost use Rattle.aout_core.specs.WellFormed.{IsWellFormed};
-ghost use Rattle.link_session.specs.Edits.{addition, withdrawal, answers, answers_from, survivors_from};
+ghost use Rattle.link_session.specs.Edits.{addition, withdrawal, added, answer_to, answers, answers_from, refusal, survivors_from};
 ghost use Rattle.link_session.specs.Labelled.{objects};
 ghost use Rattle.link_session.specs.Sessions.{labelled};
 ghost use Rattle.link_out.specs.Link.{link};
-ghost use Rattle.link_out.specs.Runs.{change_of, link_after, IsRunOf};
-ghost use Rattle.link_out.specs.steps.Replies.{IsDone, IsReplied, AreDone};
+ghost use Rattle.link_out.specs.Runs.{change_of, link_after, HasAdded, IsRunOf};
+ghost use Rattle.link_out.specs.steps.Replies.{IsDone, HasRoom, IsReplied, AreDone};
 
 use crate::edit::{Edit, Reply, RunFault};
 use crate::linked::Linked;
@@ -16,10 +16,11 @@ use aout_core::Object;
 use link_session::{AddFault, Forced, Session};
 use std::alloc::{AllocError, Global};
 
-/// Adds an object, or refuses it. An error: out of memory.
+/// Adds an object, or refuses it. An error: out of memory for an object that is within all limits.
 #[tactic(auto, using(crate::proofs::RunLemmas::by_edit))]
 fn add_or_refuse(session: &mut Session, label: String, object: Object) -> Result<Reply, AllocError>
-    ensures { IfOk result (λ reply. IsDone session.old session.new (addition (labelled label object)) reply) }
+    ensures done { IfOk result (λ reply. IsDone session.old session.new (addition (labelled label object)) reply) }
+    ensures within { IfErr result (λ _. refusal session.old.forced (objects session.old.entries) object ≡ None) }
 {
     let Err(refused) = session.add(label, object) else {
         return Ok(Reply::Added);
@@ -41,9 +42,10 @@ fn withdraw_last(session: &mut Session) -> Reply
     }
 }
 
-/// Does one edit. An error: out of memory.
+/// Does one edit. An error: out of memory for an addition that is accepted.
 fn reply_to(session: &mut Session, edit: Edit) -> Result<Reply, AllocError>
-    ensures { IfOk result (λ reply. IsDone session.old session.new (change_of edit) reply) }
+    ensures done { IfOk result (λ reply. IsDone session.old session.new (change_of edit) reply) }
+    ensures accepted { IfErr result (λ _. answer_to session.old.forced session.old.entries (change_of edit) ≡ added) }
 {
     match edit {
         Edit::Add(label, object) => add_or_refuse(session, label, object),
@@ -51,58 +53,73 @@ fn reply_to(session: &mut Session, edit: Edit) -> Result<Reply, AllocError>
     }
 }
 
-/// Does one edit, and appends its reply. An error: out of memory.
-#[tactic(auto, using(crate::proofs::RunLemmas::by_edit))]
-fn put_reply(session: &mut Session, edit: Edit, replies: &mut Vec<Reply>) -> Result<(), AllocError>
-    ensures { IfOk result (λ done. IsReplied session.old session.new (change_of edit) replies.old.items replies.new.items) }
+/// Does one edit, and appends its reply where there is room for replies. An error: out of memory for an addition that is
+/// accepted.
+fn put_reply(
+    session: &mut Session,
+    edit: Edit,
+    replies: &mut Option<Vec<Reply>>,
+) -> Result<(), AllocError>
+    requires { HasRoom 1 replies.old }
+    ensures replied { IfOk result (λ done. IsReplied session.old session.new (change_of edit) replies.old replies.new) }
+    ensures room { (n : ℕ) → HasRoom (1 + n) replies.old → HasRoom n replies.new }
+    ensures accepted { IfErr result (λ _. answer_to session.old.forced session.old.entries (change_of edit) ≡ added) }
 {
     let reply = reply_to(session, edit)?;
-    replies.push(reply)?;
+    if let Some(list) = replies {
+        list.push(reply).unwrap();
+    }
     Ok(())
 }
 
-/// Does the edits in order, with a reply to each. An error: out of memory.
-#[tactic(auto, using(crate::proofs::RunLemmas::by_edit))]
+/// Does the edits in order, with a reply to each; `None` in place of the replies where there was no room for them. An
+/// error: out of memory for an addition that is accepted.
 fn replies_to(
     alloc: Global,
     session: &mut Session,
     edits: Vec<Edit>,
-) -> Result<Vec<Reply>, AllocError>
-    ensures { IfOk result (λ replies. AreDone session.old session.new (map change_of edits.items) replies.items) }
+) -> Result<Option<Vec<Reply>>, AllocError>
+    ensures done { IfOk result (λ replies. AreDone session.old session.new (map change_of edits.items) replies) }
+    ensures accepted { IfErr result (λ _. HasAdded (answers_from session.old.forced session.old.entries (map change_of edits.items))) }
 {
-    let mut replies = Vec::new(alloc);
+    let mut replies = Vec::with_capacity(alloc, edits.len()).ok();
     for edit in edits {
         put_reply(session, edit, &mut replies)?;
     }
     Ok(replies)
 }
 
-/// Does the edits in order, and links what is left.
+/// Does the edits in order, and links what is left. Want of room for the replies is told last, so that it hides no
+/// refusal.
 fn run_on(
     alloc: Global,
     session: &mut Session,
     edits: Vec<Edit>,
     options: &Options,
 ) -> Result<(Vec<Reply>, Linked), RunFault>
-    ensures value { let changes = map change_of edits.items in IsRunOf result (answers_from session.old.forced session.old.entries changes) (link session.old.forced (objects (survivors_from session.old.forced session.old.entries changes)) options.now) }
+    ensures value { let changes = map change_of edits.items in IsRunOf [] result (answers_from session.old.forced session.old.entries changes) (link session.old.forced (objects (survivors_from session.old.forced session.old.entries changes)) options.now) }
     ensures object { options.now.relocatable ≡ true → IfOk result (λ run. IsWellFormed run.1.file) }
 {
     let replies = replies_to(alloc, session, edits)?;
     let linked = finish(alloc, session, options)?;
-    Ok((replies, linked))
+    match replies {
+        Some(replies) => Ok((replies, linked)),
+        None => Err(RunFault::Memory),
+    }
 }
 
 /// Does the edits in order, from a session with these forced names and no objects, and links what is left: the
 /// replies, one to each edit, and the link. (ld(1); edits are an own choice)
 ///
-/// Errors: `Memory`, 1, where memory runs out, in any step; `Link`, 2, where the link is refused, for another cause.
+/// Errors: `Memory`, 1, where memory runs out: for forced names, for an addition that is accepted, or behind the last
+/// edit, where there is a link; `Link`, 2, where the link is refused, for another cause.
 pub fn run(
     alloc: Global,
     forced: &Forced,
     edits: Vec<Edit>,
     options: &Options,
 ) -> Result<(Vec<Reply>, Linked), RunFault>
-    ensures value { let changes = map change_of edits.items in IsRunOf result (answers forced.now changes) (link_after forced.now changes options.now) }
+    ensures value { let changes = map change_of edits.items in IsRunOf forced.now result (answers forced.now changes) (link_after forced.now changes options.now) }
     ensures object { options.now.relocatable ≡ true → IfOk result (λ run. IsWellFormed run.1.file) }
 {
     let mut session = Session::with_forced(alloc, forced)?;

@@ -1,11 +1,12 @@
 -- The inputs one after another, and the link of what is kept of them.
 use Rattle.std.specs.declared.alloc.Global.{Global}
-use Rattle.std.proofs.Common.{◌≡◌, ℕ, List, [], ◌∷◌, Option, Some, None, Result, Ok, Err, refl, sym, ap, ◌∙◌, subst, inl, inr}
-use Rattle.std.specs.Prelude.{String, string_bytes, IfErr, IsOkAnd, IfSome, IsErrAnd}
-use Rattle.std.specs.List.{AllByRecursion}
+use Rattle.std.proofs.Common.{◌≡◌, ◌≢◌, ℕ, false, List, [], ◌∷◌, Option, Some, None, Result, Ok, Err, refl, sym, ap, ◌∙◌, subst, ◌⊎◌, inl, inr}
+use Rattle.std.specs.Prelude.{String, string_bytes, IfSome, IsErrAnd}
 use Rattle.aout_core.specs.declared.file.ReadFault.TheVariants as reads
-use Rattle.aout_core.specs.Wires.{Latched}
+use Rattle.aout_core.specs.Contents.{Contents}
 use Rattle.aout_core.specs.Front.{front}
+use Rattle.aout_core.specs.Wires.{Latched}
+use Rattle.link_session.specs.declared.entry.AddFault.TheVariants as adds
 use Rattle.link_session.specs.Labelled.{Labelled, objects}
 use Rattle.link_session.specs.Sessions.{nothing_kept}
 use Rattle.link_session.specs.Undo.{Kept}
@@ -14,181 +15,216 @@ use Rattle.link_out.specs.declared.linked.LinkFault.{LinkFault}
 use Rattle.link_out.specs.declared.linked.LinkFault.TheVariants as links
 use Rattle.link_out.specs.Choices.{Choices}
 use Rattle.link_out.specs.Link.{Outcome, link}
+use Rattle.link_out.specs.Outcomes.{outcome_of}
 use Rattle.link_out.specs.Outcomes as outcomes
 use Rattle.v7tools.specs.declared.fault.CliFault.{CliFault}
 use Rattle.v7tools.specs.declared.fault.CliFault.TheVariants as faults
-use Rattle.v7tools.specs.FaultTexts.{fault_of_link}
-use Rattle.v7tools.specs.Inputs.{Cause, Refusal, object_in, kept_with, with_input, with_inputs, at_path, and_then, link_or_refusal, linked}
-use Rattle.v7tools.specs.LinkAnswers.{Said, said_by, refuses, says_nothing, never, IsPossible, IsTrueOf, IsReached, IsLinkOf, IsWorking, and_told, told}
-use Rattle.v7tools.specs.parts.InputParts.{AreTaken, IsTaken}
+use Rattle.v7tools.specs.FaultTexts.{fault_at, fault_of_link}
+use Rattle.v7tools.specs.Inputs.{Cause, cannot_open, bad_file, bad_object, not_added, Refusal, of_input, not_linked, object_in, kept_with, with_input, with_inputs, at_path, and_then, link_or_refusal, linked}
+use Rattle.v7tools.specs.LinkAnswers.{Input, inputs_of, Said, said_by, refuses, breaks, runs_out, never, Takes, Rejects, WantsMemory, StopsAt, TakesAll, StopsIn, HasNoLink, LinksAll, LinksNone, IsLinkOver, and_told, told, IsTrueOf, IsLinkOfBytes, IsLinkOf}
+use Rattle.v7tools.specs.parts.InputParts.{AreTaken, IsPossible}
+use Rattle.v7tools.specs.parts.StepParts.{IsAccepted, IsAddition, IsFound, IsRefusal}
 
--- the inputs before those that are left are put behind what was kept
-abbrev pub Known : Kept → List Labelled → List (List ℕ × List ℕ) → Option (List (List ℕ × List ℕ)) → Type 0
-Known old entries all left =
-    (rest : List (List ℕ × List ℕ)) × (left ≡ Some rest) × (with_inputs old.forced old.entries all ≡ with_inputs old.forced entries rest)
-    × ((path : List ℕ) → IsReached old.forced entries path rest → IsReached old.forced old.entries path all)
+-- ---- one input
 
--- the wires that have not been read are all that may have failed
-abbrev pub WorkingSoFar : {R : Type 0} → List (String Global × Latched R) → List (String Global × Latched R) → Type 0
-WorkingSoFar inputs left = AllByRecursion IsWorking left → AllByRecursion IsWorking inputs
+abbrev input_at : String Global → Option (List ℕ) → Input
+input_at path known = record { path = string_bytes path; known = known; has_failed = false }
 
-if_some : {A : Type 0} (o : Option A) (P Q : A → Type 0) → ((x : A) → P x → Q x) → IfSome o P → IfSome o Q
-if_some None P Q f h = tt
-if_some (Some x) P Q f h = f x h
+-- an object that is added is taken
+pub takes_accepted : (i : Input) (old new : Kept) (o : Contents) → i.has_failed ≡ false → IsAccepted i.known old new i.path o → Takes old.forced old.entries i new.entries
+takes_accepted i old new o works h = record {
+  works = works;
+  object = o;
+  is_found = by_found i.known h.is_found;
+  accepts = h.accepts;
+}
+  where
+    by_found : (known : Option (List ℕ)) → IsFound known (Ok o) → IfSome known (λ bytes. Ok o ≡ object_in (front bytes))
+    by_found known (inl e) = absurd (cc)
+    by_found known (inr e) = e
 
--- what is said of a part is said of the whole
-said_of_whole : {A B : Type 0} (s : Said) (part : Result A Refusal) (rest : A → Result B Refusal) → IsTrueOf s part → IsTrueOf s (and_then part rest)
-said_of_whole {A} (refuses r) part rest h = ap (λ (x : Result A Refusal). and_then x rest) h
-said_of_whole says_nothing part rest h = tt
-said_of_whole never part rest h = h
-
-module _ {R : Type 0} (remaining : R → Option (List ℕ)) where
-  abbrev pub SoFar : List (String Global × Latched R) → List (String Global × Latched R) → Kept → List Labelled → Type 0
-  SoFar inputs left old entries = IfSome (told remaining inputs) (λ all. Known old entries all (told remaining left))
-
-  pub so_far_none : (inputs left : List (String Global × Latched R)) (old : Kept) → left ≡ inputs → SoFar inputs left old old.entries
-  so_far_none inputs left old same = by_known (told remaining inputs) (ap (told remaining) same)
+-- why an input is not taken
+module _ (i : Input) (path : String Global) (at : string_bytes path ≡ i.path) (old : Kept) where
+  rejects_found : (found : Result Contents Cause) (cause : Cause) → (cause ≡ bad_file reads.Device → ⊥) → i.has_failed ≡ false → IsFound i.known found → kept_with old.forced old.entries (string_bytes path) found ≡ Err cause →
+      Rejects old.forced old.entries i cause
+  rejects_found found cause other works is_found h = record {
+    works = works;
+    found = found;
+    is_found = by_found is_found;
+    rejects = ap (λ (p : List ℕ). kept_with old.forced old.entries p found) (sym at) ∙ h;
+  }
     where
-      by_known : (known : Option (List (List ℕ × List ℕ))) → told remaining left ≡ known → IfSome known (λ all. Known old old.entries all (told remaining left))
-      by_known None e = tt
-      by_known (Some all) e = (all, e, refl, λ path h. h)
+      by_found : IsFound i.known found → IfSome i.known (λ bytes. found ≡ object_in (front bytes))
+      by_found (inl e) = absurd (other (let r = ap (kept_with old.forced old.entries (string_bytes path)) (sym e) ∙ h in cc))
+      by_found (inr e) = e
 
-  -- the first of those that are left tells its bytes
-  record FirstTold (i : String Global × Latched R) (is : List (String Global × Latched R)) (rest : List (List ℕ × List ℕ)) : Type 0 where
-    bytes : List ℕ
-    later : List (List ℕ × List ℕ)
-    device : remaining i.1.device ≡ Some bytes
-    others : told remaining is ≡ Some later
-    split : rest ≡ (string_bytes i.0, bytes) ∷ later
+  abbrev Stops : Cause → Type 0
+  Stops cause = StopsAt old.forced old.entries i (said_by (fault_at path cause))
 
-  first_told : (i : String Global × Latched R) (is : List (String Global × Latched R)) (rest : List (List ℕ × List ℕ)) → told remaining (i ∷ is) ≡ Some rest → FirstTold i is rest
-  first_told i is rest h = by_parts (remaining i.1.device) (told remaining is) refl refl h
-    where
-      by_parts : (d : Option (List ℕ)) (t : Option (List (List ℕ × List ℕ))) → remaining i.1.device ≡ d → told remaining is ≡ t → and_told (string_bytes i.0) d t ≡ Some rest → FirstTold i is rest
-      by_parts None t e f h = absurd (cc)
-      by_parts (Some bytes) None e f h = absurd (cc)
-      by_parts (Some bytes) (Some later) e f h = record { bytes = bytes; later = later; device = e; others = f; split = cc }
+  stops_for : (found : Result Contents Cause) (cause : Cause) → IsPossible (said_by (fault_at path cause)) → ((fault_at path cause ≡ faults.BadFile path reads.Device → ⊥) → i.has_failed ≡ false) →
+      IsFound i.known found → kept_with old.forced old.entries (string_bytes path) found ≡ Err cause → Stops cause
+  stops_for found cannot_open possible works is_found h = absurd possible
+  stops_for found (bad_file reads.Device) possible works is_found h = at
+  stops_for found (bad_file reads.Memory) possible works is_found h = absurd possible
+  stops_for found (bad_file reads.ShortHeader) possible works is_found h = (at, rejects_found found (bad_file reads.ShortHeader) (λ e. absurd (cc)) (works (λ e. absurd (cc))) is_found h)
+  stops_for found (bad_file reads.BadMagic) possible works is_found h = (at, rejects_found found (bad_file reads.BadMagic) (λ e. absurd (cc)) (works (λ e. absurd (cc))) is_found h)
+  stops_for found (bad_file reads.OddSize) possible works is_found h = (at, rejects_found found (bad_file reads.OddSize) (λ e. absurd (cc)) (works (λ e. absurd (cc))) is_found h)
+  stops_for found (bad_file reads.Truncated) possible works is_found h = (at, rejects_found found (bad_file reads.Truncated) (λ e. absurd (cc)) (works (λ e. absurd (cc))) is_found h)
+  stops_for found (bad_object fault) possible works is_found h = (at, rejects_found found (bad_object fault) (λ e. absurd (cc)) (works (λ e. absurd (cc))) is_found h)
+  stops_for found (not_added adds.Memory) possible works is_found h = absurd possible
+  stops_for found (not_added adds.TextFull) possible works is_found h = (at, rejects_found found (not_added adds.TextFull) (λ e. absurd (cc)) (works (λ e. absurd (cc))) is_found h)
+  stops_for found (not_added adds.DataFull) possible works is_found h = (at, rejects_found found (not_added adds.DataFull) (λ e. absurd (cc)) (works (λ e. absurd (cc))) is_found h)
+  stops_for found (not_added adds.BssFull) possible works is_found h = (at, rejects_found found (not_added adds.BssFull) (λ e. absurd (cc)) (works (λ e. absurd (cc))) is_found h)
+  stops_for found (not_added adds.NamesFull) possible works is_found h = (at, rejects_found found (not_added adds.NamesFull) (λ e. absurd (cc)) (works (λ e. absurd (cc))) is_found h)
 
-  -- one step of the link of the inputs
-  abbrev and_more : List (List ℕ) → List (List ℕ × List ℕ) → Result (List Labelled) Refusal → Result (List Labelled) Refusal
-  and_more forced later x = and_then x (λ (kept : List Labelled). with_inputs forced kept later)
+  pub stops_at : (new : Kept) (fault : CliFault) → IsPossible (said_by fault) → ((fault ≡ faults.BadFile path reads.Device → ⊥) → i.has_failed ≡ false) → IsAddition i.known old new path (Err fault) →
+      StopsAt old.forced old.entries i (said_by fault)
+  stops_at new fault possible works (same, inl (memory, wants)) =
+      let stops : StopsAt old.forced old.entries i (said_by faults.Memory) = (
+        works (λ e. let is = sym memory ∙ e in absurd (cc)),
+        subst (λ (p : List ℕ). IfSome i.known (WantsMemory old.forced old.entries p)) at wants,
+      ) in
+      subst (λ (f : CliFault). StopsAt old.forced old.entries i (said_by f)) (sym memory) stops
+  stops_at new fault possible works (same, inr h) =
+      subst (λ (f : CliFault). StopsAt old.forced old.entries i (said_by f)) (sym h.names)
+      (stops_for h.found h.cause (subst (λ (f : CliFault). IsPossible (said_by f)) h.names possible) (λ other. works (λ e. other (sym h.names ∙ e))) h.is_found h.refuses)
 
-  pub so_far_more : (inputs left later : List (String Global × Latched R)) (i : String Global × Latched R) (old before after : Kept) → before.forced ≡ old.forced → SoFar inputs left old before.entries →
-      left ≡ i ∷ later → IfSome (remaining i.1.device) (λ bytes. IsTaken before after (string_bytes i.0) bytes (Ok tt)) → SoFar inputs later old after.entries
-  so_far_more inputs left later i old before after forced h e taken =
-      if_some (told remaining inputs) (λ all. Known old before.entries all (told remaining left)) (λ all. Known old after.entries all (told remaining later)) step h
-    where
-      step : (all : List (List ℕ × List ℕ)) → Known old before.entries all (told remaining left) → Known old after.entries all (told remaining later)
-      step all (rest, known, so_far, reached) =
-          let first = first_told i later rest (sym (ap (told remaining) e) ∙ known) in
-          let taken' : IsTaken before after (string_bytes i.0) first.bytes (Ok tt) =
-          subst (λ (k : Option (List ℕ)). IfSome k (λ bytes. IsTaken before after (string_bytes i.0) bytes (Ok tt))) first.device taken in
-          let put : kept_with old.forced before.entries (string_bytes i.0) (object_in (front first.bytes)) ≡ Ok after.entries =
-          ap (λ (f : List (List ℕ)). kept_with f before.entries (string_bytes i.0) (object_in (front first.bytes))) (sym forced) ∙ taken' in (
-            first.later,
-            first.others,
-            so_far ∙ ap (λ (r : List (List ℕ × List ℕ)). with_inputs old.forced before.entries r) first.split
-                ∙ ap (λ (x : Result (List Labelled) Cause). and_more old.forced first.later (at_path (string_bytes i.0) x)) put,
-            λ path h. reached path (subst (IsReached old.forced before.entries path) (sym first.split)
-                (inr (subst (λ (x : Result (List Labelled) Cause). IsOkAnd x (λ more. IsReached old.forced more path first.later)) (sym put) h))),
-          )
+-- ---- where all bytes are told
 
-  -- where there is one input alone, it is the one that was reached
-  only_reached : (forced : List (List ℕ)) (kept : List Labelled) (path at : List ℕ) (bytes : List ℕ) → IsReached forced kept path ((at, bytes) ∷ []) → at ≡ path
-  only_reached forced kept path at bytes (inl e) = e
-  only_reached forced kept path at bytes (inr h) = by_taken (with_input forced kept at bytes) h
-    where
-      by_taken : (x : Result (List Labelled) Cause) → IsOkAnd x (λ more. IsReached forced more path []) → at ≡ path
-      by_taken (Ok more) h = absurd h
-      by_taken (Err cause) h = absurd h
+-- the first of the inputs tells its bytes, and so do the others
+record FirstTold (i : Input) (is : List Input) (all : List (List ℕ × List ℕ)) : Type 0 where
+  bytes : List ℕ
+  later : List (List ℕ × List ℕ)
+  known : i.known ≡ Some bytes
+  others : told is ≡ Some later
+  split : all ≡ (i.path, bytes) ∷ later
 
-  pub so_far_refused : (inputs left later : List (String Global × Latched R)) (i : String Global × Latched R) (old before after new : Kept) (fault : CliFault) → before.forced ≡ old.forced →
-      SoFar inputs left old before.entries → left ≡ i ∷ later → IfSome (remaining i.1.device) (λ bytes. IsTaken before after (string_bytes i.0) bytes (Err fault)) →
-      IfSome (told remaining inputs) (λ all. AreTaken old new all (Err fault))
-  so_far_refused inputs left later i old before after new fault forced h e refused =
-      if_some (told remaining inputs) (λ all. Known old before.entries all (told remaining left)) (λ all. AreTaken old new all (Err fault)) step h
-    where
-      step : (all : List (List ℕ × List ℕ)) → Known old before.entries all (told remaining left) → AreTaken old new all (Err fault)
-      step all (rest, known, so_far, reached) =
-          let first = first_told i later rest (sym (ap (told remaining) e) ∙ known) in
-          let refused' : IsTaken before after (string_bytes i.0) first.bytes (Err fault) =
-          subst (λ (k : Option (List ℕ)). IfSome k (λ bytes. IsTaken before after (string_bytes i.0) bytes (Err fault))) first.device refused in
-          let one : IsTrueOf (said_by fault) (at_path (string_bytes i.0) (kept_with old.forced before.entries (string_bytes i.0) (object_in (front first.bytes)))) =
-          subst (λ (f : List (List ℕ)). IsTrueOf (said_by fault) (at_path (string_bytes i.0) (kept_with f before.entries (string_bytes i.0) (object_in (front first.bytes))))) forced refused'.0 in
-          let same : with_inputs old.forced old.entries all ≡ with_inputs old.forced before.entries ((string_bytes i.0, first.bytes) ∷ first.later) =
-          so_far ∙ ap (λ (r : List (List ℕ × List ℕ)). with_inputs old.forced before.entries r) first.split in (
-            subst (IsTrueOf (said_by fault)) (sym same)
-                (said_of_whole (said_by fault) (at_path (string_bytes i.0) (kept_with old.forced before.entries (string_bytes i.0) (object_in (front first.bytes))))
-                (λ (kept : List Labelled). with_inputs old.forced kept first.later) one),
-            λ path is. reached (string_bytes path) (subst (IsReached old.forced before.entries (string_bytes path)) (sym first.split)
-                (inl (only_reached before.forced before.entries (string_bytes path) (string_bytes i.0) first.bytes (refused'.1 path is)))),
-          )
+first_told : (i : Input) (is : List Input) (all : List (List ℕ × List ℕ)) → told (i ∷ is) ≡ Some all → FirstTold i is all
+first_told i is all h = by_parts i.known (told is) refl refl h
+  where
+    by_parts : (d : Option (List ℕ)) (t : Option (List (List ℕ × List ℕ))) → i.known ≡ d → told is ≡ t → and_told i.path d t ≡ Some all → FirstTold i is all
+    by_parts None t e f h = absurd (cc)
+    by_parts (Some bytes) None e f h = absurd (cc)
+    by_parts (Some bytes) (Some later) e f h = record { bytes = bytes; later = later; known = e; others = f; split = cc }
 
-  pub so_far_all : (inputs left : List (String Global × Latched R)) (old new : Kept) → SoFar inputs left old new.entries → left ≡ [] → IfSome (told remaining inputs) (λ all. AreTaken old new all (Ok tt))
-  so_far_all inputs left old new h e = if_some (told remaining inputs) (λ all. Known old new.entries all (told remaining left)) (λ all. AreTaken old new all (Ok tt)) step h
-    where
-      step : (all : List (List ℕ × List ℕ)) → Known old new.entries all (told remaining left) → AreTaken old new all (Ok tt)
-      step all (rest, known, so_far, reached) =
-          let none : rest ≡ [] = (let f : Some rest ≡ Some [] = sym known ∙ ap (told remaining) e in cc) in
-          so_far ∙ ap (λ (r : List (List ℕ × List ℕ)). with_inputs old.forced new.entries r) none
+-- what is known of bytes that are told
+known_bytes : (known : Option (List ℕ)) (bytes : List ℕ) (P : List ℕ → Type 0) → known ≡ Some bytes → IfSome known P → P bytes
+known_bytes known bytes P e h = subst (λ (k : Option (List ℕ)). IfSome k P) e h
 
--- ---- the link of what was kept
+module _ (forced : List (List ℕ)) where
+  -- the inputs behind the first
+  abbrev behind : List (List ℕ × List ℕ) → List Labelled → Result (List Labelled) Refusal
+  behind later kept = with_inputs forced kept later
 
--- what was kept of the inputs is linked
-linked_of : (forced : List (List ℕ)) (o : Choices) (old new : Kept) (all : List (List ℕ × List ℕ)) → old ≡ nothing_kept forced → new.forced ≡ old.forced → AreTaken old new all (Ok tt) →
-    linked forced all o ≡ link_or_refusal (link new.forced (objects new.entries) o)
-linked_of forced o old new all empty same taken =
-    let kept : with_inputs forced [] all ≡ Ok new.entries = ap (λ (k : Kept). with_inputs k.forced k.entries all) (sym empty) ∙ taken in
-    let names : new.forced ≡ forced = same ∙ ap (λ (k : Kept). k.forced) empty in
-    ap (λ (x : Result (List Labelled) Refusal). and_then x (λ (es : List Labelled). link_or_refusal (link forced (objects es) o))) kept
-    ∙ ap (λ (f : List (List ℕ)). link_or_refusal (link f (objects new.entries) o)) (sym names)
+  took : (kept more : List Labelled) (i : Input) (bytes : List ℕ) → i.known ≡ Some bytes → Takes forced kept i more → with_input forced kept i.path bytes ≡ Ok more
+  took kept more i bytes known h = ap (kept_with forced kept i.path) (sym (known_bytes i.known bytes (λ bytes. Ok h.object ≡ object_in (front bytes)) known h.is_found)) ∙ h.accepts
 
--- inputs that are not taken give no link
-pub not_taken : (known : Option (List (List ℕ × List ℕ))) (forced : List (List ℕ)) (o : Choices) (old new : Kept) (fault : CliFault) (r : Result Linked CliFault) → old ≡ nothing_kept forced →
-    IfSome known (λ all. AreTaken old new all (Err fault)) → IsErrAnd r (λ f. f ≡ fault) → IfSome known (λ all. IsLinkOf forced o all r)
-not_taken None forced o old new fault r empty h is = tt
-not_taken (Some all) forced o old new fault (Ok l) empty h is = absurd is
-not_taken (Some all) forced o old new fault (Err f) empty h is =
-    let from_none : AreTaken (nothing_kept forced) new all (Err fault) = subst (λ (k : Kept). AreTaken k new all (Err fault)) empty h in
-    subst (λ (e : CliFault). IsLinkOf forced o all (Err e)) (sym is) (
-      said_of_whole (said_by fault) (with_inputs forced [] all) (λ (kept : List Labelled). link_or_refusal (link forced (objects kept) o)) from_none.0,
-      from_none.1,
-    )
+  took_first : (kept more : List Labelled) (i : Input) (is : List Input) (all : List (List ℕ × List ℕ)) (f : FirstTold i is all) → Takes forced kept i more → with_inputs forced kept all ≡ with_inputs forced more f.later
+  took_first kept more i is all f h =
+      ap (with_inputs forced kept) f.split ∙ ap (λ (x : Result (List Labelled) Cause). and_then (at_path i.path x) (behind f.later)) (took kept more i f.bytes f.known h)
 
-pub linked_file : (known : Option (List (List ℕ × List ℕ))) (forced : List (List ℕ)) (o : Choices) (old new : Kept) (l : Linked) → old ≡ nothing_kept forced → new.forced ≡ old.forced →
-    IfSome known (λ all. AreTaken old new all (Ok tt)) → outcomes.IsLinkOf (Ok l) (link new.forced (objects new.entries) o) → IfSome known (λ all. IsLinkOf forced o all (Ok l))
-linked_file None forced o old new l empty same taken h = tt
-linked_file (Some all) forced o old new l empty same taken h = linked_of forced o old new all empty same taken ∙ ap link_or_refusal h
+  takes_bytes : (is : List Input) (kept more : List Labelled) (all : List (List ℕ × List ℕ)) → told is ≡ Some all → TakesAll forced kept is more → with_inputs forced kept all ≡ Ok more
+  takes_bytes [] kept more all e same = (let none : all ≡ [] = (let f : Some [] ≡ Some all = e in cc) in ap (with_inputs forced kept) none) ∙ ap (λ (x : List Labelled). Ok x) (sym same)
+  takes_bytes (i ∷ is) kept more all e (next, takes, rest) =
+      let f = first_told i is all e in
+      took_first kept next i is all f takes ∙ takes_bytes is next more f.later f.others rest
 
--- why there is no link
-refused_by : (cause : LinkFault) (x : Result Outcome LinkFault) (answer : Result Outcome Refusal) → answer ≡ link_or_refusal x → outcomes.IsLinkOf (Err cause) x → IsTrueOf (said_by (fault_of_link cause)) answer
-refused_by links.DoesNotFit x answer e h = e ∙ ap link_or_refusal h
-refused_by links.TooManySymbols x answer e h = e ∙ ap link_or_refusal h
-refused_by links.SymbolNumber x answer e h = e ∙ ap link_or_refusal h
-refused_by links.Memory x answer e h = tt
+  -- what is said of a part is said of the whole
+  pub said_of_whole : {A B : Type 0} (s : Said) (part : Result A Refusal) (rest : A → Result B Refusal) → IsTrueOf s part → IsTrueOf s (and_then part rest)
+  said_of_whole {A} (refuses r) part rest h = ap (λ (x : Result A Refusal). and_then x rest) h
+  said_of_whole (breaks path) part rest h = tt
+  said_of_whole runs_out part rest h = tt
+  said_of_whole never part rest h = h
 
--- it is no fault of a device
-pub no_device : (cause : LinkFault) (path : String Global) → fault_of_link cause ≡ faults.BadFile path reads.Device → ⊥
-no_device links.DoesNotFit path e = absurd (cc)
-no_device links.TooManySymbols path e = absurd (cc)
-no_device links.SymbolNumber path e = absurd (cc)
-no_device links.Memory path e = absurd (cc)
+  said_at : (kept : List Labelled) (i : Input) (bytes : List ℕ) (said : Said) → i.known ≡ Some bytes → StopsAt forced kept i said → IsTrueOf said (at_path i.path (with_input forced kept i.path bytes))
+  said_at kept i bytes (refuses (of_input path cause)) known (at, h) =
+      ap (at_path i.path) (ap (kept_with forced kept i.path) (sym (known_bytes i.known bytes (λ bytes. h.found ≡ object_in (front bytes)) known h.is_found)) ∙ h.rejects) ∙ ap (λ (p : List ℕ). Err (of_input p cause)) (sym at)
+  said_at kept i bytes (refuses (not_linked fault)) known h = absurd h
+  said_at kept i bytes (breaks path) known h = tt
+  said_at kept i bytes runs_out known h = tt
+  said_at kept i bytes never known h = absurd h
 
--- what refuses a link refuses the inputs
-pub refusal_possible : (cause : LinkFault) (r : Result Linked CliFault) → IsErrAnd r (λ f. f ≡ fault_of_link cause) → IfErr r (λ f. IsPossible (said_by f))
-refusal_possible cause (Ok l) is = tt
-refusal_possible links.DoesNotFit (Err f) is = rw is tt
-refusal_possible links.TooManySymbols (Err f) is = rw is tt
-refusal_possible links.SymbolNumber (Err f) is = rw is tt
-refusal_possible links.Memory (Err f) is = rw is tt
+  stops_bytes : (is : List Input) (kept : List Labelled) (all : List (List ℕ × List ℕ)) (said : Said) → told is ≡ Some all → StopsIn forced kept is said → IsTrueOf said (with_inputs forced kept all)
+  stops_bytes [] kept all said e h = absurd h
+  stops_bytes (i ∷ is) kept all said e (inl h) =
+      let f = first_told i is all e in
+      subst (λ (bytes : List (List ℕ × List ℕ)). IsTrueOf said (with_inputs forced kept bytes)) (sym f.split)
+      (said_of_whole said (at_path i.path (with_input forced kept i.path f.bytes)) (behind f.later) (said_at kept i f.bytes said f.known h))
+  stops_bytes (i ∷ is) kept all said e (inr (next, takes, rest)) =
+      let f = first_told i is all e in
+      subst (IsTrueOf said) (sym (took_first kept next i is all f takes)) (stops_bytes is next f.later said f.others rest)
 
-pub linked_refused : (known : Option (List (List ℕ × List ℕ))) (forced : List (List ℕ)) (o : Choices) (old new : Kept) (cause : LinkFault) (r : Result Linked CliFault) → old ≡ nothing_kept forced →
-    new.forced ≡ old.forced → IfSome known (λ all. AreTaken old new all (Ok tt)) → outcomes.IsLinkOf (Err cause) (link new.forced (objects new.entries) o) → IsErrAnd r (λ f. f ≡ fault_of_link cause) →
-    IfSome known (λ all. IsLinkOf forced o all r)
-linked_refused None forced o old new cause r empty same taken h is = tt
-linked_refused (Some all) forced o old new cause (Ok l) empty same taken h is = absurd is
-linked_refused (Some all) forced o old new cause (Err fault) empty same taken h is = (
-  subst (λ (f : CliFault). IsTrueOf (said_by f) (linked forced all o)) (sym is)
-      (refused_by cause (link new.forced (objects new.entries) o) (linked forced all o) (linked_of forced o old new all empty same taken) h),
-  λ path e. absurd (no_device cause path (sym is ∙ e)),
-)
+  module _ (o : Choices) (is : List Input) (all : List (List ℕ × List ℕ)) (e : told is ≡ Some all) where
+    abbrev link_kept : List Labelled → Result Outcome Refusal
+    link_kept kept = link_or_refusal (link forced (objects kept) o)
+
+    linked_of : (kept : List Labelled) → TakesAll forced [] is kept → linked forced all o ≡ link_kept kept
+    linked_of kept h = ap (λ (x : Result (List Labelled) Refusal). and_then x link_kept) (takes_bytes is [] kept all e h)
+
+    no_link_of : (x : Result Outcome LinkFault) (said : Said) → HasNoLink x said → IsTrueOf said (link_or_refusal x)
+    no_link_of x (refuses (of_input path cause)) h = absurd h
+    no_link_of x (refuses (not_linked fault)) h = ap link_or_refusal h
+    no_link_of x (breaks path) h = absurd h
+    no_link_of x runs_out h = tt
+    no_link_of x never h = absurd h
+
+    of_bytes : (answer : Result Linked CliFault) → IsLinkOver forced o is answer → IsLinkOfBytes forced o all answer
+    of_bytes (Ok l) h = linked_of h.kept h.taken ∙ ap link_or_refusal h.link
+    of_bytes (Err fault) (inl (names, memory)) = subst (λ (f : CliFault). IsTrueOf (said_by f) (linked forced all o)) (sym memory) tt
+    of_bytes (Err fault) (inr (inl h)) = said_of_whole (said_by fault) (with_inputs forced [] all) link_kept (stops_bytes is [] all (said_by fault) e h)
+    of_bytes (Err fault) (inr (inr h)) = subst (IsTrueOf (said_by fault)) (sym (linked_of h.kept h.taken)) (no_link_of (link forced (objects h.kept) o) (said_by fault) h.none)
+
+-- what is said of the inputs is said of their bytes
+pub is_link_of : (forced : List (List ℕ)) (o : Choices) (is : List Input) (answer : Result Linked CliFault) → IsLinkOver forced o is answer → IsLinkOf forced o is answer
+is_link_of forced o is answer h = record { over = h; bytes = by_told (told is) refl }
+  where
+    by_told : (t : Option (List (List ℕ × List ℕ))) → told is ≡ t → IfSome t (λ bytes. IsLinkOfBytes forced o bytes answer)
+    by_told None e = tt
+    by_told (Some all) e = of_bytes forced o is all e answer h
+
+-- ---- the link of what was taken
+
+module _ (forced : List (List ℕ)) (o : Choices) (is : List Input) (old new : Kept) (empty : old ≡ nothing_kept forced) where
+  -- forced names are entered where there are some
+  from_nothing : (r : Result (Unit {0}) CliFault) → AreTaken old new is r → AreTaken (nothing_kept forced) new is r
+  from_nothing r h = subst (λ (k : Kept). AreTaken k new is r) empty h
+
+  names_of : new.forced ≡ old.forced → new.forced ≡ forced
+  names_of same = same ∙ ap (λ (k : Kept). k.forced) empty
+
+  -- the link stops at an input
+  pub stopped : (fault : CliFault) (r : Result Linked CliFault) → AreTaken old new is (Err fault) → IsErrAnd r (λ f. f ≡ fault) → IsLinkOf forced o is r
+  stopped fault (Ok l) h e = absurd e
+  stopped fault (Err f) h e = subst (λ (x : CliFault). IsLinkOf forced o is (Err x)) (sym e) (is_link_of forced o is (Err fault) (inr (inl (from_nothing (Err fault) h))))
+
+  -- all inputs are linked
+  pub linked_all : (l : Linked) → new.forced ≡ old.forced → AreTaken old new is (Ok tt) → outcomes.IsLinkOf (Ok l) (link new.forced (objects new.entries) o) → IsLinkOf forced o is (Ok l)
+  linked_all l same taken h =
+      is_link_of forced o is (Ok l) (record {
+        kept = new.entries;
+        taken = from_nothing (Ok tt) taken;
+        link = subst (λ (f : List (List ℕ)). link f (objects new.entries) o ≡ Ok (outcome_of l)) (names_of same) h;
+      })
+
+  -- there is no link of them
+  none_by : (cause : LinkFault) (x : Result Outcome LinkFault) → outcomes.IsLinkOf (Err cause) x → HasNoLink x (said_by (fault_of_link cause))
+  none_by links.DoesNotFit x h = h
+  none_by links.TooManySymbols x h = h
+  none_by links.SymbolNumber x h = h
+  none_by links.Memory x h = h
+
+  pub linked_none : (cause : LinkFault) (r : Result Linked CliFault) → new.forced ≡ old.forced → AreTaken old new is (Ok tt) → outcomes.IsLinkOf (Err cause) (link new.forced (objects new.entries) o) →
+      IsErrAnd r (λ f. f ≡ fault_of_link cause) → IsLinkOf forced o is r
+  linked_none cause (Ok l) same taken h e = absurd e
+  linked_none cause (Err f) same taken h e =
+      subst (λ (x : CliFault). IsLinkOf forced o is (Err x)) (sym e)
+      (is_link_of forced o is (Err (fault_of_link cause)) (inr (inr (record {
+        kept = new.entries;
+        taken = from_nothing (Ok tt) taken;
+        none = none_by cause (link forced (objects new.entries) o) (subst (λ (f : List (List ℕ)). outcomes.IsLinkOf (Err cause) (link f (objects new.entries) o)) (names_of same) h);
+      }))))
+
+-- memory runs out for forced names
+pub no_names : (forced : List (List ℕ)) (o : Choices) (is : List Input) (r : Result Linked CliFault) → forced ≢ [] → IsErrAnd r (λ f. f ≡ faults.Memory) → IsLinkOf forced o is r
+no_names forced o is (Ok l) some e = absurd e
+no_names forced o is (Err f) some e = is_link_of forced o is (Err f) (inl (some, e))

@@ -4,7 +4,6 @@ pub mod FileRunLemmas
 pub mod LineRunLemmas
 pub mod SessionRunLemmas
 pub mod AnswerLemmas
-pub mod LatchLemmas
 pub mod CommandLemmas
 pub mod ScriptLemmas
 pub mod ListingLemmas

@@ -1,31 +1,33 @@
 -- A link over an office, from its parts.
 use Rattle.std.specs.declared.alloc.Global.{Global}
 use Rattle.std.proofs.Common.{◌≡◌, ℕ, List, [], ◌∷◌, map, Option, Result, Ok, Err, refl, sym, ap, ◌∙◌, subst, inl, inr}
-use Rattle.std.specs.Prelude.{String, string_bytes, IfSome}
+use Rattle.std.specs.Prelude.{String, string_bytes}
+use Rattle.std.specs.List.{AllByRecursion}
 use Rattle.aout_core.specs.Wires.{Latched}
 use Rattle.link_out.specs.declared.linked.Linked.{Linked}
 use Rattle.link_out.specs.Choices.{Choices}
 use Rattle.link_out.specs.Outcomes.{findings_of}
 use Rattle.v7tools.specs.Deeds.{History, Extends, stored}
-use Rattle.v7tools.specs.LinkAnswers.{and_told, IsLinkOf, IsPossible, said_by, told}
-use Rattle.v7tools.specs.parts.Openings.{sources, IsOpening, OpensAll}
-use Rattle.v7tools.specs.LinkRuns.{all_told, IsLinkOfFiles, IsLinkRun, ReportsIf}
+use Rattle.v7tools.specs.LinkAnswers.{Input, inputs_of, IsLinkOf}
+use Rattle.v7tools.specs.parts.Openings.{sources, IsOpening, IsWorking, OpensAll}
+use Rattle.v7tools.specs.LinkRuns.{inputs_opened, IsLinkOfFiles, IsLinkRun, ReportsIf}
 use Rattle.v7tools.specs.declared.fault.CliFault.{CliFault}
 use Rattle.v7tools.specs.declared.fault.CliFault.TheVariants as faults
 use Rattle.v7tools.specs.declared.office.Stored.{Stored}
 use Rattle.v7tools.proofs.DeedLemmas.{asked_behind, paths_opened}
 
 module _ {R : Type 0} (remaining : R → Option (List ℕ)) where
-  told_sources : (inputs : List (String Global × Latched R)) → told remaining inputs ≡ all_told (sources remaining inputs)
-  told_sources [] = refl
-  told_sources (i ∷ is) = ap (and_told (string_bytes i.0) (remaining i.1.device)) (told_sources is)
+  -- the inputs are the files that were opened
+  inputs_from : (inputs : List (String Global × Latched R)) → AllByRecursion IsWorking inputs → inputs_of remaining inputs ≡ inputs_opened (sources remaining inputs)
+  inputs_from [] h = refl
+  inputs_from (i ∷ is) h = λ j. record { path = string_bytes i.0; known = remaining i.1.device; has_failed = h.0 j } ∷ inputs_from is h.1 j
 
   -- the link of the inputs is that of the files that were opened
   pub link_of_files : (forced : List (List ℕ)) (o : Choices) (files : List (String Global)) (inputs : List (String Global × Latched R)) (answer : Result Linked CliFault) → files ≡ map (λ i. i.0) inputs →
-      IfSome (told remaining inputs) (λ bytes. IsLinkOf forced o bytes answer) → IsLinkOfFiles forced o (map string_bytes files) (sources remaining inputs) answer
-  link_of_files forced o files inputs answer order h = record {
+      AllByRecursion IsWorking inputs → IsLinkOf forced o (inputs_of remaining inputs) answer → IsLinkOfFiles forced o (map string_bytes files) (sources remaining inputs) answer
+  link_of_files forced o files inputs answer order working h = record {
     all = sym (ap (map string_bytes) order ∙ paths_opened remaining inputs);
-    link = subst (λ (known : Option (List (List ℕ × List ℕ))). IfSome known (λ bytes. IsLinkOf forced o bytes answer)) (told_sources inputs) h;
+    link = subst (λ (is : List Input). IsLinkOf forced o is answer) (inputs_from inputs working) h;
   }
 
   module _ {W : Type 0} (contents : W → Option (List ℕ)) (forced : List (List ℕ)) (o : Choices) (out : String Global) (files : List (String Global)) (old : History) (result : Result ℕ CliFault) (before after : Latched W) where
@@ -45,25 +47,24 @@ module _ {R : Type 0} (remaining : R → Option (List ℕ)) where
     not_opened new faults.ScriptFailed h is same = absurd h
 
     pub no_link : (new : History) (inputs : List (String Global × Latched R)) (fault : CliFault) → OpensAll remaining old new files inputs →
-        IfSome (told remaining inputs) (λ bytes. IsLinkOf forced o bytes (Err fault)) → IsPossible (said_by fault) → result ≡ Err fault → after ≡ before →
+        IsLinkOf forced o (inputs_of remaining inputs) (Err fault) → result ≡ Err fault → after ≡ before →
         IsLinkRun contents forced o out (map string_bytes files) old new result before after
-    no_link new inputs fault h link possible is same = inr (inr (inl (record {
+    no_link new inputs fault h link is same = inr (inr (inl (record {
       fault = fault;
-      possible = possible;
       found = sources remaining inputs;
-      answer = link_of_files forced o files inputs (Err fault) h.1 link;
+      answer = link_of_files forced o files inputs (Err fault) h.1 h.2 link;
       asked = h.0;
       refuses = record { refusal = is; silent = same };
     })))
 
     pub stores_link : (mid new : History) (inputs : List (String Global × Latched R)) (made : Linked) (what : Stored) → OpensAll remaining old mid files inputs →
-        IfSome (told remaining inputs) (λ bytes. IsLinkOf forced o bytes (Ok made)) → Extends mid new (stored (string_bytes out) made.file what ∷ []) → ReportsIf contents what out (findings_of made.report) result before after →
+        IsLinkOf forced o (inputs_of remaining inputs) (Ok made) → Extends mid new (stored (string_bytes out) made.file what ∷ []) → ReportsIf contents what out (findings_of made.report) result before after →
         IsLinkRun contents forced o out (map string_bytes files) old new result before after
     stores_link mid new inputs made what h link asked reports = inr (inr (inr (record {
       made = made;
       what = what;
       found = sources remaining inputs;
-      answer = link_of_files forced o files inputs (Ok made) h.1 link;
+      answer = link_of_files forced o files inputs (Ok made) h.1 h.2 link;
       asked = asked_behind old mid new _ _ h.0 asked;
       reports = reports;
     })))

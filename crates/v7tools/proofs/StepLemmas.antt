@@ -6,7 +6,6 @@ use Rattle.std.proofs.lemmas.Bool.{false_from_ne_true}
 use Rattle.aout_core.specs.declared.file.ReadFault.TheVariants as reads
 use Rattle.aout_core.specs.Contents.{Contents}
 use Rattle.aout_core.specs.Front.{front}
-use Rattle.aout_core.specs.Reading.{HasHeader}
 use Rattle.aout_core.specs.Wires.{Latched, Writes}
 use Rattle.link_session.specs.Edits.{last_of, without_last}
 use Rattle.link_session.specs.Labelled.{Labelled}
@@ -25,6 +24,7 @@ use Rattle.v7tools.specs.declared.commands.Step.TheVariants.{Refused}
 use Rattle.v7tools.specs.Inputs.{Cause, cannot_open, bad_file, bad_object, not_added, object_in, kept_with}
 use Rattle.v7tools.specs.FaultTexts.{cause_text, cli_text, fault_at, fault_of_link}
 use Rattle.v7tools.specs.Answers.{done, refused, Stepped, add_step, withdraw_step, link_step}
+use Rattle.v7tools.specs.LinkAnswers.{WantsMemory}
 use Rattle.v7tools.specs.parts.InputParts.{IsDeviceFault}
 use Rattle.v7tools.specs.parts.StepParts.{IsRefusal, IsAccepted, IsAddition, IsAddOver, IsAddWorking, TakesWithdrawal, label_of}
 use Rattle.v7tools.specs.Steps.{Does, IsAddOn, IsAddBy, IsLinkBy, WithdrawsIf, verdict_of}
@@ -119,7 +119,7 @@ module _ {R : Type 0} (remaining : R → Option (List ℕ)) (from to : Latched R
                 (on_bytes (remaining from.device) old.forced old.entries (string_bytes path) h.found (Err h.cause) (sound h latch) e h.refuses)),
           )
 
-  by_memory : fault ≡ faults.Memory → IfSome (remaining from.device) HasHeader → IsRefused
+  by_memory : fault ≡ faults.Memory → IfSome (remaining from.device) (WantsMemory old.forced old.entries (string_bytes path)) → IsRefused
   by_memory is header =
       let after = false_from_ne_true to.has_failed (λ failed. let e = device.1 failed in absurd (cc)) in
       inr (after, worked after, inl (ap (λ (f : CliFault). refused_as old.entries (cli_text f)) is, header))
@@ -211,6 +211,6 @@ device_fault known old new path fault latch h device = (λ is. device.0 (by_why 
     as_fault : failed_with fault ≡ failed_with (faults.BadFile path reads.Device) → fault ≡ faults.BadFile path reads.Device
     as_fault e = cc
 
-    by_why : ((fault ≡ faults.Memory) × IfSome known HasHeader) ⊎ IsRefusal known old path fault → IsDeviceFault fault → failed_with fault ≡ failed_with (faults.BadFile path reads.Device)
+    by_why : ((fault ≡ faults.Memory) × IfSome known (WantsMemory old.forced old.entries (string_bytes path))) ⊎ IsRefusal known old path fault → IsDeviceFault fault → failed_with fault ≡ failed_with (faults.BadFile path reads.Device)
     by_why (inl (is, header)) d = absurd (subst IsDeviceFault is d)
     by_why (inr r) d = ap failed_with (r.names ∙ device_path path r.cause (subst IsDeviceFault r.names d))

@@ -7,7 +7,7 @@ use Rattle.std.specs.Prelude.{◌≡◌, ◌≢◌, ◌↔◌, ◌⊎◌, ℕ, L
 use Rattle.aout_core.specs.declared.file.ReadFault.TheVariants as reads
 use Rattle.aout_core.specs.Contents.{Contents}
 use Rattle.aout_core.specs.Front.{front}
-use Rattle.aout_core.specs.Reading.{HasHeader, IsReadOf}
+use Rattle.aout_core.specs.Reading.{IsReadOf}
 use Rattle.aout_core.specs.Strip.{stripped}
 use Rattle.aout_core.specs.Wires.{Latched, Puts}
 use Rattle.symtools.specs.Files.{by_bytes}
@@ -28,12 +28,12 @@ Loaded = String Global × Contents
 abbrev pub OpensOn : History → History → String Global → (List ℕ → Type 0) → Type 0
 OpensOn old new path holds = (known : Option (List ℕ)) × Extends old new (opened (string_bytes path) (Some known) ∷ []) × IfSome known holds
 
--- the file at a path was opened and read, or why it was not; memory runs out only behind a header of a file
+-- the file at a path was opened and read, or why it was not; memory runs out only for what its header announces
 abbrev pub IsLoadAt : History → History → String Global → Result Loaded CliFault → Type 0
 IsLoadAt old new path (Ok loaded) = (loaded.0 ≡ path) × OpensOn old new path (λ bytes. front bytes ≡ Ok loaded.1)
 IsLoadAt old new path (Err (faults.CannotOpen at)) = (at ≡ path) × Extends old new (opened (string_bytes path) None ∷ [])
 IsLoadAt old new path (Err (faults.BadFile at fault)) = (at ≡ path) × (fault ≢ reads.Memory) × OpensOn old new path (IsReadOf (Err fault))
-IsLoadAt old new path (Err faults.Memory) = OpensOn old new path HasHeader
+IsLoadAt old new path (Err faults.Memory) = OpensOn old new path (IsReadOf (Err reads.Memory))
 IsLoadAt old new path (Err _) = ⊥
 
 -- what was read at each path is what the bytes of the file that was opened there give, where they are known

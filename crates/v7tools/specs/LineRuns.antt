@@ -3,13 +3,13 @@
 -- A line opens at most the file that it names, stores at most the link that it asks for, and has an answer and a status: 0, or 1
 -- where it was refused or its link had something to report.
 use Rattle.std.specs.Prelude.{◌≡◌, ◌⊎◌, ℕ, List, [], ◌∷◌, Option, Some, None, Ok, IfSome}
-use Rattle.aout_core.specs.Reading.{HasHeader}
 use Rattle.link_session.specs.Labelled.{objects}
 use Rattle.link_session.specs.Undo.{Kept}
 use Rattle.link_out.specs.Choices.{Choices}
 use Rattle.link_out.specs.Link.{Outcome, link}
 use Rattle.v7tools.specs.Answers.{absent, failing, adding, withdrawing, listing_externals, listing_undefined, anything_else, Verdict, done, refused, Stepped, add_step, input_from, step, link_answer_text, link_status}
 use Rattle.v7tools.specs.Deeds.{Deed, opened, stored}
+use Rattle.v7tools.specs.LinkAnswers.{WantsMemory}
 use Rattle.v7tools.specs.Scripts.{Asked, to_add, to_withdraw, for_externals, for_undefined, to_link, for_nothing}
 use Rattle.v7tools.specs.Steps.{AddsIf, IsAddOn, IsLinkBy, WithdrawsIf, without_memory}
 use Rattle.v7tools.specs.declared.office.Stored.{Stored}
@@ -33,12 +33,12 @@ pub record DoesStep (did : Stepped) (r : LineRun) : Type 0 where
   pub status : r.status ≡ status_after did.verdict
   pub entries : r.kept.entries ≡ did.kept
 
--- the file that was opened is added by its bytes, where they are known; its device may fail, and behind a header of a
--- file memory may run out
+-- the file that was opened is added by its bytes, where they are known; its device may fail, and memory may run out,
+-- where it is wanted
 abbrev pub IsAddOf : Option (List ℕ) → Kept → List ℕ → Stepped → Type 0
 IsAddOf known old path did =
     (did ≡ add_step old.entries path (input_from old.forced old.entries path failing))
-    ⊎ (((did ≡ without_memory old.entries) × IfSome known HasHeader)
+    ⊎ (((did ≡ without_memory old.entries) × IfSome known (WantsMemory old.forced old.entries path))
     ⊎ IsAddOn known old.forced old.entries path did)
 
 -- the file at the path that is named can't be opened

@@ -1,46 +1,48 @@
--- What the result of a link of files says of the bytes of its inputs. (own choice)
+-- What the result of a link of files says of its inputs. (own choice)
 --
--- Where all bytes are known, it is the link of these bytes, or the first refusal; but before that a device may fail, or memory
--- run out.
+-- The inputs are taken one after another, each by its bytes where these are known, and then linked. The link stops at the first that is
+-- refused, or whose device fails, or for which memory runs out. So where all bytes are known the result is the link of these bytes
+-- or the first refusal, unless a device fails or memory runs out.
 use Rattle.std.specs.declared.alloc.Global.{Global}
-use Rattle.std.specs.Prelude.{◌≡◌, ◌⊎◌, ℕ, false, List, [], ◌∷◌, Option, Some, None, Result, Ok, Err, IsOkAnd, String, string_bytes}
-use Rattle.std.specs.List.{AllByRecursion}
+use Rattle.std.specs.Prelude.{◌≡◌, ◌≢◌, ◌⊎◌, ℕ, Bool, false, List, [], ◌∷◌, map, Option, Some, None, Result, Ok, Err, IfSome, IsOk, String, string_bytes}
 use Rattle.aout_core.specs.declared.file.ReadFault.TheVariants as reads
+use Rattle.aout_core.specs.Contents.{Contents}
+use Rattle.aout_core.specs.Front.{front}
+use Rattle.aout_core.specs.Reading.{IsReadOf}
 use Rattle.aout_core.specs.Wires.{Latched}
 use Rattle.link_session.specs.declared.entry.AddFault.TheVariants as adds
-use Rattle.link_session.specs.Labelled.{Labelled}
+use Rattle.link_session.specs.Labelled.{Labelled, objects}
 use Rattle.link_out.specs.declared.linked.Linked.{Linked}
+use Rattle.link_out.specs.declared.linked.LinkFault.{LinkFault}
 use Rattle.link_out.specs.declared.linked.LinkFault.TheVariants as links
 use Rattle.link_out.specs.Choices.{Choices}
+use Rattle.link_out.specs.Link.{Outcome, link}
 use Rattle.link_out.specs.Outcomes.{outcome_of}
-use Rattle.v7tools.specs.Inputs.{bad_file, bad_object, not_added, Refusal, of_input, not_linked, with_input, linked}
+use Rattle.v7tools.specs.Inputs.{Cause, bad_file, bad_object, not_added, Refusal, of_input, not_linked, object_in, kept_with, with_input, linked}
 use Rattle.v7tools.specs.declared.fault.CliFault.{CliFault}
 use Rattle.v7tools.specs.declared.fault.CliFault.TheVariants as faults
 
--- a path and its bytes before others, where they are told
-abbrev pub and_told : List ℕ → Option (List ℕ) → Option (List (List ℕ × List ℕ)) → Option (List (List ℕ × List ℕ))
-and_told path None rest = None
-and_told path (Some bytes) None = None
-and_told path (Some bytes) (Some rest) = Some ((path, bytes) ∷ rest)
+-- an input: its path, its bytes where they are known, and whether its device has failed before
+pub record Input : Type 0 where
+  pub path : List ℕ
+  pub known : Option (List ℕ)
+  pub has_failed : Bool
 
--- the paths of the inputs with their bytes, where each device tells its bytes
-abbrev pub told : {R : Type 0} → (R → Option (List ℕ)) → List (String Global × Latched R) → Option (List (List ℕ × List ℕ))
-told remaining [] = Some []
-told remaining (i ∷ is) = and_told (string_bytes i.0) (remaining i.1.device) (told remaining is)
+abbrev pub inputs_of : {R : Type 0} → (R → Option (List ℕ)) → List (String Global × Latched R) → List Input
+inputs_of remaining inputs = map (λ i. record { path = string_bytes i.0; known = remaining i.1.device; has_failed = i.1.has_failed }) inputs
 
--- the wire of an input has not failed
-abbrev pub IsWorking : {R : Type 0} → String Global × Latched R → Type 0
-IsWorking i = i.1.has_failed ≡ false
+-- ---- what a fault says
 
--- what a fault says of the inputs
+-- a refusal, that the device at a path failed, or that memory ran out
 pub data Said : Type 0 where
   refuses : Refusal → Said
-  says_nothing : Said
+  breaks : List ℕ → Said
+  runs_out : Said
   never : Said
 
--- where a device failed or memory ran out a fault says nothing; no other fault than these comes from a link
+-- no other fault than these comes from a link
 abbrev pub said_by : CliFault → Said
-said_by (faults.BadFile path reads.Device) = says_nothing
+said_by (faults.BadFile path reads.Device) = breaks (string_bytes path)
 said_by (faults.BadFile path reads.Memory) = never
 said_by (faults.BadFile path fault) = refuses (of_input (string_bytes path) (bad_file fault))
 said_by (faults.BadObject path fault) = refuses (of_input (string_bytes path) (bad_object fault))
@@ -48,45 +50,99 @@ said_by (faults.NotAdded path adds.Memory) = never
 said_by (faults.NotAdded path fault) = refuses (of_input (string_bytes path) (not_added fault))
 said_by (faults.NotLinked links.Memory) = never
 said_by (faults.NotLinked fault) = refuses (not_linked fault)
-said_by faults.Memory = says_nothing
+said_by faults.Memory = runs_out
 said_by _ = never
 
-abbrev pub IsPossible : Said → Type 0
-IsPossible never = ⊥
-IsPossible _ = Unit {0}
+-- ---- input by input
+
+-- an input is taken: its object is appended to those that are kept
+pub record Takes (forced : List (List ℕ)) (kept : List Labelled) (i : Input) (more : List Labelled) : Type 0 where
+  pub works : i.has_failed ≡ false
+  pub object : Contents
+  pub is_found : IfSome i.known (λ bytes. Ok object ≡ object_in (front bytes))
+  pub accepts : kept_with forced kept i.path (Ok object) ≡ Ok more
+
+-- an input is refused, for this cause
+pub record Rejects (forced : List (List ℕ)) (kept : List Labelled) (i : Input) (cause : Cause) : Type 0 where
+  pub works : i.has_failed ≡ false
+  pub found : Result Contents Cause
+  pub is_found : IfSome i.known (λ bytes. found ≡ object_in (front bytes))
+  pub rejects : kept_with forced kept i.path found ≡ Err cause
+
+-- memory is wanted for a file of these bytes: for what its header announces, or to add its object, which is within all limits
+abbrev pub WantsMemory : List (List ℕ) → List Labelled → List ℕ → List ℕ → Type 0
+WantsMemory forced kept path bytes = IsReadOf (Err reads.Memory) bytes ⊎ IsOk (with_input forced kept path bytes)
+
+-- the link stops at an input, behind those that are kept
+abbrev pub StopsAt : List (List ℕ) → List Labelled → Input → Said → Type 0
+StopsAt forced kept i (refuses (of_input path cause)) = (path ≡ i.path) × Rejects forced kept i cause
+StopsAt forced kept i (breaks path) = path ≡ i.path
+StopsAt forced kept i runs_out = (i.has_failed ≡ false) × IfSome i.known (WantsMemory forced kept i.path)
+StopsAt forced kept i _ = ⊥
+
+-- all inputs are taken
+abbrev pub TakesAll : List (List ℕ) → List Labelled → List Input → List Labelled → Type 0
+TakesAll forced kept [] more = more ≡ kept
+TakesAll forced kept (i ∷ is) more = (next : List Labelled) × Takes forced kept i next × TakesAll forced next is more
+
+-- the inputs before one are taken, and the link stops at that one
+abbrev pub StopsIn : List (List ℕ) → List Labelled → List Input → Said → Type 0
+StopsIn forced kept [] said = ⊥
+StopsIn forced kept (i ∷ is) said = StopsAt forced kept i said ⊎ ((next : List Labelled) × Takes forced kept i next × StopsIn forced next is said)
+
+-- ---- the link
+
+-- the objects are refused as a whole; memory may run out only where there is a link
+abbrev pub HasNoLink : Result Outcome LinkFault → Said → Type 0
+HasNoLink x (refuses (not_linked fault)) = x ≡ Err fault
+HasNoLink x runs_out = IsOk x
+HasNoLink x _ = ⊥
+
+-- all inputs are taken, and linked
+pub record LinksAll (forced : List (List ℕ)) (o : Choices) (inputs : List Input) (l : Linked) : Type 0 where
+  pub kept : List Labelled
+  pub taken : TakesAll forced [] inputs kept
+  pub link : link forced (objects kept) o ≡ Ok (outcome_of l)
+
+-- all inputs are taken, and there is no link of them
+pub record LinksNone (forced : List (List ℕ)) (o : Choices) (inputs : List Input) (said : Said) : Type 0 where
+  pub kept : List Labelled
+  pub taken : TakesAll forced [] inputs kept
+  pub none : HasNoLink (link forced (objects kept) o) said
+
+-- there is a link; or memory ran out for forced names before the first input, or the link stops at an input, or there is no
+-- link of all
+abbrev pub IsLinkOver : List (List ℕ) → Choices → List Input → Result Linked CliFault → Type 0
+IsLinkOver forced o inputs (Ok l) = LinksAll forced o inputs l
+IsLinkOver forced o inputs (Err fault) =
+    ((forced ≢ []) × (fault ≡ faults.Memory)) ⊎ (StopsIn forced [] inputs (said_by fault) ⊎ LinksNone forced o inputs (said_by fault))
+
+-- ---- where all bytes are known
+
+-- a path and its bytes before others, where they are told
+abbrev pub and_told : List ℕ → Option (List ℕ) → Option (List (List ℕ × List ℕ)) → Option (List (List ℕ × List ℕ))
+and_told path None rest = None
+and_told path (Some bytes) None = None
+and_told path (Some bytes) (Some rest) = Some ((path, bytes) ∷ rest)
+
+-- the paths of the inputs with their bytes, where all are known
+abbrev pub told : List Input → Option (List (List ℕ × List ℕ))
+told [] = Some []
+told (i ∷ is) = and_told i.path i.known (told is)
 
 -- what is said is true where the bytes give this
 abbrev pub IsTrueOf : {A : Type 0} → Said → Result A Refusal → Type 0
 IsTrueOf (refuses r) answer = answer ≡ Err r
-IsTrueOf says_nothing answer = Unit {0}
+IsTrueOf (breaks path) answer = Unit {0}
+IsTrueOf runs_out answer = Unit {0}
 IsTrueOf never answer = ⊥
 
--- one of the inputs is at this path, this holds of it, and the wires of those before it have not failed
-abbrev pub StandsAt : {R : Type 0} → (String Global × Latched R → Type 0) → List ℕ → List (String Global × Latched R) → Type 0
-StandsAt holds path [] = ⊥
-StandsAt holds path (i ∷ is) = ((string_bytes i.0 ≡ path) × holds i) ⊎ (IsWorking i × StandsAt holds path is)
-
--- what is said is of an input up to which no wire has failed, or of all inputs where none has
-abbrev pub IsOfWorking : {R : Type 0} → List (String Global × Latched R) → Said → Type 0
-IsOfWorking inputs (refuses (of_input path cause)) = StandsAt IsWorking path inputs
-IsOfWorking inputs (refuses (not_linked fault)) = AllByRecursion IsWorking inputs
-IsOfWorking inputs _ = Unit {0}
-
--- a wire that has failed is not passed: the fault of a device is that of the first input whose wire has failed or fails
-abbrev pub PassesNone : {R : Type 0} → List (String Global × Latched R) → CliFault → Type 0
-PassesNone inputs fault =
-    IsOfWorking inputs (said_by fault) × ((path : String Global) → fault ≡ faults.BadFile path reads.Device → StandsAt (λ i. Unit {0}) (string_bytes path) inputs)
-
--- the inputs before one at this path are all taken
-abbrev pub IsReached : List (List ℕ) → List Labelled → List ℕ → List (List ℕ × List ℕ) → Type 0
-IsReached forced kept path [] = ⊥
-IsReached forced kept path (i ∷ is) = (i.0 ≡ path) ⊎ IsOkAnd (with_input forced kept i.0 i.1) (λ more. IsReached forced more path is)
-
--- where the fault is that the device at a path failed, the inputs before one at this path are all taken
-abbrev pub BreaksAt : List (List ℕ) → List Labelled → List (List ℕ × List ℕ) → CliFault → Type 0
-BreaksAt forced kept inputs fault = (path : String Global) → fault ≡ faults.BadFile path reads.Device → IsReached forced kept (string_bytes path) inputs
+-- the link of the bytes, or the first refusal
+abbrev pub IsLinkOfBytes : List (List ℕ) → Choices → List (List ℕ × List ℕ) → Result Linked CliFault → Type 0
+IsLinkOfBytes forced o inputs (Ok l) = linked forced inputs o ≡ Ok (outcome_of l)
+IsLinkOfBytes forced o inputs (Err fault) = IsTrueOf (said_by fault) (linked forced inputs o)
 
 -- the link of the inputs, or why there is none
-abbrev pub IsLinkOf : List (List ℕ) → Choices → List (List ℕ × List ℕ) → Result Linked CliFault → Type 0
-IsLinkOf forced o inputs (Ok l) = linked forced inputs o ≡ Ok (outcome_of l)
-IsLinkOf forced o inputs (Err fault) = IsTrueOf (said_by fault) (linked forced inputs o) × BreaksAt forced [] inputs fault
+pub record IsLinkOf (forced : List (List ℕ)) (o : Choices) (inputs : List Input) (answer : Result Linked CliFault) : Type 0 where
+  pub over : IsLinkOver forced o inputs answer
+  pub bytes : IfSome (told inputs) (λ bytes. IsLinkOfBytes forced o bytes answer)

@@ -2,14 +2,14 @@
 --
 -- All inputs are opened, whatever they hold, or the first that can't be is the fault. Only a link is stored, and only what was stored is reported.
 use Rattle.std.specs.declared.alloc.Global.{Global}
-use Rattle.std.specs.Prelude.{◌≡◌, ◌↔◌, ◌⊎◌, ℕ, List, [], ◌∷◌, ◌++◌, Option, Some, None, Result, Ok, Err, IfErr, IfOk, IfSome, IsErr, IsTrue, String, string_bytes}
+use Rattle.std.specs.Prelude.{◌≡◌, ◌↔◌, ◌⊎◌, ℕ, List, [], ◌∷◌, ◌++◌, map, false, Option, None, Result, Ok, Err, IfErr, IfOk, IsErr, IsTrue, String, string_bytes}
 use Rattle.aout_core.specs.Wires.{Latched, Puts}
 use Rattle.link_out.specs.declared.linked.Linked.{Linked}
 use Rattle.link_out.specs.Choices.{Choices}
 use Rattle.link_out.specs.Outcomes.{findings_of}
 use Rattle.link_out.specs.Reports.{Findings, report_text, status_of}
 use Rattle.v7tools.specs.Deeds.{History, Extends, Opened, opened, opens, paths_of, stored}
-use Rattle.v7tools.specs.LinkAnswers.{and_told, IsLinkOf, IsPossible, said_by}
+use Rattle.v7tools.specs.LinkAnswers.{Input, IsLinkOf}
 use Rattle.v7tools.specs.declared.fault.CliFault.{CliFault}
 use Rattle.v7tools.specs.declared.fault.CliFault.TheVariants as faults
 use Rattle.v7tools.specs.declared.office.Stored.{Stored}
@@ -22,15 +22,14 @@ pub record StopsAt (old new : History) (files : List (List ℕ)) (path : List �
   pub order : files ≡ paths_of found ++ path ∷ rest
   pub asked : Extends old new (opens found ++ opened path None ∷ [])
 
--- the paths with their bytes, where all are known
-abbrev pub all_told : List Opened → Option (List (List ℕ × List ℕ))
-all_told [] = Some []
-all_told (f ∷ fs) = and_told f.0 f.1 (all_told fs)
+-- the inputs of a link whose files were opened; none of their devices has failed yet
+abbrev pub inputs_opened : List Opened → List Input
+inputs_opened found = map (λ f. record { path = f.0; known = f.1; has_failed = false }) found
 
--- the files that were opened are all, and this is the link of their bytes, or why there is none
+-- the files that were opened are all, and this is the link of them, or why there is none
 pub record IsLinkOfFiles (forced : List (List ℕ)) (o : Choices) (files : List (List ℕ)) (found : List Opened) (answer : Result Linked CliFault) : Type 0 where
   pub all : paths_of found ≡ files
-  pub link : IfSome (all_told found) (λ inputs. IsLinkOf forced o inputs answer)
+  pub link : IsLinkOf forced o (inputs_opened found) answer
 
 -- the report went out, or on a fault a prefix of it
 pub record Reports {W : Type 0} (contents : W → Option (List ℕ)) (f : Findings) (result : Result ℕ CliFault) (before after : Latched W) : Type 0 where
@@ -59,7 +58,6 @@ pub record CannotOpenOne {W : Type 0} (files : List (List ℕ)) (old new : Histo
 -- there is no link: nothing is stored
 pub record MakesNoLink {W : Type 0} (forced : List (List ℕ)) (o : Choices) (files : List (List ℕ)) (old new : History) (result : Result ℕ CliFault) (before after : Latched W) : Type 0 where
   pub fault : CliFault
-  pub possible : IsPossible (said_by fault)
   pub found : List Opened
   pub answer : IsLinkOfFiles forced o files found (Err fault)
   pub asked : Extends old new (opens found)

@@ -4,7 +4,6 @@
 -- command and the session: whether a device failed, and whether there was memory. Here is what each may change, and what goes out.
 use Rattle.std.specs.Prelude.{◌≡◌, ◌⊎◌, ℕ, false, List, Option, Some, None, Result, IfOk, IfSome, IsOk, string_bytes}
 use Rattle.aout_core.specs.Contents.{Contents}
-use Rattle.aout_core.specs.Reading.{HasHeader}
 use Rattle.aout_core.specs.WellFormed.{IsWellFormed}
 use Rattle.aout_core.specs.Wires.{Latched, Writes}
 use Rattle.link_session.specs.Labelled.{Labelled, objects}
@@ -22,6 +21,7 @@ use Rattle.v7tools.specs.declared.commands.Step.{Step}
 use Rattle.v7tools.specs.declared.commands.Step.TheVariants.{Done, Refused, ToStore}
 use Rattle.v7tools.specs.Inputs.{Cause, kept_with}
 use Rattle.v7tools.specs.FaultTexts.{no_memory}
+use Rattle.v7tools.specs.LinkAnswers.{WantsMemory}
 use Rattle.v7tools.specs.Answers.{absent, failing, giving, adding, withdrawing, listing_externals, listing_undefined, anything_else, Verdict, done, refused, to_store, Stepped, add_step, input_from, link_step, step}
 
 -- the verdict on a step that the code returns
@@ -41,11 +41,11 @@ abbrev pub IsAddOn : Option (List ℕ) → List (List ℕ) → List Labelled →
 IsAddOn (Some bytes) forced kept path did = did ≡ add_step kept path (input_from forced kept path (giving bytes))
 IsAddOn None forced kept path did = (found : Result Contents Cause) × (did ≡ add_step kept path (kept_with forced kept path found))
 
--- a device may fail, and one that has failed does; before it fails memory may run out, behind a header of a file
+-- a device may fail, and one that has failed does; before it fails memory may run out, where it is wanted
 abbrev pub IsAddBy : {R : Type 0} → (R → Option (List ℕ)) → Latched R → List (List ℕ) → List Labelled → List ℕ → Stepped → Type 0
 IsAddBy remaining wire forced kept path did =
     (did ≡ add_step kept path (input_from forced kept path failing))
-    ⊎ ((wire.has_failed ≡ false) × (((did ≡ without_memory kept) × IfSome (remaining wire.device) HasHeader) ⊎ IsAddOn (remaining wire.device) forced kept path did))
+    ⊎ ((wire.has_failed ≡ false) × (((did ≡ without_memory kept) × IfSome (remaining wire.device) (WantsMemory forced kept path)) ⊎ IsAddOn (remaining wire.device) forced kept path did))
 
 -- memory may run out only where there is a link
 abbrev pub IsLinkBy : List Labelled → Result Outcome LinkFault → Stepped → Type 0

@@ -1,9 +1,8 @@
 //! The link of files.
-ghost use Rattle.std.specs.Prelude.{◌≡◌, ◌↔◌, true, IfErr, IfOk, IfSome, IsTrue};
-ghost use Rattle.std.specs.List.{AllByRecursion};
+ghost use Rattle.std.specs.Prelude.{◌≡◌, ◌↔◌, true, IfErr, IfOk, IsTrue};
 ghost use Rattle.aout_core.specs.WellFormed.{IsWellFormed};
 ghost use Rattle.v7tools.specs.parts.InputParts.{AreTaken, IsDeviceFault, without_wire};
-ghost use Rattle.v7tools.specs.LinkAnswers.{IsLinkOf, IsPossible, IsWorking, PassesNone, said_by, told};
+ghost use Rattle.v7tools.specs.LinkAnswers.{inputs_of, IsLinkOf};
 
 use crate::additions::add_file;
 use crate::fault::CliFault;
@@ -21,11 +20,8 @@ fn take_inputs<R: Read + Drop>(
     inputs: Vec<(String, Wire<R>)>,
 ) -> Result<(), (CliFault, Wire<R>)>
     ensures device { IfErr result (λ refused. IsDeviceFault refused.0 ↔ IsTrue refused.1.has_failed) }
-    ensures faults { IfErr result (λ refused. IsPossible (said_by refused.0)) }
-    ensures working { IfOk result (λ _. AllByRecursion IsWorking inputs.items) }
-    ensures latched { IfErr result (λ refused. PassesNone inputs.items refused.0) }
     ensures forced { session.new.forced ≡ session.old.forced }
-    ensures value { IfSome (told R.remaining inputs.items) (λ bytes. AreTaken session.old session.new bytes (without_wire result)) }
+    ensures value { AreTaken session.old session.new (inputs_of R.remaining inputs.items) (without_wire result) }
 {
     for (path, mut wire) in inputs {
         if let Err(fault) = add_file(alloc, session, path, &mut wire) {
@@ -41,17 +37,15 @@ fn take_inputs<R: Read + Drop>(
 ///
 /// Errors: for the first input that is refused, with its path, `BadFile`, 3, where it is no file or its device
 /// failed, now or before, `BadObject`, 4, where it is no object, or `NotAdded`, 5, where it passes a limit; behind the
-/// last input `NotLinked`, 6, where there is no link; `Memory`, 9, wherever memory runs out.
+/// last input `NotLinked`, 6, where there is no link; `Memory`, 9, where memory runs out: for forced names, for what
+/// the header of an input announces, for an object that is within all limits, or for a link that there is.
 pub fn ld<R: Read + Drop>(
     alloc: Global,
     inputs: Vec<(String, Wire<R>)>,
     forced: &Forced,
     options: &Options,
 ) -> Result<Linked, CliFault>
-    ensures faults { IfErr result (λ fault. IsPossible (said_by fault)) }
-    ensures working { IfOk result (λ _. AllByRecursion IsWorking inputs.items) }
-    ensures latched { IfErr result (λ fault. PassesNone inputs.items fault) }
-    ensures value { IfSome (told R.remaining inputs.items) (λ bytes. IsLinkOf forced.now options.now bytes result) }
+    ensures value { IsLinkOf forced.now options.now (inputs_of R.remaining inputs.items) result }
     ensures object { options.now.relocatable ≡ true → IfOk result (λ linked. IsWellFormed linked.file) }
 {
     let mut session = Session::with_forced(alloc, forced)?;

@@ -1,10 +1,9 @@
 -- What is opened before a link is made, and read before a list is written.
 use Rattle.std.specs.declared.alloc.Global.{Global}
-use Rattle.std.specs.Prelude.{◌≡◌, ℕ, List, [], map, Option, Result, Ok, Err, String, string_bytes, Vec}
+use Rattle.std.specs.Prelude.{◌≡◌, ℕ, false, List, [], map, Option, Result, Ok, Err, String, string_bytes, Vec}
 use Rattle.std.specs.List.{AllByRecursion}
 use Rattle.aout_core.specs.Wires.{Latched}
 use Rattle.v7tools.specs.Deeds.{History, Extends, Opened, opens}
-use Rattle.v7tools.specs.LinkAnswers.{IsWorking}
 use Rattle.v7tools.specs.declared.fault.CliFault.{CliFault}
 use Rattle.v7tools.specs.declared.fault.CliFault.TheVariants as faults
 use Rattle.v7tools.specs.LinkRuns.{StopsAt}
@@ -13,6 +12,10 @@ use Rattle.v7tools.specs.FileRuns.{Loaded, ReadsAll, ReadsNotAll}
 -- the inputs, with what is known of their bytes
 abbrev pub sources : {R : Type 0} → (R → Option (List ℕ)) → List (String Global × Latched R) → List Opened
 sources remaining inputs = map (λ i. (string_bytes i.0, remaining i.1.device)) inputs
+
+-- the wire of an input has not failed
+abbrev pub IsWorking : {R : Type 0} → String Global × Latched R → Type 0
+IsWorking i = i.1.has_failed ≡ false
 
 -- all files were opened in order, and none of their wires has failed
 abbrev pub OpensAll : {R : Type 0} → (R → Option (List ℕ)) → History → History → List (String Global) → List (String Global × Latched R) → Type 0

@@ -4,12 +4,12 @@ use Rattle.std.specs.declared.alloc.Global.{Global}
 use Rattle.aout_core.specs.declared.file.ReadFault.TheVariants as reads
 use Rattle.aout_core.specs.Contents.{Contents}
 use Rattle.aout_core.specs.Front.{front}
-use Rattle.aout_core.specs.Reading.{HasHeader}
 use Rattle.aout_core.specs.Wires.{Latched}
 use Rattle.link_session.specs.declared.state.State.{State}
-use Rattle.link_session.specs.Edits.{last_of}
-use Rattle.link_session.specs.Labelled.{Labelled}
-use Rattle.link_session.specs.Sessions.{Adds}
+use Rattle.link_session.specs.declared.entry.AddFault.{AddFault}
+use Rattle.link_session.specs.Edits.{last_of, refusal}
+use Rattle.link_session.specs.Labelled.{Labelled, objects}
+use Rattle.link_session.specs.Sessions.{Adds, IsCause, labelled}
 use Rattle.link_session.specs.Undo.{Kept}
 use Rattle.link_out.specs.declared.linked.LinkFault.{LinkFault}
 use Rattle.link_out.specs.Reports.{is_missing}
@@ -19,7 +19,8 @@ use Rattle.v7tools.specs.declared.fault.CliFault.{CliFault}
 use Rattle.v7tools.specs.declared.fault.CliFault.TheVariants as faults
 use Rattle.v7tools.specs.declared.commands.Step.{Step}
 use Rattle.v7tools.specs.Inputs.{Cause, bad_file, object_in, kept_with}
-use Rattle.v7tools.specs.FaultTexts.{fault_at}
+use Rattle.v7tools.specs.FaultTexts.{fault_at, fault_of_addition}
+use Rattle.v7tools.specs.LinkAnswers.{WantsMemory}
 use Rattle.v7tools.specs.Answers.{failing, giving, Stepped, add_step, withdraw_step, input_from}
 use Rattle.v7tools.specs.Steps.{without_memory, IsLinkBy, AddsIf, WithdrawsIf, Does}
 
@@ -50,10 +51,16 @@ pub record IsAccepted (known : Option (List ℕ)) (old new : Kept) (path : List 
   pub is_found : IsFound known (Ok object)
   pub accepts : kept_with old.forced old.entries path (Ok object) ≡ Ok new.entries
 
--- the file at a path was added, or the fault says why it was not; memory runs out only behind a header of a file
+-- an object was added, or the fault says why it was not: a limit that it passes, or else that memory ran out
+abbrev pub IsObjectAddition : Kept → Kept → String Global → Contents → Result (Unit {0}) CliFault → Type 0
+IsObjectAddition old new path object (Ok _) = (refusal old.forced (objects old.entries) object ≡ None) × Adds old new (labelled path object)
+IsObjectAddition old new path object (Err fault) =
+    (new ≡ old) × ((cause : AddFault) × (fault ≡ fault_of_addition path cause) × IsCause (refusal old.forced (objects old.entries) object) cause)
+
+-- the file at a path was added, or the fault says why it was not; memory runs out only where it is wanted
 abbrev pub IsAddition : Option (List ℕ) → Kept → Kept → String Global → Result (Unit {0}) CliFault → Type 0
 IsAddition known old new path (Ok _) = (object : Contents) × IsAccepted known old new (string_bytes path) object
-IsAddition known old new path (Err fault) = (new ≡ old) × (((fault ≡ faults.Memory) × IfSome known HasHeader) ⊎ IsRefusal known old path fault)
+IsAddition known old new path (Err fault) = (new ≡ old) × (((fault ≡ faults.Memory) × IfSome known (WantsMemory old.forced old.entries (string_bytes path))) ⊎ IsRefusal known old path fault)
 
 -- the file at a path is added by its bytes, where they are known; else as some file, or refused for some cause but a
 -- device that failed
@@ -65,7 +72,7 @@ IsAddWorking None forced kept path did = (found : Result Contents Cause) × (fou
 abbrev pub IsAddOver : {R : Type 0} → (R → Option (List ℕ)) → Latched R → Latched R → List (List ℕ) → List Labelled → List ℕ → Stepped → Type 0
 IsAddOver remaining from to forced kept path did =
     (IsTrue to.has_failed × (did ≡ add_step kept path (input_from forced kept path failing)))
-    ⊎ ((to.has_failed ≡ false) × (from.has_failed ≡ false) × (((did ≡ without_memory kept) × IfSome (remaining from.device) HasHeader) ⊎ IsAddWorking (remaining from.device) forced kept path did))
+    ⊎ ((to.has_failed ≡ false) × (from.has_failed ≡ false) × (((did ≡ without_memory kept) × IfSome (remaining from.device) (WantsMemory forced kept path)) ⊎ IsAddWorking (remaining from.device) forced kept path did))
 
 -- the file at a path is added, or the answer says why it is not
 abbrev pub TakesAddStep : {R W : Type 0} → (R → Option (List ℕ)) → (W → Option (List ℕ)) → String Global → Latched R → Latched R → Kept → Kept → Result Step CliFault → Latched W → Latched W → Type 0

@@ -1,17 +1,21 @@
-use Rattle.link_out.proofs.RunLemmas.{one_more_done}
+use Rattle.std.proofs.Common.{◌≡◌, ◌+◌, ◌++◌, ◌∷◌, length, arith, ap, subst, ◌∙◌}
+use Rattle.link_out.specs.steps.Replies.{HasRoom}
+use Rattle.link_out.proofs.RunLemmas.{accepted_among, if_error, one_more_done, one_more_left}
 use Rattle.link_out.proofs.runner.replies_to.Goals as goal
 
 pub loop-edit-preserved : goal.loop-edit-preserved
 loop-edit-preserved c =
-    one_more_done
-    c.args.session.now
-    c.loop-edit.session
-    c.put_reply.new.session
-    c.loop-edit.yielded
-    c.in-Some.edit
-    c.loop-edit.replies.items
-    c.put_reply.new.replies.items
-    c.in_ok-put_reply.ensures.reply
-    c.loop-edit.invariant
-    c.in_ok-put_reply.ensures.done
-    c.in_ok-put_reply.ensures.put
+    let left = c.next.new.self.rest.items in
+    let split = c.in-Some.ensures.steps.0 in
+    let one : length (c.in-Some.edit ∷ left) ≡ 1 + length left = omega arith in
+    record {
+      done = one_more_done c.args.session.now c.loop-edit.session c.put_reply.new.session c.loop-edit.yielded c.in-Some.edit c.loop-edit.replies c.put_reply.new.replies c.loop-edit.invariant.done c.in_ok-put_reply.ensures.replied;
+      order = one_more_left c.args.edits.items c.loop-edit.yielded c.loop-edit.edit-iterator.rest.items left c.in-Some.edit c.loop-edit.invariant.order split;
+      room = c.in_ok-put_reply.ensures.room (length left) (subst (λ n. HasRoom n c.loop-edit.replies) (ap length split ∙ one) c.loop-edit.invariant.room);
+    }
+
+pub returns-in_err-put_reply-clause-accepted : goal.returns-in_err-put_reply-clause-accepted
+returns-in_err-put_reply-clause-accepted c =
+    let left = c.next.new.self.rest.items in
+    let order : c.args.edits.items ≡ c.loop-edit.yielded ++ c.in-Some.edit ∷ left = c.loop-edit.invariant.order ∙ ap (λ r. c.loop-edit.yielded ++ r) c.in-Some.ensures.steps.0 in
+    if_error c.from_residual.result _ (accepted_among c.args.session.now c.loop-edit.session c.loop-edit.yielded c.in-Some.edit left c.args.edits.items c.loop-edit.replies c.loop-edit.invariant.done order c.in_err-put_reply.ensures.accepted)

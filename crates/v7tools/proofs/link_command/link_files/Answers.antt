@@ -11,7 +11,7 @@ returns-in_err-inputs-clause-run g c =
 pub returns-in_err-linked-clause-run : goal.returns-in_err-linked-clause-run
 returns-in_err-linked-clause-run g c =
     no_link g.O.Source.Read.remaining g.W.Write.contents c.args.forced.now c.args.options.now c.args.out c.args.files.items _ c.from_residual-in_err-linked.result _ _ _ c.in_ok-inputs.inputs.items c.in_err-linked.field-0.0
-    c.in_ok-inputs.ensures c.in_err-linked.ensures.value c.in_err-linked.ensures.faults (passed_on c.from_residual-in_err-linked.result c.in_err-linked.field-0.0 c.from_residual-in_err-linked.ensures.1) refl
+    c.in_ok-inputs.ensures c.in_err-linked.ensures.value (passed_on c.from_residual-in_err-linked.result c.in_err-linked.field-0.0 c.from_residual-in_err-linked.ensures.1) refl
 
 pub returns-clause-run : goal.returns-clause-run
 returns-clause-run g c =

@@ -1,14 +1,14 @@
-use Rattle.std.proofs.Common.{◌≡◌}
-use Rattle.v7tools.specs.LinkAnswers.{PassesNone}
-use Rattle.v7tools.specs.declared.fault.CliFault.{CliFault}
-use Rattle.v7tools.proofs.AnswerLemmas.{SoFar, WorkingSoFar}
+use Rattle.std.proofs.Common.{◌≡◌, List}
+use Rattle.link_session.specs.Labelled.{Labelled}
+use Rattle.v7tools.specs.LinkAnswers.{inputs_of, Said, StopsIn, TakesAll}
 use Rattle.v7tools.proofs.linking.take_inputs.Given as goal
 
--- the inputs so far are taken, and their wires had not failed; so what a fault says of those left it says of all
+-- the inputs so far are taken; so what becomes of those left, behind them, becomes of all
 abbrev pub invariant-loop-path : goal.invariant-loop-path
 invariant-loop-path g l = record {
-  taken : SoFar g.R.Read.remaining l.fn.inputs.items l.path-iterator.rest.items l.initial.session l.session.entries;
   forced : l.session.forced ≡ l.initial.session.forced;
-  working : WorkingSoFar l.fn.inputs.items l.path-iterator.rest.items;
-  passed : (fault : CliFault) → PassesNone l.path-iterator.rest.items fault → PassesNone l.fn.inputs.items fault;
+  taken : (more : List Labelled) → TakesAll l.session.forced l.session.entries (inputs_of g.R.Read.remaining l.path-iterator.rest.items) more →
+      TakesAll l.initial.session.forced l.initial.session.entries (inputs_of g.R.Read.remaining l.fn.inputs.items) more;
+  stops : (said : Said) → StopsIn l.session.forced l.session.entries (inputs_of g.R.Read.remaining l.path-iterator.rest.items) said →
+      StopsIn l.initial.session.forced l.initial.session.entries (inputs_of g.R.Read.remaining l.fn.inputs.items) said;
 }
