@@ -13,3 +13,4 @@ pub mod BlockLemmas
 pub mod OutgoingLemmas
 pub mod IncomingLemmas
 pub mod WordLemmas
+pub mod ItemLemmas

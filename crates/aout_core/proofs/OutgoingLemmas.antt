@@ -1,14 +1,11 @@
 -- What went out, and what waits.
-use Rattle.std.proofs.Common.{◌≡◌, ℕ, ◌+◌, ◌∷◌, slice_index_or, ◌<◌, List, [], ◌++◌, length, take, drop, Option, sym, ◌∙◌, ap, subst, append_assoc, append-nil}
-use Rattle.std.proofs.lemmas.List.{take_more}
-use Rattle.std.proofs.lemmas.Grind.{flat_map-append}
+use Rattle.std.proofs.Common.{◌≡◌, ℕ, List, ◌++◌, Option, sym, ◌∙◌, ap, subst, append_assoc}
 use Rattle.std.specs.Prelude.{Result, Ok, Err, IsErr}
-use Rattle.std.specs.List.{flat_map}
 use Rattle.std.specs.Io.KnownBytes.{Appends}
 use Rattle.std.proofs.KnownBytes.{Appends-trans}
 use Rattle.aout_core.specs.Wires.{AppendsPrefix, Puts}
 use Rattle.aout_core.specs.steps.Blocks.{AppendsBut, PutsBut}
-use Rattle.aout_core.proofs.PutsLemmas.{front_before, row_at}
+use Rattle.aout_core.proofs.PutsLemmas.{front_before}
 
 -- the text behind a text that broke off
 pub broke_before : (a b : Option (List ℕ)) (all first second : List ℕ) → all ≡ first ++ second → AppendsPrefix a b first → AppendsPrefix a b all
@@ -47,26 +44,3 @@ pub put_at_last : {T E : Type 0} (r : Result T E) (a b d : Option (List ℕ)) (w
 put_at_last (Ok x) a b d waiting text (sent, split, first) second = subst (Appends a d) (sym split) (Appends-trans a b d sent waiting first second)
 put_at_last (Err e) a b d waiting text (sent, split, first) (front, rest, cut, second) =
     (sent ++ front, rest, split ∙ ap (λ l. sent ++ l) cut ∙ sym (append_assoc sent front rest), Appends-trans a b d sent front first second)
-
--- a row of texts, with the one at place i
-pub row_more : {A : Type 0} (spelling : A → List ℕ) (items : List A) (i : ℕ) (item : A) → i < length items → item ≡ slice_index_or items i item →
-    flat_map spelling (take (i + 1) items) ≡ flat_map spelling (take i items) ++ spelling item
-row_more spelling items i item within is =
-    ap (flat_map spelling) (take_more items i item within ∙ ap (λ x. take i items ++ x ∷ []) (sym is))
-    ∙ flat_map-append spelling (take i items) (item ∷ []) ∙ ap (λ l. flat_map spelling (take i items) ++ l) (append-nil (spelling item))
-
-pub row_sent : {A : Type 0} (spelling : A → List ℕ) (items : List A) (i : ℕ) (item : A) (a b d : Option (List ℕ)) (old waiting left : List ℕ) → i < length items → item ≡ slice_index_or items i item →
-    AppendsBut a b waiting (old ++ flat_map spelling (take i items)) → AppendsBut b d left (waiting ++ spelling item) → AppendsBut a d left (old ++ flat_map spelling (take (i + 1) items))
-row_sent spelling items i item a b d old waiting left within is sent later =
-    let before = flat_map spelling (take i items) in
-    subst (AppendsBut a d left) (append_assoc old before (spelling item) ∙ ap (λ l. old ++ l) (sym (row_more spelling items i item within is)))
-    (appends_but_more a b d waiting left (old ++ before) (spelling item) sent later)
-
-pub row_broke : {A : Type 0} (spelling : A → List ℕ) (items : List A) (i : ℕ) (item : A) (a b d : Option (List ℕ)) (old waiting : List ℕ) → i < length items → item ≡ slice_index_or items i item →
-    AppendsBut a b waiting (old ++ flat_map spelling (take i items)) → AppendsPrefix b d (waiting ++ spelling item) → AppendsPrefix a d (old ++ flat_map spelling items)
-row_broke spelling items i item a b d old waiting within is sent broke =
-    let before = flat_map spelling (take i items) in
-    let rest = flat_map spelling (drop (i + 1) items) in
-    let all : old ++ flat_map spelling items ≡ ((old ++ before) ++ spelling item) ++ rest =
-    ap (λ l. old ++ l) (row_at spelling items i item within is) ∙ sym (append_assoc old (before ++ spelling item) rest) ∙ ap (λ l. l ++ rest) (sym (append_assoc old before (spelling item))) in
-    broke_before a d (old ++ flat_map spelling items) ((old ++ before) ++ spelling item) rest all (broke_more a b d waiting (old ++ before) (spelling item) sent broke)

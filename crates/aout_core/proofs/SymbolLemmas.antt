@@ -15,13 +15,13 @@ two_words (a ∷ (b ∷ (c ∷ (d ∷ (e ∷ (f ∷ (g ∷ (h ∷ (i ∷ (j ∷ 
 two_words _ e12 = absurd (omega arith)
 
 words_behind_name : (bytes : List ℕ) → length bytes ≡ 12 →
-    (little_number 2 (part 8 4 bytes) ≡ slice_index_or bytes 8 0 + 256 * slice_index_or bytes 9 0) × (little_number 2 (part 10 2 bytes) ≡ slice_index_or bytes 10 0 + 256 * slice_index_or bytes 11 0)
+    (little_number 2 (part 8 2 bytes) ≡ slice_index_or bytes 8 0 + 256 * slice_index_or bytes 9 0) × (little_number 2 (part 10 2 bytes) ≡ slice_index_or bytes 10 0 + 256 * slice_index_or bytes 11 0)
 words_behind_name (a ∷ (b ∷ (c ∷ (d ∷ (e ∷ (f ∷ (g ∷ (h ∷ (i ∷ (j ∷ (k ∷ (l ∷ [])))))))))))) e12 = (omega arith, omega arith)
 words_behind_name _ e12 = absurd (omega arith)
 
 -- the name and the words as the code reads them
 pub symbol_in-twelve : (bytes name : List ℕ) (type_bits value : ℕ) → length bytes ≡ 12 → name ≡ take 8 (before_nul (take 8 bytes)) →
-    type_bits ≡ little_number 2 (part 8 4 bytes) → value ≡ little_number 2 (part 10 2 bytes) →
+    type_bits ≡ little_number 2 (part 8 2 bytes) → value ≡ little_number 2 (part 10 2 bytes) →
     (let s : Symbol = record { name = name; type_bits = type_bits; value = value } in s) ≡ symbol_in bytes
 symbol_in-twelve bytes name type_bits value long n t v =
     let short : length (before_nul (take 8 bytes)) ≤ 8 = omega (arith, length-before_nul-le (take 8 bytes), length-take 8 bytes) in

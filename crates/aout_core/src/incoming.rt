@@ -24,7 +24,7 @@ impl Model for Incoming {
 }
 
 impl Incoming {
-    ghost use Rattle.std.specs.Prelude.{◌≡◌, ◌↔◌, ◌≤◌, [], false, length, IfOk, IfErr, IsTrue, Err};
+    ghost use Rattle.std.specs.Prelude.{◌≡◌, ◌↔◌, ◌≤◌, [], false, drop, length, IfOk, IfErr, IsTrue, Err};
     ghost use Rattle.std.specs.Io.KnownBytes.{prepend_known};
     ghost use Rattle.aout_core.specs.declared.block.TheConstants.{BLOCK_SIZE};
     ghost use Rattle.aout_core.specs.steps.Blocks.{awaited, EndsBefore, Refills, Takes};
@@ -37,6 +37,21 @@ impl Incoming {
             block: Block::new(),
             missing,
         }
+    }
+
+    /// The bytes that were read and not taken.
+    pub(crate) fn waiting(&self) -> &[u8]
+        ensures { result.now ≡ self.now.waiting }
+    {
+        self.block.waiting()
+    }
+
+    /// Takes the first `n` bytes that were read.
+    pub(crate) fn pass(&mut self, n: usize)
+        requires { n ≤ length self.old.waiting }
+        ensures { self.new ≡ record { waiting = drop n self.old.waiting; missing = self.old.missing } }
+    {
+        self.block.pass(n);
     }
 
     /// Reads the next block, or what is missing where that is less.

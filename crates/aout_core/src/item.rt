@@ -1,110 +1,166 @@
 //! The items of a file's lists: words, relocation words and symbols.
-ghost use Rattle.std.specs.Prelude.{◌≡◌, ◌+◌, ◌*◌, ◌≤◌, ◌++◌, ◌↔◌, false, IfOk, IfErr, IsErr, IsTrue, Err, vec_len, vec_capacity};
+ghost use Rattle.std.specs.Prelude.{◌≡◌, ◌+◌, ◌-◌, ◌*◌, ◌≤◌, ◌++◌, ◌↔◌, ℕ, List, Option, false, IfOk, IfErr, IsErr, IsTrue, Err, length, vec_len, vec_capacity};
 ghost use Rattle.std.specs.List.{flat_map};
 ghost use Rattle.std.specs.Io.KnownBytes.{prepend_known};
+ghost use Rattle.std.proofs.Common.{rules};
+ghost use Rattle.aout_core.specs.declared.block.TheConstants.{BLOCK_SIZE};
 ghost use Rattle.aout_core.specs.Words.{word_bytes};
 ghost use Rattle.aout_core.specs.Front.{symbol_in};
 ghost use Rattle.aout_core.specs.Spelling.{symbol_spelling};
 ghost use Rattle.aout_core.specs.steps.Blocks.{awaited, EndsBefore, PutsBut};
-ghost use Rattle.aout_core.specs.steps.Rows.{word_in, reloc_in, TakesRow};
+ghost use Rattle.aout_core.specs.steps.Rows.{row_in, word_in, reloc_in, TakesItem, TakesRow};
 
+use crate::block::BLOCK_SIZE;
 use crate::file::ReadFault;
 use crate::incoming::Incoming;
+use crate::name::Name;
 use crate::outgoing::Outgoing;
 use crate::reloc::Reloc;
 use crate::symbol::Symbol;
 use crate::wire::{DeviceFault, Wire};
-use crate::word::{word_bytes, word_in};
+use byteorder::{ByteOrder, LittleEndian};
 use std::io::{Read, Write};
+
+/// The most bytes that an item has: those of a symbol.
+const MOST_WIDTH: usize = 12;
 
 /// An item of a list in a file. All items of one type have the same number of bytes.
 pub(crate) trait Item: Copy {
-    ghost use Rattle.std.specs.Prelude.{◌≡◌, ◌≤◌, ◌++◌, ◌↔◌, ℕ, List, false, IfOk, IfErr, IsErr, IsTrue, Err};
-    ghost use Rattle.std.specs.Io.KnownBytes.{prepend_known};
-    ghost use Rattle.aout_core.specs.steps.Blocks.{awaited, EndsBefore, PutsBut};
-    ghost use Rattle.aout_core.specs.steps.Rows.{TakesItem};
+    ghost use Rattle.std.specs.Prelude.{◌≡◌, ◌<◌, ◌≤◌, ℕ, List, length};
 
-    ghost width: { ℕ };
+    /// How many bytes an item has.
+    const WIDTH: usize;
+
+    ghost WIDTH: { ℕ };
 
     ghost item_in: { List ℕ → Self };
 
     ghost spelling: { Self → List ℕ };
 
-    fn take<R: Read>(incoming: &mut Incoming, wire: &mut Wire<R>) -> Result<Self, ReadFault>
-        requires works { wire.old.has_failed ≡ false }
-        requires within { width ≤ awaited incoming.old }
-        ensures device { (result ≡ Err ReadFault.Device) ↔ IsTrue wire.new.has_failed }
-        ensures value { IfOk result (λ item. TakesItem item_in width incoming.old (R.remaining wire.old.device) incoming.new (R.remaining wire.new.device) item) }
-        ensures end { IfErr result (λ fault. EndsBefore fault (prepend_known incoming.old.waiting (R.remaining wire.old.device)) (R.remaining wire.new.device) (awaited incoming.old)) };
+    /// The item that these bytes encode.
+    fn from_slice(bytes: &[u8]) -> Self
+        requires { length bytes.now ≡ WIDTH }
+        ensures { result ≡ item_in bytes.now };
 
-    fn put<W: Write>(&self, outgoing: &mut Outgoing, wire: &mut Wire<W>) -> Result<(), DeviceFault>
-        requires { wire.old.has_failed ≡ false }
-        ensures fault { IsErr result ↔ IsTrue wire.new.has_failed }
-        ensures bytes { PutsBut result (W.contents wire.old.device) (W.contents wire.new.device) outgoing.new (outgoing.old ++ spelling self.now) };
+    /// Writes the bytes that encode the item.
+    fn spell(&self, bytes: &mut [u8])
+        requires { length bytes.old ≡ WIDTH }
+        ensures { bytes.new ≡ spelling self.now };
+
+    ghost has_bytes: { 0 < WIDTH };
+
+    ghost is_short: { WIDTH ≤ 12 };
 }
 
 impl Item for u16 {
-    ghost width = { 2 };
+    const WIDTH: usize = 2;
+
+    ghost WIDTH = { 2 };
 
     ghost item_in = { word_in };
 
     ghost spelling = { word_bytes };
 
-    fn take<R: Read>(incoming: &mut Incoming, wire: &mut Wire<R>) -> Result<u16, ReadFault> {
-        let mut bytes = [0; 2];
-        incoming.take(&mut bytes, wire)?;
-        Ok(word_in(&bytes))
+    ghost has_bytes = { Prim.search rules };
+
+    ghost is_short = { Prim.search rules };
+
+    fn from_slice(bytes: &[u8]) -> u16 {
+        LittleEndian::read_u16(bytes)
     }
 
-    fn put<W: Write>(
-        &self,
-        outgoing: &mut Outgoing,
-        wire: &mut Wire<W>,
-    ) -> Result<(), DeviceFault> {
-        outgoing.put(&word_bytes(*self), wire)
+    fn spell(&self, bytes: &mut [u8]) {
+        LittleEndian::write_u16(bytes, *self);
     }
 }
 
 impl Item for Reloc {
-    ghost width = { 2 };
+    const WIDTH: usize = 2;
+
+    ghost WIDTH = { 2 };
 
     ghost item_in = { reloc_in };
 
     ghost spelling = { λ r. word_bytes r.0 };
 
-    fn take<R: Read>(incoming: &mut Incoming, wire: &mut Wire<R>) -> Result<Reloc, ReadFault> {
-        Ok(Reloc(u16::take(incoming, wire)?))
+    ghost has_bytes = { Prim.search rules };
+
+    ghost is_short = { Prim.search rules };
+
+    fn from_slice(bytes: &[u8]) -> Reloc {
+        Reloc(u16::from_slice(bytes))
     }
 
-    fn put<W: Write>(
-        &self,
-        outgoing: &mut Outgoing,
-        wire: &mut Wire<W>,
-    ) -> Result<(), DeviceFault> {
-        self.0.put(outgoing, wire)
+    fn spell(&self, bytes: &mut [u8]) {
+        self.0.spell(bytes);
     }
 }
 
 impl Item for Symbol {
-    ghost width = { 12 };
+    const WIDTH: usize = 12;
+
+    ghost WIDTH = { 12 };
 
     ghost item_in = { symbol_in };
 
     ghost spelling = { symbol_spelling };
 
-    fn take<R: Read>(incoming: &mut Incoming, wire: &mut Wire<R>) -> Result<Symbol, ReadFault> {
-        let mut bytes = [0; 12];
-        incoming.take(&mut bytes, wire)?;
-        Ok(Symbol::from_bytes(&bytes))
+    ghost has_bytes = { Prim.search rules };
+
+    ghost is_short = { Prim.search rules };
+
+    /// What stands behind a NUL in the name is left out.
+    fn from_slice(bytes: &[u8]) -> Symbol {
+        Symbol {
+            name: Name::from_bytes(&bytes[..8]),
+            type_bits: LittleEndian::read_u16(&bytes[8..10]),
+            value: LittleEndian::read_u16(&bytes[10..]),
+        }
     }
 
-    fn put<W: Write>(
-        &self,
-        outgoing: &mut Outgoing,
-        wire: &mut Wire<W>,
-    ) -> Result<(), DeviceFault> {
-        outgoing.put(&self.to_bytes(), wire)
+    fn spell(&self, bytes: &mut [u8]) {
+        bytes.copy_from_slice(&self.to_bytes());
     }
+}
+
+/// Appends the first `count` items that the bytes encode. There is room for them.
+fn read_items<T: Item>(bytes: &[u8], count: usize, items: &mut Vec<T>)
+    requires within { T.WIDTH * count ≤ length bytes.now }
+    requires room { vec_len items.old + count ≤ vec_capacity items.old }
+    ensures items { items.new.items ≡ items.old.items ++ row_in T.item_in T.WIDTH count bytes.now }
+    ensures len { vec_len items.new ≡ vec_len items.old + count }
+    ensures capacity { vec_capacity items.old ≤ vec_capacity items.new }
+{
+    for item in bytes[..T::WIDTH * count].chunks_exact(T::WIDTH) {
+        items.push(T::from_slice(item)).unwrap();
+    }
+}
+
+/// Appends the items that wait whole, at most `most`, and returns how many. There is room for them.
+fn take_waiting<T: Item>(most: usize, items: &mut Vec<T>, incoming: &mut Incoming) -> usize
+    requires { vec_len items.old + most ≤ vec_capacity items.old }
+    ensures most { result ≤ most }
+    ensures value { (reader : Option (List ℕ)) → TakesRow T.item_in T.WIDTH result incoming.old reader incoming.new reader items.old.items items.new.items }
+    ensures room { vec_len items.new + (most - result) ≤ vec_capacity items.new }
+{
+    let count = (incoming.waiting().len() / T::WIDTH).min(most);
+    read_items(incoming.waiting(), count, items);
+    incoming.pass(T::WIDTH * count);
+    count
+}
+
+/// Takes the next item, which may lie across two blocks.
+fn take_item<T: Item, R: Read>(incoming: &mut Incoming, wire: &mut Wire<R>) -> Result<T, ReadFault>
+    requires works { wire.old.has_failed ≡ false }
+    requires within { T.WIDTH ≤ awaited incoming.old }
+    ensures device { (result ≡ Err ReadFault.Device) ↔ IsTrue wire.new.has_failed }
+    ensures value { IfOk result (λ item. TakesItem T.item_in T.WIDTH incoming.old (R.remaining wire.old.device) incoming.new (R.remaining wire.new.device) item) }
+    ensures end { IfErr result (λ fault. EndsBefore fault (prepend_known incoming.old.waiting (R.remaining wire.old.device)) (R.remaining wire.new.device) (awaited incoming.old)) }
+{
+    let mut buffer = [0; MOST_WIDTH];
+    let bytes = &mut buffer[..T::WIDTH];
+    incoming.take(bytes, wire)?;
+    Ok(T::from_slice(bytes))
 }
 
 /// Reads the next `count` items, and appends them to those that are there.
@@ -116,15 +172,50 @@ pub(crate) fn take_items<T: Item, R: Read>(
 ) -> Result<(), ReadFault>
     requires works { wire.old.has_failed ≡ false }
     requires room { vec_len items.old + count ≤ vec_capacity items.old }
-    requires within { T.width * count ≤ awaited incoming.old }
+    requires within { T.WIDTH * count ≤ awaited incoming.old }
     ensures device { (result ≡ Err ReadFault.Device) ↔ IsTrue wire.new.has_failed }
-    ensures value { IfOk result (λ _. TakesRow T.item_in T.width count incoming.old (R.remaining wire.old.device) incoming.new (R.remaining wire.new.device) items.old.items items.new.items) }
+    ensures value { IfOk result (λ _. TakesRow T.item_in T.WIDTH count incoming.old (R.remaining wire.old.device) incoming.new (R.remaining wire.new.device) items.old.items items.new.items) }
     ensures end { IfErr result (λ fault. EndsBefore fault (prepend_known incoming.old.waiting (R.remaining wire.old.device)) (R.remaining wire.new.device) (awaited incoming.old)) }
 {
-    for _ in 0..count {
-        items.push(T::take(incoming, wire)?).unwrap();
+    let mut left = count;
+    while left > 0 {
+        left -= take_waiting(left, items, incoming);
+        if left > 0 {
+            items.push(take_item(incoming, wire)?).unwrap();
+            left -= 1;
+        }
     }
     Ok(())
+}
+
+/// Encodes the items, one after another.
+fn spell_items<T: Item>(items: &[T], bytes: &mut [u8])
+    requires { length bytes.old ≡ T.WIDTH * length items.now }
+    ensures { bytes.new ≡ flat_map T.spelling items.now }
+{
+    let mut at = 0;
+    for item in items {
+        let end = at + T::WIDTH;
+        item.spell(&mut bytes[at..end]);
+        at = end;
+    }
+}
+
+/// Writes the items that one block has room for, one after another.
+fn put_few<T: Item, W: Write>(
+    items: &[T],
+    outgoing: &mut Outgoing,
+    wire: &mut Wire<W>,
+) -> Result<(), DeviceFault>
+    requires works { wire.old.has_failed ≡ false }
+    requires few { T.WIDTH * length items.now ≤ BLOCK_SIZE }
+    ensures fault { IsErr result ↔ IsTrue wire.new.has_failed }
+    ensures bytes { PutsBut result (W.contents wire.old.device) (W.contents wire.new.device) outgoing.new (outgoing.old ++ flat_map T.spelling items.now) }
+{
+    let mut block = [0; BLOCK_SIZE];
+    let bytes = &mut block[..T::WIDTH * items.len()];
+    spell_items(items, bytes);
+    outgoing.put(bytes, wire)
 }
 
 /// Writes the items, one after another.
@@ -137,8 +228,8 @@ pub(crate) fn put_items<T: Item, W: Write>(
     ensures fault { IsErr result ↔ IsTrue wire.new.has_failed }
     ensures bytes { PutsBut result (W.contents wire.old.device) (W.contents wire.new.device) outgoing.new (outgoing.old ++ flat_map T.spelling items.now) }
 {
-    for item in items {
-        item.put(outgoing, wire)?;
+    for few in items.chunks(BLOCK_SIZE / T::WIDTH) {
+        put_few(few, outgoing, wire)?;
     }
     Ok(())
 }

@@ -2,11 +2,9 @@
 ghost use Rattle.std.specs.Prelude.{◌≡◌};
 ghost use Rattle.aout_core.specs.WellFormed.{is_external, segment_of};
 ghost use Rattle.aout_core.specs.Spelling.{symbol_spelling};
-ghost use Rattle.aout_core.specs.Front.{symbol_in};
 
 use crate::name::Name;
 use crate::word::word_bytes;
-use byteorder::{ByteOrder, LittleEndian};
 
 /// A symbol of the symbol table, 12 bytes long. (a.out(5))
 #[derive(Clone, Copy, Debug, PartialEq, Eq)]
@@ -50,17 +48,6 @@ impl Symbol {
             3 => Segment::DataSeg,
             4 => Segment::BssSeg,
             _ => Segment::Other,
-        }
-    }
-
-    /// The symbol that 12 bytes encode; what stands behind a NUL in its name is left out.
-    pub(crate) fn from_bytes(bytes: &[u8; 12]) -> Symbol
-        ensures { result ≡ symbol_in bytes.now }
-    {
-        Symbol {
-            name: Name::from_bytes(&bytes[..8]),
-            type_bits: LittleEndian::read_u16(&bytes[8..]),
-            value: LittleEndian::read_u16(&bytes[10..]),
         }
     }
 

@@ -1,0 +1,174 @@
+-- Items in a row, several of which are taken from a block or put into one.
+use Rattle.std.proofs.Common.{◌≡◌, ℕ, zero, suc, ◌+◌, ◌*◌, ◌∷◌, ◌<◌, ◌≤◌, List, [], ◌++◌, length, take, drop, Option, refl, sym, ◌∙◌, ap, subst, arith, append_assoc, append-nil, length-append, length-take-le, length-drop, take_at, drop_at, take-append-drop, suc-add, zero-add, add-zero}
+use Rattle.std.proofs.lemmas.List.{take-append-le, drop-append-le}
+use Rattle.std.proofs.lemmas.Grind.{flat_map-append}
+use Rattle.std.specs.List.{flat_map}
+use Rattle.std.specs.Io.KnownBytes.{prepend_known}
+use Rattle.std.proofs.KnownBytes.{Consumes-nil}
+use Rattle.std.proofs.Math.Nat.{mul-le-mul_left}
+use Rattle.aout_core.specs.Wires.{AppendsPrefix}
+use Rattle.aout_core.specs.steps.Blocks.{AppendsBut, Awaited, awaited}
+use Rattle.aout_core.specs.steps.Rows.{row_in, TakesRow}
+use Rattle.aout_core.proofs.IncomingLemmas.{taken_waiting, takes_more}
+use Rattle.aout_core.proofs.OutgoingLemmas.{appends_but_more, broke_before, broke_more}
+
+-- two rows, one behind the other
+row_in-append : {A : Type 0} (item_in : List ℕ → A) (width m n : ℕ) (front back : List ℕ) → length front ≡ width * m →
+    row_in item_in width (m + n) (front ++ back) ≡ row_in item_in width m front ++ row_in item_in width n back
+row_in-append item_in width zero n [] back whole = ap (λ k. row_in item_in width k back) (zero-add n)
+row_in-append item_in width zero n (a ∷ front) back whole = absurd (omega arith)
+row_in-append item_in width (suc m) n front back whole =
+    let next : width * suc m ≡ width * m + width = mul-suc width m in
+    let within : width ≤ length front = omega arith in
+    let later = row_in-append item_in width m n (drop width front) back (omega (arith, length-drop width front)) in
+    ap (λ k. row_in item_in width k (front ++ back)) (suc-add m n)
+    ∙ ap (λ l. item_in l ∷ row_in item_in width (m + n) (drop width (front ++ back))) (take-append-le width front back within)
+    ∙ ap (λ l. item_in (take width front) ∷ row_in item_in width (m + n) l) (drop-append-le width front back within)
+    ∙ ap (λ l. item_in (take width front) ∷ l) later
+  where
+    mul-suc : (x n : ℕ) → x * suc n ≡ x * n + x
+    mul-suc x n = omega arith
+
+-- a row needs no more bytes than its own
+pub row_in-front : {A : Type 0} (item_in : List ℕ → A) (width n : ℕ) (bytes : List ℕ) → width * n ≤ length bytes →
+    row_in item_in width n bytes ≡ row_in item_in width n (take (width * n) bytes)
+row_in-front item_in width n bytes within =
+    let front = take (width * n) bytes in
+    let back = drop (width * n) bytes in
+    ap (row_in item_in width n) (sym (take-append-drop (width * n) bytes))
+    ∙ ap (λ k. row_in item_in width k (front ++ back)) (sym (add-zero n))
+    ∙ row_in-append item_in width n 0 front back (length-take-le (width * n) bytes within)
+    ∙ append-nil (row_in item_in width n front)
+
+-- one of those that are left was read: how many are left then, and what they are
+pub item_read : {A : Type 0} (item_in : List ℕ → A) (width left : ℕ) (rest chunk behind : List ℕ) (items more all : List A) (item : A) →
+    0 < width → rest ≡ chunk ++ behind → length chunk ≡ width → length rest ≡ width * left → item ≡ item_in chunk → more ≡ items ++ item ∷ [] →
+    items ++ row_in item_in width left rest ≡ all →
+    (k : ℕ) × (left ≡ k + 1) × (length behind ≡ width * k) × (more ++ row_in item_in width k behind ≡ all)
+item_read item_in width zero rest chunk behind items more all item wide split one size is pushed so_far =
+    absurd (omega (arith, ap length split, length-append chunk behind))
+item_read item_in width (suc k) rest chunk behind items more all item wide split one size is pushed so_far =
+    let next : width * suc k ≡ width * k + width = mul-suc width k in
+    let front : take width rest ≡ chunk = ap (take width) split ∙ take_at chunk behind width one in
+    let back : drop width rest ≡ behind = ap (drop width) split ∙ drop_at chunk behind width one in (
+      k,
+      omega arith,
+      omega (arith, ap length split, length-append chunk behind),
+      ap (λ l. l ++ row_in item_in width k behind) pushed
+          ∙ append_assoc items (item ∷ []) (row_in item_in width k behind)
+          ∙ ap (λ x. items ++ x ∷ row_in item_in width k behind) is
+          ∙ ap (λ l. items ++ item_in l ∷ row_in item_in width k behind) (sym front)
+          ∙ ap (λ l. items ++ item_in (take width rest) ∷ row_in item_in width k l) (sym back)
+          ∙ so_far,
+    )
+  where
+    mul-suc : (x n : ℕ) → x * suc n ≡ x * n + x
+    mul-suc x n = omega arith
+
+-- no whole item is left
+pub none_left : (width left : ℕ) (rest : List ℕ) → length rest ≡ width * left → length rest < width → left ≡ 0
+none_left width zero rest size short = refl
+none_left width (suc k) rest size short =
+    let next : width * suc k ≡ width * k + width = mul-suc width k in absurd (omega arith)
+  where
+    mul-suc : (x n : ℕ) → x * suc n ≡ x * n + x
+    mul-suc x n = omega arith
+
+pub all_read : {A : Type 0} (item_in : List ℕ → A) (width left : ℕ) (rest : List ℕ) (items all : List A) → left ≡ 0 →
+    items ++ row_in item_in width left rest ≡ all → items ≡ all
+all_read item_in width zero rest items all none so_far = sym (append-nil items) ∙ so_far
+all_read item_in width (suc k) rest items all none so_far = absurd (omega arith)
+
+-- items were taken from those that wait
+pub waiting_taken : {A : Type 0} (item_in : List ℕ → A) (width n : ℕ) (w : Awaited) (reader : Option (List ℕ)) (items more : List A) →
+    width * n ≤ length w.waiting → more ≡ items ++ row_in item_in width n w.waiting →
+    TakesRow item_in width n w reader (record { waiting = drop (width * n) w.waiting; missing = w.missing }) reader items more
+waiting_taken item_in width n w reader items more within read =
+    let front = take (width * n) w.waiting in
+    let back = drop (width * n) w.waiting in
+    let size : length front ≡ width * n = length-take-le (width * n) w.waiting within in
+    record {
+      bytes = front;
+      size = size;
+      takes = record {
+        taken = taken_waiting reader w.waiting front back (sym (take-append-drop (width * n) w.waiting));
+        left = omega (arith, size, length-drop (width * n) w.waiting);
+      };
+      spelt = read ∙ ap (λ l. items ++ l) (row_in-front item_in width n w.waiting within);
+    }
+
+-- a row behind a row
+pub rows_taken : {A : Type 0} (item_in : List ℕ → A) (width m n : ℕ) (w v u : Awaited) (a b d : Option (List ℕ)) (items more all : List A) →
+    TakesRow item_in width m w a v b items more → TakesRow item_in width n v b u d more all → TakesRow item_in width (m + n) w a u d items all
+rows_taken item_in width m n w v u a b d items more all first second =
+    record {
+      bytes = first.bytes ++ second.bytes;
+      size = length-append first.bytes second.bytes ∙ ap (λ k. k + length second.bytes) first.size ∙ ap (λ k. width * m + k) second.size ∙ mul-add width m n;
+      takes = takes_more w v u a b d first.bytes second.bytes first.takes second.takes;
+      spelt = second.spelt ∙ ap (λ l. l ++ row_in item_in width n second.bytes) first.spelt
+          ∙ append_assoc items (row_in item_in width m first.bytes) (row_in item_in width n second.bytes)
+          ∙ ap (λ l. items ++ l) (sym (row_in-append item_in width m n first.bytes second.bytes first.size));
+    }
+  where
+    mul-add : (x m n : ℕ) → x * m + x * n ≡ x * (m + n)
+    mul-add x m n = omega arith
+
+-- no item was taken yet
+pub none_taken : {A : Type 0} (item_in : List ℕ → A) (width n : ℕ) (w : Awaited) (a : Option (List ℕ)) (items : List A) → n ≡ 0 → TakesRow item_in width n w a w a items items
+none_taken item_in width zero w a items none =
+    record {
+      bytes = [];
+      size = omega arith;
+      takes = record { taken = Consumes-nil (prepend_known w.waiting a); left = omega arith };
+      spelt = sym (append-nil items);
+    }
+none_taken item_in width (suc n) w a items none = absurd (omega arith)
+
+-- the same row by another count
+pub as_many : {A : Type 0} (item_in : List ℕ → A) (width m n : ℕ) (w u : Awaited) (a b : Option (List ℕ)) (items more : List A) → m ≡ n →
+    TakesRow item_in width m w a u b items more → TakesRow item_in width n w a u b items more
+as_many item_in width m n w u a b items more e row = subst (λ k. TakesRow item_in width k w a u b items more) e row
+
+-- where more items were announced than were taken, the bytes of one are still to come
+pub one_missing : {A : Type 0} (item_in : List ℕ → A) (width m count : ℕ) (w u : Awaited) (a b : Option (List ℕ)) (items more : List A) →
+    TakesRow item_in width m w a u b items more → m < count → width * count ≤ awaited w → width ≤ awaited u
+one_missing item_in width m count w u a b items more row fewer within =
+    let left = row.takes.left in
+    let size = row.size in
+    let up : width * (m + 1) ≤ width * count = mul-le-mul_left width (omega arith) in
+    let next : width * (m + 1) ≡ width * m + width = mul-one-more width m in omega arith
+  where
+    mul-one-more : (x n : ℕ) → x * (n + 1) ≡ x * n + x
+    mul-one-more x n = omega arith
+
+-- a part of a list of texts, and what stands behind it
+parts_spelt : {A : Type 0} (spelling : A → List ℕ) (rest few behind : List A) (done all : List ℕ) → rest ≡ few ++ behind → all ≡ done ++ flat_map spelling rest →
+    all ≡ (done ++ flat_map spelling few) ++ flat_map spelling behind
+parts_spelt spelling rest few behind done all split so_far =
+    so_far ∙ ap (λ l. done ++ flat_map spelling l) split ∙ ap (λ l. done ++ l) (flat_map-append spelling few behind) ∙ sym (append_assoc done (flat_map spelling few) (flat_map spelling behind))
+
+-- what went out but for what waits, and what is still to be put
+pub record IsPutBut {A : Type 0} (spelling : A → List ℕ) (old new : Option (List ℕ)) (waiting all : List ℕ) (rest : List A) : Type 0 where
+  pub done : List ℕ
+  pub sent : AppendsBut old new waiting done
+  pub split : all ≡ done ++ flat_map spelling rest
+
+pub few_put : {A : Type 0} (spelling : A → List ℕ) (a b d : Option (List ℕ)) (waiting left all : List ℕ) (rest few behind : List A) → rest ≡ few ++ behind →
+    IsPutBut spelling a b waiting all rest → AppendsBut b d left (waiting ++ flat_map spelling few) → IsPutBut spelling a d left all behind
+few_put spelling a b d waiting left all rest few behind split put more =
+    record {
+      done = put.done ++ flat_map spelling few;
+      sent = appends_but_more a b d waiting left put.done (flat_map spelling few) put.sent more;
+      split = parts_spelt spelling rest few behind put.done all split put.split;
+    }
+
+pub few_broke : {A : Type 0} (spelling : A → List ℕ) (a b d : Option (List ℕ)) (waiting all : List ℕ) (rest few behind : List A) → rest ≡ few ++ behind →
+    IsPutBut spelling a b waiting all rest → AppendsPrefix b d (waiting ++ flat_map spelling few) → AppendsPrefix a d all
+few_broke spelling a b d waiting all rest few behind split put broke =
+    broke_before a d all (put.done ++ flat_map spelling few) (flat_map spelling behind) (parts_spelt spelling rest few behind put.done all split put.split)
+    (broke_more a b d waiting put.done (flat_map spelling few) put.sent broke)
+
+pub all_put : {A : Type 0} (spelling : A → List ℕ) (a b : Option (List ℕ)) (waiting all : List ℕ) (rest : List A) → length rest ≡ 0 →
+    IsPutBut spelling a b waiting all rest → AppendsBut a b waiting all
+all_put spelling a b waiting all [] none put = subst (AppendsBut a b waiting) (sym (put.split ∙ append-nil put.done)) put.sent
+all_put spelling a b waiting all (x ∷ xs) none put = absurd (omega arith)
