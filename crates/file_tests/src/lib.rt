@@ -11,3 +11,5 @@ mod flushes;
 mod listings;
 #[cfg(test)]
 mod pieces;
+#[cfg(test)]
+mod wires;
