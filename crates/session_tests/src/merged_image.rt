@@ -4,7 +4,7 @@ use crate::steps::View::{
     Data, External, Forced, Marks, MarksUpTo, Multiple, Names, Text, Unmentioned,
 };
 use crate::steps::{Step, Word, assert_steps, is_multiple, wrong_step};
-use aout_core::samples::{C_O, D_O, D2_O, G_O, K_O, L_O, X4_O, X10_O};
+use aout_core::samples::{C_O, D_O, D2_O, G_O, I_O, K_O, L_O, X4_O, X10_O};
 use aout_core::{Name, Segment};
 use fixtures::{adds, forced, sized};
 use link_session::{Mark, Session, State, Target};
@@ -151,6 +151,27 @@ fn forced_repeated(rt: HostRuntime) {
     assert!(rt; !forced.push(Name::from_bytes(b"_more")) && forced.push(Name::from_bytes(b"_@")));
     let first = Name::from_bytes(b"_@");
     assert!(rt; forced.names().len() == 64 && forced.names().first() == Some(&first));
+}
+
+static BEHIND_MOST_FORCED: [Step<'static>; 11] = [
+    Shows(Forced(64)),
+    Shows(Names(64)),
+    Shows(External(0, "_@", State::Wanted(0))),
+    Adds("i.o", &I_O),
+    Shows(Names(67)),
+    Shows(External(64, "_etext", State::Wanted(0))),
+    Shows(External(56, "_x", State::Wanted(3))),
+    Withdraws("i.o", &I_O),
+    Shows(External(56, "_x", State::Wanted(0))),
+    Shows(Forced(64)),
+    Shows(Names(64)),
+];
+
+#[test]
+fn most_forced_in_session(rt: HostRuntime) {
+    let mut forced = link_session::Forced::none();
+    assert!(rt; force_names(&mut forced, 64));
+    assert!(rt; are_right_behind(rt.alloc(), &forced, &BEHIND_MOST_FORCED));
 }
 
 static UNDEFINED: [Step<'static>; 9] = [

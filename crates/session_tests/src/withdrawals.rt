@@ -66,6 +66,32 @@ fn limits_of_a_session_of_data_and_bss(rt: HostRuntime) -> Result<(), Fail> {
     Ok(())
 }
 
+/// Sizes of text, data and bss: those of a first object, and those of two others, of which there is room for one alone.
+/// Why the other one is refused.
+static ROOM_FOR_ONE: [([u16; 3], [u16; 3], AddFault); 3] = [
+    ([65_532, 0, 0], [2, 0, 0], AddFault::TextFull),
+    ([0, 65_532, 0], [0, 2, 0], AddFault::DataFull),
+    ([0, 0, 65_532], [0, 0, 2], AddFault::BssFull),
+];
+
+/// The bytes of an object of these sizes of text, data and bss.
+fn of_sizes(alloc: Global, sizes: &[u16; 3]) -> Result<Vec<u8>, Fail> {
+    let [text, data, bss] = *sizes;
+    sized(alloc, text, data, bss, &[])
+}
+
+#[test]
+fn last_bytes_of_a_session(rt: HostRuntime) -> Result<(), Fail> {
+    let alloc = rt.alloc();
+    for (first, more, cause) in &ROOM_FOR_ONE {
+        let first = of_sizes(alloc, first)?;
+        let more = of_sizes(alloc, more)?;
+        let objects: [(&str, &[u8]); 2] = [("first.o", &first), ("last.o", &more)];
+        assert!(rt; is_refused_behind(alloc, &objects, &more, *cause));
+    }
+    Ok(())
+}
+
 /// Whether four more names are refused behind twelve objects of 5,461 names each, and three are added.
 fn fills_up(alloc: Global, four: &[u8], three: &[u8]) -> bool {
     let session = &mut Session::new(alloc);
@@ -77,11 +103,29 @@ fn fills_up(alloc: Global, four: &[u8], three: &[u8]) -> bool {
         && session.external_count() == 65_535
 }
 
+/// Whether one more name is refused behind the most names, and an object of names that are there already is added.
+fn is_full_of_names(alloc: Global, one: &[u8], three: &[u8]) -> bool {
+    let session = &mut Session::new(alloc);
+    adds_many_names(session, alloc)
+        && adds(session, alloc, &[("more.o", three)])
+        && is_refused(alloc, session, one, AddFault::NamesFull)
+        && adds(session, alloc, &[("again.o", three)])
+        && session.external_count() == 65_535
+}
+
 #[test]
 fn many_names(rt: HostRuntime) -> Result<(), Fail> {
     let three = names_of(rt.alloc(), b'z', 3)?;
     let four = names_of(rt.alloc(), b'z', 4)?;
     assert!(rt; fills_up(rt.alloc(), &four, &three));
+    Ok(())
+}
+
+#[test]
+fn most_names(rt: HostRuntime) -> Result<(), Fail> {
+    let one = names_of(rt.alloc(), b'y', 1)?;
+    let three = names_of(rt.alloc(), b'z', 3)?;
+    assert!(rt; is_full_of_names(rt.alloc(), &one, &three));
     Ok(())
 }
 
