@@ -2,7 +2,7 @@
 --
 -- A wire is a reader or a writer with a latch that goes on when the device fails, and stays on. What a writer holds is a list of
 -- bytes where it is known (`Some`), and writing appends to it: all of the bytes, or on a fault a prefix of them.
-use Rattle.std.specs.Prelude.{◌≡◌, ℕ, List, ◌++◌, ◌↔◌, Bool, Option, Result, IsErr, IsTrue, MatchResult}
+use Rattle.std.specs.Prelude.{◌≡◌, ℕ, List, [], ◌++◌, ◌↔◌, Bool, false, Option, Result, IsErr, IsTrue, MatchResult}
 use Rattle.std.specs.Io.KnownBytes.{Appends}
 
 -- a device, and whether it has failed
@@ -24,3 +24,7 @@ pub record Writes {W T E : Type 0} (contents : W → Option (List ℕ)) (result 
   pub fault : IsErr result ↔ IsTrue new.has_failed
   pub latched : IsTrue old.has_failed → (new ≡ old)
   pub bytes : Puts result (contents old.device) (contents new.device) text
+
+-- nothing waits on a wire that has not failed
+abbrev pub IsPassedOn : {W : Type 0} → (W → List ℕ) → Latched W → Type 0
+IsPassedOn waiting wire = wire.has_failed ≡ false → waiting wire.device ≡ []

@@ -47,5 +47,5 @@ pub use reader::read_file;
 pub use reloc::{Kind, Reloc};
 pub use strip::strip_file;
 pub use symbol::{Segment, Symbol};
-pub use wire::{DeviceFault, Wire};
+pub use wire::{BufferedWrite, DeviceFault, Wire};
 pub use writer::write_file;

@@ -4,6 +4,7 @@ ghost use Rattle.std.specs.Io.{ReadsAtMost};
 ghost use Rattle.std.specs.Io.KnownBytes.{Consumes, IsAtEnd, Keeps, ReadConsumes};
 ghost use Rattle.aout_core.specs.Wires.{Writes};
 
+use std::io;
 use std::io::{Read, Write};
 use std::marker::Model;
 use thiserror::Error;
@@ -12,6 +13,19 @@ use thiserror::Error;
 #[derive(Clone, Copy, Debug, PartialEq, Eq, Error)]
 #[error("device fault")]
 pub struct DeviceFault;
+
+/// A writer that may hold bytes back, and tells contracts which. (own choice)
+pub trait BufferedWrite: Write {
+    ghost use Rattle.std.specs.Prelude.{◌≡◌, ℕ, List, [], OnOk};
+    ghost use Rattle.std.specs.Io.KnownBytes.{Keeps};
+
+    ghost waiting: { Self → List ℕ };
+
+    /// Passes on all that waits; on an error some of it may wait still. (own choice)
+    fn pass_on(&mut self) -> io::Result<()>
+        ensures bytes { Keeps (Self.contents self.old) (Self.contents self.new) }
+        ensures empty { OnOk result (waiting self.new ≡ []) };
+}
 
 /// A reader or a writer, and a latch: whether the device has failed.
 ///
@@ -158,5 +172,24 @@ impl<W: Write> Wire<W> {
                 Err(DeviceFault)
             }
         }
+    }
+}
+
+impl<W: BufferedWrite> Wire<W> {
+    /// Has the device pass on all that it holds back, so that nothing waits. (own choice)
+    pub fn pass_on(&mut self) -> Result<(), DeviceFault>
+        ensures fault { IsErr result ↔ IsTrue self.new.has_failed }
+        ensures latched { IsTrue self.old.has_failed → (self.new ≡ self.old) }
+        ensures bytes { Keeps (W.contents self.old.device) (W.contents self.new.device) }
+        ensures empty { IfOk result (λ _. W.waiting self.new.device ≡ []) }
+    {
+        if self.has_failed {
+            return Err(DeviceFault);
+        }
+        if self.device.pass_on().is_err() {
+            self.has_failed = true;
+            return Err(DeviceFault);
+        }
+        Ok(())
     }
 }

@@ -1,5 +1,5 @@
 -- What the parts of the reader take and return: the header, and the rest behind it.
-use Rattle.std.specs.Prelude.{◌≡◌, ℕ, ◌+◌, ◌/◌, ◌<◌, ◌≤◌, List, [], ◌++◌, length, Option, Result, Ok, Err, IsTrue, false, vec_capacity}
+use Rattle.std.specs.Prelude.{◌≡◌, ℕ, ◌+◌, ◌/◌, ◌<◌, List, [], ◌++◌, length, Option, Result, Ok, Err, IsTrue, false, vec_capacity}
 use Rattle.std.specs.Io.KnownBytes.{Consumes, IsAtEnd, Keeps}
 use Rattle.aout_core.specs.declared.header.Header.{Header}
 use Rattle.aout_core.specs.declared.file.Parts.{Parts}
@@ -48,15 +48,20 @@ IsBodyRead h old new (Err Truncated) = EndsEarly old new 16 (file_length h)
 IsBodyRead h old new (Err Device) = Unit {0}
 IsBodyRead h old new (Err fault) = ⊥
 
--- parts whose lists are empty
+-- parts whose lists are empty and have taken no memory
 pub record HasNoItems (p : Parts) : Type 0 where
   pub no_text : p.text_words.items ≡ []
   pub no_data : p.data_words.items ≡ []
   pub no_text_reloc : p.text_reloc.items ≡ []
   pub no_data_reloc : p.data_reloc.items ≡ []
   pub no_symbols : p.symbols.items ≡ []
+  pub text : vec_capacity p.text_words ≡ 0
+  pub «data» : vec_capacity p.data_words ≡ 0
+  pub text_relocation : vec_capacity p.text_reloc ≡ 0
+  pub data_relocation : vec_capacity p.data_reloc ≡ 0
+  pub symbols : vec_capacity p.symbols ≡ 0
 
--- parts under this header whose lists are empty and have room for what it announces
+-- parts under this header whose lists are empty and have room for exactly what it announces
 pub record HasRoom (h : Header) (p : Parts) : Type 0 where
   pub header : p.header ≡ h
   pub no_text : p.text_words.items ≡ []
@@ -64,8 +69,8 @@ pub record HasRoom (h : Header) (p : Parts) : Type 0 where
   pub no_text_reloc : p.text_reloc.items ≡ []
   pub no_data_reloc : p.data_reloc.items ≡ []
   pub no_symbols : p.symbols.items ≡ []
-  pub text : h.text_size / 2 ≤ vec_capacity p.text_words
-  pub «data» : h.data_size / 2 ≤ vec_capacity p.data_words
-  pub text_relocation : with_relocation h h.text_size / 2 ≤ vec_capacity p.text_reloc
-  pub data_relocation : with_relocation h h.data_size / 2 ≤ vec_capacity p.data_reloc
-  pub table : h.symbol_size / 12 ≤ vec_capacity p.symbols
+  pub text : vec_capacity p.text_words ≡ h.text_size / 2
+  pub «data» : vec_capacity p.data_words ≡ h.data_size / 2
+  pub text_relocation : vec_capacity p.text_reloc ≡ with_relocation h h.text_size / 2
+  pub data_relocation : vec_capacity p.data_reloc ≡ with_relocation h h.data_size / 2
+  pub table : vec_capacity p.symbols ≡ h.symbol_size / 12
