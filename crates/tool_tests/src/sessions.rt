@@ -1,11 +1,12 @@
 //! Whole sessions: the program with its words and a script, its answers, and what it asks of its office, over memory.
 use crate::failing_devices::in_memory;
 use crate::memory_office::{MemoryOffice, Request};
-use aout_core::samples::TestReader;
+use aout_core::Wire;
+use aout_core::samples::{TestReader, TestWriter};
 use fixtures::{ANSWERS, ONE_OBJECT, SCRIPT, words};
 use std::alloc::Global;
 use std::process::Abort;
-use v7tools::{Office, perform};
+use v7tools::{BlockWriter, Office, perform};
 
 /// The words and the script of a session, and what then comes of it: its answers, the status of the program, and what
 /// the office is asked, in order.
@@ -18,18 +19,31 @@ struct Case<'a> {
     asked: &'a [Request<'a>],
 }
 
-/// Whether a session gives the answers of the case and ends with its status, and nothing goes to standard error.
-fn is_answered<O: Office>(alloc: Global, office: &mut O, case: &Case<'_>) -> bool {
-    let Ok(words) = words(alloc, case.words) else {
-        return false;
-    };
-    let mut output = in_memory(alloc);
+/// Runs a session whose answers go to a device, and returns the status of the program; `None` where something goes to
+/// standard error.
+fn status_of<O: Office>(
+    alloc: Global,
+    office: &mut O,
+    case: &Case<'_>,
+    device: &mut TestWriter,
+) -> Option<u8> {
+    let words = words(alloc, case.words).ok()?;
+    let mut output = Wire::new(BlockWriter::new(device));
     let mut error = in_memory(alloc);
     let script = TestReader::whole(case.script);
     let status = perform(alloc, office, script, &mut output, &mut error, words);
-    let output = output.into_inner();
-    let error = error.into_inner();
-    status == case.status && output.taken() == case.answers && error.taken().is_empty()
+    if error.into_inner().taken().is_empty() {
+        Some(status)
+    } else {
+        None
+    }
+}
+
+/// Whether the answers of the case reach the device of a session, which ends with the status of the case.
+fn is_answered<O: Office>(alloc: Global, office: &mut O, case: &Case<'_>) -> bool {
+    let mut device = TestWriter::whole(Vec::new(alloc));
+    let status = status_of(alloc, office, case, &mut device);
+    status == Some(case.status) && device.taken() == case.answers
 }
 
 /// The bytes of the file that a session stores, where that is the last that it asks, and otherwise none; `None` where it

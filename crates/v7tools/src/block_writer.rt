@@ -1,7 +1,7 @@
 //! A writer that passes its bytes on in blocks.
 ghost use Rattle.std.specs.Prelude.{◌≡◌, ◌<◌, [], length, take};
 
-use aout_core::{BLOCK_SIZE, Block};
+use aout_core::{BLOCK_SIZE, Block, BufferedWrite};
 use std::io;
 use std::io::{ErrorKind, Write};
 use std::marker::Model;
@@ -83,5 +83,13 @@ impl<W: Write> Write for BlockWriter<W> {
             }
         }
         self.device.flush()
+    }
+}
+
+impl<W: Write> BufferedWrite for BlockWriter<W> {
+    ghost waiting = { λ w. w.waiting };
+
+    fn pass_on(&mut self) -> io::Result<()> {
+        self.flush()
     }
 }

@@ -1,5 +1,6 @@
 //! The commands nm, size and strip, over any office.
 ghost use Rattle.std.specs.Prelude.{◌≤◌, IfOk};
+ghost use Rattle.aout_core.specs.Wires.{IsPassedOn};
 ghost use Rattle.symtools.specs.Files.{by_bytes};
 ghost use Rattle.symtools.specs.NmLists.{nm_text};
 ghost use Rattle.symtools.specs.SizeLines.{size_text};
@@ -9,9 +10,8 @@ ghost use Rattle.v7tools.specs.parts.Openings.{IsLoading};
 use crate::fault::CliFault;
 use crate::loading::load;
 use crate::office::{Office, Stored};
-use aout_core::{File, Wire, strip_file};
+use aout_core::{BufferedWrite, File, Wire, strip_file};
 use std::alloc::Global;
-use std::io::Write;
 use symtools::{NmOptions, nm, size};
 
 /// Opens and reads the file at a path.
@@ -45,7 +45,7 @@ fn load_all<O: Office>(
 }
 
 /// Writes the list of the files' symbols. What is listed before memory runs out is written too.
-fn put_names<W: Write>(
+fn put_names<W: BufferedWrite>(
     alloc: Global,
     options: NmOptions,
     files: &[(String, File)],
@@ -53,25 +53,30 @@ fn put_names<W: Write>(
 ) -> Result<u8, CliFault>
     ensures small { IfOk result (λ status. status ≤ 1) }
     ensures run { Lists W.contents (OrMemory options (by_bytes files.now)) (nm_text options (by_bytes files.now)) result output.old output.new }
+    ensures passed { IsPassedOn W.waiting output.new }
 {
     let listed = nm(alloc, files, options, output);
-    output.flush()?;
+    output.pass_on()?;
     listed?;
     Ok(0)
 }
 
 /// Writes the sizes of the files.
-fn put_sizes<W: Write>(files: &[(String, File)], output: &mut Wire<W>) -> Result<u8, CliFault>
+fn put_sizes<W: BufferedWrite>(
+    files: &[(String, File)],
+    output: &mut Wire<W>,
+) -> Result<u8, CliFault>
     ensures small { IfOk result (λ status. status ≤ 1) }
     ensures run { Lists W.contents (OnlyWriteFailed (by_bytes files.now)) (size_text (by_bytes files.now)) result output.old output.new }
+    ensures passed { IsPassedOn W.waiting output.new }
 {
     size(files, output)?;
-    output.flush()?;
+    output.pass_on()?;
     Ok(0)
 }
 
 /// Lists the symbols of the files.
-pub(crate) fn list_files<O: Office, W: Write>(
+pub(crate) fn list_files<O: Office, W: BufferedWrite>(
     alloc: Global,
     office: &mut O,
     options: NmOptions,
@@ -80,13 +85,14 @@ pub(crate) fn list_files<O: Office, W: Write>(
 ) -> Result<u8, CliFault>
     ensures small { IfOk result (λ status. status ≤ 1) }
     ensures run { IsListRun W.contents (OrMemory options) (nm_text options) files.items (O.history office.old) (O.history office.new) result output.old output.new }
+    ensures passed { IsPassedOn W.waiting output.old → IsPassedOn W.waiting output.new }
 {
     let loaded = load_all(alloc, office, files)?;
     put_names(alloc, options, &loaded, output)
 }
 
 /// Lists the sizes of the files.
-pub(crate) fn size_files<O: Office, W: Write>(
+pub(crate) fn size_files<O: Office, W: BufferedWrite>(
     alloc: Global,
     office: &mut O,
     files: Vec<String>,
@@ -94,6 +100,7 @@ pub(crate) fn size_files<O: Office, W: Write>(
 ) -> Result<u8, CliFault>
     ensures small { IfOk result (λ status. status ≤ 1) }
     ensures run { IsListRun W.contents OnlyWriteFailed size_text files.items (O.history office.old) (O.history office.new) result output.old output.new }
+    ensures passed { IsPassedOn W.waiting output.old → IsPassedOn W.waiting output.new }
 {
     let loaded = load_all(alloc, office, files)?;
     put_sizes(&loaded, output)

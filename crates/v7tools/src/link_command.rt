@@ -1,5 +1,6 @@
 //! The command ld, over any office.
 ghost use Rattle.std.specs.Prelude.{◌≤◌, map, string_bytes, IfOk};
+ghost use Rattle.aout_core.specs.Wires.{IsPassedOn};
 ghost use Rattle.link_out.specs.Outcomes.{findings_of};
 ghost use Rattle.v7tools.specs.LinkRuns.{IsLinkRun, Reports, ReportsIf};
 ghost use Rattle.v7tools.specs.parts.Openings.{IsOpening};
@@ -7,11 +8,10 @@ ghost use Rattle.v7tools.specs.parts.Openings.{IsOpening};
 use crate::fault::CliFault;
 use crate::linking::ld;
 use crate::office::{Office, Stored};
-use aout_core::Wire;
+use aout_core::{BufferedWrite, Wire};
 use link_out::{Linked, Options, Report};
 use link_session::Forced;
 use std::alloc::Global;
-use std::io::Write;
 
 /// Opens the files in order, all before any is read.
 fn open_all<O: Office>(
@@ -32,17 +32,18 @@ fn open_all<O: Office>(
 }
 
 /// Writes a report and flushes it, and returns its status.
-fn put_report<W: Write>(report: &Report, output: &mut Wire<W>) -> Result<u8, CliFault>
+fn put_report<W: BufferedWrite>(report: &Report, output: &mut Wire<W>) -> Result<u8, CliFault>
     ensures small { IfOk result (λ status. status ≤ 1) }
     ensures run { Reports W.contents (findings_of report.now) result output.old output.new }
+    ensures passed { IsPassedOn W.waiting output.new }
 {
     report.write(output)?;
-    output.flush()?;
+    output.pass_on()?;
     Ok(report.status())
 }
 
 /// Reports a link, once it is known what became of its file.
-fn report_stored<W: Write>(
+fn report_stored<W: BufferedWrite>(
     report: &Report,
     out: String,
     stored: Stored,
@@ -50,6 +51,7 @@ fn report_stored<W: Write>(
 ) -> Result<u8, CliFault>
     ensures small { IfOk result (λ status. status ≤ 1) }
     ensures run { ReportsIf W.contents stored out (findings_of report.now) result output.old output.new }
+    ensures passed { IsPassedOn W.waiting output.old → IsPassedOn W.waiting output.new }
 {
     match stored {
         Stored::Kept => put_report(report, output),
@@ -59,7 +61,7 @@ fn report_stored<W: Write>(
 }
 
 /// Links the files into the file `out`, and writes the report to `output`.
-pub(crate) fn link_files<O: Office, W: Write>(
+pub(crate) fn link_files<O: Office, W: BufferedWrite>(
     alloc: Global,
     office: &mut O,
     options: &Options,
@@ -70,6 +72,7 @@ pub(crate) fn link_files<O: Office, W: Write>(
 ) -> Result<u8, CliFault>
     ensures small { IfOk result (λ status. status ≤ 1) }
     ensures run { IsLinkRun W.contents forced.now options.now out (map string_bytes files.items) (O.history office.old) (O.history office.new) result output.old output.new }
+    ensures passed { IsPassedOn W.waiting output.old → IsPassedOn W.waiting output.new }
 {
     let inputs = open_all(alloc, office, files)?;
     let linked = ld(alloc, inputs, forced, options)?;

@@ -1,5 +1,6 @@
 //! The program: its words decide the call, over any office and any streams.
 ghost use Rattle.std.specs.Prelude.{◌≤◌, map, string_bytes, IfOk};
+ghost use Rattle.aout_core.specs.Wires.{IsPassedOn};
 ghost use Rattle.v7tools.specs.CommandRuns.{IsCallRun, Performs, RunsWords};
 
 use crate::block_writer::BlockWriter;
@@ -11,7 +12,7 @@ use crate::office::Office;
 use crate::parsing::parse;
 use crate::session_command::answer_script;
 use crate::standard_error::StandardError;
-use aout_core::Wire;
+use aout_core::{BufferedWrite, Wire};
 use command_words::Call;
 use std::alloc::Global;
 use std::io;
@@ -19,7 +20,7 @@ use std::io::{Read, Write};
 use std::rt::Runtime;
 
 /// Runs a call of a tool.
-fn run_call<O: Office, R: Read + Drop, W: Write>(
+fn run_call<O: Office, R: Read + Drop, W: BufferedWrite>(
     alloc: Global,
     office: &mut O,
     script: R,
@@ -28,6 +29,7 @@ fn run_call<O: Office, R: Read + Drop, W: Write>(
 ) -> Result<u8, CliFault>
     ensures small { IfOk result (λ status. status ≤ 1) }
     ensures run { IsCallRun W.contents (R.remaining script) call (O.history office.old) (O.history office.new) result output.old output.new }
+    ensures passed { IsPassedOn W.waiting output.old → IsPassedOn W.waiting output.new }
 {
     match call {
         Call::Ld {
@@ -46,7 +48,7 @@ fn run_call<O: Office, R: Read + Drop, W: Write>(
 }
 
 /// Runs the call that the words ask for.
-fn run_words<O: Office, R: Read + Drop, W: Write>(
+fn run_words<O: Office, R: Read + Drop, W: BufferedWrite>(
     alloc: Global,
     office: &mut O,
     script: R,
@@ -55,6 +57,7 @@ fn run_words<O: Office, R: Read + Drop, W: Write>(
 ) -> Result<u8, CliFault>
     ensures small { IfOk result (λ status. status ≤ 1) }
     ensures run { RunsWords W.contents (map string_bytes words.items) (R.remaining script) (O.history office.old) (O.history office.new) result output.old output.new }
+    ensures passed { IsPassedOn W.waiting output.old → IsPassedOn W.waiting output.new }
 {
     let call = parse(alloc, words)?;
     run_call(alloc, office, script, output, call)
@@ -63,8 +66,9 @@ fn run_words<O: Office, R: Read + Drop, W: Write>(
 /// Does what the words after the program's name ask for, over any office and any streams: a session's script, standard
 /// output and standard error. It returns the status of the program: 0, or 1 where there was something to report or a
 /// session refused a line or could not store a link, or 2 for a fault, whose line goes to standard error; without a
-/// fault nothing goes there. (own choice)
-pub fn perform<O: Office, R: Read + Drop, W: Write, E: Write>(
+/// fault nothing goes there. Where nothing waited on standard output before, nothing waits at the end either, unless it
+/// has failed. (own choice)
+pub fn perform<O: Office, R: Read + Drop, W: BufferedWrite, E: Write>(
     alloc: Global,
     office: &mut O,
     script: R,
@@ -74,6 +78,7 @@ pub fn perform<O: Office, R: Read + Drop, W: Write, E: Write>(
 ) -> u8
     ensures small { result ≤ 2 }
     ensures run { Performs W.contents E.contents (map string_bytes words.items) (R.remaining script) (O.history office.old) (O.history office.new) result output.old output.new error.old error.new }
+    ensures passed { IsPassedOn W.waiting output.old → IsPassedOn W.waiting output.new }
 {
     match run_words(alloc, office, script, output, words) {
         Ok(status) => status,

@@ -1,6 +1,6 @@
 //! The session as a command, over any office: each line of a script is answered before the next one is asked for.
 ghost use Rattle.std.specs.Prelude.{◌≡◌, ◌↔◌, ◌≤◌, ℕ, List, [], string_bytes, Err, IfErr, IfOk, IsTrue};
-ghost use Rattle.aout_core.specs.Wires.{Writes};
+ghost use Rattle.aout_core.specs.Wires.{IsPassedOn, Writes};
 ghost use Rattle.link_session.specs.Sessions.{nothing_kept};
 ghost use Rattle.link_out.specs.Reports.{line};
 ghost use Rattle.v7tools.specs.declared.fault.CliFault.TheVariants.{ScriptFailed, WriteFailed};
@@ -17,7 +17,7 @@ use crate::link_answers::link_answer;
 use crate::office::Office;
 use crate::script::Script;
 use crate::steps::{put_fault, step};
-use aout_core::Wire;
+use aout_core::{BufferedWrite, Wire};
 use link_out::{Options, finish};
 use link_session::{Forced, Session};
 use std::alloc::Global;
@@ -127,8 +127,8 @@ fn answer_line<O: Office, W: Write>(
     take_step(alloc, session, options, command, answers)
 }
 
-/// Answers a line, and flushes the answer.
-fn pass_answer<O: Office, W: Write>(
+/// Answers a line, and passes the answer on.
+fn pass_answer<O: Office, W: BufferedWrite>(
     alloc: Global,
     office: &mut O,
     session: &mut Session,
@@ -139,14 +139,15 @@ fn pass_answer<O: Office, W: Write>(
     ensures small { IfOk result (λ status. status ≤ 1) }
     ensures latched { IsTrue answers.old.has_failed → (answers.new ≡ answers.old) }
     ensures run { AnswersLine W.contents options.now (asked_by line) session.old session.new (O.history office.old) (O.history office.new) result answers.old answers.new }
+    ensures passed { IsPassedOn W.waiting answers.new }
 {
     let status = answer_line(alloc, office, session, options, line, answers)?;
-    answers.flush()?;
+    answers.pass_on()?;
     Ok(status)
 }
 
 /// Answers the lines of a script of which none was read, one after another.
-fn answer_lines<O: Office, R: Read + Drop, W: Write>(
+fn answer_lines<O: Office, R: Read + Drop, W: BufferedWrite>(
     alloc: Global,
     office: &mut O,
     session: &mut Session,
@@ -160,6 +161,7 @@ fn answer_lines<O: Office, R: Read + Drop, W: Write>(
     ensures small { IfOk result (λ status. status ≤ 1) }
     ensures failed { (result ≡ Err ScriptFailed) ↔ IsTrue script.new.wire.has_failed }
     ensures run { (forced : List (List ℕ)) → session.old ≡ nothing_kept forced → IsSessionRun W.contents forced options.now (R.remaining script.old.wire.device) (O.history office.old) (O.history office.new) result answers.old answers.new }
+    ensures passed { IsPassedOn W.waiting answers.old → IsPassedOn W.waiting answers.new }
 {
     let mut status = 0;
     // a script ends at its limit of lines, long before this
@@ -174,7 +176,7 @@ fn answer_lines<O: Office, R: Read + Drop, W: Write>(
 }
 
 /// Answers the script that a reader gives, on a session that keeps nothing yet.
-fn answer_reader<O: Office, R: Read + Drop, W: Write>(
+fn answer_reader<O: Office, R: Read + Drop, W: BufferedWrite>(
     alloc: Global,
     office: &mut O,
     session: &mut Session,
@@ -184,13 +186,14 @@ fn answer_reader<O: Office, R: Read + Drop, W: Write>(
 ) -> Result<u8, CliFault>
     ensures small { IfOk result (λ status. status ≤ 1) }
     ensures run { (forced : List (List ℕ)) → session.old ≡ nothing_kept forced → IsSessionRun W.contents forced options.now (R.remaining reader) (O.history office.old) (O.history office.new) result answers.old answers.new }
+    ensures passed { IsPassedOn W.waiting answers.old → IsPassedOn W.waiting answers.new }
 {
     let mut script = Script::new(alloc, Wire::new(reader))?;
     answer_lines(alloc, office, session, options, &mut script, answers)
 }
 
 /// Answers the lines of a script, one after another.
-pub(crate) fn answer_script<O: Office, R: Read + Drop, W: Write>(
+pub(crate) fn answer_script<O: Office, R: Read + Drop, W: BufferedWrite>(
     alloc: Global,
     office: &mut O,
     options: &Options,
@@ -200,6 +203,7 @@ pub(crate) fn answer_script<O: Office, R: Read + Drop, W: Write>(
 ) -> Result<u8, CliFault>
     ensures small { IfOk result (λ status. status ≤ 1) }
     ensures run { IsSessionRun W.contents forced.now options.now (R.remaining script) (O.history office.old) (O.history office.new) result answers.old answers.new }
+    ensures passed { IsPassedOn W.waiting answers.old → IsPassedOn W.waiting answers.new }
 {
     let mut session = Session::with_forced(alloc, forced)?;
     answer_reader(alloc, office, &mut session, options, script, answers)

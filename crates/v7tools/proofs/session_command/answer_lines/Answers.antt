@@ -13,6 +13,7 @@ loop-init g c =
       small = search rules;
       count = c.requires.count;
       bound = search rules;
+      passed = λ h. h;
       running = runs_none g.R.Read.remaining g.W.Write.contents c.args.options.now c.args.session.now script (g.O.Office.history c.args.office.now) c.args.answers.now c.requires.count c.requires.settled;
     }
 
@@ -87,5 +88,12 @@ loop-preserved g c =
       small = rw c.max-status.ensures (larger_small c.loop.status answered c.loop.invariant.small c.in_ok-answered.ensures.small);
       count = count ∙ ap (λ k. k + 1) c.loop.invariant.count;
       bound = told.bound;
+      passed = λ h. c.pass_answer.ensures.passed;
       running = rw c.max-status.ensures after;
     }
+
+pub returns-in_err-line-clause-passed : goal.returns-in_err-line-clause-passed
+returns-in_err-line-clause-passed g c = c.loop.invariant.passed
+
+pub returns-in_default-clause-passed : goal.returns-in_default-clause-passed
+returns-in_default-clause-passed g c = c.loop.invariant.passed
