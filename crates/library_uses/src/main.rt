@@ -4,9 +4,9 @@
 mod heads;
 
 use anyhow::{Result, anyhow};
-use aout_core::{Object, Wire, read_file};
+use aout_core::{Header, Object, Wire, read_file};
 use heads::{list, new_names, program_of, strip_copy};
-use link_session::Session;
+use link_session::{Session, Starts};
 use std::alloc::{AllocError, Global};
 use std::{env, fs, io};
 
@@ -65,8 +65,28 @@ fn list_program(rt: &HostRuntime, session: &Session) -> Result<()> {
     Ok(out.flush()?)
 }
 
+/// The header of an object with ten bytes of text, two of data and six of bss.
+const HEADER: Header = Header {
+    magic: 0o407,
+    text_size: 10,
+    data_size: 2,
+    bss_size: 6,
+    symbol_size: 0,
+    entry_point: 0,
+    unused: 0,
+    flag: 0,
+};
+
+/// Prints where the second of two such objects starts, and what its addresses move by.
+fn show_second(rt: &HostRuntime) -> io::Result<()> {
+    let starts = Starts::first().behind(&HEADER);
+    println!(rt; "{starts:?}")?;
+    println!(rt; "{:?}", starts.shifts(&HEADER))
+}
+
 fn main(rt: HostRuntime) -> Result<()> {
     let mut session = Session::new(rt.alloc());
     bring_all(&rt, &mut session)?;
-    list_program(&rt, &session)
+    list_program(&rt, &session)?;
+    Ok(show_second(&rt)?)
 }
