@@ -1,0 +1,108 @@
+//! Names that are forced, and objects that are added to a session, linked and withdrawn.
+use aout_core::Name;
+use fixtures::{adds, adds_names, file_of};
+use link_fixtures::{Output, output_of, plain};
+use link_out::{Keep, finish};
+use link_session::{Forced, Session};
+use std::alloc::{AllocError, Global};
+
+/// So many different names, 64 at most.
+fn forced(count: u16) -> Forced {
+    let mut names = Forced::none();
+    for number in 0..count {
+        names.push(Name::from_bytes(&[b'_', b'@' | number.to_le_bytes()[0]]));
+    }
+    names
+}
+
+/// Whether a session has so many forced names.
+pub fn forces(alloc: Global, count: u16) -> bool {
+    match Session::with_forced(alloc, &forced(count)) {
+        Ok(session) => session.forced_count() == count && session.external_count() == count,
+        Err(_) => false,
+    }
+}
+
+/// Whether what was written has a symbol and a line for each of so many undefined names of four bytes.
+fn lists_all(output: &Output, count: u16) -> bool {
+    let count = usize::from(count);
+    let report = match count {
+        0 => 0,
+        _ => 11 + 5 * count,
+    };
+    output.file.len() == 16 + 12 * count
+        && output.report.len() == report
+        && output.status == u8::from(count != 0)
+}
+
+/// Whether a session of so many undefined names is linked, and its link written.
+fn is_linked(alloc: Global, session: &Session, count: u16) -> bool {
+    let Ok(linked) = finish(alloc, session, &plain(Keep::All)) else {
+        return false;
+    };
+    match output_of(alloc, &linked) {
+        Ok(output) => lists_all(&output, count),
+        Err(_) => false,
+    }
+}
+
+/// Whether the object that was added last is the one with this label; it is withdrawn.
+fn is_withdrawn(session: &mut Session, label: &str) -> bool {
+    match session.withdraw() {
+        Some((back, _)) => back.as_str() == label,
+        None => false,
+    }
+}
+
+/// Whether an object of so many names is added, linked and withdrawn.
+pub fn adds_and_withdraws(alloc: Global, count: u16) -> bool {
+    let session = &mut Session::new(alloc);
+    adds_names(session, alloc, b'n', count)
+        && session.external_count() == count
+        && is_linked(alloc, session, count)
+        && is_withdrawn(session, "n.o")
+        && session.external_count() == 0
+}
+
+/// An object of so many words, half of them of text, that all refer to `_x`.
+fn waiting(alloc: Global, count: u16) -> Result<Vec<u8>, AllocError> {
+    let text = count / 2;
+    let data = count.wrapping_sub(text);
+    let sizes = [text.wrapping_mul(2), data.wrapping_mul(2)];
+    let header = [0o407, sizes[0], sizes[1], 0, 12, 0, 0, 0];
+    let words_and_relocs = vec![in alloc; 0o10; 2 * usize::from(count)]?;
+    file_of(alloc, header, &words_and_relocs, &[("_x", 0o40, 0)])
+}
+
+/// Whether the last addition marked so many cells, and the one name at most.
+fn has_marked(session: &Session, count: u16) -> bool {
+    let marks = session.last_marks().len();
+    let count = usize::from(count);
+    marks == count || marks == count + 1
+}
+
+/// Whether words that wait for a name are bound by its definition, and unbound by its withdrawal.
+fn binds(alloc: Global, waiting: &[u8], defining: &[u8], count: u16) -> bool {
+    let session = &mut Session::new(alloc);
+    adds(
+        session,
+        alloc,
+        &[("waits.o", waiting), ("defines.o", defining)],
+    ) && has_marked(session, count)
+        && is_withdrawn(session, "defines.o")
+        && is_withdrawn(session, "waits.o")
+}
+
+/// An object that defines `_x` as 5.
+fn defining(alloc: Global) -> Result<Vec<u8>, AllocError> {
+    let header = [0o407, 0, 0, 0, 12, 0, 0, 0];
+    file_of(alloc, header, &[], &[("_x", 0o41, 5)])
+}
+
+/// The same of so many words.
+pub fn binds_and_unbinds(alloc: Global, count: u16) -> bool {
+    match (waiting(alloc, count), defining(alloc)) {
+        (Ok(waiting), Ok(defining)) => binds(alloc, &waiting, &defining, count),
+        _ => false,
+    }
+}
