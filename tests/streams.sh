@@ -1,7 +1,8 @@
 #!/bin/sh
 # Runs the program with standard streams closed, and compares its files, faults and statuses: what goes to a closed stream
-# is a write error, what is read from one is a read error, and no file that a command opens takes the place of one. A word
-# that is not UTF-8 is refused.
+# is a write error, what is read from one is a read error, and no file that a command opens takes the place of one. Then its
+# words: one that is not UTF-8 is refused, empty ones and blanks are words as others, and there may be many. Last, as many
+# files as may be open, and more.
 #
 # usage: tests/streams.sh       the program has to stand in build/v7
 set -u
@@ -39,6 +40,77 @@ expect 'strip' 0 ''
 "$v7" nm "$(printf '\377')" >answers 2>fault; status=$?
 expect 'a word that is not UTF-8' 2 'v7: usage'
 same answers /dev/null
+
+# empty words, and words of blanks
+cp main.o kept
+"$v7" ld -o "" main.o twice.o count.o >answers 2>fault; status=$?
+expect 'an empty output' 2 'v7: : cannot create'
+same main.o kept
+"$v7" ld -o out main.o "" twice.o >answers 2>fault; status=$?
+expect 'an empty input' 2 'v7: : cannot open'
+"$v7" nm "" main.o >answers 2>fault; status=$?
+expect 'an empty file of nm' 2 'v7: : cannot open'
+"$v7" "" nm main.o >answers 2>fault; status=$?
+expect 'an empty tool' 2 'v7: usage'
+"$v7" nm '  ' >answers 2>fault; status=$?
+expect 'a file of blanks' 2 'v7:   : cannot open'
+"$v7" ' nm' main.o >answers 2>fault; status=$?
+expect 'a tool behind a blank' 2 'v7: usage'
+same answers /dev/null
+"$v7" ld -o ' ' main.o twice.o count.o >answers 2>fault; status=$?
+expect 'an output of a blank' 0 ''
+same ' ' whole
+[ ! -e out ] || { echo 'a link that was refused has stored a file'; failed=1; }
+
+# a line, so many times
+repeated() {
+    yes "$2" | head -n "$1"
+}
+
+# 1,000 words
+"$v7" size $(repeated 999 main.o) >answers 2>fault; status=$?
+expect '1,000 words' 0 ''
+repeated 999 'main.o: 10+0+0 = 10b = 012b' | cmp - answers || failed=1
+
+# an input of nothing, so many times beside three others; the limit of open files is the first word, as far as it can be had
+printf '\007\001\000\000\000\000\000\000\000\000\000\000\000\000\000\000' >empty.o
+link_many() {
+    (ulimit -n "$1" 2>limits && exec "$v7" ld -o out main.o twice.o count.o $(repeated "$2" empty.o)) >answers 2>fault
+}
+
+# one link of 1,000 files, where so many may be open
+if (ulimit -n 2048) 2>limits; then
+    link_many 2048 997; status=$?
+    expect 'a link of 1,000 files' 0 ''
+    same out whole
+    rm out
+else
+    echo "a link of 1,000 files was not tried: no more than $(ulimit -n) may be open"
+fi
+
+# more files than may be open: no output is made
+link_many 64 97; status=$?
+expect 'too many files' 2 'v7: empty.o: cannot open'
+[ ! -e out ] || { echo 'too many files: an output is there'; failed=1; }
+
+# the folder that is to hold standard input can't be opened: two streams are open, and no more may be
+(ulimit -n 1 && exec "$v7" nm main.o) <&- >answers 2>fault; status=$?
+expect 'no folder to hold a stream' 2 'v7: /: cannot open'
+same answers /dev/null
+
+# a device that is full
+if [ -c /dev/full ]; then
+    for tool in nm size; do
+        "$v7" $tool main.o >/dev/full 2>fault; status=$?
+        expect "$tool, device full" 2 'v7: write error'
+    done
+    printf 'add main.o\nlink out\n' | "$v7" session >/dev/full 2>fault; status=$?
+    expect 'session, device full' 2 'v7: write error'
+    [ ! -e out ] || { echo 'session, device full: it went on'; failed=1; }
+    printf 'link /dev/full\nwithdraw\n' | "$v7" session >answers 2>fault; status=$?
+    expect 'session, a link to a full device' 1 ''
+    printf '/dev/full: write error\nnothing to withdraw\n' | cmp - answers || failed=1
+fi
 
 # standard output closed
 "$v7" ld -o out main.o count.o >&- 2>fault; status=$?
