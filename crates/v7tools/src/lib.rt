@@ -2,6 +2,7 @@
 #![tactic(auto)]
 
 mod additions;
+mod arguments;
 mod block_reader;
 mod block_writer;
 mod commands;
@@ -24,6 +25,7 @@ mod session_command;
 mod standard_error;
 mod steps;
 
+pub use arguments::words;
 pub use block_writer::BlockWriter;
 pub use command_words::Call;
 pub use commands::{Command, Step};
