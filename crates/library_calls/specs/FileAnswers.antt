@@ -1,0 +1,73 @@
+-- What a call says of one file, from its bytes. (strip(1), nm(1), size(1); the refusals: own choice)
+--
+-- The file is the one that the bytes begin with; what is behind it is not looked at.
+use Rattle.std.specs.Prelude.{ℕ, ◌%◌, ◌/◌, Bool, false, eqb, nat_lt, if◌then◌else◌, List, [], ◌∷◌, drop, Option, Some, None, Result, Ok, Err}
+use Rattle.aout_core.specs.declared.file.ReadFault.{ReadFault}
+use Rattle.aout_core.specs.declared.object.ObjectFault.{ObjectFault}
+use Rattle.aout_core.specs.Contents.{Contents}
+use Rattle.aout_core.specs.Front.{header_in, front}
+use Rattle.aout_core.specs.Spelling.{file_length, spelling}
+use Rattle.aout_core.specs.Strip.{stripped}
+use Rattle.aout_core.specs.WellFormed.{first_object_fault}
+use Rattle.symtools.specs.declared.options.NmOptions.{NmOptions}
+use Rattle.symtools.specs.NmLists.{nm_text}
+use Rattle.symtools.specs.SizeLines.{size_text}
+use Rattle.library_calls.specs.declared.cause.Cause.{Cause}
+use Rattle.library_calls.specs.declared.cause.Cause.TheVariants.{NoOption, BadFile, BadObject}
+use Rattle.library_calls.specs.Causes.{and_then}
+
+abbrev pub file_of : Result Contents ReadFault → Result Contents Cause
+file_of (Ok c) = Ok c
+file_of (Err fault) = Err (BadFile fault)
+
+-- the file that the bytes begin with
+abbrev pub file_in : List ℕ → Result Contents Cause
+file_in bytes = file_of (front bytes)
+
+-- the bytes behind the file that they begin with
+abbrev pub behind_file : List ℕ → List ℕ
+behind_file bytes = drop (file_length (header_in bytes)) bytes
+
+abbrev pub object_unless : Option ObjectFault → Contents → Result Contents Cause
+object_unless None c = Ok c
+object_unless (Some fault) c = Err (BadObject fault)
+
+abbrev pub object_of : Contents → Result Contents Cause
+object_of c = object_unless (first_object_fault c) c
+
+-- the object that the bytes begin with
+abbrev pub object_in : List ℕ → Result Contents Cause
+object_in bytes = and_then (file_in bytes) object_of
+
+-- how many bytes the object takes
+abbrev pub checked_in : List ℕ → Result ℕ Cause
+checked_in bytes = and_then (object_in bytes) (λ c. Ok (file_length c.header))
+
+abbrev pub stripped_in : List ℕ → Result (List ℕ) Cause
+stripped_in bytes = and_then (file_in bytes) (λ c. Ok (spelling (stripped c)))
+
+-- the line of size, without a path
+abbrev pub sizes_in : List ℕ → Result (List ℕ) Cause
+sizes_in bytes = and_then (file_in bytes) (λ c. Ok (size_text (([], c) ∷ [])))
+
+-- the bit at a place, of value 1, 2, 4 ..
+abbrev pub has_bit : ℕ → ℕ → Bool
+has_bit bits place = eqb (bits / place % 2) 1
+
+-- 1: -g, 2: -n, 4: -p, 8: -r, 16: -u
+abbrev pub nm_options_of : ℕ → NmOptions
+nm_options_of bits = record {
+  external = has_bit bits 1;
+  by_value = has_bit bits 2;
+  each_line = false;
+  table_order = has_bit bits 4;
+  reverse = has_bit bits 8;
+  undefined = has_bit bits 16;
+}
+
+abbrev pub nm_options_in : ℕ → Result NmOptions Cause
+nm_options_in bits = if nat_lt 31 bits then Err NoOption else Ok (nm_options_of bits)
+
+-- the lines of nm, without a path
+abbrev pub names_in : ℕ → List ℕ → Result (List ℕ) Cause
+names_in bits bytes = and_then (nm_options_in bits) (λ o. and_then (file_in bytes) (λ c. Ok (nm_text o (([], c) ∷ []))))

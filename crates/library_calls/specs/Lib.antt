@@ -1,0 +1,4 @@
+pub mod Causes
+pub mod FileAnswers
+pub mod LinkWanted
+pub mod LinkAnswers

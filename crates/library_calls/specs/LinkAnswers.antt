@@ -1,0 +1,62 @@
+-- What a call says of a link of the objects that bytes hold, one behind another. (ld(1); the refusals: own choice)
+--
+-- Each object in order is read from the bytes behind the one before it, has to be an object, and is added behind those before it.
+-- The first that is not taken is the refusal. Then all are linked.
+use Rattle.std.specs.Prelude.{ℕ, zero, suc, List, [], ◌∷◌, ◌++◌, length, Option, Some, None, Result, Ok, Err}
+use Rattle.aout_core.specs.Contents.{Contents}
+use Rattle.aout_core.specs.Spelling.{spelling}
+use Rattle.link_session.specs.declared.entry.AddFault.{AddFault}
+use Rattle.link_session.specs.Edits.{refusal}
+use Rattle.link_out.specs.declared.linked.LinkFault.{LinkFault}
+use Rattle.link_out.specs.Choices.{Choices}
+use Rattle.link_out.specs.Link.{Outcome, link}
+use Rattle.link_out.specs.Reports.{report_text, status_of}
+use Rattle.library_calls.specs.declared.cause.Cause.{Cause}
+use Rattle.library_calls.specs.declared.cause.Cause.TheVariants.{NotAdded, NotLinked}
+use Rattle.library_calls.specs.declared.cause.Refusal.{Refusal}
+use Rattle.library_calls.specs.declared.link_call.Program.{Program}
+use Rattle.library_calls.specs.Causes.{at, and_then}
+use Rattle.library_calls.specs.FileAnswers.{behind_file, object_in}
+use Rattle.library_calls.specs.LinkWanted.{choices_in, forced_in}
+
+abbrev pub added_unless : Option AddFault → List Contents → Contents → Result (List Contents) Cause
+added_unless None os o = Ok (os ++ o ∷ [])
+added_unless (Some fault) os o = Err (NotAdded fault)
+
+-- the objects with the one that the bytes begin with
+abbrev pub with_first : List (List ℕ) → List Contents → List ℕ → Result (List Contents) Cause
+with_first forced os bytes = and_then (object_in bytes) (λ o. added_unless (refusal forced os o) os o)
+
+-- the objects with those of the bytes, at most so many
+abbrev pub with_most : ℕ → List (List ℕ) → List Contents → List ℕ → Result (List Contents) Refusal
+with_most zero forced os bytes = Ok os
+with_most (suc n) forced os [] = Ok os
+with_most (suc n) forced os (b ∷ bs) = and_then (at (length os) (with_first forced os (b ∷ bs))) (λ more. with_most n forced more (behind_file (b ∷ bs)))
+
+-- all objects of the bytes: they are fewer than the bytes, since each takes 16 at least
+abbrev pub objects_in : List (List ℕ) → List ℕ → Result (List Contents) Refusal
+objects_in forced bytes = with_most (length bytes) forced [] bytes
+
+abbrev pub linked_or : Result Outcome LinkFault → Result Outcome Cause
+linked_or (Ok x) = Ok x
+linked_or (Err fault) = Err (NotLinked fault)
+
+abbrev pub linked_in : List (List ℕ) → Choices → List ℕ → Result Outcome Refusal
+linked_in forced o bytes = and_then (objects_in forced bytes) (λ os. at 0 (linked_or (link forced os o)))
+
+-- the bytes of a linked file and of its report, and the status
+pub record Output : Type 0 where
+  pub status : ℕ
+  pub file : List ℕ
+  pub report : List ℕ
+
+abbrev pub output_of : Outcome → Output
+output_of x = record { status = status_of x.report; file = spelling x.file; report = report_text x.report }
+
+abbrev pub outputs_of : Program → Output
+outputs_of p = record { status = p.status; file = p.file.items; report = p.report.items }
+
+-- the options, then the forced names, then the objects, then the link: the first refusal, or the output
+abbrev pub output_in : ℕ → List ℕ → List ℕ → List ℕ → Result Output Refusal
+output_in bits entry forced bytes =
+    and_then (at 0 (choices_in bits entry)) (λ o. and_then (forced_in forced) (λ names. and_then (linked_in names o bytes) (λ x. Ok (output_of x))))

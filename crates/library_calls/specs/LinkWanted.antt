@@ -1,0 +1,70 @@
+-- What a call asks of a link: options as bits, the name of the entry point, and the forced names. (ld(1); the bits: own choice)
+--
+-- A forced name is eight bytes, filled up with NULs, as in a file. The entry point is a name of at most eight bytes; no bytes ask
+-- for none.
+use Rattle.std.specs.Prelude.{ℕ, zero, suc, ◌+◌, ◌%◌, ◌/◌, Bool, true, false, cond, eqb, nat_lt, if◌then◌else◌, List, [], ◌∷◌, take, drop, length, Option, Some, None, Result, Ok, Err}
+use Rattle.aout_core.specs.Names.{before_nul}
+use Rattle.link_session.specs.ForcedNames.{takes, with_name}
+use Rattle.link_out.specs.declared.options.Layout.{Layout}
+use Rattle.link_out.specs.declared.options.Layout.TheVariants.{Plain, Pure, Split}
+use Rattle.link_out.specs.declared.options.Keep.{Keep}
+use Rattle.link_out.specs.declared.options.Keep.TheVariants.{All, NotL, Externals, Nothing}
+use Rattle.link_out.specs.declared.options.OptionFault.{OptionFault}
+use Rattle.link_out.specs.Choices.{Choices, option_fault}
+use Rattle.library_calls.specs.declared.cause.Cause.{Cause}
+use Rattle.library_calls.specs.declared.cause.Cause.TheVariants.{NoOption, Excluded, LongName, CutNames, ManyNames}
+use Rattle.library_calls.specs.declared.cause.Refusal.{Refusal}
+use Rattle.library_calls.specs.FileAnswers.{has_bit}
+
+-- 1: -r, 2: -s, 4: -x, 8: -X, 16: -n, 32: -i, 64: -d
+abbrev pub layout_by : Bool → Bool → Result Layout Cause
+layout_by false false = Ok Plain
+layout_by true false = Ok Pure
+layout_by false true = Ok Split
+layout_by true true = Err Excluded
+
+-- -s wins over -x, and that over -X
+abbrev pub keep_of : ℕ → Keep
+keep_of bits = if has_bit bits 2 then Nothing else (if has_bit bits 4 then Externals else (if has_bit bits 8 then NotL else All))
+
+-- the first eight bytes, and what is behind a NUL left away
+abbrev pub name_of : List ℕ → List ℕ
+name_of bytes = take 8 (before_nul bytes)
+
+abbrev pub entry_of : List ℕ → Option (List ℕ)
+entry_of [] = None
+entry_of (b ∷ bs) = Some (name_of (b ∷ bs))
+
+abbrev pub choices_with : ℕ → List ℕ → Layout → Choices
+choices_with bits entry layout = record {
+  layout = layout;
+  relocatable = has_bit bits 1;
+  keep = keep_of bits;
+  entry = entry_of entry;
+  force_commons = has_bit bits 64;
+}
+
+abbrev pub unless : Option OptionFault → Choices → Result Choices Cause
+unless None o = Ok o
+unless (Some fault) o = Err Excluded
+
+abbrev pub choices_by : ℕ → List ℕ → Result Layout Cause → Result Choices Cause
+choices_by bits entry (Ok layout) = unless (option_fault layout (has_bit bits 1) (keep_of bits)) (choices_with bits entry layout)
+choices_by bits entry (Err cause) = Err cause
+
+abbrev pub choices_in : ℕ → List ℕ → Result Choices Cause
+choices_in bits entry =
+    if nat_lt 127 bits then Err NoOption
+    else (if nat_lt 8 (length entry) then Err LongName
+    else choices_by bits entry (layout_by (has_bit bits 16) (has_bit bits 32)))
+
+-- so many names of eight bytes each appended to those before them, where they are not there already; the next one has this number
+abbrev pub with_names : ℕ → ℕ → List (List ℕ) → List ℕ → Result (List (List ℕ)) Refusal
+with_names zero number names bytes = Ok names
+with_names (suc n) number names bytes =
+    cond (takes names (name_of (take 8 bytes)))
+    (with_names n (number + 1) (with_name names (name_of (take 8 bytes))) (drop 8 bytes))
+    (Err (record { cause = ManyNames; place = number }))
+
+abbrev pub forced_in : List ℕ → Result (List (List ℕ)) Refusal
+forced_in bytes = if eqb (length bytes % 8) 0 then with_names (length bytes / 8) 0 [] bytes else Err (record { cause = CutNames; place = 0 })

@@ -1,0 +1,205 @@
+//! Why a call has no answer.
+ghost use Rattle.std.specs.Prelude.{◌≡◌};
+ghost use Rattle.library_calls.specs.Causes.{cause_of_addition, cause_of_link, cause_of_read, number_of, word_of};
+ghost use Rattle.library_calls.specs.declared.cause.Cause.TheVariants.{Memory};
+
+use aout_core::{DeviceFault, ObjectFault, ReadFault};
+use link_out::LinkFault;
+use link_session::AddFault;
+use std::alloc::AllocError;
+use symtools::ToolFault;
+
+/// Why a call has no answer. Where memory runs out it is `Memory`, whatever was being done. (own choice)
+#[derive(Clone, Copy, Debug, PartialEq, Eq)]
+pub enum Cause {
+    /// 1: a bit of the options stands for none.
+    NoOption,
+    /// 2: options exclude each other.
+    Excluded,
+    /// 3: the name of the entry point has more than 8 bytes.
+    LongName,
+    /// 4: the forced names are not 8 bytes each.
+    CutNames,
+    /// 5: more than 64 different names are forced.
+    ManyNames,
+    /// 11 to 14: the bytes begin with no a.out file.
+    BadFile(ReadFault),
+    /// 21 to 24: the file is no object.
+    BadObject(ObjectFault),
+    /// 31 to 34: the object has no room behind those before it.
+    NotAdded(AddFault),
+    /// 41 to 43: the objects can't be linked.
+    NotLinked(LinkFault),
+    /// 50: memory ran out.
+    Memory,
+}
+
+/// Why a call has no answer, and where. (own choice)
+#[derive(Clone, Copy, Debug, PartialEq, Eq)]
+pub struct Refusal {
+    /// Why there is no answer.
+    pub cause: Cause,
+    /// The number of the object that is not taken, or of the forced name, from 0; and 0 where the cause lies in neither.
+    pub place: usize,
+}
+
+impl From<ReadFault> for Cause {
+    ghost from_gives = { λ fault cause. cause ≡ cause_of_read fault };
+
+    fn from(fault: ReadFault) -> Cause {
+        match fault {
+            ReadFault::Memory | ReadFault::Device => Cause::Memory,
+            ReadFault::ShortHeader
+            | ReadFault::BadMagic
+            | ReadFault::OddSize
+            | ReadFault::Truncated => Cause::BadFile(fault),
+        }
+    }
+}
+
+impl From<AddFault> for Cause {
+    ghost from_gives = { λ fault cause. cause ≡ cause_of_addition fault };
+
+    fn from(fault: AddFault) -> Cause {
+        match fault {
+            AddFault::Memory => Cause::Memory,
+            AddFault::TextFull | AddFault::DataFull | AddFault::BssFull | AddFault::NamesFull => {
+                Cause::NotAdded(fault)
+            }
+        }
+    }
+}
+
+impl From<LinkFault> for Cause {
+    ghost from_gives = { λ fault cause. cause ≡ cause_of_link fault };
+
+    fn from(fault: LinkFault) -> Cause {
+        match fault {
+            LinkFault::Memory => Cause::Memory,
+            LinkFault::DoesNotFit | LinkFault::TooManySymbols | LinkFault::SymbolNumber => {
+                Cause::NotLinked(fault)
+            }
+        }
+    }
+}
+
+// what is written to lies in memory, so that a fault of it is that memory ran out
+impl From<DeviceFault> for Cause {
+    ghost from_gives = { λ _ cause. cause ≡ Memory };
+
+    fn from(_fault: DeviceFault) -> Cause {
+        Cause::Memory
+    }
+}
+
+impl From<ToolFault> for Cause {
+    ghost from_gives = { λ _ cause. cause ≡ Memory };
+
+    fn from(_fault: ToolFault) -> Cause {
+        Cause::Memory
+    }
+}
+
+impl From<AllocError> for Cause {
+    ghost from_gives = { λ _ cause. cause ≡ Memory };
+
+    fn from(_error: AllocError) -> Cause {
+        Cause::Memory
+    }
+}
+
+impl From<Cause> for Refusal {
+    ghost from_gives = { λ cause refusal. refusal ≡ record { cause = cause; place = 0 } };
+
+    fn from(cause: Cause) -> Refusal {
+        Refusal { cause, place: 0 }
+    }
+}
+
+impl From<link_session::Memory> for Refusal {
+    ghost from_gives = { λ _ refusal. refusal ≡ record { cause = Memory; place = 0 } };
+
+    fn from(_error: link_session::Memory) -> Refusal {
+        Refusal {
+            cause: Cause::Memory,
+            place: 0,
+        }
+    }
+}
+
+fn read_number(fault: ReadFault) -> u32
+    ensures { result ≡ number_of (Cause.BadFile fault) }
+{
+    match fault {
+        ReadFault::ShortHeader => 11,
+        ReadFault::BadMagic => 12,
+        ReadFault::OddSize => 13,
+        ReadFault::Truncated => 14,
+        ReadFault::Memory | ReadFault::Device => 50,
+    }
+}
+
+fn object_number(fault: ObjectFault) -> u32
+    ensures { result ≡ number_of (Cause.BadObject fault) }
+{
+    match fault {
+        ObjectFault::NotAnObject => 21,
+        ObjectFault::NoRelocation => 22,
+        ObjectFault::BadRelocation(_) => 23,
+        ObjectFault::BadSymbolNumber(_) => 24,
+    }
+}
+
+fn addition_number(fault: AddFault) -> u32
+    ensures { result ≡ number_of (Cause.NotAdded fault) }
+{
+    match fault {
+        AddFault::TextFull => 31,
+        AddFault::DataFull => 32,
+        AddFault::BssFull => 33,
+        AddFault::NamesFull => 34,
+        AddFault::Memory => 50,
+    }
+}
+
+fn link_number(fault: LinkFault) -> u32
+    ensures { result ≡ number_of (Cause.NotLinked fault) }
+{
+    match fault {
+        LinkFault::DoesNotFit => 41,
+        LinkFault::TooManySymbols => 42,
+        LinkFault::SymbolNumber => 43,
+        LinkFault::Memory => 50,
+    }
+}
+
+impl Cause {
+    /// The number by which other languages know the cause. (own choice)
+    pub fn number(&self) -> u32
+        ensures { result ≡ number_of self.now }
+    {
+        match *self {
+            Cause::NoOption => 1,
+            Cause::Excluded => 2,
+            Cause::LongName => 3,
+            Cause::CutNames => 4,
+            Cause::ManyNames => 5,
+            Cause::BadFile(fault) => read_number(fault),
+            Cause::BadObject(fault) => object_number(fault),
+            Cause::NotAdded(fault) => addition_number(fault),
+            Cause::NotLinked(fault) => link_number(fault),
+            Cause::Memory => 50,
+        }
+    }
+
+    /// The index of the word that is at fault, text before data, from 0; and 0 where it is no word. (own choice)
+    pub fn word(&self) -> u32
+        ensures { result ≡ word_of self.now }
+    {
+        match *self {
+            Cause::BadObject(ObjectFault::BadRelocation(index)) => u32::from(index),
+            Cause::BadObject(ObjectFault::BadSymbolNumber(index)) => u32::from(index),
+            _ => 0,
+        }
+    }
+}

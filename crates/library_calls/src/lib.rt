@@ -1,0 +1,16 @@
+//! What a library for other languages answers: bytes of files in, bytes of files and text out.
+//!
+//! Nothing is kept between two calls. Objects come as the bytes of their files, one behind another: how long a file is
+//! follows from its header.
+#![tactic(auto)]
+
+mod cause;
+mod file_calls;
+mod first;
+mod link_call;
+mod taking;
+mod wanted;
+
+pub use cause::{Cause, Refusal};
+pub use file_calls::{check, list_symbols, show_sizes, strip};
+pub use link_call::{Program, Wanted, link};

@@ -1,0 +1,97 @@
+//! The link of objects that come as bytes.
+ghost use Rattle.std.specs.Prelude.{◌≡◌, ◌≢◌, true, Ok, Err, IfOk, IfErr};
+ghost use Rattle.aout_core.specs.WellFormed.{IsWellFormed};
+ghost use Rattle.link_session.specs.Labelled.{objects};
+ghost use Rattle.link_out.specs.Link.{link};
+ghost use Rattle.link_out.specs.Outcomes.{outcome_of};
+ghost use Rattle.library_calls.specs.LinkAnswers.{linked_in, linked_or, output_in, output_of, outputs_of};
+ghost use Rattle.library_calls.specs.declared.cause.Cause.TheVariants.{Memory};
+
+use crate::cause::{Cause, Refusal};
+use crate::taking::take_objects;
+use crate::wanted::{forced_names, link_options};
+use aout_core::{Wire, write_file};
+use link_out::{Linked, Options, finish};
+use link_session::{Forced, Session};
+use std::alloc::Global;
+
+/// What is asked of a link. (ld(1); the bits: own choice)
+#[derive(Clone, Copy)]
+pub struct Wanted<'a> {
+    /// The options, a bit each: 1 for `-r`, 2 `-s`, 4 `-x`, 8 `-X`, 16 `-n`, 32 `-i`, 64 `-d`.
+    pub options: u32,
+    /// The name of the entry point, at most 8 bytes; none where it is empty.
+    pub entry: &'a [u8],
+    /// The forced names, 8 bytes each, filled up with NULs.
+    pub forced: &'a [u8],
+}
+
+/// A linked file, and what is reported of it. (ld(1))
+#[derive(Debug, Drop)]
+pub struct Program {
+    /// 0 where there is nothing to report, else 1.
+    pub status: u8,
+    /// The bytes of the file.
+    pub file: Vec<u8>,
+    /// The lines of the report.
+    pub report: Vec<u8>,
+}
+
+/// The link of the objects in a session.
+fn link_kept(alloc: Global, session: &Session, options: &Options) -> Result<Linked, Cause>
+    ensures ok { IfOk result (λ linked. linked_or (link session.now.forced (objects session.now.entries) options.now) ≡ Ok (outcome_of linked)) }
+    ensures err { IfErr result (λ cause. cause ≢ Memory → linked_or (link session.now.forced (objects session.now.entries) options.now) ≡ Err cause) }
+    ensures object { options.now.relocatable ≡ true → IfOk result (λ linked. IsWellFormed linked.file) }
+{
+    Ok(finish(alloc, session, options)?)
+}
+
+/// The link of the objects that the bytes hold.
+fn link_objects(
+    alloc: Global,
+    objects: &[u8],
+    forced: &Forced,
+    options: &Options,
+) -> Result<Linked, Refusal>
+    ensures ok { IfOk result (λ linked. linked_in forced.now options.now objects.now ≡ Ok (outcome_of linked)) }
+    ensures err { IfErr result (λ refusal. refusal.cause ≢ Memory → linked_in forced.now options.now objects.now ≡ Err refusal) }
+    ensures object { options.now.relocatable ≡ true → IfOk result (λ linked. IsWellFormed linked.file) }
+{
+    let mut session = Session::with_forced(alloc, forced)?;
+    take_objects(alloc, &mut session, objects)?;
+    Ok(link_kept(alloc, &session, options)?)
+}
+
+/// The bytes of a link.
+fn bytes_of(alloc: Global, linked: &Linked) -> Result<Program, Cause>
+    ensures ok { IfOk result (λ program. outputs_of program ≡ output_of (outcome_of linked.now)) }
+    ensures err { IfErr result (λ cause. cause ≡ Memory) }
+{
+    let mut file = Wire::new(Vec::new(alloc));
+    write_file(&linked.file, &mut file)?;
+    let mut report = Wire::new(Vec::new(alloc));
+    linked.report.write(&mut report)?;
+    Ok(Program {
+        status: linked.report.status(),
+        file: file.into_inner(),
+        report: report.into_inner(),
+    })
+}
+
+/// Links the objects that the bytes hold, one behind another, in their order. Each is read, checked and added before
+/// the next one is read, and a refusal ends the link. Without bytes there are no objects. (ld(1))
+///
+/// Errors, the first that applies: `NoOption`, 1, `Excluded`, 2, and `LongName`, 3, where the options or the name of the
+/// entry point are wrong; `CutNames`, 4, and `ManyNames`, 5, where the forced names are; for the first object that is not
+/// taken, with its number, `BadFile`, 11 to 14, where it is no file, `BadObject`, 21 to 24, where it is no object, or
+/// `NotAdded`, 31 to 34, where it passes a limit; behind the last object `NotLinked`, 41 to 43, where there is no link;
+/// `Memory`, 50, wherever memory runs out.
+pub fn link(alloc: Global, wanted: &Wanted<'_>, objects: &[u8]) -> Result<Program, Refusal>
+    ensures ok { IfOk result (λ program. output_in wanted.now.options wanted.now.entry.now wanted.now.forced.now objects.now ≡ Ok (outputs_of program)) }
+    ensures err { IfErr result (λ refusal. refusal.cause ≢ Memory → output_in wanted.now.options wanted.now.entry.now wanted.now.forced.now objects.now ≡ Err refusal) }
+{
+    let options = link_options(wanted.options, wanted.entry)?;
+    let forced = forced_names(wanted.forced)?;
+    let linked = link_objects(alloc, objects, &forced, &options)?;
+    Ok(bytes_of(alloc, &linked)?)
+}

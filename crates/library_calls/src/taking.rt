@@ -1,0 +1,65 @@
+//! Objects taken into a session from their bytes.
+ghost use Rattle.std.specs.Prelude.{◌≡◌, ◌≢◌, length, Ok, Err, IfOk, IfErr, OnErr};
+ghost use Rattle.link_session.specs.Edits.{refusal};
+ghost use Rattle.link_session.specs.Labelled.{objects};
+ghost use Rattle.library_calls.specs.FileAnswers.{behind_file};
+ghost use Rattle.library_calls.specs.LinkAnswers.{added_unless, with_first, with_most};
+ghost use Rattle.library_calls.specs.declared.cause.Cause.TheVariants.{Memory};
+
+use crate::cause::{Cause, Refusal};
+use crate::first::first_object;
+use aout_core::Object;
+use link_session::Session;
+use std::alloc::Global;
+
+/// Adds an object, without a label.
+fn add(alloc: Global, session: &mut Session, object: Object) -> Result<(), Cause>
+    ensures forced { session.new.forced ≡ session.old.forced }
+    ensures ok { IfOk result (λ _. added_unless (refusal session.old.forced (objects session.old.entries) object) (objects session.old.entries) object ≡ Ok (objects session.new.entries)) }
+    ensures err { IfErr result (λ cause. cause ≢ Memory → added_unless (refusal session.old.forced (objects session.old.entries) object) (objects session.old.entries) object ≡ Err cause) }
+    ensures unchanged { OnErr result (session.new ≡ session.old) }
+{
+    match session.add(String::new(alloc), object) {
+        Ok(()) => Ok(()),
+        Err(refused) => Err(Cause::from(refused.cause)),
+    }
+}
+
+/// Adds the object that the bytes begin with, and returns the bytes behind it.
+fn take_first<'a>(alloc: Global, session: &mut Session, bytes: &'a [u8]) -> Result<&'a [u8], Cause>
+    ensures forced { session.new.forced ≡ session.old.forced }
+    ensures ok { IfOk result (λ _. with_first session.old.forced (objects session.old.entries) bytes.now ≡ Ok (objects session.new.entries)) }
+    ensures behind { IfOk result (λ behind. behind.now ≡ behind_file bytes.now) }
+    ensures err { IfErr result (λ cause. cause ≢ Memory → with_first session.old.forced (objects session.old.entries) bytes.now ≡ Err cause) }
+    ensures unchanged { OnErr result (session.new ≡ session.old) }
+{
+    let (object, behind) = first_object(alloc, bytes)?;
+    add(alloc, session, object)?;
+    Ok(behind)
+}
+
+/// Adds the objects of the bytes, one behind another, up to the first that is not taken.
+pub(crate) fn take_objects(
+    alloc: Global,
+    session: &mut Session,
+    bytes: &[u8],
+) -> Result<(), Refusal>
+    ensures forced { session.new.forced ≡ session.old.forced }
+    ensures ok { IfOk result (λ _. with_most (length bytes.now) session.old.forced (objects session.old.entries) bytes.now ≡ Ok (objects session.new.entries)) }
+    ensures err { IfErr result (λ refusal. refusal.cause ≢ Memory → with_most (length bytes.now) session.old.forced (objects session.old.entries) bytes.now ≡ Err refusal) }
+{
+    let mut rest = bytes;
+    for i in 0..bytes.len() {
+        if rest.is_empty() {
+            break;
+        }
+        match take_first(alloc, session, rest) {
+            Ok(behind) => rest = behind,
+            Err(cause) => {
+                let place = session.entries().len();
+                return Err(Refusal { cause, place });
+            }
+        }
+    }
+    Ok(())
+}

@@ -1,0 +1,119 @@
+//! What is asked of a link.
+ghost use Rattle.std.specs.Prelude.{◌≡◌, ◌<◌};
+ghost use Rattle.library_calls.specs.FileAnswers.{has_bit, nm_options_in};
+ghost use Rattle.library_calls.specs.LinkWanted.{choices_in, entry_of, forced_in, keep_of, layout_by};
+
+use crate::cause::{Cause, Refusal};
+use aout_core::Name;
+use link_out::{Keep, Layout, Options};
+use link_session::Forced;
+use symtools::NmOptions;
+
+/// Whether the bit of value `place` is 1.
+fn has_bit(bits: u32, place: u32) -> bool
+    requires { 0 < place }
+    ensures { result ≡ has_bit bits place }
+{
+    bits / place % 2 == 1
+}
+
+/// Where data lies: `-n` and `-i` exclude each other.
+fn layout(bits: u32) -> Result<Layout, Cause>
+    ensures { result ≡ layout_by (has_bit bits 16) (has_bit bits 32) }
+{
+    match (has_bit(bits, 16), has_bit(bits, 32)) {
+        (false, false) => Ok(Layout::Plain),
+        (true, false) => Ok(Layout::Pure),
+        (false, true) => Ok(Layout::Split),
+        (true, true) => Err(Cause::Excluded),
+    }
+}
+
+/// Which symbols are kept: `-s` wins over `-x`, and that over `-X`.
+fn keep(bits: u32) -> Keep
+    ensures { result ≡ keep_of bits }
+{
+    if has_bit(bits, 2) {
+        Keep::Nothing
+    } else if has_bit(bits, 4) {
+        Keep::Externals
+    } else if has_bit(bits, 8) {
+        Keep::NotL
+    } else {
+        Keep::All
+    }
+}
+
+/// The name of the entry point, where there are bytes of one.
+fn entry(bytes: &[u8]) -> Option<Name>
+    ensures { result ≡ entry_of bytes.now }
+{
+    if bytes.is_empty() {
+        None
+    } else {
+        Some(Name::from_bytes(bytes))
+    }
+}
+
+/// The options of a link, by their bits and the name of the entry point.
+pub(crate) fn link_options(bits: u32, entry_name: &[u8]) -> Result<Options, Cause>
+    ensures { result ≡ choices_in bits entry_name.now }
+{
+    if bits > 127 {
+        return Err(Cause::NoOption);
+    }
+    if entry_name.len() > 8 {
+        return Err(Cause::LongName);
+    }
+    let layout = layout(bits)?;
+    let Ok(options) = Options::new(layout, has_bit(bits, 1), keep(bits), entry(entry_name)) else {
+        return Err(Cause::Excluded);
+    };
+    if has_bit(bits, 64) {
+        Ok(options.force_commons())
+    } else {
+        Ok(options)
+    }
+}
+
+/// The forced names, of eight bytes each.
+pub(crate) fn forced_names(bytes: &[u8]) -> Result<Forced, Refusal>
+    ensures { result ≡ forced_in bytes.now }
+{
+    if bytes.len() % 8 != 0 {
+        return Err(Refusal {
+            cause: Cause::CutNames,
+            place: 0,
+        });
+    }
+    let mut forced = Forced::none();
+    let mut rest = bytes;
+    for i in 0..bytes.len() / 8 {
+        let (slot, behind) = rest.split_at(8);
+        if !forced.push(Name::from_bytes(slot)) {
+            return Err(Refusal {
+                cause: Cause::ManyNames,
+                place: i,
+            });
+        }
+        rest = behind;
+    }
+    Ok(forced)
+}
+
+/// The options of nm, by their bits.
+pub(crate) fn nm_options(bits: u32) -> Result<NmOptions, Cause>
+    ensures { result ≡ nm_options_in bits }
+{
+    if bits > 31 {
+        return Err(Cause::NoOption);
+    }
+    Ok(NmOptions {
+        external: has_bit(bits, 1),
+        by_value: has_bit(bits, 2),
+        each_line: false,
+        table_order: has_bit(bits, 4),
+        reverse: has_bit(bits, 8),
+        undefined: has_bit(bits, 16),
+    })
+}
