@@ -23,9 +23,12 @@ abbrev pub added_unless : Option AddFault → List Contents → Contents → Res
 added_unless None os o = Ok (os ++ o ∷ [])
 added_unless (Some fault) os o = Err (NotAdded fault)
 
+abbrev pub with_object : List (List ℕ) → List Contents → Contents → Result (List Contents) Cause
+with_object forced os o = added_unless (refusal forced os o) os o
+
 -- the objects with the one that the bytes begin with
 abbrev pub with_first : List (List ℕ) → List Contents → List ℕ → Result (List Contents) Cause
-with_first forced os bytes = and_then (object_in bytes) (λ o. added_unless (refusal forced os o) os o)
+with_first forced os bytes = and_then (object_in bytes) (with_object forced os)
 
 -- the objects with those of the bytes, at most so many
 abbrev pub with_most : ℕ → List (List ℕ) → List Contents → List ℕ → Result (List Contents) Refusal
@@ -33,9 +36,12 @@ with_most zero forced os bytes = Ok os
 with_most (suc n) forced os [] = Ok os
 with_most (suc n) forced os (b ∷ bs) = and_then (at (length os) (with_first forced os (b ∷ bs))) (λ more. with_most n forced more (behind_file (b ∷ bs)))
 
--- all objects of the bytes: they are fewer than the bytes, since each takes 16 at least
+-- the objects with all those of the bytes, which are fewer than the bytes, since each takes 16 at least
+abbrev pub with_objects : List (List ℕ) → List Contents → List ℕ → Result (List Contents) Refusal
+with_objects forced os bytes = with_most (length bytes) forced os bytes
+
 abbrev pub objects_in : List (List ℕ) → List ℕ → Result (List Contents) Refusal
-objects_in forced bytes = with_most (length bytes) forced [] bytes
+objects_in forced bytes = with_objects forced [] bytes
 
 abbrev pub linked_or : Result Outcome LinkFault → Result Outcome Cause
 linked_or (Ok x) = Ok x

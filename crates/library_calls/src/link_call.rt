@@ -88,7 +88,7 @@ fn bytes_of(alloc: Global, linked: &Linked) -> Result<Program, Cause>
 /// `Memory`, 50, wherever memory runs out.
 pub fn link(alloc: Global, wanted: &Wanted<'_>, objects: &[u8]) -> Result<Program, Refusal>
     ensures ok { IfOk result (λ program. output_in wanted.now.options wanted.now.entry.now wanted.now.forced.now objects.now ≡ Ok (outputs_of program)) }
-    ensures err { IfErr result (λ refusal. refusal.cause ≢ Memory → output_in wanted.now.options wanted.now.entry.now wanted.now.forced.now objects.now ≡ Err refusal) }
+    ensures err { IfErr result (λ r. r.cause ≢ Memory → output_in wanted.now.options wanted.now.entry.now wanted.now.forced.now objects.now ≡ Err r) }
 {
     let options = link_options(wanted.options, wanted.entry)?;
     let forced = forced_names(wanted.forced)?;

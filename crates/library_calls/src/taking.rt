@@ -1,9 +1,8 @@
 //! Objects taken into a session from their bytes.
-ghost use Rattle.std.specs.Prelude.{◌≡◌, ◌≢◌, length, Ok, Err, IfOk, IfErr, OnErr};
-ghost use Rattle.link_session.specs.Edits.{refusal};
+ghost use Rattle.std.specs.Prelude.{◌≡◌, ◌≢◌, Ok, Err, IfOk, IfErr, OnErr};
 ghost use Rattle.link_session.specs.Labelled.{objects};
 ghost use Rattle.library_calls.specs.FileAnswers.{behind_file};
-ghost use Rattle.library_calls.specs.LinkAnswers.{added_unless, with_first, with_most};
+ghost use Rattle.library_calls.specs.LinkAnswers.{with_first, with_object, with_objects};
 ghost use Rattle.library_calls.specs.declared.cause.Cause.TheVariants.{Memory};
 
 use crate::cause::{Cause, Refusal};
@@ -15,8 +14,8 @@ use std::alloc::Global;
 /// Adds an object, without a label.
 fn add(alloc: Global, session: &mut Session, object: Object) -> Result<(), Cause>
     ensures forced { session.new.forced ≡ session.old.forced }
-    ensures ok { IfOk result (λ _. added_unless (refusal session.old.forced (objects session.old.entries) object) (objects session.old.entries) object ≡ Ok (objects session.new.entries)) }
-    ensures err { IfErr result (λ cause. cause ≢ Memory → added_unless (refusal session.old.forced (objects session.old.entries) object) (objects session.old.entries) object ≡ Err cause) }
+    ensures ok { IfOk result (λ _. with_object session.old.forced (objects session.old.entries) object ≡ Ok (objects session.new.entries)) }
+    ensures err { IfErr result (λ cause. cause ≢ Memory → with_object session.old.forced (objects session.old.entries) object ≡ Err cause) }
     ensures unchanged { OnErr result (session.new ≡ session.old) }
 {
     match session.add(String::new(alloc), object) {
@@ -45,8 +44,8 @@ pub(crate) fn take_objects(
     bytes: &[u8],
 ) -> Result<(), Refusal>
     ensures forced { session.new.forced ≡ session.old.forced }
-    ensures ok { IfOk result (λ _. with_most (length bytes.now) session.old.forced (objects session.old.entries) bytes.now ≡ Ok (objects session.new.entries)) }
-    ensures err { IfErr result (λ refusal. refusal.cause ≢ Memory → with_most (length bytes.now) session.old.forced (objects session.old.entries) bytes.now ≡ Err refusal) }
+    ensures ok { IfOk result (λ _. with_objects session.old.forced (objects session.old.entries) bytes.now ≡ Ok (objects session.new.entries)) }
+    ensures err { IfErr result (λ refusal. refusal.cause ≢ Memory → with_objects session.old.forced (objects session.old.entries) bytes.now ≡ Err refusal) }
 {
     let mut rest = bytes;
     for i in 0..bytes.len() {
