@@ -18,11 +18,11 @@ use Rattle.link_out.proofs.RunLemmas.{limit_is, within_limits}
 use Rattle.v7tools.specs.declared.fault.CliFault.{CliFault}
 use Rattle.v7tools.specs.declared.fault.CliFault.TheVariants as faults
 use Rattle.v7tools.specs.Inputs.{Cause, bad_file, bad_object, not_added, object_or, object_in, added_unless, kept_with, with_input}
-use Rattle.v7tools.specs.FaultTexts.{fault_at, fault_of_addition}
+use Rattle.v7tools.specs.FaultTexts.{fault_of_addition}
 use Rattle.v7tools.specs.Loads.{read_of, IsAtPath}
 use Rattle.v7tools.specs.LinkAnswers.{WantsMemory}
 use Rattle.v7tools.specs.parts.InputParts.{IsCheckOf}
-use Rattle.v7tools.specs.parts.StepParts.{IsFound, IsRefusal, IsAccepted, IsAddition, IsObjectAddition}
+use Rattle.v7tools.specs.parts.StepParts.{IsFound, IsAddition, IsObjectAddition}
 
 -- ---- what was read
 

@@ -1,11 +1,10 @@
 -- The inputs one after another, and the link of what is kept of them.
 use Rattle.std.specs.declared.alloc.Global.{Global}
-use Rattle.std.proofs.Common.{◌≡◌, ◌≢◌, ℕ, false, List, [], ◌∷◌, Option, Some, None, Result, Ok, Err, refl, sym, ap, ◌∙◌, subst, ◌⊎◌, inl, inr}
+use Rattle.std.proofs.Common.{◌≡◌, ◌≢◌, ℕ, false, List, [], ◌∷◌, Option, Some, None, Result, Ok, Err, refl, sym, ap, ◌∙◌, subst, inl, inr}
 use Rattle.std.specs.Prelude.{String, string_bytes, IfSome, IsErrAnd}
 use Rattle.aout_core.specs.declared.file.ReadFault.TheVariants as reads
 use Rattle.aout_core.specs.Contents.{Contents}
 use Rattle.aout_core.specs.Front.{front}
-use Rattle.aout_core.specs.Wires.{Latched}
 use Rattle.link_session.specs.declared.entry.AddFault.TheVariants as adds
 use Rattle.link_session.specs.Labelled.{Labelled, objects}
 use Rattle.link_session.specs.Sessions.{nothing_kept}
@@ -21,14 +20,11 @@ use Rattle.v7tools.specs.declared.fault.CliFault.{CliFault}
 use Rattle.v7tools.specs.declared.fault.CliFault.TheVariants as faults
 use Rattle.v7tools.specs.FaultTexts.{fault_at, fault_of_link}
 use Rattle.v7tools.specs.Inputs.{Cause, cannot_open, bad_file, bad_object, not_added, Refusal, of_input, not_linked, object_in, kept_with, with_input, with_inputs, at_path, and_then, link_or_refusal, linked}
-use Rattle.v7tools.specs.LinkAnswers.{Input, inputs_of, Said, said_by, refuses, breaks, runs_out, never, Takes, Rejects, WantsMemory, StopsAt, TakesAll, StopsIn, HasNoLink, LinksAll, LinksNone, IsLinkOver, and_told, told, IsTrueOf, IsLinkOfBytes, IsLinkOf}
+use Rattle.v7tools.specs.LinkAnswers.{Input, Said, said_by, refuses, breaks, runs_out, never, Takes, Rejects, WantsMemory, StopsAt, TakesAll, StopsIn, HasNoLink, IsLinkOver, and_told, told, IsTrueOf, IsLinkOfBytes, IsLinkOf}
 use Rattle.v7tools.specs.parts.InputParts.{AreTaken, IsPossible}
-use Rattle.v7tools.specs.parts.StepParts.{IsAccepted, IsAddition, IsFound, IsRefusal}
+use Rattle.v7tools.specs.parts.StepParts.{IsAccepted, IsAddition, IsFound}
 
 -- ---- one input
-
-abbrev input_at : String Global → Option (List ℕ) → Input
-input_at path known = record { path = string_bytes path; known = known; has_failed = false }
 
 -- an object that is added is taken
 pub takes_accepted : (i : Input) (old new : Kept) (o : Contents) → i.has_failed ≡ false → IsAccepted i.known old new i.path o → Takes old.forced old.entries i new.entries

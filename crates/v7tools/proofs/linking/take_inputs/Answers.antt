@@ -1,4 +1,4 @@
-use Rattle.std.proofs.Common.{◌≡◌, Ok, Err, refl, sym, subst, ◌∙◌, inl, inr, string_bytes}
+use Rattle.std.proofs.Common.{◌≡◌, Ok, refl, sym, subst, ◌∙◌, inl, inr, string_bytes}
 use Rattle.std.proofs.lemmas.List.{nil_from_length}
 use Rattle.v7tools.specs.LinkAnswers.{inputs_of, Input, said_by, StopsIn, TakesAll}
 use Rattle.v7tools.proofs.AdditionLemmas.{forced_kept}
