@@ -5,8 +5,8 @@
 
 mod links;
 mod listings;
-mod puts;
 mod sessions;
+mod wires;
 
 use std::alloc::Global;
 use std::io;
@@ -17,13 +17,15 @@ use std::process::ExitCode;
 enum Call {
     /// So many bytes are put.
     Put,
+    /// So many bytes are read.
+    Read,
     /// So many names are forced.
     Force,
     /// An object of so many names is added, linked and withdrawn.
     AddNames,
     /// A file of so many names is listed.
     ListNames,
-    /// A name is defined that so many words wait for, and the definition withdrawn.
+    /// A name is defined that so many words wait for, the words are linked, and the definition is withdrawn.
     BindWords,
     /// So many edits are run.
     RunEdits,
@@ -32,8 +34,9 @@ enum Call {
 }
 
 /// What is said of each call, and the last of its sizes. More names are no file, and more than 64 are not forced.
-static CALLS: [(&str, Call, u16); 7] = [
+static CALLS: [(&str, Call, u16); 8] = [
     ("bytes put", Call::Put, 5_000),
+    ("bytes read", Call::Read, 5_000),
     ("names forced", Call::Force, 64),
     ("names linked", Call::AddNames, 5_461),
     ("names listed", Call::ListNames, 1_500),
@@ -45,7 +48,8 @@ static CALLS: [(&str, Call, u16); 7] = [
 /// Whether a call comes out as it should at this size.
 fn is_right(alloc: Global, call: Call, size: u16) -> bool {
     match call {
-        Call::Put => puts::is_put(alloc, size),
+        Call::Put => wires::puts(alloc, size),
+        Call::Read => wires::reads(alloc, size),
         Call::Force => sessions::forces(alloc, size),
         Call::AddNames => sessions::adds_and_withdraws(alloc, size),
         Call::ListNames => listings::lists(alloc, size),

@@ -1,8 +1,8 @@
 //! Names that are forced, and objects that are added to a session, linked and withdrawn.
 use aout_core::Name;
 use fixtures::{adds, adds_names, file_of};
-use link_fixtures::{Output, output_of, plain};
-use link_out::{Keep, finish};
+use link_fixtures::{Output, output_of, plain, relocatable};
+use link_out::{Keep, Options, finish};
 use link_session::{Forced, Session};
 use std::alloc::{AllocError, Global};
 
@@ -81,7 +81,27 @@ fn has_marked(session: &Session, count: u16) -> bool {
     marks == count || marks == count + 1
 }
 
-/// Whether words that wait for a name are bound by its definition, and unbound by its withdrawal.
+/// Whether the link of a session with these options has so many words of text and data.
+fn links_words(alloc: Global, session: &Session, options: &Options, count: u16) -> bool {
+    match finish(alloc, session, options) {
+        Ok(linked) => {
+            let text = linked.file.text_words().len();
+            text.wrapping_add(linked.file.data_words().len()) == usize::from(count)
+        }
+        Err(_) => false,
+    }
+}
+
+/// The same of a link that keeps relocation.
+fn links_words_again(alloc: Global, session: &Session, count: u16) -> bool {
+    match relocatable(Keep::All) {
+        Ok(options) => links_words(alloc, session, &options, count),
+        Err(_) => false,
+    }
+}
+
+/// Whether words that wait for a name are bound by its definition and linked, and unbound by its withdrawal and linked with
+/// relocation.
 fn binds(alloc: Global, waiting: &[u8], defining: &[u8], count: u16) -> bool {
     let session = &mut Session::new(alloc);
     adds(
