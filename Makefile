@@ -72,7 +72,7 @@ crates/lesson/out/lesson: crates.txt $(shell find crates/aout_core crates/link_s
 check-manual: check-examples
 	cd man && mandoc -T lint *.1 *.5
 
-# the program with standard streams closed
+# the program with standard streams closed, and with words and files of each kind and number
 check-streams: build/v7
 	sh tests/streams.sh
 

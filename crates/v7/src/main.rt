@@ -5,7 +5,7 @@ use std::fs::File;
 use std::os::fd::AsRawFd;
 use std::process::ExitCode;
 use std::{env, fs, io};
-use v7tools::command;
+use v7tools::{command, words};
 
 /// Opens a folder at each descriptor below 3 that is closed, since a file that a command opens would else take the place
 /// of a standard stream. A folder is neither read nor written: what goes there is a read or a write error. (own choice)
@@ -21,19 +21,10 @@ fn hold_streams(rt: &HostRuntime) -> io::Result<Vec<File>> {
     Ok(held)
 }
 
-/// The words after the program's name.
-fn words(rt: &HostRuntime) -> io::Result<Vec<String>> {
-    let mut words = Vec::new(rt.alloc());
-    for word in env::args(rt)?.skip(1) {
-        words.push(word)?;
-    }
-    Ok(words)
-}
-
 /// The status of the command. The streams are held until it has ended.
 fn run(rt: &HostRuntime) -> io::Result<u8> {
     let _held = hold_streams(rt)?;
-    Ok(command(rt, words(rt)?))
+    Ok(command(rt, words(rt.alloc(), env::args(rt)?)?))
 }
 
 /// Runs the command. Words that are not UTF-8 are refused with `usage`.
