@@ -3,13 +3,13 @@
 # requests refused, and prints for each call how many refusals it met, and in how many runs what it needs beforehand was
 # refused. It fails where a call did something else, or where the last runs met a refusal still; and where the command was
 # refused and standard error is not one line, that there is no memory or that a file can't be opened or created, or where
-# it was not and there is a line.
+# it was not and there is a line; and where no run refused nm memory for its second list, or a withdrawal made a request.
 #
 # The program is built once. The toolchain refuses the request of a fixed number, and each run reads how many requests to
 # make before its calls do, so that another of theirs is refused.
 set -u
 cd "$(dirname "$0")/../crates/memory"
-requests=${1:-640}
+requests=${1:-760}
 work=$(mktemp -d)
 trap 'rm -rf "$work"' EXIT
 mkdir "$work/cases"
@@ -44,6 +44,22 @@ if ! awk '
     }
     END { exit is_wrong }
 ' "$work/log" "$work/errors"; then
+    exit 1
+fi
+# the list of the second file was refused memory in some run, and then the device had that of the first
+if ! grep -q '^nm, second list: refused$' "$work/log"; then
+    echo "no run refused the second list memory"
+    exit 1
+fi
+# the request behind the last one that adds objects is the one behind their withdrawals, which make none
+if ! awk '
+    /^request behind withdrawals: / {
+        if (before == "unready") { behind = $NF }
+        before = $NF
+    }
+    END { exit behind != "refused" }
+' "$work/log"; then
+    echo "a withdrawal asked for memory"
     exit 1
 fi
 if tail -n 200 "$work/log" | grep -qE ': (refused|unready)$'; then

@@ -3,7 +3,7 @@
 //! those that the calls make is refused. See tests/memory.sh.
 #![tactic(auto)]
 
-use memory_calls::{Outcome, commands, files, links, scripts, sessions};
+use memory_calls::{Outcome, commands, files, links, programs, scripts, sessions};
 use std::alloc::Global;
 use std::io;
 
@@ -30,6 +30,8 @@ fn call_files_and_sessions(rt: &HostRuntime) -> io::Result<()> {
     let outcome = sessions::adding_a_name_behind_forced(alloc);
     report(rt, "add, a name and forced", outcome)?;
     report(rt, "withdraw", sessions::withdrawing(alloc))?;
+    let outcome = sessions::asking_behind_withdrawals(alloc);
+    report(rt, "request behind withdrawals", outcome)?;
     report(rt, "views", sessions::looking(alloc))
 }
 
@@ -48,6 +50,7 @@ fn call_commands(rt: &HostRuntime) -> io::Result<()> {
     report(rt, "ld", commands::linking_inputs(alloc))?;
     report(rt, "nm", commands::listing(alloc))?;
     report(rt, "nm, by value", commands::listing_by_value(alloc))?;
+    report(rt, "nm, second list", programs::listing_behind(alloc))?;
     report(rt, "size", commands::sizing(alloc))?;
     report(rt, "line", commands::showing(alloc))
 }

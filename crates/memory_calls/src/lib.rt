@@ -5,6 +5,7 @@ pub mod commands;
 pub mod files;
 pub mod links;
 mod outcome;
+pub mod programs;
 pub mod scripts;
 pub mod sessions;
 

@@ -186,6 +186,24 @@ pub fn withdrawing(alloc: Global) -> Outcome {
     }
 }
 
+/// `k.o` and `l.o` are added to a session and taken out, and then memory is asked for.
+fn empty_and_ask(alloc: Global, session: &mut Session) -> Outcome {
+    if !adds(session, alloc, &[("k.o", &K_O), ("l.o", &L_O)]) {
+        return Outcome::Unready;
+    }
+    let are_out = is_withdrawn(session, "l.o", &L_O) && is_withdrawn(session, "k.o", &K_O);
+    match Vec::from_slice(alloc, &[0u8]) {
+        Ok(_) => Outcome::done(are_out),
+        Err(_) => Outcome::refused(are_out),
+    }
+}
+
+/// Objects are taken out of a session, and then memory is asked for: the next request behind those that add the objects,
+/// since to take them out takes no memory. tests/memory.sh looks whether it is the next.
+pub fn asking_behind_withdrawals(alloc: Global) -> Outcome {
+    empty_and_ask(alloc, &mut Session::new(alloc))
+}
+
 /// A return.
 const RETURN: Cell = Cell {
     value: 0o207,

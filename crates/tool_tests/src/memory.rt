@@ -1,5 +1,5 @@
 //! The calls that may be refused memory, while none is.
-use memory_calls::{Outcome, commands, files, links, scripts, sessions};
+use memory_calls::{Outcome, commands, files, links, programs, scripts, sessions};
 
 #[test]
 fn memory_refused_reading(rt: HostRuntime) {
@@ -40,6 +40,7 @@ fn memory_refused_commands(rt: HostRuntime) {
 fn memory_refused_listing(rt: HostRuntime) {
     assert!(rt; commands::listing(rt.alloc()) == Outcome::Done);
     assert!(rt; commands::listing_by_value(rt.alloc()) == Outcome::Done);
+    assert!(rt; programs::listing_behind(rt.alloc()) == Outcome::Done);
 }
 
 #[test]
@@ -58,6 +59,7 @@ fn memory_refused_steps(rt: HostRuntime) {
 fn no_memory_needed(rt: HostRuntime) {
     assert!(rt; files::handling(rt.alloc()) == Outcome::Done);
     assert!(rt; sessions::withdrawing(rt.alloc()) == Outcome::Done);
+    assert!(rt; sessions::asking_behind_withdrawals(rt.alloc()) == Outcome::Done);
     assert!(rt; sessions::looking(rt.alloc()) == Outcome::Done);
     assert!(rt; links::forcing_commons(rt.alloc()) == Outcome::Done);
     assert!(rt; links::reporting(rt.alloc()) == Outcome::Done);
