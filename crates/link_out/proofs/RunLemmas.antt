@@ -3,10 +3,10 @@ use Rattle.std.proofs.Common.{◌≡◌, ℕ, Bool, true, false, if◌then◌els
 use Rattle.std.specs.Prelude.{IfErr}
 use Rattle.std.proofs.lemmas.List.{append_assoc, map-append}
 use Rattle.std.specs.declared.alloc.Global.{Global}
+use Rattle.aout_core.specs.declared.symbol.Segment.TheVariants.{TextSeg, DataSeg, BssSeg}
 use Rattle.aout_core.specs.Contents.{Contents}
 use Rattle.link_session.specs.declared.entry.AddFault.{AddFault}
 use Rattle.link_session.specs.declared.entry.AddFault.TheVariants.{TextFull, DataFull, BssFull, NamesFull, Memory}
-use Rattle.aout_core.specs.declared.symbol.Segment.TheVariants.{TextSeg, DataSeg, BssSeg}
 use Rattle.link_session.specs.Mentions.{externals}
 use Rattle.link_session.specs.Starts.{total}
 use Rattle.link_session.specs.Labelled.{Labelled, objects}
@@ -17,7 +17,7 @@ use Rattle.link_out.specs.declared.edit.Edit.{Edit}
 use Rattle.link_out.specs.declared.edit.Reply.{Reply}
 use Rattle.link_out.specs.declared.edit.Reply.TheVariants as replies
 use Rattle.link_out.specs.Runs.{change_of, answer_of, HasAdded}
-use Rattle.link_out.specs.steps.Replies.{IsDone, IsReplied, AreDone, Lists}
+use Rattle.link_out.specs.steps.Replies.{IsDone, IsReplied, AreDone}
 
 -- an accepted addition
 pub added_done : (old new : Kept) (e : Labelled) → refusal old.forced (objects old.entries) e.object ≡ None → Adds old new e →
@@ -95,10 +95,6 @@ answers-one_more : (forced : List (List ℕ)) (kept : List Labelled) (cs : List 
 answers-one_more forced kept [] c = refl
 answers-one_more forced kept (d ∷ cs) c = ap (λ xs. answer_to forced kept d ∷ xs) (answers-one_more forced (kept_after forced kept d) cs c)
 
--- no changes
-pub none_done : (k : Kept) (replies : Option (Vec Reply Global)) → Lists replies [] → AreDone k k [] replies
-none_done k replies none = record { forced = refl; kept = refl; told = []; lists = none; answers = refl }
-
 -- an addition that is accepted, among other changes
 has_added_first : (a : Answer) (told : List Answer) → a ≡ added → HasAdded (a ∷ told)
 has_added_first a told is = subst (λ (b : Answer). HasAdded (b ∷ told)) (sym is) tt
@@ -128,9 +124,9 @@ pub if_error : {T E : Type 0} (r : Result T E) (P : Type 0) → P → IfErr r (�
 if_error (Ok x) P h = tt
 if_error (Err e) P h = h
 
--- the edits so far, and those left behind one more
-pub one_more_left : (all before rest left : List Edit) (edit : Edit) → all ≡ before ++ rest → rest ≡ edit ∷ left → all ≡ (before ++ edit ∷ []) ++ left
-one_more_left all before rest left edit order split = order ∙ ap (λ (r : List Edit). before ++ r) split ∙ sym (append_assoc before (edit ∷ []) left)
+-- a list so far, and what is left behind one more of its items
+pub one_more : {A : Type 0} (all before left later : List A) (x : A) → all ≡ before ++ left → left ≡ x ∷ later → all ≡ (before ++ x ∷ []) ++ later
+one_more {A} all before left later x order split = order ∙ ap (λ (l : List A). before ++ l) split ∙ sym (append_assoc before (x ∷ []) later)
 
 -- one more edit
 pub one_more_done : (old new last : Kept) (edits : List Edit) (edit : Edit) (replies next : Option (Vec Reply Global)) → AreDone old new (map change_of edits) replies →

@@ -30,10 +30,6 @@ pub all_behind : {A : Type 0} (P : A → Type 0) (xs : List A) (x : A) → AllBy
 all_behind P [] x h p = (p, tt)
 all_behind P (y ∷ ys) x h p = (h.0, all_behind P ys x h.1 p)
 
--- one more item taken off those that are left
-pub one_more : {A : Type 0} (all before left later : List A) (x : A) → all ≡ before ++ left → left ≡ x ∷ later → all ≡ (before ++ x ∷ []) ++ later
-one_more {A} all before left later x h e = h ∙ ap (λ (l : List A). before ++ l) e ∙ sym (append_assoc before (x ∷ []) later)
-
 -- none are left
 pub no_more : {A : Type 0} (all before left : List A) → all ≡ before ++ left → left ≡ [] → all ≡ before
 no_more {A} all before left h e = h ∙ ap (λ (l : List A). before ++ l) e ∙ append-nil before

@@ -5,12 +5,13 @@ use Rattle.std.specs.Prelude.{String, string_bytes, IfSome}
 use Rattle.aout_core.specs.Contents.{Contents}
 use Rattle.aout_core.specs.Front.{front}
 use Rattle.aout_core.specs.Strip.{stripped}
+use Rattle.link_out.proofs.RunLemmas.{one_more}
 use Rattle.v7tools.specs.Deeds.{Deed, History, Extends, Opened, opened, stored}
 use Rattle.v7tools.specs.FileRuns.{AreRead, IsStored, IsLoadAt, IsStripping, Loaded, Reads, ReadsNotAll, strips}
 use Rattle.v7tools.specs.declared.fault.CliFault.{CliFault}
 use Rattle.v7tools.specs.declared.office.Stored.{Stored}
 use Rattle.v7tools.specs.declared.office.Stored.TheVariants.{Kept, NotCreated, Failed}
-use Rattle.v7tools.proofs.DeedLemmas.{asked_behind, map-append, one_more}
+use Rattle.v7tools.proofs.DeedLemmas.{asked_behind, map-append}
 
 read_behind : (found : List Opened) (loaded : List Loaded) (known : Option (List ℕ)) (l : Loaded) → AreRead found loaded → IfSome known (λ bytes. front bytes ≡ Ok l.1) → AreRead (found ++ (string_bytes l.0, known) ∷ []) (loaded ++ l ∷ [])
 read_behind [] [] known l h k = ((refl, k), tt)

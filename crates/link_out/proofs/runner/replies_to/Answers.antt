@@ -1,6 +1,6 @@
 use Rattle.std.proofs.Common.{◌≡◌, ◌+◌, ◌++◌, ◌∷◌, length, arith, ap, subst, ◌∙◌}
 use Rattle.link_out.specs.steps.Replies.{HasRoom}
-use Rattle.link_out.proofs.RunLemmas.{accepted_among, if_error, one_more_done, one_more_left}
+use Rattle.link_out.proofs.RunLemmas.{accepted_among, if_error, one_more, one_more_done}
 use Rattle.link_out.proofs.runner.replies_to.Goals as goal
 
 pub loop-edit-preserved : goal.loop-edit-preserved
@@ -10,7 +10,7 @@ loop-edit-preserved c =
     let one : length (c.in-Some.edit ∷ left) ≡ 1 + length left = omega arith in
     record {
       done = one_more_done c.args.session.now c.loop-edit.session c.put_reply.new.session c.loop-edit.yielded c.in-Some.edit c.loop-edit.replies c.put_reply.new.replies c.loop-edit.invariant.done c.in_ok-put_reply.ensures.replied;
-      order = one_more_left c.args.edits.items c.loop-edit.yielded c.loop-edit.edit-iterator.rest.items left c.in-Some.edit c.loop-edit.invariant.order split;
+      order = one_more c.args.edits.items c.loop-edit.yielded c.loop-edit.edit-iterator.rest.items left c.in-Some.edit c.loop-edit.invariant.order split;
       room = c.in_ok-put_reply.ensures.room (length left) (subst (λ n. HasRoom n c.loop-edit.replies) (ap length split ∙ one) c.loop-edit.invariant.room);
     }
 
