@@ -1,0 +1,5 @@
+pub mod GnuForm
+pub mod GnuRefusals
+pub mod Converted
+pub mod Places
+pub mod steps

@@ -1,0 +1,68 @@
+-- The byte of a file at which a refusal stands, and the whole name of a symbol. (own choice)
+use Rattle.std.specs.Prelude.{◌≡◌, ℕ, ◌+◌, ◌*◌, ◌/◌, ◌<◌, ◌≤◌, nat_lt, if◌then◌else◌, List, take, length, None}
+use Rattle.aout_core.specs.declared.header.Header.{Header}
+use Rattle.aout_core.specs.declared.object.ObjectFault.{ObjectFault}
+use Rattle.aout_core.specs.declared.object.ObjectFault.TheVariants.{NotAnObject, NoRelocation, BadRelocation, BadSymbolNumber}
+use Rattle.aout_core.specs.Front.{header_in}
+use Rattle.aout_core.specs.Spelling.{relocation_at, symbols_at, file_length}
+use Rattle.gnu_objects.specs.declared.refusal.Refusal.{Refusal}
+use Rattle.gnu_objects.specs.declared.refusal.Refusal.TheVariants.{ShortHeader, BadMagic, OddSize, Truncated, BadStrings, Overlay, BadPlace, Stab, TooManySymbols, AlikeNames, StabWord, BadWord, Memory}
+use Rattle.gnu_objects.specs.declared.refusal.Size.{Size}
+use Rattle.gnu_objects.specs.declared.refusal.Size.TheVariants.{TextSize, DataSize, BssSize, SymbolSize}
+use Rattle.gnu_objects.specs.GnuForm.{symbol_at, strings_of, name_at}
+use Rattle.gnu_objects.specs.GnuRefusals.{header_refusal, strings_refusal}
+
+abbrev pub symbol_place : Header → ℕ → ℕ
+symbol_place h n = symbols_at h + 8 * n
+
+abbrev pub word_place : Header → ℕ → ℕ
+word_place h n = relocation_at h + 2 * n
+
+-- the word of the header that has the size
+abbrev pub size_place : Size → ℕ
+size_place TextSize = 2
+size_place DataSize = 4
+size_place BssSize = 6
+size_place SymbolSize = 8
+
+abbrev pub fault_place : Header → ObjectFault → ℕ
+fault_place h NotAnObject = 0
+fault_place h NoRelocation = 14
+fault_place h (BadRelocation n) = word_place h n
+fault_place h (BadSymbolNumber n) = word_place h n
+
+-- in a file of so many bytes; a file that is too short ends where it stands
+abbrev pub place_with : ℕ → Header → Refusal → ℕ
+place_with size h ShortHeader = size
+place_with size h (BadMagic magic) = 0
+place_with size h (OddSize which) = size_place which
+place_with size h Truncated = size
+place_with size h BadStrings = file_length h
+place_with size h (Overlay n) = symbol_place h n
+place_with size h (BadPlace n) = symbol_place h n
+place_with size h (Stab n) = symbol_place h n
+place_with size h (TooManySymbols count) = 8
+place_with size h (AlikeNames n m) = symbol_place h m
+place_with size h (StabWord n) = word_place h n
+place_with size h (BadWord fault) = fault_place h fault
+place_with size h Memory = 0
+
+abbrev pub place_of : List ℕ → Refusal → ℕ
+place_of bytes refusal =
+    if nat_lt (length bytes) 16 then length bytes else place_with (length bytes) (header_in (take 16 bytes)) refusal
+
+-- a file whose header and strings are not refused, and which has a symbol of this number
+pub record HasSymbolUnder (bytes : List ℕ) (h : Header) (n : ℕ) : Type 0 where
+  pub long : 16 ≤ length bytes
+  pub header : header_refusal (length bytes) h ≡ None
+  pub strings : strings_refusal bytes h ≡ None
+  pub within : n < h.symbol_size / 8
+
+abbrev pub HasSymbol : List ℕ → ℕ → Type 0
+HasSymbol bytes n = HasSymbolUnder bytes (header_in (take 16 bytes)) n
+
+abbrev pub whole_name_under : List ℕ → Header → ℕ → List ℕ
+whole_name_under bytes h n = name_at (strings_of bytes h) (symbol_at bytes (symbol_place h n)).place
+
+abbrev pub whole_name : List ℕ → ℕ → List ℕ
+whole_name bytes n = whole_name_under bytes (header_in (take 16 bytes)) n

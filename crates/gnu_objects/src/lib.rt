@@ -1,0 +1,22 @@
+//! Objects in the form of GNU's assembler for the PDP-11 (`pdp11-aout`), and the objects of the Seventh Edition that
+//! they are.
+//!
+//! Header, text, data and relocation words are the same in both. A symbol of GNU's form has 8 bytes, of which a word
+//! is the place of its name in a table of strings behind the symbols. docs/OBJECTS.md tells how such objects are made.
+#![tactic(auto)]
+
+mod bytes;
+mod checks;
+mod conversion;
+mod names;
+mod places;
+mod refusal;
+mod symbols;
+#[cfg(test)]
+mod tests;
+mod words;
+
+pub use conversion::convert;
+pub use places::{place_of, whole_name};
+pub use refusal::{Refusal, Size};
+pub use symbols::GnuSymbol;

@@ -1,0 +1,88 @@
+//! Where in a file a refusal stands, and the whole names of symbols.
+ghost use Rattle.std.specs.Prelude.{◌≡◌, ◌≢◌, []};
+ghost use Rattle.gnu_objects.specs.Places.{symbol_place, word_place, size_place, fault_place, place_of, whole_name, HasSymbol};
+
+use crate::checks::{header_refusal, strings_at, strings_refusal, symbols_at};
+use crate::conversion::{header_of, strings_of};
+use crate::names::name_at;
+use crate::refusal::{Refusal, Size};
+use crate::symbols::symbol_at;
+use aout_core::{Header, ObjectFault};
+
+/// The place of a symbol.
+fn symbol_place(header: &Header, n: u16) -> usize
+    ensures { result ≡ symbol_place header.now n }
+{
+    symbols_at(header) + 8 * usize::from(n)
+}
+
+/// The place of a relocation word.
+fn word_place(header: &Header, n: u16) -> usize
+    ensures { result ≡ word_place header.now n }
+{
+    16 + usize::from(header.text_size) + usize::from(header.data_size) + 2 * usize::from(n)
+}
+
+fn size_place(size: Size) -> usize
+    ensures { result ≡ size_place size }
+{
+    match size {
+        Size::TextSize => 2,
+        Size::DataSize => 4,
+        Size::BssSize => 6,
+        Size::SymbolSize => 8,
+    }
+}
+
+fn fault_place(header: &Header, fault: ObjectFault) -> usize
+    ensures { result ≡ fault_place header.now fault }
+{
+    match fault {
+        ObjectFault::NotAnObject => 0,
+        ObjectFault::NoRelocation => 14,
+        ObjectFault::BadRelocation(n) | ObjectFault::BadSymbolNumber(n) => word_place(header, n),
+    }
+}
+
+/// The byte of the file at which a refusal of `convert` stands: a word of the header, the length of the strings, a
+/// symbol, of two the second, or a relocation word; and the end of a file that is too short. (own choice)
+pub fn place_of(bytes: &[u8], refusal: Refusal) -> usize
+    ensures { result ≡ place_of bytes.now refusal }
+{
+    if bytes.len() < 16 {
+        return bytes.len();
+    }
+    let header = header_of(bytes);
+    match refusal {
+        Refusal::ShortHeader | Refusal::Truncated => bytes.len(),
+        Refusal::BadMagic(_) | Refusal::Memory => 0,
+        Refusal::OddSize(size) => size_place(size),
+        Refusal::BadStrings => strings_at(&header),
+        Refusal::Overlay(n) | Refusal::BadPlace(n) | Refusal::Stab(n) => symbol_place(&header, n),
+        Refusal::TooManySymbols(_) => 8,
+        Refusal::AlikeNames(_, n) => symbol_place(&header, n),
+        Refusal::StabWord(n) => word_place(&header, n),
+        Refusal::BadWord(fault) => fault_place(&header, fault),
+    }
+}
+
+/// The whole name of symbol `n`; no bytes where the file is refused for its header or its strings, or has no such
+/// symbol. (own choice)
+pub fn whole_name(bytes: &[u8], n: u16) -> &[u8]
+    ensures name { HasSymbol bytes.now n → (result.now ≡ whole_name bytes.now n) }
+    ensures none { result.now ≢ [] → HasSymbol bytes.now n }
+{
+    if bytes.len() < 16 {
+        return &bytes[..0];
+    }
+    let header = header_of(bytes);
+    let refusal = header_refusal(bytes.len(), &header);
+    if refusal.is_some()
+        || n >= header.symbol_size / 8
+        || strings_refusal(bytes, &header).is_some()
+    {
+        return &bytes[..0];
+    }
+    let symbol = symbol_at(bytes, symbol_place(&header, n));
+    name_at(strings_of(bytes, &header), symbol.place)
+}
