@@ -3,7 +3,7 @@ PREFIX ?= /usr/local
 
 .PHONY: all demo test wrong-bodies memory bench instructions simulate lesson check-manual check-examples check-streams install clean
 
-all: build/v7
+all: build/v7 build/v7-from-gnu
 
 SOURCES := crates.txt $(shell find crates -name out -prune -o -type f -print)
 
@@ -16,6 +16,14 @@ build/v7: crates/v7/out/v7
 crates/v7/out/v7: $(SOURCES)
 	cd crates/v7 && rt run -- ld -s -o /dev/null $(CURDIR)/examples/a.o
 	touch crates/v7/out/v7
+
+build/v7-from-gnu: crates/v7_from_gnu/out/v7_from_gnu
+	mkdir -p build
+	cp crates/v7_from_gnu/out/v7_from_gnu build/v7-from-gnu
+
+crates/v7_from_gnu/out/v7_from_gnu: crates.txt $(shell find crates/aout_core crates/gnu_objects crates/v7_from_gnu -name out -prune -o -type f -print)
+	cd crates/v7_from_gnu && rt run -- $(CURDIR)/examples/squares.gnu /dev/null
+	touch crates/v7_from_gnu/out/v7_from_gnu
 
 # runs a session and compares its answers, links two small objects and compares the program, and shows its 24 bytes
 demo: build/v7
@@ -77,19 +85,22 @@ check-streams: build/v7
 	sh tests/streams.sh
 
 # the examples of the manual pages and of the documents come out as shown; the gate leaves the programs that they need
-check-examples: build/v7 build/lesson
+check-examples: build/v7 build/v7-from-gnu build/lesson
 	cmp crates/write_object/stdout examples/main.o
 	cmp crates/lesson/data/k.o examples/k.o
 	cmp crates/lesson/data/l.o examples/l.o
+	cmp crates/v7_from_gnu/data/squares.gnu examples/squares.gnu
 	sh tests/heads.sh
 	sh tests/manual.sh
 
-# the program, and its manual pages
-install: build/v7
-	mkdir -p $(DESTDIR)$(PREFIX)/bin $(DESTDIR)$(PREFIX)/share/man/man1 $(DESTDIR)$(PREFIX)/share/man/man5
-	cp build/v7 $(DESTDIR)$(PREFIX)/bin/v7
-	cp man/*.1 $(DESTDIR)$(PREFIX)/share/man/man1
-	cp man/*.5 $(DESTDIR)$(PREFIX)/share/man/man5
+# the programs, their manual pages, the documents and the examples
+SHARE = $(DESTDIR)$(PREFIX)/share
+install: build/v7 build/v7-from-gnu
+	mkdir -p $(DESTDIR)$(PREFIX)/bin $(SHARE)/man/man1 $(SHARE)/man/man5 $(SHARE)/doc/v7
+	cp build/v7 build/v7-from-gnu $(DESTDIR)$(PREFIX)/bin
+	cp man/*.1 $(SHARE)/man/man1
+	cp man/*.5 $(SHARE)/man/man5
+	cp -R README.md CHANGES.md docs examples $(SHARE)/doc/v7
 
 clean:
 	rm -rf build

@@ -5,7 +5,7 @@
 # behind "> " to the program, and all others are what is shown, standard error too. Each file has a new copy of the
 # folder examples, and its commands run in one shell, so that each sees what those before it left.
 #
-# usage: tests/manual.sh [FILE...]       the program has to stand in build/v7
+# usage: tests/manual.sh [FILE...]       the programs have to stand in build
 set -u
 cd "$(dirname "$0")/.."
 top=$PWD
