@@ -101,6 +101,7 @@ install: build/v7 build/v7-from-gnu
 	cp man/*.1 $(SHARE)/man/man1
 	cp man/*.5 $(SHARE)/man/man5
 	cp -R README.md CHANGES.md docs examples $(SHARE)/doc/v7
+	rm $(SHARE)/doc/v7/examples/.gitignore
 
 clean:
 	rm -rf build
