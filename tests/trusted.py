@@ -20,7 +20,7 @@ STEPS = ["steps", "parts"]
 IDS = ["command_words"]
 
 os.chdir(os.path.join(os.path.dirname(os.path.abspath(__file__)), ".."))
-LIBRARIES = ["aout_core", "link_session", "link_out", "symtools", "command_words", "v7tools"]
+LIBRARIES = ["aout_core", "link_session", "link_out", "symtools", "command_words", "v7tools", "gnu_objects", "library_calls"]
 IMPORT = re.compile(
     r"^ *(?:pub )?(?:ghost )?use Rattle\.(\w+)\.(specs|proofs)\.([\w.]+?)(?:\.\{([^}]*)\}|(?: as (\w+))?);?$"
 )
