@@ -6,6 +6,8 @@ use Rattle.std.proofs.Math.Seq.{take-append-add}
 use Rattle.std.specs.List.{position, position_or_len}
 use Rattle.std.proofs.lemmas.List.Recursion.{is_position_or_len}
 use Rattle.std.proofs.lemmas.List.Sums.{prefix_len-le-length}
+use Rattle.std.specs.Prelude.{nat_eq}
+use Rattle.std.specs.Cmp.Lexicographic.{pointwise, same_text, other_text}
 use Rattle.aout_core.specs.Names.{before_nul, padded}
 
 length-chosen : (c : Bool) (b : ℕ) (xs : List ℕ) → length (if c then [] else b ∷ xs) ≡ cond c 0 (1 + length xs)
@@ -80,3 +82,13 @@ laid_out xs bytes end e b =
     let view : before_nul bytes ≡ take 8 name = ap before_nul form ∙ before_nul-cut_and_padded xs 8 (8 - end) in
     let pads : padded (take 8 name) ≡ take 8 name ++ replicate (8 - end) 0 = padded-short (take 8 name) end long most in
     (view, ap padded view ∙ pads ∙ sym form)
+
+-- padded names are alike exactly where the names are
+pub padded_alike : (a b : List ℕ) → padded (before_nul a) ≡ a → padded (before_nul b) ≡ b → pointwise nat_eq a b ≡ pointwise nat_eq (before_nul a) (before_nul b)
+padded_alike a b p q = by (pointwise nat_eq a b) refl (pointwise nat_eq (before_nul a) (before_nul b)) refl
+  where
+    by : (x : Bool) → x ≡ pointwise nat_eq a b → (y : Bool) → y ≡ pointwise nat_eq (before_nul a) (before_nul b) → x ≡ y
+    by true e true f = refl
+    by false e false f = refl
+    by true e false f = absurd (other_text (before_nul a) (before_nul b) f (ap before_nul (same_text a b e)))
+    by false e true f = absurd (other_text a b e (sym p ∙ ap padded (same_text (before_nul a) (before_nul b) f) ∙ q))

@@ -1,5 +1,7 @@
 -- An entry by its twelve bytes.
-use Rattle.std.proofs.Common.{◌≡◌, ℕ, ◌+◌, ◌*◌, ◌≤◌, List, [], ◌∷◌, length, take, slice_index_or, refl, ◌∙◌, arith, length-take, take_all}
+use borrow.Rule.Slice.PartMut.{put_mid}
+use Rattle.std.proofs.lemmas.List.{drop_all}
+use Rattle.std.proofs.Common.{◌≡◌, ℕ, ◌+◌, ◌*◌, ◌≤◌, List, [], ◌∷◌, ◌++◌, length, take, drop, slice_index_or, refl, sym, ap, ◌∙◌, arith, append_assoc, append-nil, length-append, length-drop, length-take, take_all, take_at, drop_at}
 use Rattle.std.specs.Prelude.{slice_index}
 use Rattle.byteorder.specs.Endian.{little_number}
 use Rattle.aout_core.specs.declared.symbol.Symbol.{Symbol}
@@ -31,3 +33,22 @@ symbol_in-twelve bytes name type_bits value long n t v =
     let first : type_bits ≡ slice_index (words_in (part 8 4 bytes)) 0 = t ∙ here.0 ∙ rw words refl in
     let second : value ≡ slice_index (words_in (part 8 4 bytes)) 1 = v ∙ here.1 ∙ rw words refl in
     λ i. record { name = whole i; type_bits = first i; value = second i }
+
+-- an entry as the code writes it over twelve bytes
+pub twelve_laid : (name bytes first second : List ℕ) → length name ≡ 8 → length bytes ≡ 12 → length first ≡ 2 → length second ≡ 2 →
+    put_mid 10 2 (put_mid 8 2 (name ++ drop 8 bytes) first) second ≡ name ++ (first ++ second)
+twelve_laid name bytes first second n b f s =
+    let tail = drop 8 bytes in
+    let rest = drop 2 tail in
+    let behind : drop 2 rest ≡ [] = drop_all 2 rest (omega (arith, length-drop 8 bytes, length-drop 2 tail)) in
+    let one : put_mid 8 2 (name ++ tail) first ≡ (name ++ first) ++ rest =
+    ap (λ l. l ++ (first ++ drop 2 (drop 8 (name ++ tail)))) (take_at name tail 8 n)
+    ∙ ap (λ l. name ++ (first ++ drop 2 l)) (drop_at name tail 8 n)
+    ∙ sym (append_assoc name first rest) in
+    let ten : length (name ++ first) ≡ 10 = omega (arith, length-append name first) in
+    ap (λ l. put_mid 10 2 l second) one
+    ∙ ap (λ l. l ++ (second ++ drop 2 (drop 10 ((name ++ first) ++ rest)))) (take_at (name ++ first) rest 10 ten)
+    ∙ ap (λ l. (name ++ first) ++ (second ++ drop 2 l)) (drop_at (name ++ first) rest 10 ten)
+    ∙ ap (λ l. (name ++ first) ++ (second ++ l)) behind
+    ∙ ap (λ l. (name ++ first) ++ l) (append-nil second)
+    ∙ append_assoc name first second

@@ -118,8 +118,11 @@ impl Item for Symbol {
         }
     }
 
+    /// The name is padded with NULs.
     fn spell(&self, bytes: &mut [u8]) {
-        bytes.copy_from_slice(&self.to_bytes());
+        bytes[..8].copy_from_slice(&self.name.to_padded());
+        self.type_bits.spell(&mut bytes[8..10]);
+        self.value.spell(&mut bytes[10..12]);
     }
 }
 

@@ -90,7 +90,7 @@ impl PartialEq for Name {
     ghost laws = { partial_equiv_from_equiv nat_list_eq_equiv };
 
     fn eq(&self, other: &Name) -> bool {
-        self.as_bytes() == other.as_bytes()
+        self.padded_bytes == other.padded_bytes
     }
 }
 

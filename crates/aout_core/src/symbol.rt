@@ -1,10 +1,8 @@
 //! Symbols.
 ghost use Rattle.std.specs.Prelude.{◌≡◌};
 ghost use Rattle.aout_core.specs.WellFormed.{is_external, segment_of};
-ghost use Rattle.aout_core.specs.Spelling.{symbol_spelling};
 
 use crate::name::Name;
-use crate::word::word_bytes;
 
 /// A symbol of the symbol table, 12 bytes long. (a.out(5))
 #[derive(Clone, Copy, Debug, PartialEq, Eq)]
@@ -49,17 +47,5 @@ impl Symbol {
             4 => Segment::BssSeg,
             _ => Segment::Other,
         }
-    }
-
-    /// The 12 bytes that encode the symbol, its name padded with NULs.
-    pub(crate) fn to_bytes(&self) -> [u8; 12]
-        ensures { result ≡ symbol_spelling self.now }
-    {
-        let [a, b, c, d, e, f, g, h] = self.name.to_padded();
-        let [type_low, type_high] = word_bytes(self.type_bits);
-        let [value_low, value_high] = word_bytes(self.value);
-        [
-            a, b, c, d, e, f, g, h, type_low, type_high, value_low, value_high,
-        ]
     }
 }
