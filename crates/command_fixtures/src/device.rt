@@ -27,6 +27,15 @@ fn list<R: Files + AllocGlobal>(rt: &R, word: &str, line: &str) -> io::Result<()
     append(rt, "asked", line.as_bytes())
 }
 
+/// Fails where this request, a word and a path, is the one to refuse.
+fn refuse<R: AllocGlobal>(rt: &R, refused: &str, word: &str, path: &str) -> io::Result<()> {
+    let line = format!(in rt.alloc(); "{word} {path}")?;
+    if line.as_str() == refused {
+        return Err(Error::from(ErrorKind::PermissionDenied));
+    }
+    Ok(())
+}
+
 /// Lists a request, a word and a path, and fails where it is the one to refuse.
 pub fn ask<R: Files + AllocGlobal>(
     rt: &R,
@@ -36,13 +45,11 @@ pub fn ask<R: Files + AllocGlobal>(
 ) -> io::Result<()> {
     let line = format!(in rt.alloc(); "{word} {path}\n")?;
     list(rt, word, line.as_str())?;
-    if line.strip_suffix('\n') == Some(refused) {
-        return Err(Error::from(ErrorKind::PermissionDenied));
-    }
-    Ok(())
+    refuse(rt, refused, word, path)
 }
 
-/// An open file of a console. Its first write is listed as `write`, and those behind it as `write more`.
+/// An open file of a console. Its first write is listed as `write`, and those behind it as `write more`. A flush is not
+/// listed, but fails where it is the request to refuse.
 #[derive(Drop)]
 pub struct Device<'a, R, F> {
     rt: &'a R,
@@ -84,6 +91,7 @@ impl<R: Runtime + AllocGlobal, F: Write + Drop> Write for Device<'_, R, F> {
     }
 
     fn flush(&mut self) -> io::Result<()> {
+        refuse(self.rt, self.refused, "flush", self.path.as_str())?;
         self.file.flush()
     }
 }

@@ -15,7 +15,7 @@ const LD: Case<'_> = Case {
     left: ("out", &UNDEFINED),
 };
 
-static LD_CASES: [Case<'static>; 7] = [
+static LD_CASES: [Case<'static>; 8] = [
     LD,
     Case {
         refused: "open g.o",
@@ -43,6 +43,12 @@ static LD_CASES: [Case<'static>; 7] = [
         want: (2, "", "v7: write error\n"),
         asked: "open c.o\nopen g.o\nread c.o\nread g.o\ncreate out\nwrite out\nwrite stderr\n",
         left: ("out", &[]),
+        ..LD
+    },
+    Case {
+        refused: "flush out",
+        want: (2, "", "v7: write error\n"),
+        asked: "open c.o\nopen g.o\nread c.o\nread g.o\ncreate out\nwrite out\nwrite stderr\n",
         ..LD
     },
     Case {
@@ -130,7 +136,7 @@ create a.o\nwrite a.o\ncreate b.o\nwrite stderr\n",
     ..STRIP
 };
 
-static STRIP_CASES: [Case<'static>; 6] = [
+static STRIP_CASES: [Case<'static>; 7] = [
     STRIP,
     STRIP_IN_PART,
     Case {
@@ -143,6 +149,14 @@ static STRIP_CASES: [Case<'static>; 6] = [
     },
     Case {
         refused: "write b.o",
+        want: (2, "", "v7: write error\n"),
+        asked: "open a.o\nread a.o\nopen b.o\nread b.o\nopen d.o\nread d.o\n\
+create a.o\nwrite a.o\ncreate b.o\nwrite b.o\nwrite stderr\n",
+        left: ("d.o", &D_O),
+        ..STRIP
+    },
+    Case {
+        refused: "flush b.o",
         want: (2, "", "v7: write error\n"),
         asked: "open a.o\nread a.o\nopen b.o\nread b.o\nopen d.o\nread d.o\n\
 create a.o\nwrite a.o\ncreate b.o\nwrite b.o\nwrite stderr\n",

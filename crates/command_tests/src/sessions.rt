@@ -95,7 +95,7 @@ const ALONE: [u8; 20] = [
     0xf7, 0x09, 0xfc, 0xff,
 ];
 
-static BEHIND_A_REFUSAL: [Case<'static>; 5] = [
+static BEHIND_A_REFUSAL: [Case<'static>; 6] = [
     Case {
         refused: "create out",
         want: (
@@ -116,6 +116,15 @@ create out\nwrite stdout\n",
             "",
         ),
         left: ("out", &[]),
+        ..LINKED
+    },
+    Case {
+        refused: "flush out",
+        want: (
+            1,
+            "added c.o\nadded d.o\nout: write error\nwithdrew d.o\n",
+            "",
+        ),
         ..LINKED
     },
     Case {
