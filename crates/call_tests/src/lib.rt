@@ -1,0 +1,7 @@
+//! Tests of the calls that take bytes and give bytes.
+#![tactic(auto)]
+
+#[cfg(test)]
+mod files;
+#[cfg(test)]
+mod links;
