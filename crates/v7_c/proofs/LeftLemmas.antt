@@ -1,0 +1,51 @@
+-- What a call leaves, by what the library returned.
+use Rattle.std.proofs.Common.{◌≡◌, ℕ, Bool, true, false, cond, nat_lt, ◌||◌, List, length, Result, Ok, Err, refl, sym, ap, ◌∙◌, arith}
+use Rattle.aout_core.specs.declared.object.ObjectFault.TheVariants as objects
+use Rattle.library_calls.specs.declared.cause.Cause.{Cause}
+use Rattle.library_calls.specs.declared.cause.Cause.TheVariants.{NoOption, Excluded, LongName, CutNames, ManyNames, BadFile, BadObject, NotAdded, NotLinked, Memory}
+use Rattle.library_calls.specs.declared.cause.Refusal.{Refusal}
+use Rattle.library_calls.specs.declared.link_call.Program.{Program}
+use Rattle.library_calls.specs.Causes.{number_of, word_of}
+use Rattle.v7_c.specs.declared.answer.Answer.{Answer}
+use Rattle.v7_c.specs.Left.{LinkLeft, put_in, refused, given, link_left, output_left, no_output, outputs_or}
+
+-- a cause of the number of no memory lies in no word
+no_word : (cause : Cause) → number_of cause ≡ 50 → word_of cause ≡ 0
+no_word NoOption h = refl
+no_word Excluded h = refl
+no_word LongName h = refl
+no_word CutNames h = refl
+no_word ManyNames h = refl
+no_word (BadFile fault) h = refl
+no_word (BadObject objects.NotAnObject) h = refl
+no_word (BadObject objects.NoRelocation) h = refl
+no_word (BadObject (objects.BadRelocation index)) h = let e : 23 ≡ 50 = h in absurd (omega (arith, e))
+no_word (BadObject (objects.BadSymbolNumber index)) h = let e : 24 ≡ 50 = h in absurd (omega (arith, e))
+no_word (NotAdded fault) h = refl
+no_word (NotLinked fault) h = refl
+no_word Memory h = refl
+
+abbrev answer_with : ℕ → ℕ → ℕ → Answer
+answer_with fault place word = record { fault = fault; word = word; place = place; size = 0; report_size = 0 }
+
+-- and is answered as no memory is
+no_memory : (r : Refusal) → number_of r.cause ≡ 50 → refused r ≡ answer_with 50 r.place 0
+no_memory r h = ap (λ (n : ℕ). answer_with n r.place (word_of r.cause)) h ∙ ap (answer_with 50 r.place) (no_word r.cause h)
+
+-- a call that gives bytes, or has no room for them, is not answered as one without memory
+not_memory : (b : Bool) (x y : LinkLeft) → x.answer.fault ≡ 60 → y.answer.fault ≡ 0 → (cond b x y).answer.fault ≡ 50 → ⊥
+not_memory true x y hx hy h = absurd (omega (arith, sym hx ∙ h))
+not_memory false x y hx hy h = absurd (omega (arith, sym hy ∙ h))
+
+module _ (status : ℕ) (answer : Answer) (old new report_old report_new : List ℕ) where
+  pub output_memory : (r : Result Program Refusal) → link_left status answer new report_new ≡ output_left (outputs_or r) old report_old → answer.fault ≡ 50 →
+      link_left status answer new report_new ≡ no_output answer.place old report_old
+  output_memory (Ok p) is h =
+      absurd (not_memory (nat_lt (length old) (length p.file.items) || nat_lt (length report_old) (length p.report.items))
+      (link_left 2 (given 60 (length p.file.items) (length p.report.items)) old report_old)
+      (link_left p.status (given 0 (length p.file.items) (length p.report.items)) (put_in old p.file.items) (put_in report_old p.report.items))
+      refl refl (sym (ap (λ (l : LinkLeft). l.answer.fault) is) ∙ h))
+  output_memory (Err refusal) is h =
+      is
+      ∙ ap (λ (a : Answer). link_left 2 a old report_old) (no_memory refusal (sym (ap (λ (l : LinkLeft). l.answer.fault) is) ∙ h))
+      ∙ ap (λ place. no_output place old report_old) (sym (ap (λ (l : LinkLeft). l.answer.place) is))
