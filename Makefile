@@ -1,7 +1,7 @@
 # v7: see README.md. The command `rt` of the Rattle kit has to be on the PATH.
 PREFIX ?= /usr/local
 
-.PHONY: all demo test wrong-bodies memory bench instructions simulate lesson check-manual check-examples check-streams install clean
+.PHONY: all demo lib check-lib test wrong-bodies memory bench instructions simulate lesson check-manual check-examples check-streams install clean
 
 all: build/v7 build/v7-from-gnu
 
@@ -24,6 +24,28 @@ build/v7-from-gnu: crates/v7_from_gnu/out/v7_from_gnu
 crates/v7_from_gnu/out/v7_from_gnu: crates.txt $(shell find crates/aout_core crates/gnu_objects crates/v7_from_gnu -name out -prune -o -type f -print)
 	cd crates/v7_from_gnu && rt run -- $(CURDIR)/examples/squares.gnu /dev/null
 	touch crates/v7_from_gnu/out/v7_from_gnu
+
+# the linker as a library, for C and for what can call C: include/v7.h. Of the C library it calls no more than
+# `malloc`, `realloc` and `free`, through the kit's c/liblibc_c.a, which libv7.so holds
+KIT = $(dir $(shell rt doc))
+
+lib: build/libv7.a build/libv7.so
+
+build/libv7.a: crates/v7_c/out/libv7_c.a
+	mkdir -p build
+	cp crates/v7_c/out/libv7_c.a build/libv7.a
+
+build/libv7.so: build/libv7.a
+	$(CC) -shared -o build/libv7.so -Wl,--whole-archive build/libv7.a -Wl,--no-whole-archive $(KIT)c/liblibc_c.a
+
+LIBRARY_CRATES := $(addprefix crates/,aout_core link_session link_out symtools library_calls v7_c)
+crates/v7_c/out/libv7_c.a: crates.txt $(shell find $(LIBRARY_CRATES) -name out -prune -o -type f -print)
+	cd crates/v7_c && rt lib
+	touch crates/v7_c/out/libv7_c.a
+
+# compiles the examples in C and Rust, runs them and that in Python, and compares what they link with what v7 links
+check-lib: lib build/v7
+	CC='$(CC)' sh tests/library.sh $(KIT)c/liblibc_c.a
 
 # runs a session and compares its answers, links two small objects and compares the program, and shows its 24 bytes
 demo: build/v7
@@ -93,7 +115,7 @@ check-examples: build/v7 build/v7-from-gnu build/lesson
 	sh tests/heads.sh
 	sh tests/manual.sh
 
-# the programs, their manual pages, the documents and the examples
+# the programs, their manual pages, the documents and the examples; and the library, where `make lib` made it
 SHARE = $(DESTDIR)$(PREFIX)/share
 install: build/v7 build/v7-from-gnu
 	mkdir -p $(DESTDIR)$(PREFIX)/bin $(SHARE)/man/man1 $(SHARE)/man/man5 $(SHARE)/doc/v7
@@ -102,6 +124,10 @@ install: build/v7 build/v7-from-gnu
 	cp man/*.5 $(SHARE)/man/man5
 	cp -R README.md CHANGES.md docs examples $(SHARE)/doc/v7
 	rm $(SHARE)/doc/v7/examples/.gitignore
+	if test -f build/libv7.so; then \
+		mkdir -p $(DESTDIR)$(PREFIX)/lib $(DESTDIR)$(PREFIX)/include && \
+		cp build/libv7.a build/libv7.so $(DESTDIR)$(PREFIX)/lib && cp include/v7.h $(DESTDIR)$(PREFIX)/include; \
+	fi
 
 clean:
 	rm -rf build

@@ -1,0 +1,77 @@
+//! Links objects by libv7: `link OUT OBJECT...` does what `v7 ld -o OUT OBJECT...` does.
+//!
+//! `rustc -O link.rs -C link-arg=libv7.a -C link-arg=KIT/c/liblibc_c.a` compiles it.
+use std::{env, fs, process};
+
+/// `struct v7_answer` of v7.h.
+#[repr(C)]
+#[derive(Default)]
+struct Answer {
+    fault: u32,
+    word: u32,
+    place: usize,
+    size: usize,
+    report_size: usize,
+}
+
+unsafe extern "C" {
+    fn v7_link(
+        options: u32,
+        entry: *const u8,
+        entry_size: usize,
+        forced: *const u8,
+        forced_size: usize,
+        objects: *const u8,
+        objects_size: usize,
+        room: *mut u8,
+        room_size: usize,
+        report: *mut u8,
+        report_size: usize,
+        answer: *mut Answer,
+    ) -> u32;
+}
+
+const NO_ROOM: u32 = 60;
+
+/// Links into rooms of these sizes.
+fn link_into(objects: &[u8], size: usize, report_size: usize) -> (u32, Vec<u8>, Vec<u8>, Answer) {
+    let (mut room, mut report) = (vec![0; size], vec![0; report_size]);
+    let mut answer = Answer::default();
+    // the slices live until the call returns, and none of their pointers is null
+    let status = unsafe {
+        v7_link(
+            0,
+            [].as_ptr(),
+            0,
+            [].as_ptr(),
+            0,
+            objects.as_ptr(),
+            objects.len(),
+            room.as_mut_ptr(),
+            size,
+            report.as_mut_ptr(),
+            report_size,
+            &mut answer,
+        )
+    };
+    (status, room, report, answer)
+}
+
+fn main() {
+    let words: Vec<String> = env::args().skip(1).collect();
+    let mut objects = Vec::new();
+    for path in &words[1..] {
+        objects.extend(fs::read(path).expect("an object"));
+    }
+    let (mut status, mut room, mut report, mut answer) = link_into(&objects, 0, 0);
+    if answer.fault == NO_ROOM {
+        (status, room, report, answer) = link_into(&objects, answer.size, answer.report_size);
+    }
+    if answer.fault != 0 {
+        eprintln!("object {}: fault {}, word {}", answer.place, answer.fault, answer.word);
+    } else {
+        fs::write(&words[0], room).expect("a file");
+        print!("{}", String::from_utf8_lossy(&report));
+    }
+    process::exit(status as i32);
+}

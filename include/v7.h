@@ -1,0 +1,112 @@
+/* libv7: the linker, nm, size and strip of v7, called from C. docs/LINK.md tells the rules of a link, docs/FORMAT.md the format.
+ *
+ * Each call takes bytes and gives bytes, and keeps nothing until the next one. An object or a file is the bytes of an a.out
+ * file; a list of objects is their bytes one behind another, since the header of each says how long it is.
+ *
+ * Sizes are in bytes. No pointer is null, also where its size is 0. What is written to, and *ANSWER, lie apart from each other
+ * and from what is read. A call takes memory from malloc and gives it back before it returns. Calls share nothing, so threads
+ * may make them at once.
+ *
+ * A result is written at the beginning of a room that the caller gives; behind the result the room stays as it was. Where a
+ * room is too small the fault is V7_NO_ROOM, nothing is written, and the sizes in *ANSWER say how much room is wanted: so a
+ * call with rooms of size 0 asks for the sizes. With any other fault nothing is written either, and the sizes are 0.
+ *
+ * Each call returns a status as the program v7 does: 0; 1 where a link was made and there is something to report; 2 where
+ * there is a fault, and so no result. *ANSWER is always filled.
+ */
+#ifndef V7_H
+#define V7_H
+
+#include <stddef.h>
+#include <stdint.h>
+
+#ifdef __cplusplus
+extern "C" {
+#endif
+
+enum v7_fault {
+    V7_NO_FAULT = 0,
+    /* what is asked for */
+    V7_NO_OPTION = 1,          /* a bit of OPTIONS stands for none */
+    V7_EXCLUDED = 2,           /* options exclude each other: V7_RELOCATABLE with V7_STRIP, V7_PURE or V7_SPLIT, or the last two */
+    V7_LONG_NAME = 3,          /* the name of the entry point has more than 8 bytes */
+    V7_CUT_NAMES = 4,          /* the size of the forced names is no multiple of 8 */
+    V7_MANY_NAMES = 5,         /* more than 64 different names are forced; `place` is the number of the one too many */
+    /* the bytes of a file */
+    V7_SHORT_HEADER = 11,      /* fewer than 16 bytes */
+    V7_BAD_MAGIC = 12,         /* the first word is none of 0405, 0407, 0410 and 0411 */
+    V7_ODD_SIZE = 13,          /* text, data or bss of an odd size, or a symbol table of a size that 12 does not divide */
+    V7_TRUNCATED = 14,         /* fewer bytes than the header announces */
+    /* an object */
+    V7_NOT_AN_OBJECT = 21,     /* the magic is not 0407 */
+    V7_NO_RELOCATION = 22,     /* relocation was stripped */
+    V7_BAD_RELOCATION = 23,    /* the relocation word of the word `word` has no kind that there is */
+    V7_BAD_SYMBOL_NUMBER = 24, /* that of the word `word` has no number of an undefined external symbol */
+    /* the object behind those before it */
+    V7_TEXT_FULL = 31,         /* the text would pass 65,534 bytes in all */
+    V7_DATA_FULL = 32,         /* so would the data */
+    V7_BSS_FULL = 33,          /* so would bss */
+    V7_NAMES_FULL = 34,        /* there would be more than 65,535 external names */
+    /* the link */
+    V7_DOES_NOT_FIT = 41,      /* the program would end behind 65,535 */
+    V7_TOO_MANY_SYMBOLS = 42,  /* its table would have more than 5,461 symbols */
+    V7_SYMBOL_NUMBER = 43,     /* with V7_RELOCATABLE, a word refers to a name of a number over 4,095 */
+    /* the caller's machine */
+    V7_NO_MEMORY = 50,         /* malloc gave none */
+    V7_NO_ROOM = 60            /* a room is too small */
+};
+
+struct v7_answer {
+    uint32_t fault;     /* of enum v7_fault */
+    uint32_t word;      /* V7_BAD_RELOCATION, V7_BAD_SYMBOL_NUMBER: the index of the word, text before data, from 0; else 0 */
+    size_t place;       /* of v7_link, 11 to 34: the number of the object; V7_MANY_NAMES: that of the name, from 0; else 0 */
+    size_t size;        /* the size of the result */
+    size_t report_size; /* v7_link: the size of the report; else 0 */
+};
+
+/* Looks whether BYTES begin with an object, which can be linked; the size is then that of the object, so that the next one of
+ * a list begins there. Faults: 11 to 14, 21 to 24, V7_NO_MEMORY. */
+uint32_t v7_check(const unsigned char *bytes, size_t size, struct v7_answer *answer);
+
+/* Writes the file that BYTES begin with without its symbols and relocation. Faults: 11 to 14, V7_NO_MEMORY, V7_NO_ROOM. */
+uint32_t v7_strip(const unsigned char *bytes, size_t size, unsigned char *room, size_t room_size, struct v7_answer *answer);
+
+/* Writes the list of the symbols of the file that BYTES begin with, as `v7 nm` prints it: a line each, which ends with a
+ * newline; no NUL ends the text. Faults: V7_NO_OPTION, 11 to 14, V7_NO_MEMORY, V7_NO_ROOM. */
+enum v7_nm_option {
+    V7_NM_EXTERNAL = 1,    /* -g: externals alone */
+    V7_NM_BY_VALUE = 2,    /* -n: by value, then by name */
+    V7_NM_TABLE_ORDER = 4, /* -p: in the order of the table, whatever else is asked for */
+    V7_NM_REVERSE = 8,     /* -r: the other way round */
+    V7_NM_UNDEFINED = 16   /* -u: undefined names alone */
+};
+uint32_t v7_nm(uint32_t options, const unsigned char *bytes, size_t size, unsigned char *room, size_t room_size, struct v7_answer *answer);
+
+/* Writes the sizes of text, data and bss of the file that BYTES begin with, and their sum in decimal and in octal, as
+ * `v7 size` prints them: one line with its newline. Faults: 11 to 14, V7_NO_MEMORY, V7_NO_ROOM. */
+uint32_t v7_size(const unsigned char *bytes, size_t size, unsigned char *room, size_t room_size, struct v7_answer *answer);
+
+/* Links OBJECTS in their order, as `v7 ld` does: the linked file goes to ROOM, and what there is to report, as lines, to
+ * REPORT. Both are written or neither. ENTRY is the name of the entry point, at most 8 bytes, or of size 0 where there is
+ * none; FORCED are names that are mentioned before all objects, 8 bytes each, filled up with NULs. Without objects the
+ * program is empty. Bytes behind an object are the next one: of a file with other bytes behind its end, give as many as
+ * v7_check tells. Faults, the first that applies: 1 to 3, 4, 5, then for each object in turn 11 to 34, then 41 to 43;
+ * V7_NO_MEMORY at any time; and V7_NO_ROOM. */
+enum v7_link_option {
+    V7_RELOCATABLE = 1,   /* -r: keeps relocation, so that the result is an object */
+    V7_STRIP = 2,         /* -s: keeps no symbols; wins over the next two */
+    V7_EXTERNALS = 4,     /* -x: keeps externals alone; wins over the next one */
+    V7_NOT_L = 8,         /* -X: keeps all but the locals that begin with L */
+    V7_PURE = 16,         /* -n: data begins at the next multiple of 020000 bytes */
+    V7_SPLIT = 32,        /* -i: text and data both begin at 0 */
+    V7_FORCE_COMMONS = 64 /* -d: lays commons out with V7_RELOCATABLE too */
+};
+uint32_t v7_link(uint32_t options, const unsigned char *entry, size_t entry_size, const unsigned char *forced, size_t forced_size,
+                 const unsigned char *objects, size_t objects_size, unsigned char *room, size_t room_size, unsigned char *report,
+                 size_t report_size, struct v7_answer *answer);
+
+#ifdef __cplusplus
+}
+#endif
+
+#endif

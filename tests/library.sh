@@ -1,0 +1,75 @@
+#!/bin/sh
+# The examples that call libv7, in C, Python and Rust: compiles them, links objects of examples/ by them and by the program,
+# and compares file, report and status. The one in C runs under AddressSanitizer and valgrind too. What is not there is left
+# out, and named.
+#
+# usage: CC=cc tests/library.sh HEAP       HEAP is the archive of the kit that calls malloc
+set -u
+cd "$(dirname "$0")/.."
+top=$PWD
+heap=$1
+room=$(mktemp -d)
+trap 'rm -rf "$room"' EXIT
+cd "$room"
+cp "$top"/examples/*.o .
+$top/build/v7 ld -s -o bad.o main.o >/dev/null
+failed=0
+
+fail() {
+    echo "$1"
+    failed=1
+}
+
+# the objects of one link are linked by the program and by a command, which prints the line of each file first
+link_both() {
+    name=$1
+    command=$2
+    shift 2
+    rm -f ours theirs
+    $top/build/v7 ld -o theirs "$@" >theirs.txt 2>/dev/null
+    theirs=$?
+    $command ours "$@" >ours.txt 2>faults.txt
+    ours=$?
+    [ $ours -eq $theirs ] || fail "$name: the status is $ours and not $theirs for $*"
+    [ $theirs -eq 2 ] || cmp theirs ours || fail "$name: another file for $*"
+    [ $theirs -eq 2 ] || grep -v '^[^ ]*\.o: [0-9]' ours.txt | cmp theirs.txt - || fail "$name: another report for $*"
+}
+
+# all links by one command
+links() {
+    link_both "$1" "$2" main.o twice.o count.o
+    link_both "$1" "$2" main.o count.o
+    link_both "$1" "$2" a.o b.o c.o
+    link_both "$1" "$2" k.o l.o
+    link_both "$1" "$2" main.o main.o
+    link_both "$1" "$2" main.o bad.o
+    echo "$1: 6 links compared"
+}
+
+$CC -O2 -Wall -o by_c -I"$top/include" "$top/examples/c/link.c" "$top/build/libv7.a" "$heap" || exit 1
+links C ./by_c
+if $CC -g -fsanitize=address -o by_asan -I"$top/include" "$top/examples/c/link.c" "$top/build/libv7.a" "$heap" 2>/dev/null; then
+    links "C with AddressSanitizer" ./by_asan
+else
+    echo "AddressSanitizer is not there"
+fi
+if command -v valgrind >/dev/null; then
+    links "C with valgrind" "valgrind -q --error-exitcode=9 --leak-check=full ./by_c"
+else
+    echo "valgrind is not there"
+fi
+if command -v python3 >/dev/null; then
+    LIBV7=$top/build/libv7.so
+    PYTHONDONTWRITEBYTECODE=1
+    export LIBV7 PYTHONDONTWRITEBYTECODE
+    links Python "python3 $top/examples/python/link.py"
+else
+    echo "python3 is not there"
+fi
+if command -v rustc >/dev/null; then
+    rustc -O -o by_rust -C link-arg="$top/build/libv7.a" -C link-arg="$heap" "$top/examples/rust/link.rs" || exit 1
+    links Rust ./by_rust
+else
+    echo "rustc is not there"
+fi
+exit $failed
