@@ -20,7 +20,10 @@ STEPS = ["steps", "parts"]
 IDS = ["command_words"]
 
 os.chdir(os.path.join(os.path.dirname(os.path.abspath(__file__)), ".."))
-LIBRARIES = ["aout_core", "link_session", "link_out", "symtools", "command_words", "v7tools", "gnu_objects", "library_calls"]
+LIBRARIES = [
+    "aout_core", "link_session", "link_out", "symtools", "command_words", "v7tools",
+    "gnu_objects", "library_calls", "v7_c",
+]
 IMPORT = re.compile(
     r"^ *(?:pub )?(?:ghost )?use Rattle\.(\w+)\.(specs|proofs)\.([\w.]+?)(?:\.\{([^}]*)\}|(?: as (\w+))?);?$"
 )
@@ -66,7 +69,7 @@ def pieces(text):
 def clauses(item, wanted):
     """The contracts of the functions of an item that are wanted, and what contracts see of a type."""
     found = []
-    for match in re.finditer(r"^ *(pub(?:\(crate\))? )?fn (\w+).*?\{\}?$", item, re.M | re.S):
+    for match in re.finditer(r'^ *(pub(?:\(crate\))? )?(?:extern "C" )?fn (\w+).*?\{\}?$', item, re.M | re.S):
         if wanted(match[1] == "pub ", match[2]):
             found.append(match[0])
     for match in re.finditer(r"^ *ghost (\w+) = (.*);$", item, re.M):
@@ -80,16 +83,17 @@ def promises(crate):
     modules, names = exported(crate)
     for path in sorted(glob.glob(f"crates/{crate}/src/*.rt")):
         module = os.path.basename(path)[:-3]
+        is_open = module == "lib" or module in modules
         given = names.get(module, set())
         text = read(path)
         outer = [line for line in text.split("\n") if line.startswith("ghost use")]
         for item in pieces(text):
             head = re.search(r"^impl(?:<.*?>)? (?:(.*) for )?(\w+)", item, re.M)
             if head:
-                is_given = module in modules or head[2] in given
+                is_given = is_open or head[2] in given
                 cited = clauses(item, lambda public, name: is_given and (public or head[1])) if is_given else ""
             else:
-                cited = clauses(item, lambda public, name: public and (module in modules or name in given))
+                cited = clauses(item, lambda public, name: public and (is_open or name in given))
             words = set(re.findall(r"\w+", cited))
             scope = dict(imports("\n".join(outer)))
             if head:
