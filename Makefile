@@ -1,7 +1,7 @@
 # v7: see README.md. The command `rt` of the Rattle kit has to be on the PATH.
 PREFIX ?= /usr/local
 
-.PHONY: all demo lib check-lib test wrong-bodies memory bench instructions simulate lesson check-manual check-examples check-streams install clean
+.PHONY: all demo lib check-lib test wrong-bodies memory room bench instructions simulate lesson check-manual check-examples check-streams install clean
 
 all: build/v7 build/v7-from-gnu
 
@@ -68,6 +68,10 @@ wrong-bodies:
 # the calls of crates/memory, with the first, the second, .. request for memory refused
 memory:
 	sh tests/memory.sh
+
+# the bytes that reading and linking ask for, beside what they need; needs valgrind
+room: build/v7
+	python3 tests/room.py build/v7
 
 # times of the session and of ld on a large input
 bench:
