@@ -9,32 +9,33 @@ use std::cell::Cell;
 use std::io;
 use std::io::{ErrorKind, Read, Write};
 use std::test::Fail;
-use v7tools::perform;
+use v7tools::{BlockWriter, perform};
 
 /// The status of a command of a line over a device for what it prints, and the bytes of its faults.
 fn run<R: Read + Drop, W: Write>(
     alloc: Global,
     line: &str,
     script: R,
-    output: &mut Wire<W>,
+    device: &mut W,
 ) -> Result<(u8, Vec<u8>), AllocError> {
     let mut shelf = Shelf::new(alloc, &FILES);
+    let mut output = Wire::new(BlockWriter::new(device));
     let mut error = Wire::new(TestWriter::whole(Vec::new(alloc)));
     let words = words_of(alloc, line)?;
-    let status = perform(alloc, &mut shelf, script, output, &mut error, words);
+    let status = perform(alloc, &mut shelf, script, &mut output, &mut error, words);
     Ok((status, error.into_inner().into_taken()))
 }
 
 /// How often the device for what a command prints is flushed.
 fn flushes(alloc: Global, line: &str, script: &str) -> Result<u32, AllocError> {
-    let mut output = Wire::new(TestWriter::whole(Vec::new(alloc)));
+    let mut device = TestWriter::whole(Vec::new(alloc));
     let _ = run(
         alloc,
         line,
         TestReader::whole(script.as_bytes()),
-        &mut output,
+        &mut device,
     )?;
-    Ok(output.into_inner().flushes())
+    Ok(device.flushes())
 }
 
 /// The line of a command, its script, and how often what it prints is flushed.
@@ -119,11 +120,11 @@ fn answers_before_the_next_line(rt: HostRuntime) -> Result<(), Fail> {
     let flushed = Cell::new(0);
     let was_in_time = Cell::new(true);
     let typist = Typist::new(&flushed, &was_in_time);
-    let mut output = Wire::new(Held {
+    let mut device = Held {
         waiting: 0,
         flushed: &flushed,
-    });
-    let (status, _) = run(rt.alloc(), "session", typist, &mut output)?;
+    };
+    let (status, _) = run(rt.alloc(), "session", typist, &mut device)?;
     assert!(rt; status == 1 && flushed.get() == 60 && was_in_time.get());
     Ok(())
 }
@@ -136,11 +137,11 @@ fn tells_unflushed(
     output: &str,
 ) -> Result<bool, AllocError> {
     let failing = Failing::Fails(ErrorKind::Other);
-    let device = TestWriter::new(Vec::new(alloc), usize::MAX, output.len(), failing);
-    let mut out = Wire::new(device);
-    let (status, error) = run(alloc, line, TestReader::whole(script.as_bytes()), &mut out)?;
+    let mut device = TestWriter::new(Vec::new(alloc), usize::MAX, output.len(), failing);
+    let script = TestReader::whole(script.as_bytes());
+    let (status, error) = run(alloc, line, script, &mut device)?;
     let is_told = status == 2 && error.as_slice() == b"v7: write error\n".as_slice();
-    Ok(is_told && out.into_inner().taken() == output.as_bytes())
+    Ok(is_told && device.taken() == output.as_bytes())
 }
 
 /// The line of a command, its script, and what it prints.

@@ -8,7 +8,7 @@ use std::cell::Cell;
 use std::io;
 use std::io::Read;
 use std::test::Fail;
-use v7tools::{Office, Stored, perform};
+use v7tools::{BlockWriter, Office, Stored, perform};
 
 /// A file that counts how often all files are read.
 #[derive(Drop)]
@@ -55,7 +55,7 @@ fn run(alloc: Global, line: &str) -> Result<(u8, bool, bool), AllocError> {
         reads: &reads,
         reads_before: 0,
     };
-    let mut output = Wire::new(TestWriter::whole(Vec::new(alloc)));
+    let mut output = Wire::new(BlockWriter::new(TestWriter::whole(Vec::new(alloc))));
     let mut error = Wire::new(TestWriter::whole(Vec::new(alloc)));
     let script = TestReader::whole(b"");
     let words = words_of(alloc, line)?;

@@ -4,7 +4,7 @@ use aout_core::{File, Wire};
 use fixtures::{CALL, written};
 use std::alloc::Global;
 use std::io::ErrorKind;
-use v7tools::{Office, Stored, perform};
+use v7tools::{BlockWriter, Office, Stored, perform};
 
 /// A file on a shelf: its path, its bytes, and how many of them can be read before its device fails.
 #[derive(Clone, Copy)]
@@ -156,17 +156,31 @@ pub struct Played {
     stored: Vec<u8>,
 }
 
+/// The status of the program on these files, with its words and a script, and devices for what it writes.
+fn status_of(
+    alloc: Global,
+    shelf: &mut Shelf<'_>,
+    words: Vec<String>,
+    script: &[u8],
+    output: &mut TestWriter,
+    error: &mut TestWriter,
+) -> u8 {
+    let mut output = Wire::new(BlockWriter::new(output));
+    let mut error = Wire::new(error);
+    let script = TestReader::whole(script);
+    perform(alloc, shelf, script, &mut output, &mut error, words)
+}
+
 /// Runs the program on these files, with its words and a script.
 pub fn play(alloc: Global, items: &[Item<'_>], words: Vec<String>, script: &[u8]) -> Played {
     let mut shelf = Shelf::new(alloc, items);
-    let mut output = Wire::new(TestWriter::whole(Vec::new(alloc)));
-    let mut error = Wire::new(TestWriter::whole(Vec::new(alloc)));
-    let script = TestReader::whole(script);
-    let status = perform(alloc, &mut shelf, script, &mut output, &mut error, words);
+    let mut output = TestWriter::whole(Vec::new(alloc));
+    let mut error = TestWriter::whole(Vec::new(alloc));
+    let status = status_of(alloc, &mut shelf, words, script, &mut output, &mut error);
     Played {
         status,
-        output: output.into_inner().into_taken(),
-        error: error.into_inner().into_taken(),
+        output: output.into_taken(),
+        error: error.into_taken(),
         path: shelf.path,
         stored: shelf.stored,
     }
