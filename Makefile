@@ -1,7 +1,7 @@
 # v7: see README.md. The command `rt` of the Rattle kit has to be on the PATH.
 PREFIX ?= /usr/local
 
-.PHONY: all demo lib check-lib test wrong-bodies memory room bench instructions simulate lesson check-manual check-examples check-streams install clean
+.PHONY: all try demo lib check-lib test wrong-bodies memory room bench instructions simulate lesson check-manual check-examples check-streams install clean
 
 all: build/v7 build/v7-from-gnu
 
@@ -47,6 +47,16 @@ crates/v7_c/out/libv7_c.a: crates.txt $(shell find $(LIBRARY_CRATES) -name out -
 check-lib: lib build/v7
 	CC='$(CC)' sh tests/library.sh $(KIT)c/liblibc_c.a
 
+# the examples' session by the program as it is compiled before any proof, in a folder that is gone at the end; the answers
+# are compared
+SESSION_FILES := $(foreach file,main.o twice.o count.o,--data $(file)=$(CURDIR)/examples/$(file))
+try:
+	@echo 'The program is compiled and run, and nothing of it is proved: make demo proves it first.'
+	mkdir -p build
+	sed 's|\.\./build/||' examples/session.txt >build/try.txt
+	cd crates/v7 && rt try $(SESSION_FILES) -- session <../../build/try.txt | tee ../../build/try.answers
+	sed 's|\.\./build/||' examples/answers.txt | cmp - build/try.answers
+
 # runs a session and compares its answers, links two small objects and compares the program, and shows its 24 bytes
 demo: build/v7
 	cd examples && ../build/v7 session <session.txt >../build/answers.txt; test $$? -eq 1
@@ -59,6 +69,7 @@ demo: build/v7
 test:
 	python3 tests/trusted.py
 	python3 tests/edits.py
+	python3 tests/index.py
 	rt ci
 
 # further wrong bodies, which the prover has to refuse as well; NAMES are the crates whose are tried

@@ -9,7 +9,9 @@
 set -u
 cd "$(dirname "$0")/.."
 top=$PWD
-[ -x build/v7 ] || { echo "build/v7 is missing: make builds it"; exit 2; }
+for program in v7 v7-from-gnu lesson; do
+    [ -x build/$program ] || { echo "build/$program is missing: make build/$program makes it"; exit 2; }
+done
 [ $# -gt 0 ] || set -- man/*.1 man/*.5 README.md examples/*.md docs/*.md
 room=$(mktemp -d)
 trap 'rm -rf "$room"' EXIT
