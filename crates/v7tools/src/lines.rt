@@ -51,7 +51,7 @@ fn asked_in(alloc: Global, line: &str) -> Result<Line, AllocError>
 }
 
 impl Line {
-    /// What the bytes of a line, without its newline, ask for. Memory is taken for a path alone. (own choice)
+    /// What the bytes of a line, without its newline, ask for. Memory is taken for a path alone.
     pub(crate) fn from_bytes(alloc: Global, bytes: &[u8]) -> Result<Line, AllocError>
         ensures value { IfOk result (λ line. asked_by line ≡ asked bytes.now) }
         ensures room { IfErr result (λ _. NamesPath (asked bytes.now)) }
