@@ -13,7 +13,7 @@ TEST = r"#\[test\]\s+(?:#\[[^\n]*\]\s+)*fn {}\b"
 
 
 def fault_of(crate, file, name, column):
-    is_definition = file[0].isupper()
+    is_definition = file.split("/")[-1][0].isupper()
     path = f"crates/{crate}/specs/{file}.antt" if is_definition else f"crates/{crate}/src/{file}.rt"
     if not os.path.exists(path):
         return f"there is no {path}"

@@ -13,8 +13,8 @@ import os
 import re
 import sys
 
-# v7tools has a file Steps, of the steps of a session, so those of its code have another folder
-STEPS = ["steps", "parts"]
+# folders of what loops and private functions do
+STEPS = ["steps"]
 
 # definitions name no constants of the code, but for the ids by which `command_words` knows its options
 IDS = ["command_words"]
@@ -117,7 +117,7 @@ def trusted():
         if folder == "proofs" or module.split(".")[0] in STEPS:
             faults.append(f"{why}, of {crate}/{folder}/{module.replace('.', '/')}")
             continue
-        path = f"crates/{crate}/specs/{module}.antt"
+        path = f"crates/{crate}/specs/{module.replace('.', '/')}.antt"
         if path in reached:
             continue
         reached.add(path)
@@ -139,13 +139,24 @@ def count(path):
     return sum(1 for line in read(path).split("\n") if line.strip() and not re.match(r"(?:pub )?use |--", line))
 
 
+def placed(crate, name):
+    """The file of definitions of this name, in specs/ or in a folder of it that has no steps."""
+    paths = [
+        path for path in glob.glob(f"crates/{crate}/specs/**/{name}.antt", recursive=True)
+        if path.split("/")[3] not in STEPS
+    ]
+    if len(paths) != 1:
+        faults.append(f"crates/{crate}/specs has {len(paths)} files {name}.antt")
+    return paths[0] if paths else f"crates/{crate}/specs/{name}.antt"
+
+
 def listed():
     """The files that the table of docs/PROOFS.md names, each with its lines."""
     text = read("docs/PROOFS.md").split("## What a reader has to trust")[1].split("\n## ")[0]
     found = {}
     for crate, row in re.findall(r"^\| `(\w+)` \|(.*)$", text, re.M):
         for name, lines in re.findall(r"\b([A-Z]\w+) (\d+)", row):
-            found[f"crates/{crate}/specs/{name}.antt"] = int(lines)
+            found[placed(crate, name)] = int(lines)
     return found
 
 

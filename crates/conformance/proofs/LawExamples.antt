@@ -11,8 +11,8 @@ use Rattle.link_session.specs.Mentions.{mentions}
 use Rattle.link_session.specs.States.{multiple_names}
 use Rattle.link_out.specs.declared.options.Keep.TheVariants.{NotL}
 use Rattle.link_out.specs.declared.linked.LinkFault.{LinkFault}
-use Rattle.link_out.specs.Link.{Outcome, link}
-use Rattle.link_out.specs.Partials.{IsPartialLink}
+use Rattle.link_out.specs.function.Link.{Outcome, link}
+use Rattle.link_out.specs.laws.PartialLinks.{IsPartialLink}
 use Rattle.link_out.proofs.PartialTheorem.{partial_stands_among}
 use Rattle.conformance.specs.Samples.{_f, sym, object, c_o, d_o, d2_o, e_o, p_o, q_o, r_o, plain, plain_s, relocatable, with_keep}
 use Rattle.std.specs.Prelude.{Result}

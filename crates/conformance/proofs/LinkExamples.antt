@@ -7,8 +7,8 @@ use Rattle.link_out.specs.declared.linked.LinkFault.TheVariants.{DoesNotFit, Too
 use Rattle.link_out.specs.declared.options.Layout.TheVariants.{Pure, Split}
 use Rattle.link_out.specs.declared.options.Keep.TheVariants.{NotL, Externals}
 use Rattle.link_out.specs.Choices.{Choices}
-use Rattle.link_out.specs.Reports.{report_text, status_of}
-use Rattle.link_out.specs.Link.{Outcome, link}
+use Rattle.link_out.specs.function.Reports.{report_text, status_of}
+use Rattle.link_out.specs.function.Link.{Outcome, link}
 use Rattle.std.specs.Prelude.{replicate}
 use Rattle.aout_core.specs.declared.symbol.Symbol.{Symbol}
 use Rattle.aout_core.specs.declared.reloc.Reloc.{Reloc}
@@ -16,7 +16,7 @@ use Rattle.aout_core.specs.WellFormed.{first_object_fault}
 use Rattle.aout_core.specs.Strip.{stripped}
 use Rattle.link_session.specs.Edits.{refusal}
 use Rattle.link_session.specs.declared.entry.AddFault.TheVariants.{TextFull, DataFull, BssFull}
-use Rattle.link_out.specs.Plans.{plan}
+use Rattle.link_out.specs.function.Plans.{plan}
 use Rattle.conformance.specs.Samples.{relocs, sym, object, sized, _f, _x, _z, _end, _etext, _edata, L1, a_o, b_o, c_o, d_o, d2_o, e_o, g_o, i_o, k_o, l_o, p_o, q_o, r_o, y1_o, y2_o, plain, plain_s, relocatable, relocatable_d, with_keep, with_layout, with_entry}
 
 -- the bytes, the report's lines and its status

@@ -17,13 +17,13 @@ use Rattle.link_out.specs.declared.linked.LinkFault.TheVariants.{DoesNotFit, Too
 use Rattle.link_out.specs.declared.options.Layout.{Layout}
 use Rattle.link_out.specs.declared.options.Layout.TheVariants.{Split}
 use Rattle.link_out.specs.Choices.{Choices}
-use Rattle.link_out.specs.NameStates.{IsFirst}
+use Rattle.link_out.specs.relation.NameStates.{IsFirst}
 use Rattle.link_out.specs.Results.{Outcome}
-use Rattle.link_out.specs.Link.{link}
-use Rattle.link_out.specs.Relocated.{segment_words, segment_relocs}
-use Rattle.link_out.specs.Meaning.{IsSaid, HasTwoDefinitions, MultiplesDiffer}
-use Rattle.link_out.specs.Places.{DifferInPlace, LayoutsDiffer}
-use Rattle.link_out.specs.Refusals.{CommonsTake, EndsAt, entry_count, HasFarWord, RefusedExactly}
+use Rattle.link_out.specs.function.Link.{link}
+use Rattle.link_out.specs.relation.Relocated.{segment_words, segment_relocs}
+use Rattle.link_out.specs.laws.WordsAndNames.{IsSaid, HasTwoDefinitions, MultiplesDiffer}
+use Rattle.link_out.specs.laws.CommonsAndLayouts.{DifferInPlace, LayoutsDiffer}
+use Rattle.link_out.specs.relation.Refusals.{CommonsTake, EndsAt, entry_count, HasFarWord, RefusedExactly}
 use Rattle.conformance.specs.Samples.{sym as entry_of, object, _f, _x, L1, a_o, c_o, d_o, i_o, plain, relocatable, with_layout}
 use Rattle.conformance.proofs.LawExamples.{outcome_of}
 use Rattle.conformance.proofs.ClauseLemmas.{only_object, only_word, no_word, as_object, at_most_so, less_so, only_wanted}

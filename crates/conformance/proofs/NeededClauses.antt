@@ -9,7 +9,7 @@ use Rattle.aout_core.specs.Contents.{Contents}
 use Rattle.link_session.specs.declared.state.State.TheVariants.{Wanted}
 use Rattle.link_out.specs.declared.linked.LinkFault.TheVariants.{DoesNotFit, TooManySymbols}
 use Rattle.link_out.specs.Results.{Findings, Outcome}
-use Rattle.link_out.specs.Relocated.{data_begins, begins, IsRelocated}
+use Rattle.link_out.specs.relation.Relocated.{data_begins, begins, IsRelocated}
 use Rattle.conformance.specs.Samples.{sym as entry_of, header, object, relocs, _f, _x, _z, L1, plain, relocatable}
 use Rattle.conformance.specs.Clauses.{Clause, text_size, data_size, bss, text_words, data_words, magic, symbol_size, unused, flag, short, few, names, are_rows, table, text, «data», text_relocs, data_relocs, text_kept, data_kept, entry, multiples, reserved, undefined, none, Says, IsNeeded}
 use Rattle.conformance.proofs.ClauseLemmas.{is_empty, empty_so, passes, passed, no_words, none_kept, only_object, as_object, wordless_text, wordless_data, unkept_text, unkept_data, only_word, nothing_reserved, wants_alone, only_wanted, none_reserved, other_outcome}

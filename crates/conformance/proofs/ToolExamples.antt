@@ -5,7 +5,7 @@ use Rattle.aout_core.specs.declared.file.ReadFault.TheVariants.{Truncated}
 use Rattle.aout_core.specs.declared.object.ObjectFault.TheVariants.{NoRelocation}
 use Rattle.aout_core.specs.Spelling.{spelling}
 use Rattle.aout_core.specs.Strip.{stripped}
-use Rattle.link_out.specs.Link.{link}
+use Rattle.link_out.specs.function.Link.{link}
 use Rattle.symtools.specs.NmLists.{nm_text}
 use Rattle.symtools.specs.SizeLines.{size_line, size_text}
 use Rattle.v7tools.specs.Inputs.{of_input, bad_file, bad_object, linked, link_or_refusal}

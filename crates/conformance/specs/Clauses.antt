@@ -9,16 +9,16 @@ use Rattle.link_session.specs.Sessions.{IsObject}
 use Rattle.link_session.specs.Mentions.{Mention, mentions, externals, is_among}
 use Rattle.link_out.specs.Choices.{Choices}
 use Rattle.link_out.specs.Layouts.{magic_of}
-use Rattle.link_out.specs.NameStates.{IsWanted}
+use Rattle.link_out.specs.relation.NameStates.{IsWanted}
 use Rattle.link_out.specs.KeptSymbols.{rows_kept}
 use Rattle.link_out.specs.ReservedNames.{reserved_names}
 use Rattle.link_out.specs.Results.{Outcome}
-use Rattle.link_out.specs.Link.{link}
-use Rattle.link_out.specs.Relocated.{data_begins, begins, IsEntry}
-use Rattle.link_out.specs.LinkedTable.{AreRows, carried_locals}
-use Rattle.link_out.specs.LinkedWords.{AreRelocated, AreKept}
-use Rattle.link_out.specs.Reported.{ArePicked, IsOther}
-use Rattle.link_out.specs.LinkedFrom.{IsLinkedFrom}
+use Rattle.link_out.specs.function.Link.{link}
+use Rattle.link_out.specs.relation.Relocated.{data_begins, begins, IsEntry}
+use Rattle.link_out.specs.relation.LinkedTable.{AreRows, carried_locals}
+use Rattle.link_out.specs.relation.LinkedWords.{AreRelocated, AreKept}
+use Rattle.link_out.specs.relation.Reported.{ArePicked, IsOther}
+use Rattle.link_out.specs.relation.LinkedFrom.{IsLinkedFrom}
 
 -- each by the name that it has there
 pub data Clause : Type 0 where

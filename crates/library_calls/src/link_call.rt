@@ -2,7 +2,7 @@
 ghost use Rattle.std.specs.Prelude.{◌≡◌, ◌≢◌, true, Ok, Err, IfOk, IfErr};
 ghost use Rattle.aout_core.specs.WellFormed.{IsWellFormed};
 ghost use Rattle.link_session.specs.Labelled.{objects};
-ghost use Rattle.link_out.specs.Link.{link};
+ghost use Rattle.link_out.specs.function.Link.{link};
 ghost use Rattle.link_out.specs.Outcomes.{outcome_of};
 ghost use Rattle.library_calls.specs.LinkAnswers.{linked_in, linked_or, output_in, output_of, outputs_of};
 ghost use Rattle.library_calls.specs.declared.cause.Cause.TheVariants.{Memory};

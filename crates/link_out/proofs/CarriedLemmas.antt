@@ -10,10 +10,10 @@ use Rattle.link_out.specs.declared.options.Layout.{Layout}
 use Rattle.link_out.specs.declared.options.Layout.TheVariants.{Plain, Pure, Split}
 use Rattle.link_out.specs.Choices.{Choices}
 use Rattle.link_out.specs.Layouts.{data_base, magic_of}
-use Rattle.link_out.specs.Plans.{plan, commons_laid}
-use Rattle.link_out.specs.Words.{move}
-use Rattle.link_out.specs.Link.{linked_file}
-use Rattle.link_out.specs.Relocated.{data_begins, begins, carried}
+use Rattle.link_out.specs.function.Plans.{plan, commons_laid}
+use Rattle.link_out.specs.function.Words.{move}
+use Rattle.link_out.specs.function.Link.{linked_file}
+use Rattle.link_out.specs.relation.Relocated.{data_begins, begins, carried}
 
 sum_moved : (b t n : ℕ) → plus b (minus t n) ≡ minus (b + t) n
 sum_moved b t n = omega arith

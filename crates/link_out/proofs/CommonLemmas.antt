@@ -16,12 +16,12 @@ use Rattle.link_session.proofs.MentionLemmas.{is_among-externals}
 use Rattle.link_session.proofs.UpdateLemmas.{unmentioned}
 use Rattle.link_out.specs.declared.options.Keep.TheVariants.{Nothing}
 use Rattle.link_out.specs.Choices.{Choices, lays_commons}
-use Rattle.link_out.specs.Plans.{Plan, plan, commons_laid, common_offset, common_size, room_of, commons_total}
-use Rattle.link_out.specs.Finals.{Final, final, final_by, type_of, bound_at, waiting, undefined_name}
-use Rattle.link_out.specs.Tables.{external_row}
-use Rattle.link_out.specs.Link.{Outcome, linked_file, link}
-use Rattle.link_out.specs.Places.{IsCommon, HasRoom}
-use Rattle.link_out.specs.Relocated.{data_begins, entry_of}
+use Rattle.link_out.specs.function.Plans.{Plan, plan, commons_laid, common_offset, common_size, room_of, commons_total}
+use Rattle.link_out.specs.function.Finals.{Final, final, final_by, type_of, bound_at, waiting, reserved_or_waiting}
+use Rattle.link_out.specs.function.Tables.{external_row}
+use Rattle.link_out.specs.function.Link.{Outcome, linked_file, link}
+use Rattle.link_out.specs.laws.CommonsAndLayouts.{IsCommon, HasRoom}
+use Rattle.link_out.specs.relation.Relocated.{data_begins, entry_of}
 use Rattle.link_out.proofs.HasStateLemmas.{state_is}
 use Rattle.link_out.proofs.OutcomeLemmas.{made_file, made_fits}
 use Rattle.link_out.proofs.ExternalLemmas.{entry_there}
@@ -112,7 +112,7 @@ module _ (forced : List (List ℕ)) (os : List Contents) (o : Choices) (others :
   common_final : (name : List ℕ) (size : ℕ) → IsCommon forced os name size → final p name ≡ bound_at BssSeg (plus p.at.data_end (common_offset ms name))
   common_final name size c =
       ap (λ (s : State). final_by p name s) (state_is ms name (Wanted size) c.wanted)
-      ∙ (λ i. let f : Final = cond (c.sized i) (cond o.relocatable (waiting 0) (undefined_name p.at name)) (cond (lays i) (bound_at BssSeg (plus p.at.data_end (common_offset ms name))) (waiting size)) in f)
+      ∙ (λ i. let f : Final = cond (c.sized i) (cond o.relocatable (waiting 0) (reserved_or_waiting p.at name)) (cond (lays i) (bound_at BssSeg (plus p.at.data_end (common_offset ms name))) (waiting size)) in f)
 
   common_fits : (name : List ℕ) (size : ℕ) → IsCommon forced os name size → common_offset ms name + size ≤ commons_laid o ms
   common_fits name size c =

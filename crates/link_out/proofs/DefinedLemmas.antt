@@ -16,13 +16,13 @@ use Rattle.link_session.proofs.UpdateLemmas.{unmentioned}
 use Rattle.link_out.specs.declared.options.Keep.TheVariants.{Nothing}
 use Rattle.link_out.specs.Choices.{Choices}
 use Rattle.link_out.specs.Layouts.{base}
-use Rattle.link_out.specs.Plans.{Plan, plan}
-use Rattle.link_out.specs.Finals.{Final, final, final_by, type_of, bound_at}
-use Rattle.link_out.specs.Tables.{external_row}
-use Rattle.link_out.specs.Reports.{Findings}
-use Rattle.link_out.specs.Link.{Outcome, linked_file, link}
-use Rattle.link_out.specs.Meaning.{IsDefined}
-use Rattle.link_out.specs.Relocated.{carried, external_type}
+use Rattle.link_out.specs.function.Plans.{Plan, plan}
+use Rattle.link_out.specs.function.Finals.{Final, final, final_by, type_of, bound_at}
+use Rattle.link_out.specs.function.Tables.{external_row}
+use Rattle.link_out.specs.function.Reports.{Findings}
+use Rattle.link_out.specs.function.Link.{Outcome, linked_file, link}
+use Rattle.link_out.specs.laws.WordsAndNames.{IsDefined}
+use Rattle.link_out.specs.relation.Relocated.{carried, external_type}
 use Rattle.link_out.proofs.SaidLemmas.{of_entry}
 use Rattle.link_out.proofs.OutcomeLemmas.{made_file, made_report}
 use Rattle.link_out.proofs.CarriedLemmas.{move_carried}

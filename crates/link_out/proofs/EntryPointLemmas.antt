@@ -11,12 +11,12 @@ use Rattle.link_session.specs.Mentions.{is_among, names_by_first_mention}
 use Rattle.link_session.specs.States.{state}
 use Rattle.link_out.specs.declared.options.Keep.TheVariants.{Nothing}
 use Rattle.link_out.specs.Choices.{Choices, lays_commons}
-use Rattle.link_out.specs.Plans.{Plan, plan, common_offset}
-use Rattle.link_out.specs.Finals.{final, final_by, type_of, bound_at, waiting, undefined_name, etext, edata, end_name}
-use Rattle.link_out.specs.Tables.{external_row, table}
-use Rattle.link_out.specs.Reports.{entry_word, entry_found_bad}
-use Rattle.link_out.specs.Link.{Outcome, link}
-use Rattle.link_out.specs.Relocated.{entry_of, IsEntry}
+use Rattle.link_out.specs.function.Plans.{Plan, plan, common_offset}
+use Rattle.link_out.specs.function.Finals.{final, final_by, type_of, bound_at, waiting, reserved_or_waiting, etext, edata, end_name}
+use Rattle.link_out.specs.function.Tables.{external_row, table}
+use Rattle.link_out.specs.function.Reports.{entry_word, entry_found_bad}
+use Rattle.link_out.specs.function.Link.{Outcome, link}
+use Rattle.link_out.specs.relation.Relocated.{entry_of, IsEntry}
 use Rattle.link_out.proofs.OutcomeLemmas.{made}
 use Rattle.link_out.proofs.ExternalLemmas.{entry_in_table}
 
@@ -31,7 +31,7 @@ text_written p name (Wanted size) h = by_tests (plus p.at.data_end (common_offse
     reserved false false true = refl
     reserved false false false = refl
 
-    by_tests : (a : ℕ) (z r c : Bool) → (let f = cond z (cond r (waiting 0) (undefined_name p.at name)) (cond c (bound_at BssSeg a) (waiting size)) in eqb (type_of f.bound) 34 ≡ true → f.address ≡ f.written)
+    by_tests : (a : ℕ) (z r c : Bool) → (let f = cond z (cond r (waiting 0) (reserved_or_waiting p.at name)) (cond c (bound_at BssSeg a) (waiting size)) in eqb (type_of f.bound) 34 ≡ true → f.address ≡ f.written)
     by_tests a true true c = λ h. refl
     by_tests a true false c = λ h. reserved (bytes_eq name etext) (bytes_eq name edata) (bytes_eq name end_name)
     by_tests a false r true = λ h. refl

@@ -14,11 +14,11 @@ use Rattle.link_session.specs.States.{state}
 use Rattle.link_out.specs.declared.options.Keep.TheVariants.{Nothing}
 use Rattle.link_out.specs.Choices.{Choices, lays_commons}
 use Rattle.link_out.specs.Layouts.{Bases}
-use Rattle.link_out.specs.Plans.{Plan, plan, common_offset}
-use Rattle.link_out.specs.Finals.{Final, final, final_by, type_of, bound_at, waiting, undefined_name, etext, edata, end_name}
-use Rattle.link_out.specs.Tables.{local_rows, external_row, external_rows, table}
-use Rattle.link_out.specs.Link.{Outcome, link}
-use Rattle.link_out.specs.Relocated.{entry_of, address_in}
+use Rattle.link_out.specs.function.Plans.{Plan, plan, common_offset}
+use Rattle.link_out.specs.function.Finals.{Final, final, final_by, type_of, bound_at, waiting, reserved_or_waiting, etext, edata, end_name}
+use Rattle.link_out.specs.function.Tables.{local_rows, external_row, external_rows, table}
+use Rattle.link_out.specs.function.Link.{Outcome, link}
+use Rattle.link_out.specs.relation.Relocated.{entry_of, address_in}
 use Rattle.link_out.proofs.RowLemmas.{rows_kept-others}
 use Rattle.link_out.proofs.PartialLemmas.{IsProper, state_is_proper, local_rows_inner, external_row_outer, externals_in_table}
 use Rattle.link_out.proofs.OutcomeLemmas.{made_file}
@@ -54,7 +54,7 @@ entry_there p os name others known = entry_in_table p os name others ∙ ap (λ 
 abbrev pub row_at : List ℕ → Final → Symbol
 row_at name f = record { name = name; type_bits = type_of f.bound; value = f.written }
 
-row_undefined : (b : Bases) (name : List ℕ) → address_in (row_at name (undefined_name b name)) ≡ (undefined_name b name).address
+row_undefined : (b : Bases) (name : List ℕ) → address_in (row_at name (reserved_or_waiting b name)) ≡ (reserved_or_waiting b name).address
 row_undefined b name = by_tests (bytes_eq name etext) (bytes_eq name edata) (bytes_eq name end_name)
   where
     by_tests : (t d e : Bool) → address_in (row_at name (cond t (bound_at TextSeg b.text_end) (cond d (bound_at DataSeg b.data_end) (cond e (bound_at BssSeg b.bss_end) (waiting 0)))))
@@ -74,7 +74,7 @@ row_address_by p name (Defined BssSeg offset) h = refl
 row_address_by p name (Wanted size) h = by_tests (plus p.at.data_end (common_offset p.said name)) (eqb size 0) p.choices.relocatable (lays_commons p.choices)
   where
     by_tests : (a : ℕ) (z r c : Bool) →
-        (let f = cond z (cond r (waiting 0) (undefined_name p.at name)) (cond c (bound_at BssSeg a) (waiting size)) in address_in (row_at name f) ≡ f.address)
+        (let f = cond z (cond r (waiting 0) (reserved_or_waiting p.at name)) (cond c (bound_at BssSeg a) (waiting size)) in address_in (row_at name f) ≡ f.address)
     by_tests a true true c = refl
     by_tests a true false c = row_undefined p.at name
     by_tests a false r true = refl

@@ -13,9 +13,9 @@ use Rattle.link_session.proofs.ListLemmas.{all_append, all_split}
 use Rattle.link_session.proofs.UpdateLemmas.{definition_of}
 use Rattle.link_out.specs.declared.options.Keep.{Keep}
 use Rattle.link_out.specs.Choices.{Choices}
-use Rattle.link_out.specs.Link.{Outcome, link}
-use Rattle.link_out.specs.Partials.{KeepsNoMore, IsPartialLink}
-use Rattle.link_out.specs.Beyond.{IsPart, DefinesNoMultiple, IsGrouped, ungrouped, grouped}
+use Rattle.link_out.specs.function.Link.{Outcome, link}
+use Rattle.link_out.specs.laws.PartialLinks.{KeepsNoMore, IsPartialLink}
+use Rattle.link_out.specs.laws.PartialLinksAmongOthers.{IsPart, DefinesNoMultiple, IsGrouped, ungrouped, grouped}
 use Rattle.link_out.proofs.PartialLemmas.{partial_file}
 use Rattle.link_out.proofs.PartialNames.{HasTable, has_table, told, told_alone}
 use Rattle.link_out.proofs.ObjectLemmas.{linked_is_object}

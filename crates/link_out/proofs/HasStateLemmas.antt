@@ -9,7 +9,7 @@ use Rattle.link_session.specs.declared.state.State.{State}
 use Rattle.link_session.specs.declared.state.State.TheVariants.{Defined, Wanted}
 use Rattle.link_session.specs.Mentions.{Mention}
 use Rattle.link_session.specs.States.{Definition, definition_by, size_wanted_by, first_definition, wanted_size, state_by, state}
-use Rattle.link_out.specs.NameStates.{LeavesOpen, IsFirst, WantsAtMost, HasState}
+use Rattle.link_out.specs.relation.NameStates.{LeavesOpen, IsFirst, WantsAtMost, HasState}
 
 pub has_first : (ms : List Mention) (name : List ℕ) (d : Definition) → first_definition ms name ≡ Some d → IsFirst ms name d.0 d.1
 has_first [] name d f = absurd (cc)

@@ -13,10 +13,10 @@ use Rattle.link_session.proofs.MentionLemmas.{is_among-append}
 use Rattle.link_session.proofs.UpdateLemmas.{own_name}
 use Rattle.link_out.specs.Choices.{Choices}
 use Rattle.link_out.specs.Layouts.{Bases}
-use Rattle.link_out.specs.Plans.{Plan, common_size, room_of, commons_total, common_offset}
-use Rattle.link_out.specs.Finals.{Final, final}
+use Rattle.link_out.specs.function.Plans.{Plan, common_size, room_of, commons_total, common_offset}
+use Rattle.link_out.specs.function.Finals.{Final, final}
 use Rattle.link_out.specs.steps.FromCells.{finals}
-use Rattle.link_out.specs.Finals.{final_at}
+use Rattle.link_out.specs.function.Finals.{final_at}
 use Rattle.link_out.specs.steps.InOrder.{finals_from, room_in}
 
 -- names with their states

@@ -21,16 +21,16 @@ use Rattle.link_out.specs.declared.options.Layout.{Layout}
 use Rattle.link_out.specs.declared.options.Keep.{Keep}
 use Rattle.link_out.specs.declared.options.Keep.TheVariants.{All, NotL, Externals, Nothing}
 use Rattle.link_out.specs.Choices.{Choices, lays_commons}
-use Rattle.link_out.specs.Plans.{Plan, plan, commons_laid, common_offset}
-use Rattle.link_out.specs.Finals.{final, final_by, type_of, bound_at, waiting}
+use Rattle.link_out.specs.function.Plans.{Plan, plan, commons_laid, common_offset}
+use Rattle.link_out.specs.function.Finals.{final, final_by, type_of, bound_at, waiting}
 use Rattle.link_out.specs.ReservedNames.{etext, edata, end_name}
 use Rattle.link_out.specs.KeptSymbols.{is_kept_local, rows_kept}
-use Rattle.link_out.specs.Tables.{moved_value, moved_local, local_rows, external_row, external_rows, table, name_bits, referent_bits, final_relocs}
-use Rattle.link_out.specs.Reports.{entry_word, entry_found_bad, findings}
+use Rattle.link_out.specs.function.Tables.{moved_value, moved_local, local_rows, external_row, external_rows, table, name_bits, referent_bits, final_relocs}
+use Rattle.link_out.specs.function.Reports.{entry_word, entry_found_bad, findings}
 use Rattle.link_out.specs.Results.{Outcome}
-use Rattle.link_out.specs.Link.{linked_header, linked_file, link}
-use Rattle.link_out.specs.Relocated.{data_begins, begins}
-use Rattle.link_out.specs.Places.{IsShifted, AreShifted, DifferInPlace}
+use Rattle.link_out.specs.function.Link.{linked_header, linked_file, link}
+use Rattle.link_out.specs.relation.Relocated.{data_begins, begins}
+use Rattle.link_out.specs.laws.CommonsAndLayouts.{IsShifted, AreShifted, DifferInPlace}
 use Rattle.link_out.proofs.PartialLemmas.{IsProper, state_is_proper}
 use Rattle.link_out.proofs.CarriedLemmas.{data_begun, rest_back}
 use Rattle.link_out.proofs.OutcomeLemmas.{made}

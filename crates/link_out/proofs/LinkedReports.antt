@@ -9,9 +9,9 @@ use Rattle.link_session.specs.Mentions.{Mention, is_among}
 use Rattle.link_session.specs.States.{Definition, definition_by, first_definition, differs, state}
 use Rattle.link_session.proofs.ListLemmas.{all_map}
 use Rattle.link_session.proofs.UpdateLemmas.{own_name}
-use Rattle.link_out.specs.Reports.{is_undefined, reserved_names, reserved_taken}
-use Rattle.link_out.specs.Reported.{ArePicked, IsOther}
-use Rattle.link_out.specs.NameStates.{HasState, IsWanted}
+use Rattle.link_out.specs.function.Reports.{is_undefined, reserved_names, reserved_taken}
+use Rattle.link_out.specs.relation.Reported.{ArePicked, IsOther}
+use Rattle.link_out.specs.relation.NameStates.{HasState, IsWanted}
 use Rattle.link_out.proofs.MultipleLemmas.{none_defines, of_each_name, agrees_with, own_again}
 use Rattle.link_out.proofs.HasStateLemmas.{first_is, has_first, has_state, state_is}
 

@@ -11,13 +11,13 @@ use Rattle.link_session.specs.Mentions.{Mention}
 use Rattle.link_session.specs.States.{state}
 use Rattle.link_out.specs.Choices.{Choices, lays_commons}
 use Rattle.link_out.specs.Layouts.{Bases}
-use Rattle.link_out.specs.Plans.{Plan, common_size}
-use Rattle.link_out.specs.Finals.{Final, final, bound_at, waiting, undefined_name, etext, edata, end_name}
-use Rattle.link_out.specs.Tables.{external_row}
-use Rattle.link_out.specs.Finals.{final_at}
+use Rattle.link_out.specs.function.Plans.{Plan, common_size}
+use Rattle.link_out.specs.function.Finals.{Final, final, bound_at, waiting, reserved_or_waiting, etext, edata, end_name}
+use Rattle.link_out.specs.function.Tables.{external_row}
+use Rattle.link_out.specs.function.Finals.{final_at}
 use Rattle.link_out.specs.steps.InOrder.{finals_from, room_in}
-use Rattle.link_out.specs.Relocated.{data_begins}
-use Rattle.link_out.specs.LinkedTable.{undefined_row, row_for, room_for, AreRows}
+use Rattle.link_out.specs.relation.Relocated.{data_begins}
+use Rattle.link_out.specs.relation.LinkedTable.{undefined_row, row_for, room_for, AreRows}
 use Rattle.link_out.proofs.PartialLemmas.{IsProper}
 use Rattle.link_out.proofs.ExternalLemmas.{row_at}
 use Rattle.link_out.proofs.InOrderLemmas.{named_by}
@@ -37,7 +37,7 @@ pub record Tells (h : Header) (bss : ℕ) (b : Bases) : Type 0 where
   pub bss_end : data_begins h + h.data_size + h.bss_size ≡ b.bss_end
 
 module _ (h : Header) (bss : ℕ) (o : Choices) (b : Bases) (tells : Tells h bss b) where
-  undefined_same : (name : List ℕ) → undefined_row h o name ≡ row_at name (cond o.relocatable (waiting 0) (undefined_name b name))
+  undefined_same : (name : List ℕ) → undefined_row h o name ≡ row_at name (cond o.relocatable (waiting 0) (reserved_or_waiting b name))
   undefined_same name = by_tests o.relocatable (bytes_eq name etext) (bytes_eq name edata) (bytes_eq name end_name)
     where
       by_tests : (r t d e : Bool) →
@@ -62,7 +62,7 @@ module _ (h : Header) (bss : ℕ) (o : Choices) (b : Bases) (tells : Tells h bss
     where
       by_tests : (z c : Bool) → (c ≡ true → at ≡ plus b.data_end offset) →
           (let s : Symbol = cond z (undefined_row h o name) (cond c (record { name = name; type_bits = 36; value = at }) (record { name = name; type_bits = 32; value = size })) in s)
-          ≡ row_at name (cond z (cond o.relocatable (waiting 0) (undefined_name b name)) (cond c (bound_at BssSeg (plus b.data_end offset)) (waiting size)))
+          ≡ row_at name (cond z (cond o.relocatable (waiting 0) (reserved_or_waiting b name)) (cond c (bound_at BssSeg (plus b.data_end offset)) (waiting size)))
       by_tests true c lies = undefined_same name
       by_tests false true lies = ap (λ (n : ℕ). let s : Symbol = record { name = name; type_bits = 36; value = n } in s) (lies refl)
       by_tests false false lies = refl

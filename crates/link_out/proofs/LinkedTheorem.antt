@@ -15,18 +15,18 @@ use Rattle.link_session.specs.States.{state}
 use Rattle.link_out.specs.declared.linked.LinkFault.{LinkFault}
 use Rattle.link_out.specs.Choices.{Choices, lays_commons}
 use Rattle.link_out.specs.Layouts.{data_base}
-use Rattle.link_out.specs.Plans.{Plan, plan, commons_laid}
-use Rattle.link_out.specs.Tables.{local_rows, external_row, external_rows, rows_kept, table, final_reloc, final_relocs, has_far_in, has_far_word}
-use Rattle.link_out.specs.Words.{final_words}
-use Rattle.link_out.specs.Reports.{findings, reserved_names, undefined_names, entry_word, entry_found_bad}
+use Rattle.link_out.specs.function.Plans.{Plan, plan, commons_laid}
+use Rattle.link_out.specs.function.Tables.{local_rows, external_row, external_rows, rows_kept, table, final_reloc, final_relocs, has_far_in, has_far_word}
+use Rattle.link_out.specs.function.Words.{final_words}
+use Rattle.link_out.specs.function.Reports.{findings, reserved_names, undefined_names, entry_word, entry_found_bad}
 use Rattle.link_out.specs.steps.InOrder.{finals_from, room_in}
-use Rattle.link_out.specs.Link.{Outcome, linked_header, linked_file, link}
-use Rattle.link_out.specs.Relocated.{data_begins, begins, IsEntry}
-use Rattle.link_out.specs.LinkedTable.{AreRows, carried_locals}
-use Rattle.link_out.specs.LinkedWords.{AreRelocated, AreKept}
-use Rattle.link_out.specs.Reported.{ArePicked, IsReported}
-use Rattle.link_out.specs.LinkedFrom.{IsLinkedFrom}
-use Rattle.link_out.specs.NameStates.{IsWanted}
+use Rattle.link_out.specs.function.Link.{Outcome, linked_header, linked_file, link}
+use Rattle.link_out.specs.relation.Relocated.{data_begins, begins, IsEntry}
+use Rattle.link_out.specs.relation.LinkedTable.{AreRows, carried_locals}
+use Rattle.link_out.specs.relation.LinkedWords.{AreRelocated, AreKept}
+use Rattle.link_out.specs.relation.Reported.{ArePicked, IsReported}
+use Rattle.link_out.specs.relation.LinkedFrom.{IsLinkedFrom}
+use Rattle.link_out.specs.relation.NameStates.{IsWanted}
 use Rattle.link_out.proofs.PartialLemmas.{IsProper, state_is_proper}
 use Rattle.link_out.proofs.OutcomeLemmas.{IsMade, made, is_made}
 use Rattle.link_out.proofs.CarriedLemmas.{data_begun, rest_back}

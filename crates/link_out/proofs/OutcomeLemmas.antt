@@ -5,10 +5,10 @@ use Rattle.std.proofs.lemmas.Bool.{ltb-false}
 use Rattle.aout_core.specs.Contents.{Contents}
 use Rattle.link_out.specs.declared.linked.LinkFault.{LinkFault}
 use Rattle.link_out.specs.declared.linked.LinkFault.TheVariants.{DoesNotFit, TooManySymbols, SymbolNumber}
-use Rattle.link_out.specs.Plans.{Plan}
-use Rattle.link_out.specs.Tables.{table, has_far_word}
-use Rattle.link_out.specs.Reports.{findings}
-use Rattle.link_out.specs.Link.{Outcome, linked_file, link_by}
+use Rattle.link_out.specs.function.Plans.{Plan}
+use Rattle.link_out.specs.function.Tables.{table, has_far_word}
+use Rattle.link_out.specs.function.Reports.{findings}
+use Rattle.link_out.specs.function.Link.{Outcome, linked_file, link_by}
 
 -- what a link that no fault refuses passed, and what it gives
 pub record IsMade (p : Plan) (os : List Contents) (x : Outcome) : Type 0 where

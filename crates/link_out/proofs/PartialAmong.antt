@@ -16,11 +16,11 @@ use Rattle.link_session.proofs.MentionLemmas.{names_of-append, new_names-append}
 use Rattle.link_out.specs.declared.options.Keep.{Keep}
 use Rattle.link_out.specs.declared.options.Keep.TheVariants.{Nothing}
 use Rattle.link_out.specs.Choices.{Choices}
-use Rattle.link_out.specs.Link.{Outcome, link, linked_file}
-use Rattle.link_out.specs.Partials.{KeepsNoMore, IsPartialLink, without_multiples}
-use Rattle.link_out.specs.Beyond.{IsPart, behind, DefinitionsStand}
+use Rattle.link_out.specs.function.Link.{Outcome, link, linked_file}
+use Rattle.link_out.specs.laws.PartialLinks.{KeepsNoMore, IsPartialLink, without_multiples}
+use Rattle.link_out.specs.laws.PartialLinksAmongOthers.{IsPart, behind, DefinitionsStand}
 use Rattle.link_out.specs.declared.linked.LinkFault.{LinkFault}
-use Rattle.link_out.specs.Plans.{plan}
+use Rattle.link_out.specs.function.Plans.{plan}
 use Rattle.link_out.proofs.PartialLemmas.{partial_file, IsProper, state_is_proper, partly}
 use Rattle.link_out.proofs.PartialNames.{HasTable, has_table}
 use Rattle.link_out.proofs.ObjectLemmas.{linked_is_object, allowed_with}

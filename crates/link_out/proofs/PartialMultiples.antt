@@ -18,9 +18,9 @@ use Rattle.link_session.proofs.UpdateLemmas.{definition_of, own_name}
 use Rattle.link_out.specs.declared.options.Keep.{Keep}
 use Rattle.link_out.specs.declared.options.Keep.TheVariants.{Nothing}
 use Rattle.link_out.specs.Choices.{Choices}
-use Rattle.link_out.specs.Link.{Outcome, link}
-use Rattle.link_out.specs.Partials.{KeepsNoMore, IsPartialLink}
-use Rattle.link_out.specs.Beyond.{IsPart, DefinitionsStand, DefinesNoMultiple}
+use Rattle.link_out.specs.function.Link.{Outcome, link}
+use Rattle.link_out.specs.laws.PartialLinks.{KeepsNoMore, IsPartialLink}
+use Rattle.link_out.specs.laws.PartialLinksAmongOthers.{IsPart, DefinitionsStand, DefinesNoMultiple}
 use Rattle.link_out.proofs.PartialLemmas.{partial_file}
 use Rattle.link_out.proofs.PartialNames.{HasTable, has_table, told}
 use Rattle.link_out.proofs.SameLinks.{with_multiples, own_multiples}

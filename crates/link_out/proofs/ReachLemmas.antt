@@ -22,10 +22,10 @@ use Rattle.link_session.proofs.CellLemmas.{AllReferAmong}
 use Rattle.link_session.proofs.AdditionLemmas.{well_formed}
 use Rattle.link_session.proofs.WellFormedLemmas.{objects_refer}
 use Rattle.link_out.specs.Choices.{Choices, lays_commons}
-use Rattle.link_out.specs.Finals.{bound_at, waiting, undefined_name, final, final_by}
+use Rattle.link_out.specs.function.Finals.{bound_at, waiting, reserved_or_waiting, final, final_by}
 use Rattle.link_out.specs.steps.FromCells.{bound_of, finals, is_far}
-use Rattle.link_out.specs.Plans.{Plan, plan, common_offset}
-use Rattle.link_out.specs.Tables.{waits_far, local_rows, has_far_in, has_far_word}
+use Rattle.link_out.specs.function.Plans.{Plan, plan, common_offset}
+use Rattle.link_out.specs.function.Tables.{waits_far, local_rows, has_far_in, has_far_word}
 use Rattle.link_out.specs.steps.Reach.{kept_bound, kept_bound_of, is_out}
 use Rattle.link_out.proofs.CellRelocLemmas.{has_far_in-cells}
 
@@ -37,7 +37,7 @@ module _ (p : Plan) (kept : p.choices.relocatable ≡ true) where
     where
       by_tests : (t r l : Bool) → r ≡ true →
           cond (not t && l) (Some BssSeg) None
-          ≡ (if t then (if r then waiting 0 else undefined_name p.at name) else (if l then bound_at BssSeg (plus p.at.data_end (common_offset p.said name)) else waiting size)).bound
+          ≡ (if t then (if r then waiting 0 else reserved_or_waiting p.at name) else (if l then bound_at BssSeg (plus p.at.data_end (common_offset p.said name)) else waiting size)).bound
       by_tests true true l e = refl
       by_tests false r true e = refl
       by_tests false r false e = refl

@@ -29,16 +29,16 @@ use Rattle.link_out.specs.declared.options.Keep.{Keep}
 use Rattle.link_out.specs.declared.options.Keep.TheVariants.{All, NotL, Externals, Nothing}
 use Rattle.link_out.specs.Choices.{Choices, lays_commons}
 use Rattle.link_out.specs.Layouts.{data_base}
-use Rattle.link_out.specs.Plans.{Plan, plan, common_size, common_offset}
-use Rattle.link_out.specs.Finals.{final, final_by, bound_at, waiting, undefined_name}
-use Rattle.link_out.specs.Tables.{is_kept_local, rows_kept, moved_local, local_rows, external_row, external_rows, table, row_of, waits_far, is_out_of_reach, has_far_in, has_far_word}
-use Rattle.link_out.specs.Reports.{findings}
+use Rattle.link_out.specs.function.Plans.{Plan, plan, common_size, common_offset}
+use Rattle.link_out.specs.function.Finals.{final, final_by, bound_at, waiting, reserved_or_waiting}
+use Rattle.link_out.specs.function.Tables.{is_kept_local, rows_kept, moved_local, local_rows, external_row, external_rows, table, row_of, waits_far, is_out_of_reach, has_far_in, has_far_word}
+use Rattle.link_out.specs.function.Reports.{findings}
 use Rattle.link_out.specs.steps.InOrder.{room_in}
-use Rattle.link_out.specs.NameStates.{HasState, IsWanted}
-use Rattle.link_out.specs.Relocated.{segment_words, segment_relocs}
-use Rattle.link_out.specs.LinkedTable.{room_for}
-use Rattle.link_out.specs.Link.{Outcome, linked_file, link}
-use Rattle.link_out.specs.Refusals.{CommonsTake, EndsAt, kept_locals, entries, entry_count, HasFarWord, IsRefused}
+use Rattle.link_out.specs.relation.NameStates.{HasState, IsWanted}
+use Rattle.link_out.specs.relation.Relocated.{segment_words, segment_relocs}
+use Rattle.link_out.specs.relation.LinkedTable.{room_for}
+use Rattle.link_out.specs.function.Link.{Outcome, linked_file, link}
+use Rattle.link_out.specs.relation.Refusals.{CommonsTake, EndsAt, kept_locals, entries, entry_count, HasFarWord, IsRefused}
 use Rattle.link_out.proofs.InOrderLemmas.{named_by, room-commons}
 use Rattle.link_out.proofs.HasStateLemmas.{has_state, state_is}
 use Rattle.link_out.proofs.SegmentLemmas.{words_back, word_at}
@@ -190,7 +190,7 @@ module _ (forced : List (List ℕ)) (os : List Contents) (o : Choices) where
   far_state name n (Wanted size) r h e = by_tests (eqb size 0) refl o.relocatable r (lays_commons o) refl e
     where
       by_tests : (z : Bool) → eqb size 0 ≡ z → (r : Bool) → r ≡ true → (c : Bool) → lays_commons o ≡ c →
-          waits_far (cond z (cond r (waiting 0) (undefined_name p.at name)) (cond c (bound_at BssSeg (plus p.at.data_end (common_offset ms name))) (waiting size))).bound n ≡ true →
+          waits_far (cond z (cond r (waiting 0) (reserved_or_waiting p.at name)) (cond c (bound_at BssSeg (plus p.at.data_end (common_offset ms name))) (waiting size))).bound n ≡ true →
           (size : ℕ) × IsWanted ms name size × ((size ≡ 0) ⊎ (lays_commons o ≡ false)) × (4095 < n)
       by_tests true ze true re c ce e = (size, h, inl (eqb-true size 0 ze), ltb-true 4095 n e)
       by_tests true ze false re c ce e = absurd (false_true re)
@@ -201,7 +201,7 @@ module _ (forced : List (List ℕ)) (os : List Contents) (o : Choices) where
   state_far name n size r h w far = ap (λ (s : State). waits_far (final_by p name s).bound n) (state_is ms name (Wanted size) h) ∙ by_tests (eqb size 0) refl o.relocatable r (lays_commons o) refl w
     where
       by_tests : (z : Bool) → eqb size 0 ≡ z → (r : Bool) → r ≡ true → (c : Bool) → lays_commons o ≡ c → (size ≡ 0) ⊎ (lays_commons o ≡ false) →
-          waits_far (cond z (cond r (waiting 0) (undefined_name p.at name)) (cond c (bound_at BssSeg (plus p.at.data_end (common_offset ms name))) (waiting size))).bound n ≡ true
+          waits_far (cond z (cond r (waiting 0) (reserved_or_waiting p.at name)) (cond c (bound_at BssSeg (plus p.at.data_end (common_offset ms name))) (waiting size))).bound n ≡ true
       by_tests true ze true re c ce w = is_over 4095 n far
       by_tests true ze false re c ce w = absurd (false_true re)
       by_tests false ze r re false ce w = is_over 4095 n far

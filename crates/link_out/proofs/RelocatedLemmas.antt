@@ -20,12 +20,12 @@ use Rattle.link_session.proofs.CellLemmas.{RefersAmong}
 use Rattle.link_session.proofs.MentionLemmas.{is_among-externals}
 use Rattle.link_out.specs.declared.options.Keep.TheVariants.{Nothing}
 use Rattle.link_out.specs.Choices.{Choices}
-use Rattle.link_out.specs.Plans.{Plan, plan, commons_laid}
-use Rattle.link_out.specs.Finals.{final}
-use Rattle.link_out.specs.Words.{referent_move, final_word, final_words}
-use Rattle.link_out.specs.Tables.{external_row, table}
-use Rattle.link_out.specs.Link.{Outcome, linked_file, link, linked_header}
-use Rattle.link_out.specs.Relocated.{carried, IsAddressOf, IsAdded, segment_words, segment_relocs, IsRelocated, HoldsObjects, entry_of, address_in}
+use Rattle.link_out.specs.function.Plans.{Plan, plan, commons_laid}
+use Rattle.link_out.specs.function.Finals.{final}
+use Rattle.link_out.specs.function.Words.{referent_move, final_word, final_words}
+use Rattle.link_out.specs.function.Tables.{external_row, table}
+use Rattle.link_out.specs.function.Link.{Outcome, linked_file, link, linked_header}
+use Rattle.link_out.specs.relation.Relocated.{carried, IsAddressOf, IsAdded, segment_words, segment_relocs, IsRelocated, HoldsObjects, entry_of, address_in}
 use Rattle.link_out.proofs.OutcomeLemmas.{made_file}
 use Rattle.link_out.proofs.CarriedLemmas.{move_carried}
 use Rattle.link_out.proofs.ExternalLemmas.{entry_there, row_address}

@@ -15,10 +15,10 @@ use Rattle.link_session.specs.States.{Definition, definition_by, first_definitio
 use Rattle.link_session.proofs.ListLemmas.{all_append, all_split}
 use Rattle.link_session.proofs.MentionLemmas.{mentions-append}
 use Rattle.link_out.specs.Choices.{Choices}
-use Rattle.link_out.specs.Plans.{plan}
-use Rattle.link_out.specs.Reports.{Findings}
-use Rattle.link_out.specs.Link.{Outcome, link}
-use Rattle.link_out.specs.Meaning.{IsSaid, HasTwoDefinitions}
+use Rattle.link_out.specs.function.Plans.{plan}
+use Rattle.link_out.specs.function.Reports.{Findings}
+use Rattle.link_out.specs.function.Link.{Outcome, link}
+use Rattle.link_out.specs.laws.WordsAndNames.{IsSaid, HasTwoDefinitions}
 use Rattle.link_out.proofs.IndexLemmas.{all_get, all_filtered}
 use Rattle.link_out.proofs.NeighbourMentions.{blocks}
 use Rattle.link_out.proofs.OutcomeLemmas.{made_report}

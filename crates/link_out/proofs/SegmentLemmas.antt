@@ -21,7 +21,7 @@ use Rattle.link_session.proofs.CellLemmas.{RefersAmong, AllReferAmong}
 use Rattle.link_session.proofs.TotalLemmas.{with_all}
 use Rattle.link_session.proofs.WellFormedLemmas.{objects_refer, well_formed_parts}
 use Rattle.link_session.proofs.ListLemmas.{all_split, get_append, get_mapped}
-use Rattle.link_out.specs.Relocated.{segment_words, segment_relocs}
+use Rattle.link_out.specs.relation.Relocated.{segment_words, segment_relocs}
 use Rattle.link_out.proofs.IndexLemmas.{zip_get, zip_length, all_get, same_elements, get_either, get_back, zip_back}
 use Rattle.link_out.proofs.NeighbourMentions.{blocks, blocks-append}
 

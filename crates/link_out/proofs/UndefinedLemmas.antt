@@ -14,12 +14,12 @@ use Rattle.link_session.specs.States.{state}
 use Rattle.link_out.specs.declared.options.Keep.TheVariants.{Nothing}
 use Rattle.link_out.specs.Choices.{Choices, lays_commons}
 use Rattle.link_out.specs.Layouts.{Bases}
-use Rattle.link_out.specs.Plans.{Plan, plan, common_offset}
-use Rattle.link_out.specs.Finals.{Final, final, final_by, type_of, bound_at, waiting, undefined_name, etext, edata, end_name}
-use Rattle.link_out.specs.Tables.{external_row}
-use Rattle.link_out.specs.Reports.{Findings, is_undefined, undefined_names, reserved_names}
-use Rattle.link_out.specs.Link.{Outcome, link}
-use Rattle.link_out.specs.Relocated.{entry_of}
+use Rattle.link_out.specs.function.Plans.{Plan, plan, common_offset}
+use Rattle.link_out.specs.function.Finals.{Final, final, final_by, type_of, bound_at, waiting, reserved_or_waiting, etext, edata, end_name}
+use Rattle.link_out.specs.function.Tables.{external_row}
+use Rattle.link_out.specs.function.Reports.{Findings, is_undefined, undefined_names, reserved_names}
+use Rattle.link_out.specs.function.Link.{Outcome, link}
+use Rattle.link_out.specs.relation.Relocated.{entry_of}
 use Rattle.link_out.proofs.PartialLemmas.{IsProper, state_is_proper}
 use Rattle.link_out.proofs.OutcomeLemmas.{made_file, made_report}
 use Rattle.link_out.proofs.ExternalLemmas.{entry_in_table, entry_there}
@@ -34,7 +34,7 @@ none_filtered t (n ∷ ns) name h k = by_tests (t n) refl (bytes_eq name n) refl
     by_tests false tu true te h k rest = ap t ((bytes_eq-Decides name n).0 te) ∙ tu
     by_tests false tu false te h k rest = rest h k
 
-reserved_bound : (b : Bases) (name : List ℕ) → not (is_among reserved_names name) ≡ false → eqb (type_of (undefined_name b name).bound % 32) 0 ≡ false
+reserved_bound : (b : Bases) (name : List ℕ) → not (is_among reserved_names name) ≡ false → eqb (type_of (reserved_or_waiting b name).bound % 32) 0 ≡ false
 reserved_bound b name h = by_tests (bytes_eq name etext) (bytes_eq name edata) (bytes_eq name end_name) h
   where
     by_tests : (t d e : Bool) → not (t || (d || (e || false))) ≡ false →
@@ -54,7 +54,7 @@ bound_by p name (Defined BssSeg offset) h r u = refl
 bound_by p name (Wanted size) h r u = by_tests (plus p.at.data_end (common_offset p.said name)) (eqb size 0) p.choices.relocatable r p.choices.force_commons u
   where
     by_tests : (a : ℕ) (z r : Bool) → r ≡ false → (d : Bool) → (z && not (is_among reserved_names name)) ≡ false →
-        eqb (type_of (cond z (cond r (waiting 0) (undefined_name p.at name)) (cond (not r || d) (bound_at BssSeg a) (waiting size))).bound % 32) 0 ≡ false
+        eqb (type_of (cond z (cond r (waiting 0) (reserved_or_waiting p.at name)) (cond (not r || d) (bound_at BssSeg a) (waiting size))).bound % 32) 0 ≡ false
     by_tests a z true e d u = absurd (cc)
     by_tests a true false e d u = reserved_bound p.at name u
     by_tests a false false e d u = refl
@@ -108,7 +108,7 @@ waiting_still p name (Wanted size) h = by_tests (plus p.at.data_end (common_offs
     reserved false false true h = absurd (cc)
     reserved false false false h = refl
 
-    by_tests : (a : ℕ) (z r c : Bool) → (z && not (is_among reserved_names name)) ≡ true → cond z (cond r (waiting 0) (undefined_name p.at name)) (cond c (bound_at BssSeg a) (waiting size)) ≡ waiting 0
+    by_tests : (a : ℕ) (z r c : Bool) → (z && not (is_among reserved_names name)) ≡ true → cond z (cond r (waiting 0) (reserved_or_waiting p.at name)) (cond c (bound_at BssSeg a) (waiting size)) ≡ waiting 0
     by_tests a false r c h = absurd (cc)
     by_tests a true true c h = refl
     by_tests a true false c h = reserved (bytes_eq name etext) (bytes_eq name edata) (bytes_eq name end_name) h

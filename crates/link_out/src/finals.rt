@@ -1,13 +1,14 @@
 //! What becomes of the external names.
-ghost use Rattle.std.specs.Prelude.{◌≡◌, ◌≤◌, ◌+◌, ◌*◌, ◌%◌, bytes_eq, IfOk};
+ghost use Rattle.std.specs.Prelude.{◌≡◌, ◌≤◌, ◌+◌, ◌*◌, ◌%◌, IfOk};
 ghost use Rattle.link_session.specs.Undo.{image_of};
-ghost use Rattle.link_out.specs.Finals.{bound_at, waiting, undefined_name};
+ghost use Rattle.link_out.specs.function.Finals.{bound_at, waiting};
 ghost use Rattle.link_out.specs.steps.FromCells.{finals};
-ghost use Rattle.link_out.specs.Finals.{final_at};
+ghost use Rattle.link_out.specs.function.Finals.{final_at};
 ghost use Rattle.link_out.specs.steps.InOrder.{finals_from, plan_of};
 
 use crate::layout::{Bases, common_size};
 use crate::options::Options;
+use crate::reserved_names::reserved_or_waiting;
 use crate::words::base_word;
 use aout_core::{Name, Segment};
 use link_session::{Session, State};
@@ -23,7 +24,7 @@ pub(crate) struct Final {
 }
 
 impl Model for Final {
-    ghost use Rattle.link_out.specs.Finals as spec;
+    ghost use Rattle.link_out.specs.function.Finals as spec;
 
     ghost Value = { spec.Final };
 
@@ -33,7 +34,7 @@ impl Model for Final {
 }
 
 /// A name that is bound.
-fn bound_at(segment: Segment, address: u16) -> Final
+pub(crate) fn bound_at(segment: Segment, address: u16) -> Final
     ensures { result ≡ bound_at segment address }
 {
     Final {
@@ -44,38 +45,13 @@ fn bound_at(segment: Segment, address: u16) -> Final
 }
 
 /// A name that is not bound, and its size.
-fn waiting(size: u16) -> Final
+pub(crate) fn waiting(size: u16) -> Final
     ensures { result ≡ waiting size }
 {
     Final {
         bound: None,
         address: 0,
         written: size,
-    }
-}
-
-/// Whether a name has these bytes.
-pub(crate) fn is_named(name: &Name, text: &[u8]) -> bool
-    ensures { result ≡ bytes_eq name.now text.now }
-{
-    name.as_bytes() == text
-}
-
-/// What becomes of a name that nothing defines and that is no common.
-fn undefined_name(bases: &Bases, name: Name) -> Final
-    requires text { bases.now.text_end ≤ 65535 }
-    requires datas { bases.now.data_end ≤ 65535 }
-    requires bss { bases.now.bss_end ≤ 65535 }
-    ensures { result ≡ undefined_name bases.now name }
-{
-    if is_named(&name, b"_etext") {
-        bound_at(Segment::TextSeg, bases.text_end as u16)
-    } else if is_named(&name, b"_edata") {
-        bound_at(Segment::DataSeg, bases.data_end as u16)
-    } else if is_named(&name, b"_end") {
-        bound_at(Segment::BssSeg, bases.bss_end as u16)
-    } else {
-        waiting(0)
     }
 }
 
@@ -107,7 +83,7 @@ pub(crate) fn final_at(
             bound_at(segment, base_word(bases, segment).wrapping_add(place))
         }
         State::Wanted(0) if options.is_relocatable() => waiting(0),
-        State::Wanted(0) => undefined_name(bases, name),
+        State::Wanted(0) => reserved_or_waiting(bases, name),
         State::Wanted(_) if options.lays_commons() => {
             bound_at(Segment::BssSeg, common_at(bases, offset))
         }

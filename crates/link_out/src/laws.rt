@@ -1,10 +1,11 @@
 //! Laws of linking, over its definitions alone: each is the contract of a function with an empty body.
-ghost use Rattle.link_out.specs.Laws.{StripLaw, StripsOnce, PartialIsObject, PartialStandsAlone, PartialStandsAmong};
-ghost use Rattle.link_out.specs.Meaning.{WordsAreRelocated, ObjectsFill, DefinitionsHold, MultiplesDiffer, NamesHaveAddresses, EntriesStandOnce};
-ghost use Rattle.link_out.specs.Places.{CommonsHaveRoom, CommonsLieApart, EntryIsFound, MissingHaveNoAddress, PartialMayBeAdded, LayoutsDiffer};
-ghost use Rattle.link_out.specs.LinkedFrom.{LinkedExactly, LinkedOnce};
-ghost use Rattle.link_out.specs.Refusals.{RefusedExactly};
-ghost use Rattle.link_out.specs.Beyond.{PartialStandsFor, PartialStandsAlways, PartialStandsAmongOthers, PartialAgain, GroupingChangesNothing, PartialIsAccepted};
+ghost use Rattle.link_out.specs.laws.Stripping.{StripLaw, StripsOnce};
+ghost use Rattle.link_out.specs.laws.PartialLinks.{PartialIsObject, PartialStandsAlone, PartialStandsAmong};
+ghost use Rattle.link_out.specs.laws.WordsAndNames.{WordsAreRelocated, ObjectsFill, DefinitionsHold, MultiplesDiffer, NamesHaveAddresses, EntriesStandOnce};
+ghost use Rattle.link_out.specs.laws.CommonsAndLayouts.{CommonsHaveRoom, CommonsLieApart, EntryIsFound, MissingHaveNoAddress, PartialMayBeAdded, LayoutsDiffer};
+ghost use Rattle.link_out.specs.relation.LinkedFrom.{LinkedExactly, LinkedOnce};
+ghost use Rattle.link_out.specs.relation.Refusals.{RefusedExactly};
+ghost use Rattle.link_out.specs.laws.PartialLinksAmongOthers.{PartialStandsFor, PartialStandsAlways, PartialStandsAmongOthers, PartialAgain, GroupingChangesNothing, PartialIsAccepted};
 
 /// Stripping and linking go together: wherever a link without relocation gives a file, that file stripped is what the
 /// link gives that keeps no symbols, and the reports are the same; and stripping twice is stripping once. (strip(1))

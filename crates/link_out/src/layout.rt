@@ -8,7 +8,7 @@ ghost use Rattle.link_session.specs.Starts.{total};
 ghost use Rattle.link_session.specs.Undo.{image_of};
 ghost use Rattle.aout_core.specs.declared.symbol.Segment.TheVariants.{TextSeg, DataSeg};
 ghost use Rattle.link_out.specs.Layouts.{bases, data_base};
-ghost use Rattle.link_out.specs.Plans.{common_size, commons_laid};
+ghost use Rattle.link_out.specs.function.Plans.{common_size, commons_laid};
 ghost use Rattle.link_out.specs.steps.InOrder.{plan_of, room_in};
 
 use crate::options::{Layout, Options};

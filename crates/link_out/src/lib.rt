@@ -19,6 +19,7 @@
 mod edit;
 mod finals;
 mod findings;
+mod kept_symbols;
 pub mod laws;
 mod layout;
 mod linked;
@@ -26,13 +27,14 @@ mod linker;
 mod options;
 mod reach;
 mod relocs;
+mod reserved_names;
 mod runner;
 mod table;
 mod words;
 
 pub use edit::{Edit, Reply, RunFault};
-pub use findings::is_missing;
 pub use linked::{LinkFault, Linked, Report};
 pub use linker::finish;
 pub use options::{Keep, Layout, OptionFault, Options};
+pub use reserved_names::is_missing;
 pub use runner::run;

@@ -2,7 +2,7 @@
 ghost use Rattle.std.specs.Prelude.{◌≡◌, ◌++◌};
 ghost use Rattle.std.specs.List.{flat_map};
 ghost use Rattle.aout_core.specs.Wires.{Writes};
-ghost use Rattle.link_out.specs.Reports.{report_text, status_of, entry_lines, undefined_lines};
+ghost use Rattle.link_out.specs.function.Reports.{report_text, status_of, entry_lines, undefined_lines};
 ghost use Rattle.link_out.specs.Outcomes.{findings_of};
 ghost use Rattle.link_out.specs.steps.ReportParts.{is_silent, multiple_lines};
 ghost use Rattle.link_out.specs.declared.linked.LinkFault.TheVariants.{Memory};
@@ -97,7 +97,7 @@ impl Report {
         ensures { Writes W.contents result out.old out.new (report_text (findings_of self.now)) }
     {
         self.write_multiples(out)?;
-        self.write_missing(out)
+        self.write_entry_and_undefined(out)
     }
 
     /// Writes a line for each name that is multiply defined or reserved.
@@ -109,7 +109,7 @@ impl Report {
     }
 
     /// Writes the line of the entry point and the undefined names.
-    fn write_missing<W: Write>(&self, out: &mut Wire<W>) -> Result<(), DeviceFault>
+    fn write_entry_and_undefined<W: Write>(&self, out: &mut Wire<W>) -> Result<(), DeviceFault>
         ensures { Writes W.contents result out.old out.new (entry_lines self.now.entry_bad ++ undefined_lines self.now.undefined.items) }
     {
         self.write_entry(out)?;

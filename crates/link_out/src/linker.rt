@@ -7,22 +7,23 @@ ghost use Rattle.aout_core.specs.Parts.{contents_of};
 ghost use Rattle.link_session.specs.Labelled.{objects};
 ghost use Rattle.link_out.specs.Layouts.{magic_of};
 ghost use Rattle.link_out.specs.steps.FromCells as from_cells;
-ghost use Rattle.link_out.specs.Reports.{entry_word};
-ghost use Rattle.link_out.specs.Plans.{plan};
-ghost use Rattle.link_out.specs.Tables.{table};
-ghost use Rattle.link_out.specs.Link.{link, link_by, linked_header, linked_file};
+ghost use Rattle.link_out.specs.function.Reports.{entry_word};
+ghost use Rattle.link_out.specs.function.Plans.{plan};
+ghost use Rattle.link_out.specs.function.Tables.{table};
+ghost use Rattle.link_out.specs.function.Link.{link, link_by, linked_header, linked_file};
 ghost use Rattle.link_out.specs.steps.InOrder.{plan_of};
 ghost use Rattle.link_out.specs.steps.Passes.{IsPassed};
 ghost use Rattle.link_out.specs.Outcomes.{IsLinkOf, outcome_of};
 
 use crate::finals::{Final, finals_of};
 use crate::findings::{entry_point, report_of};
+use crate::kept_symbols::locals_within;
 use crate::layout::{Bases, link_bases};
 use crate::linked::{LinkFault, Linked};
 use crate::options::{Layout, Options};
 use crate::reach::has_far_word;
 use crate::relocs::relocs_of_cells;
-use crate::table::{locals_within, table};
+use crate::table::table;
 use crate::words::words_of_cells;
 use aout_core::{File, Header, Parts, Reloc, Segment};
 use link_session::{Cell, Session};
@@ -178,7 +179,11 @@ fn link_passed(
 }
 
 /// How many locals the table of a link has, or the first fault that refuses it. This takes no memory.
-fn locals_passed(session: &Session, options: &Options, bases: &Bases) -> Result<u16, LinkFault>
+fn locals_unless_refused(
+    session: &Session,
+    options: &Options,
+    bases: &Bases,
+) -> Result<u16, LinkFault>
     requires { bases.now ≡ (plan_of session.now options.now).at }
     ensures passed { IfOk result (λ locals. IsPassed (plan_of session.now options.now) (objects session.now.entries) locals) }
     ensures refused { IfErr result (λ fault. link_by (plan_of session.now options.now) (objects session.now.entries) ≡ Err fault) }
@@ -206,6 +211,6 @@ pub fn finish(alloc: Global, session: &Session, options: &Options) -> Result<Lin
     ensures object { options.now.relocatable ≡ true → IfOk result (λ linked. IsWellFormed linked.file) }
 {
     let bases = link_bases(session, options);
-    let locals = locals_passed(session, options, &bases)?;
+    let locals = locals_unless_refused(session, options, &bases)?;
     Ok(link_passed(alloc, session, options, &bases, locals)?)
 }

@@ -4,7 +4,7 @@ ghost use Rattle.std.specs.List.{list_any};
 ghost use Rattle.link_session.specs.Labelled.{objects};
 ghost use Rattle.link_session.specs.Undo.{image_of};
 ghost use Rattle.link_out.specs.steps.InOrder.{plan_of};
-ghost use Rattle.link_out.specs.Tables.{local_rows, has_far_word};
+ghost use Rattle.link_out.specs.function.Tables.{local_rows, has_far_word};
 ghost use Rattle.link_out.specs.steps.Reach.{kept_bound, kept_bound_of, is_out};
 
 use crate::options::Options;

@@ -1,7 +1,7 @@
 //! The relocation words of a linked file, from the cells of the merged image.
 ghost use Rattle.std.specs.Prelude.{◌≡◌, ◌≤◌, map, slice_get, IfOk, false};
 ghost use Rattle.std.specs.List.{list_any};
-ghost use Rattle.link_out.specs.Tables.{name_bits, segment_bits, waits_far};
+ghost use Rattle.link_out.specs.function.Tables.{name_bits, segment_bits, waits_far};
 ghost use Rattle.link_out.specs.steps.FromCells.{bound_of, is_far, reloc_of_cell, target_bits};
 
 use crate::finals::Final;

@@ -4,7 +4,7 @@ ghost use Rattle.aout_core.specs.WellFormed.{IsWellFormed};
 ghost use Rattle.link_session.specs.Edits.{addition, withdrawal, added, answer_to, answers, answers_from, refusal, survivors_from};
 ghost use Rattle.link_session.specs.Labelled.{objects};
 ghost use Rattle.link_session.specs.Sessions.{labelled};
-ghost use Rattle.link_out.specs.Link.{link};
+ghost use Rattle.link_out.specs.function.Link.{link};
 ghost use Rattle.link_out.specs.Runs.{change_of, link_after, HasAdded, IsRunOf};
 ghost use Rattle.link_out.specs.steps.Replies.{IsDone, HasRoom, IsReplied, AreDone};
 

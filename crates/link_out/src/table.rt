@@ -1,24 +1,22 @@
 //! The symbol table of a linked file.
-ghost use Rattle.std.specs.Prelude.{◌≡◌, ◌+◌, ◌++◌, ◌↔◌, length, nat_lt, IfSome, IfOk, OnOk, IsNone, IsTrue};
+ghost use Rattle.std.specs.Prelude.{◌≡◌, ◌++◌, length, IfOk, OnOk};
 ghost use Rattle.link_session.specs.Labelled.{objects};
 ghost use Rattle.link_session.specs.Mentions.{mentions};
 ghost use Rattle.link_session.specs.Undo.{image_of};
-ghost use Rattle.link_out.specs.Finals.{type_of};
+ghost use Rattle.link_out.specs.function.Finals.{type_of};
 ghost use Rattle.link_out.specs.steps.FromCells as from_cells;
-ghost use Rattle.link_out.specs.Plans.{Plan};
-ghost use Rattle.link_out.specs.Tables.{begins_with_l, keeps, is_kept_local, local_rows, external_rows, table};
-ghost use Rattle.link_out.specs.steps.Rows.{moves_by, value_moved, symbol_moved, rows_in, count_in, kept_count};
+ghost use Rattle.link_out.specs.function.Plans.{Plan};
+ghost use Rattle.link_out.specs.function.Tables.{local_rows, external_rows, table};
+ghost use Rattle.link_out.specs.steps.Rows.{moves_by, value_moved, symbol_moved, rows_in};
 
 use crate::finals::Final;
+use crate::kept_symbols::is_kept_local;
 use crate::layout::Bases;
 use crate::options::Keep;
 use crate::words::base_word;
 use aout_core::{Name, Segment, Symbol};
 use link_session::{Entry, Session, Shifts, Starts};
 use std::alloc::{AllocError, Global};
-
-/// The most symbols of a table: one more, of 12 bytes each, would not fit the size in the header.
-const MOST_ROWS: usize = 5461;
 
 /// How far the segments of an object move, modulo 65,536.
 #[derive(Clone, Copy)]
@@ -62,75 +60,6 @@ impl Moves {
             value: self.value(symbol.segment(), symbol.value),
         }
     }
-}
-
-fn begins_with_l(name: &[u8]) -> bool
-    ensures { result ≡ begins_with_l name.now }
-{
-    match name {
-        [] => false,
-        [first, ..] => *first == b'L',
-    }
-}
-
-/// Whether a local of this name is kept.
-fn keeps(keep: Keep, name: &Name) -> bool
-    ensures { result ≡ keeps keep name.now }
-{
-    match keep {
-        Keep::All => true,
-        Keep::NotL => !begins_with_l(name.as_bytes()),
-        Keep::Externals | Keep::Nothing => false,
-    }
-}
-
-/// Whether the symbol is a local that is kept.
-fn is_kept_local(keep: Keep, symbol: &Symbol) -> bool
-    ensures { result ≡ is_kept_local keep symbol.now }
-{
-    !symbol.is_external() && keeps(keep, &symbol.name)
-}
-
-/// How many of the symbols are locals that are kept.
-fn count_kept(keep: Keep, symbols: &[Symbol]) -> usize
-    ensures { result ≡ count_in keep symbols.now }
-{
-    let mut count = 0;
-    for symbol in symbols {
-        if is_kept_local(keep, symbol) {
-            count += 1;
-        }
-    }
-    count
-}
-
-/// How many locals of the objects are kept; `None` where these and the externals are too many for a table.
-fn count_locals(entries: &[Entry], keep: Keep, externals: u16) -> Option<u16>
-    ensures many { IsNone result ↔ IsTrue (nat_lt 5461 (kept_count keep (objects entries.now) + externals)) }
-    ensures count { IfSome result (λ n. n ≡ kept_count keep (objects entries.now)) }
-{
-    let mut count = 0;
-    for entry in entries {
-        if MOST_ROWS < count {
-            return None;
-        }
-        count += count_kept(keep, entry.object().file().symbols());
-    }
-    if MOST_ROWS < count || MOST_ROWS < count + externals as usize {
-        return None;
-    }
-    Some(count as u16)
-}
-
-/// How many locals the table of a link has; `None` where the table would have more than 5,461 rows.
-pub(crate) fn locals_within(session: &Session, keep: Keep) -> Option<u16>
-    ensures many { (p : Plan) → p.choices.keep ≡ keep → p.said ≡ mentions session.now.forced (objects session.now.entries) → (IsNone result ↔ IsTrue (nat_lt 5461 (length (table p (objects session.now.entries))))) }
-    ensures count { (p : Plan) → p.choices.keep ≡ keep → IfSome result (λ n. n ≡ length (local_rows p (objects session.now.entries))) }
-{
-    if keep == Keep::Nothing {
-        return Some(0);
-    }
-    count_locals(session.entries(), keep, session.external_count())
 }
 
 /// Appends the kept locals of an object.

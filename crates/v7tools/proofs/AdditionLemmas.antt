@@ -21,8 +21,8 @@ use Rattle.v7tools.specs.Inputs.{Cause, bad_file, bad_object, not_added, object_
 use Rattle.v7tools.specs.FaultTexts.{fault_of_addition}
 use Rattle.v7tools.specs.Loads.{read_of, IsAtPath}
 use Rattle.v7tools.specs.LinkAnswers.{WantsMemory}
-use Rattle.v7tools.specs.parts.InputParts.{IsCheckOf}
-use Rattle.v7tools.specs.parts.StepParts.{IsFound, IsAddition, IsObjectAddition}
+use Rattle.v7tools.specs.steps.InputParts.{IsCheckOf}
+use Rattle.v7tools.specs.steps.StepParts.{IsFound, IsAddition, IsObjectAddition}
 
 -- ---- what was read
 

@@ -13,7 +13,7 @@ use Rattle.link_out.specs.declared.linked.Linked.{Linked}
 use Rattle.link_out.specs.declared.linked.LinkFault.{LinkFault}
 use Rattle.link_out.specs.declared.linked.LinkFault.TheVariants as links
 use Rattle.link_out.specs.Choices.{Choices}
-use Rattle.link_out.specs.Link.{Outcome, link}
+use Rattle.link_out.specs.function.Link.{Outcome, link}
 use Rattle.link_out.specs.Outcomes.{outcome_of}
 use Rattle.link_out.specs.Outcomes as outcomes
 use Rattle.v7tools.specs.declared.fault.CliFault.{CliFault}
@@ -21,8 +21,8 @@ use Rattle.v7tools.specs.declared.fault.CliFault.TheVariants as faults
 use Rattle.v7tools.specs.FaultTexts.{fault_at, fault_of_link}
 use Rattle.v7tools.specs.Inputs.{Cause, cannot_open, bad_file, bad_object, not_added, Refusal, of_input, not_linked, object_in, kept_with, with_input, with_inputs, at_path, and_then, link_or_refusal, linked}
 use Rattle.v7tools.specs.LinkAnswers.{Input, Said, said_by, refuses, breaks, runs_out, never, Takes, Rejects, WantsMemory, StopsAt, TakesAll, StopsIn, HasNoLink, IsLinkOver, and_told, told, IsTrueOf, IsLinkOfBytes, IsLinkOf}
-use Rattle.v7tools.specs.parts.InputParts.{AreTaken, IsPossible}
-use Rattle.v7tools.specs.parts.StepParts.{IsAccepted, IsAddition, IsFound}
+use Rattle.v7tools.specs.steps.InputParts.{AreTaken, IsPossible}
+use Rattle.v7tools.specs.steps.StepParts.{IsAccepted, IsAddition, IsFound}
 
 -- ---- one input
 

@@ -9,7 +9,7 @@ use Rattle.aout_core.specs.Wires.{Latched}
 use Rattle.aout_core.specs.Contents.{Contents}
 use Rattle.v7tools.specs.Deeds.{Deed, History, Extends, opened, opens, paths_of, stored}
 use Rattle.v7tools.specs.declared.office.Stored.{Stored}
-use Rattle.v7tools.specs.parts.Openings.{sources}
+use Rattle.v7tools.specs.steps.Openings.{sources}
 use Rattle.v7tools.specs.LinkRuns.{StopsAt}
 
 pub nothing_asked : (a : History) → Extends a a []

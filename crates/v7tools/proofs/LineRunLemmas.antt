@@ -11,17 +11,17 @@ use Rattle.link_session.specs.Undo.{Kept}
 use Rattle.link_out.specs.Choices.{Choices}
 use Rattle.link_out.specs.declared.linked.Linked.{Linked}
 use Rattle.link_out.specs.declared.linked.LinkFault.{LinkFault}
-use Rattle.link_out.specs.Link.{Outcome, link}
+use Rattle.link_out.specs.function.Link.{Outcome, link}
 use Rattle.link_out.specs.Outcomes.{findings_of, IsLinkOf, outcome_of}
-use Rattle.link_out.specs.Reports.{line}
+use Rattle.link_out.specs.function.Reports.{line}
 use Rattle.v7tools.specs.Answers.{absent, Verdict, done, refused, to_store, Stepped, add_step, input_from, failing, giving, withdraw_step, link_answer_text, link_status}
 use Rattle.v7tools.specs.Deeds.{Deed, History, Extends, opened, stored}
 use Rattle.v7tools.specs.FaultTexts.{cli_text, fault_of_link}
 use Rattle.v7tools.specs.Inputs.{Cause, kept_with}
 use Rattle.v7tools.specs.Scripts.{Asked, to_add, to_withdraw, for_externals, for_undefined, to_link, for_nothing}
 use Rattle.v7tools.specs.LineRuns.{DoesStep, IsAddOf, IsLineOf, LineRun, OnlyTells, TakesLast, status_after}
-use Rattle.v7tools.specs.parts.SessionParts.{AnswersLine, IsNoLink, IsOpenedAt, TakesPlainStep, TellsStep}
-use Rattle.v7tools.specs.Steps.{AddsIf, Does, GoesOut, IsAddBy, IsAddOn, IsStepOn, verdict_of}
+use Rattle.v7tools.specs.steps.SessionParts.{AnswersLine, IsNoLink, IsOpenedAt, TakesPlainStep, TellsStep}
+use Rattle.v7tools.specs.SessionSteps.{AddsIf, Does, GoesOut, IsAddBy, IsAddOn, IsStepOn, verdict_of}
 use Rattle.v7tools.specs.declared.commands.Command.{Command}
 use Rattle.v7tools.specs.declared.commands.Step.{Step}
 use Rattle.v7tools.specs.declared.commands.Command.TheVariants.{Add, Withdraw, Externals, Undefined, Link, Bad}

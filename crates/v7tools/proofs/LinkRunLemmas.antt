@@ -9,7 +9,7 @@ use Rattle.link_out.specs.Choices.{Choices}
 use Rattle.link_out.specs.Outcomes.{findings_of}
 use Rattle.v7tools.specs.Deeds.{History, Extends, stored}
 use Rattle.v7tools.specs.LinkAnswers.{Input, inputs_of, IsLinkOf}
-use Rattle.v7tools.specs.parts.Openings.{sources, IsOpening, IsWorking, OpensAll}
+use Rattle.v7tools.specs.steps.Openings.{sources, IsOpening, IsWorking, OpensAll}
 use Rattle.v7tools.specs.LinkRuns.{inputs_opened, IsLinkOfFiles, IsLinkRun, ReportsIf}
 use Rattle.v7tools.specs.declared.fault.CliFault.{CliFault}
 use Rattle.v7tools.specs.declared.fault.CliFault.TheVariants as faults

@@ -13,11 +13,11 @@ use Rattle.link_session.specs.Image.{named_states}
 use Rattle.link_session.specs.Labelled.{Labelled, objects}
 use Rattle.link_session.specs.Mentions.{Mention, mentions, names_by_first_mention}
 use Rattle.link_session.specs.States.{state}
-use Rattle.link_out.specs.Reports.{is_missing}
-use Rattle.link_out.specs.Reports.{line}
+use Rattle.link_out.specs.function.Reports.{is_missing}
+use Rattle.link_out.specs.function.Reports.{line}
 use Rattle.link_out.proofs.InOrderLemmas.{named_by}
 use Rattle.v7tools.specs.Answers.{undefined_text}
-use Rattle.v7tools.specs.parts.StepParts.{missing_line}
+use Rattle.v7tools.specs.steps.StepParts.{missing_line}
 
 is_at : {A : Type 0} (items : List A) (i : ℕ) (item : A) → slice_get items i ≡ Some item → item ≡ slice_index_or items i item
 is_at items i item at = sym (get_or_from_slice_get items i item item at)

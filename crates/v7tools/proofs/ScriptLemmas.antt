@@ -10,7 +10,7 @@ use Rattle.v7tools.specs.declared.script.Stop.{Stop}
 use Rattle.v7tools.specs.declared.script.Stop.TheVariants as stops
 use Rattle.v7tools.specs.Scripts.{asked, lines_in, on_first, long_line, many_lines, and_given, ends_with_fault, given_behind}
 use Rattle.v7tools.specs.ScriptAnswers.{Answer, asked_by, HasLine, HasNone, NamesPath, Settles, answer_of, behind_line, IfTold, IsNextOf}
-use Rattle.v7tools.specs.parts.LineParts.{IsStopOf, IsTakenOf}
+use Rattle.v7tools.specs.steps.LineParts.{IsStopOf, IsTakenOf}
 
 pub has_none_push : (line : List ℕ) (b : ℕ) → HasNone line → b ≢ 10 → HasNone (line ++ b ∷ [])
 has_none_push [] b h n = (n, tt)

@@ -14,7 +14,7 @@ use Rattle.v7tools.specs.Scripts.{Asked, lines_in, Given, ScriptFault, long_line
 use Rattle.v7tools.specs.ScriptAnswers.{Answer, IfTold, IsNextOf, NamesPath, Progress, Settles, asked_by, lines_of}
 use Rattle.v7tools.specs.SessionRuns.{AreFirst, AreLines, Chains, IsSessionRun, Ran, StopsBehind, answers_of, deeds_of, given, lines_asked, worst}
 use Rattle.v7tools.specs.LineRuns.{IsLineRun, LineRun}
-use Rattle.v7tools.specs.parts.SessionParts.{AnswersLine}
+use Rattle.v7tools.specs.steps.SessionParts.{AnswersLine}
 use Rattle.v7tools.specs.declared.fault.CliFault.{CliFault}
 use Rattle.v7tools.specs.declared.fault.CliFault.TheVariants as faults
 use Rattle.v7tools.specs.declared.lines.Line.{Line}

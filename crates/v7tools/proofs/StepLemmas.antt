@@ -13,9 +13,9 @@ use Rattle.link_session.specs.Sessions.{Adds, Withdraws}
 use Rattle.link_session.specs.Undo.{Kept}
 use Rattle.link_out.specs.declared.linked.LinkFault.{LinkFault}
 use Rattle.link_out.specs.declared.linked.LinkFault.TheVariants as links
-use Rattle.link_out.specs.Link.{Outcome}
+use Rattle.link_out.specs.function.Link.{Outcome}
 use Rattle.link_out.specs.Outcomes.{IsLinkOf}
-use Rattle.link_out.specs.Reports.{line}
+use Rattle.link_out.specs.function.Reports.{line}
 use Rattle.link_out.proofs.RunLemmas.{last_of-put_last, without_last-put_last}
 use Rattle.v7tools.specs.declared.fault.CliFault.{CliFault}
 use Rattle.v7tools.specs.declared.fault.CliFault.TheVariants as faults
@@ -25,9 +25,9 @@ use Rattle.v7tools.specs.Inputs.{Cause, cannot_open, bad_file, bad_object, not_a
 use Rattle.v7tools.specs.FaultTexts.{cause_text, cli_text, fault_at, fault_of_link}
 use Rattle.v7tools.specs.Answers.{done, refused, Stepped, add_step, withdraw_step, link_step}
 use Rattle.v7tools.specs.LinkAnswers.{WantsMemory}
-use Rattle.v7tools.specs.parts.InputParts.{IsDeviceFault}
-use Rattle.v7tools.specs.parts.StepParts.{IsRefusal, IsAccepted, IsAddition, IsAddOver, IsAddWorking, TakesWithdrawal, label_of}
-use Rattle.v7tools.specs.Steps.{Does, IsAddOn, IsAddBy, IsLinkBy, WithdrawsIf, verdict_of}
+use Rattle.v7tools.specs.steps.InputParts.{IsDeviceFault}
+use Rattle.v7tools.specs.steps.StepParts.{IsRefusal, IsAccepted, IsAddition, IsAddOver, IsAddWorking, TakesWithdrawal, label_of}
+use Rattle.v7tools.specs.SessionSteps.{Does, IsAddOn, IsAddBy, IsLinkBy, WithdrawsIf, verdict_of}
 
 -- ---- the last object
 

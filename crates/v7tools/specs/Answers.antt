@@ -15,8 +15,8 @@ use Rattle.link_session.specs.Image.{image}
 use Rattle.link_session.specs.Edits.{without_last, last_of}
 use Rattle.link_out.specs.declared.linked.LinkFault.{LinkFault}
 use Rattle.link_out.specs.Choices.{Choices}
-use Rattle.link_out.specs.Reports.{Findings, line, report_text, status_of, undefined_names}
-use Rattle.link_out.specs.Link.{Outcome, link}
+use Rattle.link_out.specs.function.Reports.{Findings, line, report_text, status_of, undefined_names}
+use Rattle.link_out.specs.function.Link.{Outcome, link}
 use Rattle.symtools.specs.SymbolLines.{symbol_line}
 use Rattle.v7tools.specs.Inputs.{Cause, cannot_open, bad_file, with_input}
 use Rattle.v7tools.specs.FaultTexts.{cause_text, link_text, at_file}

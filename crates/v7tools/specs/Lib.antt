@@ -7,7 +7,7 @@ pub mod LinkAnswers
 pub mod Scripts
 pub mod ScriptAnswers
 pub mod Answers
-pub mod Steps
+pub mod SessionSteps
 pub mod Blocks
 pub mod Deeds
 pub mod LinkRuns
@@ -15,4 +15,4 @@ pub mod FileRuns
 pub mod LineRuns
 pub mod SessionRuns
 pub mod CommandRuns
-pub mod parts
+pub mod steps

@@ -6,12 +6,12 @@ use Rattle.std.specs.Prelude.{◌≡◌, ◌⊎◌, ℕ, List, [], ◌∷◌, Op
 use Rattle.link_session.specs.Labelled.{objects}
 use Rattle.link_session.specs.Undo.{Kept}
 use Rattle.link_out.specs.Choices.{Choices}
-use Rattle.link_out.specs.Link.{Outcome, link}
+use Rattle.link_out.specs.function.Link.{Outcome, link}
 use Rattle.v7tools.specs.Answers.{absent, failing, adding, withdrawing, listing_externals, listing_undefined, anything_else, Verdict, done, refused, Stepped, add_step, input_from, step, link_answer_text, link_status}
 use Rattle.v7tools.specs.Deeds.{Deed, opened, stored}
 use Rattle.v7tools.specs.LinkAnswers.{WantsMemory}
 use Rattle.v7tools.specs.Scripts.{Asked, to_add, to_withdraw, for_externals, for_undefined, to_link, for_nothing}
-use Rattle.v7tools.specs.Steps.{AddsIf, IsAddOn, IsLinkBy, WithdrawsIf, without_memory}
+use Rattle.v7tools.specs.SessionSteps.{AddsIf, IsAddOn, IsLinkBy, WithdrawsIf, without_memory}
 use Rattle.v7tools.specs.declared.office.Stored.{Stored}
 
 -- a line: what it asked for, what it asked of the office, its answer, its status, and what is kept behind it

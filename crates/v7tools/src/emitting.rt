@@ -2,7 +2,7 @@
 ghost use Rattle.std.specs.Prelude.{◌≡◌, ◌↔◌, ◌⊎◌, false, IfErr, IfOk, IsErr, IsTrue};
 ghost use Rattle.aout_core.specs.Spelling.{spelling};
 ghost use Rattle.link_out.specs.Outcomes.{findings_of};
-ghost use Rattle.link_out.specs.Reports.{report_text, status_of};
+ghost use Rattle.link_out.specs.function.Reports.{report_text, status_of};
 ghost use Rattle.v7tools.specs.declared.fault.CliFault.TheVariants.{WriteFailed};
 ghost use Rattle.v7tools.specs.Emits.{PutsUnless};
 

@@ -2,7 +2,7 @@
 ghost use Rattle.std.specs.Prelude.{◌≡◌, ◌++◌, decimal};
 ghost use Rattle.aout_core.specs.Wires.{Writes};
 ghost use Rattle.v7tools.specs.FaultTexts.{add_text, at_file, link_text, object_text, read_text};
-ghost use Rattle.v7tools.specs.parts.FaultParts.{spelt, spelt_front, spelt_index};
+ghost use Rattle.v7tools.specs.steps.FaultParts.{spelt, spelt_front, spelt_index};
 
 use aout_core::{DeviceFault, ObjectFault, ReadFault, Wire};
 use itoa::Buffer;

@@ -2,7 +2,7 @@
 ghost use Rattle.std.specs.Prelude.{◌≡◌, ◌++◌, codes, decimal, IfErr, IfOk};
 ghost use Rattle.aout_core.specs.Wires.{Writes};
 ghost use Rattle.link_out.specs.Outcomes.{findings_of};
-ghost use Rattle.link_out.specs.Reports.{line};
+ghost use Rattle.link_out.specs.function.Reports.{line};
 ghost use Rattle.v7tools.specs.declared.fault.CliFault.TheVariants.{WriteFailed};
 ghost use Rattle.v7tools.specs.Answers.{link_answer_text, link_status};
 ghost use Rattle.v7tools.specs.FaultTexts.{at_file};

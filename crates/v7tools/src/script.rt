@@ -3,7 +3,7 @@ ghost use Rattle.std.specs.Prelude.{◌≡◌, ◌↔◌, ◌+◌, ◌<◌, ◌�
 ghost use Rattle.aout_core.specs.declared.block.TheConstants.{BLOCK_SIZE};
 ghost use Rattle.v7tools.specs.declared.fault.CliFault.TheVariants.{Memory, ScriptFailed};
 ghost use Rattle.v7tools.specs.ScriptAnswers.{answer_of, HasLine, IfTold, IsNextOf, lines_of, NeedsNoMore, Settles, unread};
-ghost use Rattle.v7tools.specs.parts.LineParts.{EndsLine, IsStopOf, IsTakenOf};
+ghost use Rattle.v7tools.specs.steps.LineParts.{EndsLine, IsStopOf, IsTakenOf};
 
 use crate::block_reader::BlockReader;
 use crate::fault::CliFault;

@@ -2,13 +2,13 @@
 ghost use Rattle.std.specs.Prelude.{◌≡◌, ◌↔◌, ◌≤◌, ℕ, List, [], string_bytes, Err, IfErr, IfOk, IsTrue};
 ghost use Rattle.aout_core.specs.Wires.{IsPassedOn, Writes};
 ghost use Rattle.link_session.specs.Sessions.{nothing_kept};
-ghost use Rattle.link_out.specs.Reports.{line};
+ghost use Rattle.link_out.specs.function.Reports.{line};
 ghost use Rattle.v7tools.specs.declared.fault.CliFault.TheVariants.{ScriptFailed, WriteFailed};
 ghost use Rattle.v7tools.specs.FaultTexts.{cli_text};
 ghost use Rattle.v7tools.specs.Scripts.{to_add, to_link};
 ghost use Rattle.v7tools.specs.ScriptAnswers.{asked_by};
 ghost use Rattle.v7tools.specs.SessionRuns.{IsSessionRun};
-ghost use Rattle.v7tools.specs.parts.SessionParts.{AnswersLine, IsNoLink, IsOpenedAt, TakesPlainStep};
+ghost use Rattle.v7tools.specs.steps.SessionParts.{AnswersLine, IsNoLink, IsOpenedAt, TakesPlainStep};
 
 use crate::commands::{Command, Step};
 use crate::fault::CliFault;

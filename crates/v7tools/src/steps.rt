@@ -3,13 +3,13 @@ ghost use Rattle.std.specs.Prelude.{◌≡◌, ◌++◌, true, IfErr, IfOk, IsTr
 ghost use Rattle.aout_core.specs.Wires.{Writes};
 ghost use Rattle.link_session.specs.Edits.{last_of};
 ghost use Rattle.link_session.specs.Labelled.{objects};
-ghost use Rattle.link_out.specs.Link.{link};
-ghost use Rattle.link_out.specs.Reports.{line};
+ghost use Rattle.link_out.specs.function.Link.{link};
+ghost use Rattle.link_out.specs.function.Reports.{line};
 ghost use Rattle.v7tools.specs.declared.fault.CliFault.TheVariants.{WriteFailed};
 ghost use Rattle.v7tools.specs.declared.commands.Step.TheVariants.{Refused};
 ghost use Rattle.v7tools.specs.FaultTexts.{cli_text};
-ghost use Rattle.v7tools.specs.parts.StepParts.{label_of, TakesAddStep, TakesLinkStep, TakesWithdrawal};
-ghost use Rattle.v7tools.specs.Steps.{StoresObject, TakesStep};
+ghost use Rattle.v7tools.specs.steps.StepParts.{label_of, TakesAddStep, TakesLinkStep, TakesWithdrawal};
+ghost use Rattle.v7tools.specs.SessionSteps.{StoresObject, TakesStep};
 
 use crate::additions::add_file;
 use crate::commands::{Command, Step};

@@ -1,6 +1,6 @@
 -- The address of a name, where it lies in text.
 use Rattle.std.specs.Prelude.{ℕ, cond, eqb, List, Option, Some, None, slice_get}
-use Rattle.link_out.specs.Finals.{Final, type_of}
+use Rattle.link_out.specs.function.Finals.{Final, type_of}
 
 abbrev pub text_address : Option Final → Option ℕ
 text_address None = None

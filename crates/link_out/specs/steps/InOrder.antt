@@ -5,8 +5,8 @@ use Rattle.link_session.specs.Image.{Named}
 use Rattle.link_session.specs.Undo.{Kept}
 use Rattle.link_out.specs.Choices.{Choices}
 use Rattle.link_out.specs.Layouts.{Bases}
-use Rattle.link_out.specs.Plans.{Plan, plan, common_size}
-use Rattle.link_out.specs.Finals.{Final, final_at}
+use Rattle.link_out.specs.function.Plans.{Plan, plan, common_size}
+use Rattle.link_out.specs.function.Finals.{Final, final_at}
 
 -- what a link of what a session keeps is computed from
 abbrev pub plan_of : Kept → Choices → Plan

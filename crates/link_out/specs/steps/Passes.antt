@@ -2,8 +2,8 @@
 use Rattle.std.specs.Prelude.{◌≡◌, ℕ, ◌≤◌, true, false, List, length, None}
 use Rattle.aout_core.specs.Contents.{Contents}
 use Rattle.link_out.specs.Choices.{option_fault}
-use Rattle.link_out.specs.Plans.{Plan}
-use Rattle.link_out.specs.Tables.{local_rows, table, has_far_word}
+use Rattle.link_out.specs.function.Plans.{Plan}
+use Rattle.link_out.specs.function.Tables.{local_rows, table, has_far_word}
 
 -- the options are allowed, no fault refuses the link, and so many locals are written
 pub record IsPassed (p : Plan) (os : List Contents) (locals : ℕ) : Type 0 where

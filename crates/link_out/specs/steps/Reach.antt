@@ -6,7 +6,7 @@ use Rattle.link_session.specs.declared.cell.Target.{Target}
 use Rattle.link_session.specs.declared.cell.Target.TheVariants.{External}
 use Rattle.link_session.specs.declared.state.State.{State}
 use Rattle.link_session.specs.declared.state.State.TheVariants.{Defined, Wanted}
-use Rattle.link_out.specs.Tables.{waits_far}
+use Rattle.link_out.specs.function.Tables.{waits_far}
 
 -- the segment that a name is bound to, where commons are laid out or not
 abbrev pub kept_bound : Bool → State → Option Segment

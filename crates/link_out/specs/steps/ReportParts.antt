@@ -2,7 +2,7 @@
 use Rattle.std.specs.Prelude.{ℕ, Bool, ◌&&◌, eqb, List, ◌++◌, length, is_none, codes}
 use Rattle.std.specs.List.{flat_map}
 use Rattle.link_out.specs.Results.{Findings}
-use Rattle.link_out.specs.Reports.{line}
+use Rattle.link_out.specs.function.Reports.{line}
 
 -- no line
 abbrev pub is_silent : Findings → Bool

@@ -13,7 +13,7 @@ use Rattle.link_session.specs.Starts.{shift_by}
 use Rattle.link_out.specs.declared.options.Keep.{Keep}
 use Rattle.link_out.specs.declared.table.Moves.{Moves}
 use Rattle.link_out.specs.Layouts.{Bases, base}
-use Rattle.link_out.specs.Tables.{is_kept_local}
+use Rattle.link_out.specs.function.Tables.{is_kept_local}
 
 -- how far the segments of an object move
 abbrev pub moves_by : Bases → Shifts → Moves

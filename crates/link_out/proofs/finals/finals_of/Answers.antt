@@ -1,8 +1,8 @@
 use Rattle.std.proofs.Common.{◌≡◌, ◌+◌, ◌++◌, ◌∷◌, [], ◌∙◌, drop, sym, ap, arith}
 use Rattle.std.proofs.lemmas.Grind.{common_steps}
 use Rattle.link_session.specs.Undo.{image_of}
-use Rattle.link_out.specs.Plans.{common_size}
-use Rattle.link_out.specs.Finals.{final_at}
+use Rattle.link_out.specs.function.Plans.{common_size}
+use Rattle.link_out.specs.function.Finals.{final_at}
 use Rattle.link_out.specs.steps.InOrder.{finals_from}
 use Rattle.link_out.proofs.InOrderLemmas.{finals_next, some_within}
 use Rattle.link_out.proofs.finals.finals_of.Goals as goal

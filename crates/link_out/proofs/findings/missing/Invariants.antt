@@ -1,7 +1,7 @@
 use Rattle.std.proofs.Common.{◌≡◌, ◌++◌}
 use Rattle.link_session.specs.Labelled.{objects}
 use Rattle.link_session.specs.Mentions.{mentions}
-use Rattle.link_out.specs.Reports.{undefined_names}
+use Rattle.link_out.specs.function.Reports.{undefined_names}
 use Rattle.link_out.proofs.FindingLemmas.{missing_behind}
 use Rattle.link_out.proofs.findings.missing.Given as goal
 

@@ -2,7 +2,7 @@ use Rattle.std.proofs.Common.{◌∙◌, [], cond, sym, ap}
 use Rattle.std.proofs.lemmas.Result.{IfOk-weaker}
 use Rattle.link_session.specs.Labelled.{objects}
 use Rattle.link_session.specs.Mentions.{mentions}
-use Rattle.link_out.specs.Reports.{undefined_names}
+use Rattle.link_out.specs.function.Reports.{undefined_names}
 use Rattle.link_out.proofs.findings.undefined_names.Goals as goal
 
 pub returns : goal.returns

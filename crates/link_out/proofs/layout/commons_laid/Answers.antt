@@ -1,7 +1,7 @@
 use Rattle.std.proofs.Common.{◌∙◌, cond, sym, ap}
 use Rattle.link_session.specs.Labelled.{objects}
 use Rattle.link_session.specs.Mentions.{mentions}
-use Rattle.link_out.specs.Plans.{commons_total}
+use Rattle.link_out.specs.function.Plans.{commons_total}
 use Rattle.link_out.proofs.InOrderLemmas.{room-commons}
 use Rattle.link_out.proofs.layout.commons_laid.Goals as goal
 

@@ -7,8 +7,8 @@ use Rattle.link_session.specs.Image.{named_states}
 use Rattle.link_session.specs.Labelled.{objects}
 use Rattle.link_session.specs.Mentions.{mentions}
 use Rattle.link_session.specs.Undo.{image_of}
-use Rattle.link_out.specs.Finals.{Final}
-use Rattle.link_out.specs.Tables.{external_rows}
+use Rattle.link_out.specs.function.Finals.{Final}
+use Rattle.link_out.specs.function.Tables.{external_rows}
 use Rattle.link_out.proofs.InOrderLemmas.{none_behind}
 use Rattle.link_out.proofs.RowLemmas.{row_read, row_is, row_put, rows_put}
 use Rattle.link_out.proofs.table.put_externals.Goals.{in-Some+in_ok-push, in_default}

@@ -1,5 +1,5 @@
 use Rattle.std.proofs.Common.{sym, subst, ◌∙◌}
-use Rattle.v7tools.specs.parts.StepParts.{IsAddition}
+use Rattle.v7tools.specs.steps.StepParts.{IsAddition}
 use Rattle.v7tools.proofs.AdditionLemmas.{carried, addition_unread, addition_unchecked, addition_of_object, read_object}
 use Rattle.v7tools.proofs.additions.add_file.Goals as goal
 

@@ -1,5 +1,5 @@
 use Rattle.std.proofs.Common.{rules, ◌≡◌, [], ◌∷◌, ◌++◌, map, sym, subst}
-use Rattle.v7tools.specs.parts.Openings.{IsLoading}
+use Rattle.v7tools.specs.steps.Openings.{IsLoading}
 use Rattle.v7tools.specs.FileRuns.{Reads}
 use Rattle.v7tools.proofs.DeedLemmas.{passed_on}
 use Rattle.v7tools.proofs.FileRunLemmas.{paths_more, reads_more, stops_reading}

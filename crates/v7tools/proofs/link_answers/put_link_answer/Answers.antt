@@ -3,7 +3,7 @@ use Rattle.std.specs.Prelude.{codes, decimal}
 use Rattle.aout_core.specs.Wires.{Writes}
 use Rattle.aout_core.proofs.PutsLemmas.{writes_both, writes_no_more}
 use Rattle.link_out.specs.Outcomes.{findings_of}
-use Rattle.link_out.specs.Reports.{line, status_of}
+use Rattle.link_out.specs.function.Reports.{line, status_of}
 use Rattle.v7tools.specs.declared.office.Stored.{Stored}
 use Rattle.v7tools.specs.Answers.{link_answer_text}
 use Rattle.v7tools.proofs.link_answers.put_link_answer.Goals as goal

@@ -3,7 +3,7 @@ use Rattle.std.specs.List.{AllByRecursion}
 use Rattle.std.proofs.lemmas.List.{nil_from_length}
 use Rattle.link_out.proofs.RunLemmas.{one_more}
 use Rattle.v7tools.specs.Deeds.{Extends, opens}
-use Rattle.v7tools.specs.parts.Openings.{sources, IsWorking}
+use Rattle.v7tools.specs.steps.Openings.{sources, IsWorking}
 use Rattle.v7tools.proofs.DeedLemmas.{all_behind, no_more, nothing_asked, opened_at, opens_more, map-append, stops_at}
 use Rattle.v7tools.proofs.link_command.open_all.Goals as goal
 

@@ -1,9 +1,9 @@
 use Rattle.std.proofs.Common.{Ok, sym, subst, ap, refl, inl}
 use Rattle.aout_core.specs.Wires.{Writes}
 use Rattle.link_session.specs.Labelled.{objects}
-use Rattle.link_out.specs.Link.{link}
+use Rattle.link_out.specs.function.Link.{link}
 use Rattle.link_out.specs.Outcomes.{outcome_of}
-use Rattle.link_out.specs.Reports.{line}
+use Rattle.link_out.specs.function.Reports.{line}
 use Rattle.v7tools.specs.declared.fault.CliFault.{CliFault}
 use Rattle.v7tools.specs.Answers.{link_step}
 use Rattle.v7tools.specs.FaultTexts.{cli_text, fault_of_link}

@@ -1,5 +1,5 @@
 use Rattle.std.proofs.Common.{◌++◌}
-use Rattle.link_out.specs.Reports.{entry_lines, undefined_lines}
+use Rattle.link_out.specs.function.Reports.{entry_lines, undefined_lines}
 use Rattle.aout_core.proofs.PutsLemmas.{writes_both, writes_no_more}
 use Rattle.link_out.proofs.linked.Report.write.Goals as goal
 
@@ -9,4 +9,4 @@ returns-in_err-write_multiples g c =
     writes_no_more (entry_lines r.entry_bad ++ undefined_lines r.undefined.items) c.from_residual.ensures.0 c.in_err-write_multiples.ensures
 
 pub returns : goal.returns
-returns g c = writes_both c.in_ok-write_multiples.ensures c.write_missing.ensures
+returns g c = writes_both c.in_ok-write_multiples.ensures c.write_entry_and_undefined.ensures

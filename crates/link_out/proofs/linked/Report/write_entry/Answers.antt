@@ -1,7 +1,7 @@
 use Rattle.std.proofs.Common.{ℕ, List, ◌++◌, subst, sym, ap, ◌∙◌}
 use Rattle.std.specs.Prelude.{codes}
 use Rattle.aout_core.specs.Wires.{Writes}
-use Rattle.link_out.specs.Reports.{entry_lines}
+use Rattle.link_out.specs.function.Reports.{entry_lines}
 use Rattle.link_out.proofs.ReportLemmas.{entry_line}
 use Rattle.link_out.proofs.linked.Report.write_entry.Goals as goal
 

@@ -2,7 +2,7 @@ use Rattle.std.proofs.Common.{◌++◌, subst, sym, ap, ◌∙◌}
 use Rattle.std.specs.Prelude.{codes}
 use Rattle.std.specs.List.{flat_map}
 use Rattle.aout_core.specs.Wires.{Writes}
-use Rattle.link_out.specs.Reports.{undefined_lines}
+use Rattle.link_out.specs.function.Reports.{undefined_lines}
 use Rattle.aout_core.proofs.PutsLemmas.{writes_both, writes_no_more}
 use Rattle.link_out.proofs.ReportLemmas.{undefined_line}
 use Rattle.link_out.proofs.linked.Report.write_undefined.Goals as goal

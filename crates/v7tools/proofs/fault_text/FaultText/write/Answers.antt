@@ -1,7 +1,7 @@
 use Rattle.std.proofs.Common.{◌++◌, append_assoc, subst, sym}
 use Rattle.aout_core.specs.Wires.{Writes}
 use Rattle.aout_core.proofs.PutsLemmas.{writes_both, writes_no_more}
-use Rattle.v7tools.specs.parts.FaultParts.{spelt_front, spelt_index}
+use Rattle.v7tools.specs.steps.FaultParts.{spelt_front, spelt_index}
 use Rattle.v7tools.proofs.fault_text.FaultText.write.Goals as goal
 
 pub returns-in_err-put_front : goal.returns-in_err-put_front

@@ -4,7 +4,7 @@ use Rattle.std.specs.Io.KnownBytes.{prepend_known}
 use Rattle.v7tools.specs.declared.fault.CliFault.TheVariants.{Memory}
 use Rattle.v7tools.specs.Scripts.{asked}
 use Rattle.v7tools.specs.ScriptAnswers.{answer_of, asked_by, IfTold, IsNextOf, NamesPath}
-use Rattle.v7tools.specs.parts.LineParts.{IsTakenOf}
+use Rattle.v7tools.specs.steps.LineParts.{IsTakenOf}
 use Rattle.v7tools.proofs.ScriptLemmas.{told_map, failed_as, line_answered, lost_told, settled_by, stop_told}
 use Rattle.v7tools.proofs.script.Script.next_line.Goals as goal
 

@@ -1,0 +1,84 @@
+//! Which symbols a link keeps.
+ghost use Rattle.std.specs.Prelude.{◌≡◌, ◌+◌, ◌↔◌, length, nat_lt, IfSome, IsNone, IsTrue};
+ghost use Rattle.link_session.specs.Labelled.{objects};
+ghost use Rattle.link_session.specs.Mentions.{mentions};
+ghost use Rattle.link_out.specs.KeptSymbols.{begins_with_l, keeps, is_kept_local};
+ghost use Rattle.link_out.specs.function.Plans.{Plan};
+ghost use Rattle.link_out.specs.function.Tables.{local_rows, table};
+ghost use Rattle.link_out.specs.steps.Rows.{count_in, kept_count};
+
+use crate::options::Keep;
+use aout_core::{Name, Symbol};
+use link_session::{Entry, Session};
+
+/// The most symbols of a table: one more, of 12 bytes each, would not fit the size in the header.
+const MOST_ROWS: usize = 5461;
+
+fn begins_with_l(name: &[u8]) -> bool
+    ensures { result ≡ begins_with_l name.now }
+{
+    match name {
+        [] => false,
+        [first, ..] => *first == b'L',
+    }
+}
+
+/// Whether a local of this name is kept.
+fn keeps(keep: Keep, name: &Name) -> bool
+    ensures { result ≡ keeps keep name.now }
+{
+    match keep {
+        Keep::All => true,
+        Keep::NotL => !begins_with_l(name.as_bytes()),
+        Keep::Externals | Keep::Nothing => false,
+    }
+}
+
+/// Whether the symbol is a local that is kept.
+pub(crate) fn is_kept_local(keep: Keep, symbol: &Symbol) -> bool
+    ensures { result ≡ is_kept_local keep symbol.now }
+{
+    !symbol.is_external() && keeps(keep, &symbol.name)
+}
+
+/// How many of the symbols are locals that are kept.
+fn count_kept(keep: Keep, symbols: &[Symbol]) -> usize
+    ensures { result ≡ count_in keep symbols.now }
+{
+    let mut count = 0;
+    for symbol in symbols {
+        if is_kept_local(keep, symbol) {
+            count += 1;
+        }
+    }
+    count
+}
+
+/// How many locals of the objects are kept; `None` where these and the externals are too many for a table.
+fn count_locals(entries: &[Entry], keep: Keep, externals: u16) -> Option<u16>
+    ensures many { IsNone result ↔ IsTrue (nat_lt 5461 (kept_count keep (objects entries.now) + externals)) }
+    ensures count { IfSome result (λ n. n ≡ kept_count keep (objects entries.now)) }
+{
+    let mut count = 0;
+    for entry in entries {
+        if MOST_ROWS < count {
+            return None;
+        }
+        count += count_kept(keep, entry.object().file().symbols());
+    }
+    if MOST_ROWS < count || MOST_ROWS < count + externals as usize {
+        return None;
+    }
+    Some(count as u16)
+}
+
+/// How many locals the table of a link has; `None` where the table would have more than 5,461 rows.
+pub(crate) fn locals_within(session: &Session, keep: Keep) -> Option<u16>
+    ensures many { (p : Plan) → p.choices.keep ≡ keep → p.said ≡ mentions session.now.forced (objects session.now.entries) → (IsNone result ↔ IsTrue (nat_lt 5461 (length (table p (objects session.now.entries))))) }
+    ensures count { (p : Plan) → p.choices.keep ≡ keep → IfSome result (λ n. n ≡ length (local_rows p (objects session.now.entries))) }
+{
+    if keep == Keep::Nothing {
+        return Some(0);
+    }
+    count_locals(session.entries(), keep, session.external_count())
+}
