@@ -84,9 +84,10 @@ memory:
 room: build/v7
 	python3 tests/room.py build/v7
 
-# times of the session and of ld on a large input
-bench:
+# times of the session and of ld on a large input; and the instructions of a heavy link, where valgrind is installed
+bench: build/v7
 	cd crates/bench && rt run -- full
+	python3 tests/heavy.py build/v7
 
 # instructions of adding an object and withdrawing it, on an empty session and on a full one; needs valgrind
 instructions:

@@ -39,3 +39,5 @@ pub mod WithdrawalLemmas
 pub mod KeptThreadLemmas
 pub mod FewLemmas
 pub mod TakenBackLemmas
+pub mod PlacedLemmas
+pub mod PlacedCellLemmas

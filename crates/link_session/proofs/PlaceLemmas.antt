@@ -1,8 +1,9 @@
 -- The place of a name in an image, and the state there.
-use Rattle.std.proofs.Common.{◌≡◌, ℕ, zero, suc, ◌+◌, ◌<◌, ◌≤◌, ◌⊎◌, inl, inr, Bool, true, false, cond, not, List, [], ◌∷◌, length, position, Some, None, refl, sym, ◌∙◌, ap, arith}
+use Rattle.std.proofs.Common.{◌≡◌, ℕ, zero, suc, ◌+◌, ◌<◌, ◌≤◌, ◌⊎◌, inl, inr, Bool, true, false, cond, not, List, [], ◌∷◌, length, position, Some, None, refl, sym, ◌∙◌, ap, arith, add-one}
 use Rattle.std.specs.Prelude.{bytes_eq, slice_get, filter}
 use Rattle.std.specs.List.{position_or_len}
-use Rattle.std.specs.Map.{keys_of}
+use Rattle.indexmap.specs.IndexMap.{insert_entry, set_value_at}
+use Rattle.std.specs.Map.{keys_of, lookup}
 use Rattle.std.proofs.lemmas.Bool.{le-ltb, lt-ltb, cases_lt}
 use Rattle.std.proofs.lemmas.List.{length-map}
 use Rattle.link_session.specs.declared.state.State.{State}
@@ -12,7 +13,7 @@ use Rattle.link_session.specs.Undo.{with_state}
 use Rattle.link_session.specs.Image.{Named, state_in, state_at}
 use Rattle.link_session.specs.steps.Additions.{state_for, place_in}
 
-place_is : (name : List ℕ) (names : List (List ℕ)) → position_or_len (bytes_eq name) names ≡ place_of name names
+pub place_is : (name : List ℕ) (names : List (List ℕ)) → position_or_len (bytes_eq name) names ≡ place_of name names
 place_is name [] = refl
 place_is name (n ∷ ns) = by_test (bytes_eq name n) (place_is name ns)
   where
@@ -54,9 +55,6 @@ missing name names e = by_order (cases_lt (position_or_len (bytes_eq name) names
 pub found_place : (es : Named) (name : List ℕ) (i : ℕ) → Some i ≡ position (bytes_eq name) (keys_of es) → i ≡ place_in es name
 found_place es name i e = sym (found name (keys_of es) i (sym e))
 
-pub found_state : (es : Named) (name : List ℕ) (i : ℕ) (key : List ℕ) (state : State) → Some i ≡ position (bytes_eq name) (keys_of es) → slice_get es i ≡ Some (key, state) → state ≡ state_for es name
-found_state es name i key state e at = ap state_in (sym at) ∙ ap (state_at es) (found_place es name i e)
-
 behind : (es : Named) → slice_get es (length es) ≡ None
 behind [] = refl
 behind (e ∷ es) = behind es
@@ -67,6 +65,36 @@ missing_place es name e = sym (missing name (keys_of es) (sym e) ∙ length-map 
 
 pub missing_state : (es : Named) (name : List ℕ) → None ≡ position (bytes_eq name) (keys_of es) → Wanted 0 ≡ state_for es name
 missing_state es name e = ap state_in (sym (behind es)) ∙ ap (state_at es) (missing_place es name e)
+
+-- a name with a state stands at its place
+pub known_state : (es : Named) (name : List ℕ) (was : State) → lookup (bytes_eq name) es ≡ Some was → was ≡ state_for es name
+known_state [] name was h = absurd (cc)
+known_state (e ∷ es) name was h = by_test (bytes_eq name e.0) h (known_state es name was)
+  where
+    by_test : (t : Bool) → cond t (Some e.1) (lookup (bytes_eq name) es) ≡ Some was → (lookup (bytes_eq name) es ≡ Some was → was ≡ state_for es name) →
+        was ≡ state_at (e ∷ es) (cond t 0 (place_in es name + 1))
+    by_test true h rest = let same : e.1 ≡ was = cc in sym same
+    by_test false h rest = rw add-one (rest h)
+
+pub unknown_state : (es : Named) (name : List ℕ) → lookup (bytes_eq name) es ≡ None → Wanted 0 ≡ state_for es name
+unknown_state [] name h = refl
+unknown_state (e ∷ es) name h = by_test (bytes_eq name e.0) h (unknown_state es name)
+  where
+    by_test : (t : Bool) → cond t (Some e.1) (lookup (bytes_eq name) es) ≡ None → (lookup (bytes_eq name) es ≡ None → Wanted 0 ≡ state_for es name) →
+        Wanted 0 ≡ state_at (e ∷ es) (cond t 0 (place_in es name + 1))
+    by_test true h rest = absurd (cc)
+    by_test false h rest = rw add-one (rest h)
+
+-- a state that is written again at its place
+pub written_again : (es : Named) (name : List ℕ) (first then : State) → set_value_at (insert_entry bytes_eq es name first) (place_in es name) then ≡ insert_entry bytes_eq es name then
+written_again [] name first then = refl
+written_again (e ∷ es) name first then = by_test (bytes_eq name e.0) (written_again es name first then)
+  where
+    by_test : (t : Bool) → set_value_at (insert_entry bytes_eq es name first) (place_in es name) then ≡ insert_entry bytes_eq es name then →
+        set_value_at (cond t ((e.0, first) ∷ es) (e ∷ insert_entry bytes_eq es name first)) (cond t 0 (place_in es name + 1)) then
+        ≡ cond t ((e.0, then) ∷ es) (e ∷ insert_entry bytes_eq es name then)
+    by_test true h = refl
+    by_test false h = rw add-one (ap (λ (l : Named). e ∷ l) h)
 
 pub with_state-behind : (es : Named) (i : ℕ) (s : State) → length es ≤ i → with_state es i s ≡ es
 with_state-behind [] i s h = refl

@@ -2,19 +2,19 @@
 ghost use Rattle.std.specs.Prelude.{◌≡◌, ◌*◌, ◌≤◌, ◌++◌, length, slice_set, map, None, OnOk, OnErr, take};
 ghost use Rattle.link_session.specs.steps.Chains.{bound_one, cell_at, EndsWithin, IsWithin, BindsText, BindsData, NotesChain, AreChained, bound_if};
 ghost use Rattle.link_session.specs.steps.Restores.{LeavesMarks};
-ghost use Rattle.link_session.specs.steps.Additions.{place_in, state_for};
-ghost use Rattle.link_session.specs.steps.Settled.{settled_at, settled_over, places_of};
+ghost use Rattle.link_session.specs.Image.{state_at};
+ghost use Rattle.link_session.specs.steps.Settled.{settled_at, settled_over};
 ghost use Rattle.link_session.specs.steps.Counts.{NotesWaiting, NotesBound};
 ghost use Rattle.link_session.specs.steps.Threads.{cut_by_state, cut_heads};
 
 use crate::cell::Cell;
 use crate::chain::{Link, Links, cut_chain, link_at, link_in};
 use crate::mark::{Mark, Place};
-use crate::mention::look_up;
+use crate::mention::state_at;
 use crate::merged::Externals;
 use crate::relocate::segment_target;
 use crate::state::State;
-use aout_core::{Name, Segment, Symbol};
+use aout_core::Segment;
 use std::alloc::AllocError;
 
 /// What a name is defined as: an offset in a merged segment.
@@ -33,22 +33,22 @@ struct Chain<'a> {
     definition: Definition,
 }
 
-/// A name that cells may wait for.
+/// The external at a place, which cells may wait for.
 #[derive(Clone, Copy)]
 struct Awaited<'a> {
     text_links: &'a [Link],
     data_links: &'a [Link],
     externals: &'a Externals,
-    name: Name,
+    place: u16,
 }
 
-/// The symbols whose names cells may wait for.
+/// The places of the externals that cells may wait for.
 #[derive(Clone, Copy)]
 pub(crate) struct Mentioned<'a> {
     pub(crate) text_links: &'a [Link],
     pub(crate) data_links: &'a [Link],
     pub(crate) externals: &'a Externals,
-    pub(crate) symbols: &'a [Symbol],
+    pub(crate) places: &'a [u16],
 }
 
 /// Binds the cell with this index to a definition.
@@ -154,7 +154,7 @@ fn bind_name(
     Ok(())
 }
 
-/// Binds the chain of a name, if it is defined. An error changes nothing.
+/// Binds the chain of an external, if it is defined. An error changes nothing.
 fn bind_defined(
     text_cells: &mut [Cell],
     data_cells: &mut [Cell],
@@ -162,31 +162,30 @@ fn bind_defined(
     marks: &mut Vec<Mark>,
     awaited: &Awaited<'_>,
 ) -> Result<(), AllocError>
-    requires names { length awaited.now.externals.now.entries ≤ 65535 }
     requires chained { AreChained text_cells.old data_cells.old awaited.now.text_links.now awaited.now.data_links.now heads.old }
     ensures chained { AreChained text_cells.new data_cells.new awaited.now.text_links.now awaited.now.data_links.now heads.new }
-    ensures texts { OnOk result (text_cells.new ≡ map (settled_at awaited.now.externals.now.entries (place_in awaited.now.externals.now.entries awaited.now.name)) text_cells.old) }
-    ensures datas { OnOk result (data_cells.new ≡ map (settled_at awaited.now.externals.now.entries (place_in awaited.now.externals.now.entries awaited.now.name)) data_cells.old) }
-    ensures heads { OnOk result (heads.new ≡ cut_by_state (state_for awaited.now.externals.now.entries awaited.now.name) (place_in awaited.now.externals.now.entries awaited.now.name) heads.old) }
+    ensures texts { OnOk result (text_cells.new ≡ map (settled_at awaited.now.externals.now.entries awaited.now.place) text_cells.old) }
+    ensures datas { OnOk result (data_cells.new ≡ map (settled_at awaited.now.externals.now.entries awaited.now.place) data_cells.old) }
+    ensures heads { OnOk result (heads.new ≡ cut_by_state (state_at awaited.now.externals.now.entries awaited.now.place) awaited.now.place heads.old) }
     ensures back { LeavesMarks text_cells.old data_cells.old heads.old text_cells.new data_cells.new heads.new marks.old.items marks.new.items }
     ensures few { OnOk result (NotesBound awaited.now.externals.now.entries text_cells.old data_cells.old text_cells.new data_cells.new marks.old.items marks.new.items) }
     ensures unchanged { OnErr result ((text_cells.new ≡ text_cells.old) × (data_cells.new ≡ data_cells.old) × (heads.new ≡ heads.old) × (marks.new.items ≡ marks.old.items)) }
 {
-    match look_up(awaited.externals, &awaited.name) {
-        (place, State::Defined(segment, offset)) => {
+    match state_at(awaited.externals, awaited.place) {
+        State::Defined(segment, offset) => {
             let chain = Chain {
                 text_links: awaited.text_links,
                 data_links: awaited.data_links,
-                index: place as u16,
+                index: awaited.place,
                 definition: Definition { segment, offset },
             };
             bind_name(text_cells, data_cells, heads, marks, &chain)
         }
-        (_, State::Wanted(_)) => Ok(()),
+        State::Wanted(_) => Ok(()),
     }
 }
 
-/// Binds the chains of the names that these symbols mention and that are defined: marks their cells, binds them, and
+/// Binds the chains of the externals at these places, as far as they are defined: marks their cells, binds them, and
 /// cuts the chains. After an error the marks bring back what was bound.
 pub(crate) fn bind_names(
     text_cells: &mut [Cell],
@@ -195,25 +194,22 @@ pub(crate) fn bind_names(
     marks: &mut Vec<Mark>,
     mentioned: &Mentioned<'_>,
 ) -> Result<(), AllocError>
-    requires names { length mentioned.now.externals.now.entries ≤ 65535 }
     requires chained { AreChained text_cells.old data_cells.old mentioned.now.text_links.now mentioned.now.data_links.now heads.old }
     ensures chained { AreChained text_cells.new data_cells.new mentioned.now.text_links.now mentioned.now.data_links.now heads.new }
-    ensures texts { OnOk result (text_cells.new ≡ map (settled_over mentioned.now.externals.now.entries (places_of mentioned.now.externals.now.entries mentioned.now.symbols.now)) text_cells.old) }
-    ensures datas { OnOk result (data_cells.new ≡ map (settled_over mentioned.now.externals.now.entries (places_of mentioned.now.externals.now.entries mentioned.now.symbols.now)) data_cells.old) }
-    ensures heads { OnOk result (heads.new ≡ cut_heads mentioned.now.externals.now.entries (places_of mentioned.now.externals.now.entries mentioned.now.symbols.now) heads.old) }
+    ensures texts { OnOk result (text_cells.new ≡ map (settled_over mentioned.now.externals.now.entries mentioned.now.places.now) text_cells.old) }
+    ensures datas { OnOk result (data_cells.new ≡ map (settled_over mentioned.now.externals.now.entries mentioned.now.places.now) data_cells.old) }
+    ensures heads { OnOk result (heads.new ≡ cut_heads mentioned.now.externals.now.entries mentioned.now.places.now heads.old) }
     ensures back { LeavesMarks text_cells.old data_cells.old heads.old text_cells.new data_cells.new heads.new marks.old.items marks.new.items }
     ensures few { OnOk result (NotesBound mentioned.now.externals.now.entries text_cells.old data_cells.old text_cells.new data_cells.new marks.old.items marks.new.items) }
 {
-    for symbol in mentioned.symbols {
-        if symbol.is_external() {
-            let awaited = Awaited {
-                text_links: mentioned.text_links,
-                data_links: mentioned.data_links,
-                externals: mentioned.externals,
-                name: symbol.name,
-            };
-            bind_defined(text_cells, data_cells, heads, marks, &awaited)?;
-        }
+    for place in mentioned.places {
+        let awaited = Awaited {
+            text_links: mentioned.text_links,
+            data_links: mentioned.data_links,
+            externals: mentioned.externals,
+            place: *place,
+        };
+        bind_defined(text_cells, data_cells, heads, marks, &awaited)?;
     }
     Ok(())
 }

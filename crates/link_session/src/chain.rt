@@ -51,7 +51,7 @@ pub(crate) fn grow_heads(heads: &mut Vec<Link>, count: usize)
     ensures { heads.new.items ≡ grown_heads count heads.old.items }
 {
     while heads.len() < count {
-        heads.push(None).unwrap();
+        heads.push_reserved(None);
     }
 }
 
@@ -85,7 +85,7 @@ pub(crate) fn thread(links: &mut Vec<Link>, heads: &mut [Link], target: Target, 
     ensures len { vec_len links.new ≡ vec_len links.old + 1 }
     ensures capacity { vec_capacity links.old ≤ vec_capacity links.new }
 {
-    links.push(head_of(heads, target)).unwrap();
+    links.push_reserved(head_of(heads, target));
     set_head(heads, target, Some(place));
 }
 

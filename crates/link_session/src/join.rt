@@ -7,10 +7,10 @@ ghost use Rattle.aout_core.specs.WellFormed.{is_external, IsWellFormed};
 ghost use Rattle.link_session.specs.steps.Fields.{image_in, threads_in, with_cells, with_heads, with_own_cells, with_own_threads, KeepsRoom, IsSmall};
 ghost use Rattle.link_session.specs.steps.Chains.{AreChained};
 ghost use Rattle.link_session.specs.steps.Restores.{LeavesMarks, TakesBack};
-ghost use Rattle.link_session.specs.steps.Settled.{settled_over, places_of, IsCovered};
+ghost use Rattle.link_session.specs.steps.Settled.{settled_over, IsCovered};
 ghost use Rattle.link_session.specs.steps.Threads.{cut_heads, next_threads, IsThreaded};
 ghost use Rattle.link_session.specs.steps.Counts.{NotesBound};
-ghost use Rattle.link_session.specs.steps.Additions.{joined_image, next_limit};
+ghost use Rattle.link_session.specs.steps.Additions.{all_places, joined_image, next_limit};
 
 use crate::bind::{Mentioned, bind_names};
 use crate::cell::Cell;
@@ -19,7 +19,7 @@ use crate::mark::Mark;
 use crate::mention::{Table, count_external, enter_all};
 use crate::merged::{Externals, Merged, undo};
 use crate::relocate::{Scope, Shifts, Words, append_cells, next_shifts};
-use aout_core::{File, Name, Object, Segment, Symbol};
+use aout_core::{File, Name, Object, Segment};
 use std::alloc::{AllocError, Global};
 
 /// The words of an object's text.
@@ -89,7 +89,12 @@ fn reserve_names(
 }
 
 /// Makes room for an object. An error changes nothing but room.
-fn make_room(image: &mut Merged, marks: &mut Vec<Mark>, file: &File) -> Result<(), AllocError>
+fn make_room(
+    image: &mut Merged,
+    marks: &mut Vec<Mark>,
+    places: &mut Vec<u16>,
+    file: &File,
+) -> Result<(), AllocError>
     ensures image { image_in image.new ≡ image_in image.old }
     ensures threads { threads_in image.new ≡ threads_in image.old }
     ensures marks { marks.new.items ≡ marks.old.items }
@@ -101,6 +106,8 @@ fn make_room(image: &mut Merged, marks: &mut Vec<Mark>, file: &File) -> Result<(
     ensures names { OnOk result (length (filter is_external file.now.symbols) ≤ spare image.new.externals) }
     ensures multiples { OnOk result (vec_len image.new.multiples + length (filter is_external file.now.symbols) ≤ vec_capacity image.new.multiples) }
     ensures states { OnOk result (vec_len marks.new + length (filter is_external file.now.symbols) ≤ vec_capacity marks.new) }
+    ensures places { places.new.items ≡ places.old.items }
+    ensures places_room { OnOk result (vec_len places.new + length file.now.symbols ≤ vec_capacity places.new) }
 {
     let entries = count_external(file.symbols());
     let text = file.text_words().len();
@@ -113,14 +120,15 @@ fn make_room(image: &mut Merged, marks: &mut Vec<Mark>, file: &File) -> Result<(
         &mut image.multiples,
         marks,
         entries,
-    )
+    )?;
+    places.reserve(file.symbols().len())
 }
 
 /// Appends heads for the object's new names, and then its own cells and its bss. There is room for them.
-fn settle(image: &mut Merged, file: &File, shifts: &Shifts)
-    requires names { length image.old.externals.entries ≤ 65535 }
+fn settle(image: &mut Merged, file: &File, shifts: &Shifts, places: &[u16])
     requires bss { image.old.bss_total + file.now.header.bss_size ≤ 65534 }
     requires well { IsWellFormed file.now }
+    requires places { places.now ≡ all_places image.old.externals.entries file.now.symbols }
     requires text_small { length image.old.text_links.items ≤ 32767 }
     requires data_small { length image.old.data_links.items ≤ 32767 }
     requires text_room { vec_len image.old.text_cells + length file.now.text_words ≤ vec_capacity image.old.text_cells }
@@ -136,7 +144,7 @@ fn settle(image: &mut Merged, file: &File, shifts: &Shifts)
     grow_heads(&mut image.heads, names);
     let scope = Scope {
         externals: &image.externals,
-        symbols: file.symbols(),
+        places,
         shifts: *shifts,
     };
     append_cells(
@@ -156,19 +164,14 @@ fn settle(image: &mut Merged, file: &File, shifts: &Shifts)
     image.bss_total += bss_size;
 }
 
-/// Binds the cells that wait for names which the object defines, and marks them. After an error the marks bring back
-/// what was bound.
-fn bind_waiting(
-    image: &mut Merged,
-    symbols: &[Symbol],
-    marks: &mut Vec<Mark>,
-) -> Result<(), AllocError>
-    requires names { length image.old.externals.entries ≤ 65535 }
+/// Binds the cells that wait for the externals at these places, as far as they are defined, and marks them. After an
+/// error the marks bring back what was bound.
+fn bind_waiting(image: &mut Merged, places: &[u16], marks: &mut Vec<Mark>) -> Result<(), AllocError>
     requires chained { AreChained image.old.text_cells.items image.old.data_cells.items image.old.text_links.items image.old.data_links.items image.old.heads.items }
     ensures chained { AreChained image.new.text_cells.items image.new.data_cells.items image.new.text_links.items image.new.data_links.items image.new.heads.items }
-    ensures texts { OnOk result (image.new.text_cells.items ≡ map (settled_over image.old.externals.entries (places_of image.old.externals.entries symbols.now)) image.old.text_cells.items) }
-    ensures datas { OnOk result (image.new.data_cells.items ≡ map (settled_over image.old.externals.entries (places_of image.old.externals.entries symbols.now)) image.old.data_cells.items) }
-    ensures heads { OnOk result (image.new.heads.items ≡ cut_heads image.old.externals.entries (places_of image.old.externals.entries symbols.now) image.old.heads.items) }
+    ensures texts { OnOk result (image.new.text_cells.items ≡ map (settled_over image.old.externals.entries places.now) image.old.text_cells.items) }
+    ensures datas { OnOk result (image.new.data_cells.items ≡ map (settled_over image.old.externals.entries places.now) image.old.data_cells.items) }
+    ensures heads { OnOk result (image.new.heads.items ≡ cut_heads image.old.externals.entries places.now image.old.heads.items) }
     ensures back { LeavesMarks image.old.text_cells.items image.old.data_cells.items image.old.heads.items image.new.text_cells.items image.new.data_cells.items image.new.heads.items marks.old.items marks.new.items }
     ensures few { OnOk result (NotesBound image.old.externals.entries image.old.text_cells.items image.old.data_cells.items image.new.text_cells.items image.new.data_cells.items marks.old.items marks.new.items) }
     ensures else_same { image_in image.new ≡ with_cells image.new.text_cells.items image.new.data_cells.items (image_in image.old) }
@@ -179,7 +182,7 @@ fn bind_waiting(
         text_links: &image.text_links,
         data_links: &image.data_links,
         externals: &image.externals,
-        symbols,
+        places,
     };
     bind_names(
         &mut image.text_cells,
@@ -209,7 +212,8 @@ pub(crate) fn join(
     let sizes = image.sizes();
     let shifts = next_shifts(image, object);
     let mut marks = Vec::new(alloc);
-    make_room(image, &mut marks, file)?;
+    let mut places = Vec::new(alloc);
+    make_room(image, &mut marks, &mut places, file)?;
     let table = Table {
         symbols: file.symbols(),
         shifts,
@@ -218,13 +222,14 @@ pub(crate) fn join(
         &mut image.externals,
         &mut image.multiples,
         &mut marks,
+        &mut places,
         sizes.externals,
         &table,
     );
-    if let Err(refused) = bind_waiting(image, table.symbols, &mut marks) {
+    if let Err(refused) = bind_waiting(image, &places, &mut marks) {
         undo(image, &marks, &sizes);
         return Err(refused);
     }
-    settle(image, file, &shifts);
+    settle(image, file, &shifts, &places);
     Ok(marks)
 }

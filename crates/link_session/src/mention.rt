@@ -4,9 +4,10 @@ ghost use Rattle.indexmap.specs.IndexMap.{spare};
 ghost use Rattle.aout_core.specs.Words.{plus};
 ghost use Rattle.aout_core.specs.WellFormed.{is_external, segment_of};
 ghost use Rattle.link_session.specs.Starts.{shift_by};
+ghost use Rattle.link_session.specs.Image.{state_at};
 ghost use Rattle.link_session.specs.Mentions.{is_among, statement_by};
 ghost use Rattle.link_session.specs.steps.Updates.{updated, clashes};
-ghost use Rattle.link_session.specs.steps.Additions.{mentioned, said, clash, state_mark, place_in, state_for, changes, mentions_by, all_mentioned, state_marks, all_clashes};
+ghost use Rattle.link_session.specs.steps.Additions.{mentioned, said, clash, state_mark, place_in, state_for, changes, mentions_by, all_mentioned, state_marks, all_clashes, all_places};
 
 use crate::mark::Mark;
 use crate::merged::Externals;
@@ -21,15 +22,16 @@ pub(crate) fn is_among(names: &[Name], name: &Name) -> bool
     names.iter().any(|known| name == known)
 }
 
-/// The place of a name and its state; one that is not there has the place behind the last, and is wanted at size 0.
-pub(crate) fn look_up(externals: &Externals, name: &Name) -> (usize, State)
-    ensures place { result.0 ≡ place_in externals.now.entries name.now }
-    ensures within { result.0 ≤ length externals.now.entries }
-    ensures state { result.1 ≡ state_for externals.now.entries name.now }
+/// What stands for the place of a symbol that is not external: no name has it.
+pub(crate) const NO_PLACE: u16 = u16::MAX;
+
+/// The state at a place; behind the last name, wanted at size 0.
+pub(crate) fn state_at(externals: &Externals, place: u16) -> State
+    ensures { result ≡ state_at externals.now.entries place }
 {
-    match externals.get_full(name) {
-        Some((place, _, state)) => (place, *state),
-        None => (externals.len(), State::Wanted(0)),
+    match externals.get_index(place as usize) {
+        Some((_, state)) => *state,
+        None => State::Wanted(0),
     }
 }
 
@@ -107,7 +109,7 @@ fn note_state(marks: &mut Vec<Mark>, kept: usize, place: usize, was: State, says
     ensures capacity { vec_capacity marks.old ≤ vec_capacity marks.new }
 {
     if place < kept && changes(was, says) {
-        marks.push(Mark::StateWas(place as u16, was)).unwrap();
+        marks.push_reserved(Mark::StateWas(place as u16, was));
     }
 }
 
@@ -119,7 +121,26 @@ fn note_clash(multiples: &mut Vec<Name>, name: Name, was: State, says: State)
     ensures capacity { vec_capacity multiples.old ≤ vec_capacity multiples.new }
 {
     if clashes(was, says) {
-        multiples.push(name).unwrap();
+        multiples.push_reserved(name);
+    }
+}
+
+/// Mentions a name, and answers its place and the state that it had. There is room for it.
+fn update(externals: &mut Externals, name: Name, says: State) -> (usize, State)
+    requires { 0 < spare externals.old }
+    ensures place { result.0 ≡ place_in externals.old.entries name }
+    ensures within { result.0 ≤ length externals.old.entries }
+    ensures state { result.1 ≡ state_for externals.old.entries name }
+    ensures names { externals.new.entries ≡ mentioned externals.old.entries (said name says) }
+    ensures left { spare externals.old ≤ spare externals.new + 1 }
+{
+    let (place, known) = externals.insert_full(name, says).unwrap();
+    match known {
+        Some(was) => {
+            externals[place] = updated(was, says);
+            (place, was)
+        }
+        None => (place, State::Wanted(0)),
     }
 }
 
@@ -129,22 +150,24 @@ pub(crate) fn mention(externals: &mut Externals, name: Name, says: State)
     ensures names { externals.new.entries ≡ mentioned externals.old.entries (said name says) }
     ensures left { spare externals.old ≤ spare externals.new + 1 }
 {
-    let (_, was) = look_up(externals, &name);
-    externals.insert(name, updated(was, says)).unwrap();
+    let _place = update(externals, name, says);
 }
 
-/// Enters an external symbol of an object. There is room for it; `kept` names were there before the object.
+/// Enters an external symbol of an object, and answers the place of its name. There is room for it; `kept` names were
+/// there before the object.
 fn enter(
     externals: &mut Externals,
     multiples: &mut Vec<Name>,
     marks: &mut Vec<Mark>,
     kept: usize,
     claim: Claim,
-)
+) -> u16
     requires small { kept ≤ 65535 }
+    requires names { length externals.old.entries ≤ 65535 }
     requires names_room { 0 < spare externals.old }
     requires multiples_room { vec_len multiples.old < vec_capacity multiples.old }
     requires marks_room { vec_len marks.old < vec_capacity marks.old }
+    ensures place { result ≡ place_in externals.old.entries claim.name }
     ensures names { externals.new.entries ≡ mentioned externals.old.entries (said claim.name claim.says) }
     ensures multiples { multiples.new.items ≡ multiples.old.items ++ clash externals.old.entries (said claim.name claim.says) }
     ensures marks { marks.new.items ≡ marks.old.items ++ state_mark kept externals.old.entries (said claim.name claim.says) }
@@ -155,10 +178,10 @@ fn enter(
     ensures marks_capacity { vec_capacity marks.old ≤ vec_capacity marks.new }
 {
     let Claim { name, says } = claim;
-    let (place, was) = look_up(externals, &name);
+    let (place, was) = update(externals, name, says);
     note_state(marks, kept, place, was, says);
     note_clash(multiples, name, was, says);
-    externals.insert(name, updated(was, says)).unwrap();
+    place as u16
 }
 
 /// How many of the symbols are external.
@@ -175,29 +198,36 @@ pub(crate) fn count_external(symbols: &[Symbol]) -> usize
     count
 }
 
-/// Enters all external symbols of an object, in order. There is room for them; `kept` names were there before.
+/// Enters all external symbols of an object, in order, and appends the place of each symbol's name. There is room for
+/// them; `kept` names were there before.
 pub(crate) fn enter_all(
     externals: &mut Externals,
     multiples: &mut Vec<Name>,
     marks: &mut Vec<Mark>,
+    places: &mut Vec<u16>,
     kept: usize,
     table: &Table<'_>,
 )
     requires small { kept ≤ 65535 }
+    requires names { length (all_mentioned externals.old.entries (mentions_by table.now.shifts table.now.symbols.now)) ≤ 65535 }
     requires names_room { length (filter is_external table.now.symbols.now) ≤ spare externals.old }
     requires multiples_room { vec_len multiples.old + length (filter is_external table.now.symbols.now) ≤ vec_capacity multiples.old }
     requires marks_room { vec_len marks.old + length (filter is_external table.now.symbols.now) ≤ vec_capacity marks.old }
+    requires places_room { vec_len places.old + length table.now.symbols.now ≤ vec_capacity places.old }
     ensures names { externals.new.entries ≡ all_mentioned externals.old.entries (mentions_by table.now.shifts table.now.symbols.now) }
     ensures multiples { multiples.new.items ≡ multiples.old.items ++ all_clashes externals.old.entries (mentions_by table.now.shifts table.now.symbols.now) }
     ensures marks { marks.new.items ≡ marks.old.items ++ state_marks kept externals.old.entries (mentions_by table.now.shifts table.now.symbols.now) }
+    ensures places { places.new.items ≡ places.old.items ++ all_places externals.new.entries table.now.symbols.now }
 {
     for symbol in table.symbols {
+        let mut place = NO_PLACE;
         if symbol.is_external() {
             let claim = Claim {
                 name: symbol.name,
                 says: statement(symbol, &table.shifts),
             };
-            enter(externals, multiples, marks, kept, claim);
+            place = enter(externals, multiples, marks, kept, claim);
         }
+        places.push_reserved(place);
     }
 }

@@ -1,20 +1,21 @@
 //! The cells of an object's own words, relocated.
-ghost use Rattle.std.specs.Prelude.{◌≡◌, ◌+◌, ◌≤◌, ◌++◌, ◌<◌, ◌*◌, length, slice_get, vec_len, vec_capacity};
+ghost use Rattle.std.specs.Prelude.{◌≡◌, ◌+◌, ◌≤◌, ◌++◌, ◌<◌, ◌*◌, length, slice_index_or, vec_len, vec_capacity};
 ghost use Rattle.aout_core.specs.WellFormed.{kind_of, symbol_number};
 ghost use Rattle.link_session.specs.Starts.{no_starts, next_starts, shifts_at};
-ghost use Rattle.link_session.specs.Cells.{name_in, name_target, offset_in, segment_target};
+ghost use Rattle.link_session.specs.Image.{state_at};
+ghost use Rattle.link_session.specs.Cells.{name_target, offset_in, segment_target};
 ghost use Rattle.link_session.specs.steps.Fields.{image_in};
-ghost use Rattle.link_session.specs.steps.Additions.{next_shifts, referred, own_cell, own_cells, place_at, state_for, place_in};
+ghost use Rattle.link_session.specs.steps.Additions.{next_shifts, no_place, placed, placed_cell, placed_cells, place_at};
 ghost use Rattle.link_session.specs.Starts.{shift_by};
 ghost use Rattle.link_session.specs.steps.Chains.{threaded};
 
 use crate::cell::{Cell, Target};
 use crate::chain::{Link, thread};
 use crate::mark::Place;
-use crate::mention::look_up;
+use crate::mention::{NO_PLACE, state_at};
 use crate::merged::{Externals, Merged};
 use crate::state::State;
-use aout_core::{Header, Kind, Name, Object, Reloc, Segment, Symbol};
+use aout_core::{Header, Kind, Object, Reloc, Segment};
 
 /// What is added to an object's own addresses to make them offsets in the merged segments, modulo 65,536. (own choice)
 #[derive(Clone, Copy, Debug)]
@@ -32,11 +33,11 @@ pub struct Starts {
     bss: u16,
 }
 
-/// What the words of an object refer to: the externals, and the object's own symbols and segments.
+/// What the words of an object refer to: the externals, by the places of the object's symbols, and its own segments.
 #[derive(Clone, Copy)]
 pub(crate) struct Scope<'a> {
     pub(crate) externals: &'a Externals,
-    pub(crate) symbols: &'a [Symbol],
+    pub(crate) places: &'a [u16],
     pub(crate) shifts: Shifts,
 }
 
@@ -124,33 +125,30 @@ pub(crate) fn segment_target(segment: Segment) -> Target
     }
 }
 
-/// The name of the symbol with this number.
-fn name_of(symbols: &[Symbol], number: u16) -> Name
-    ensures { result ≡ name_in (slice_get symbols.now number) }
+/// The place of the name of the symbol with this number.
+fn place_of(places: &[u16], number: u16) -> u16
+    ensures { result ≡ slice_index_or places.now number no_place }
 {
-    match symbols.get(number as usize) {
-        Some(symbol) => symbol.name,
-        None => Name::from_bytes(&[]),
+    match places.get(number as usize) {
+        Some(place) => *place,
+        None => NO_PLACE,
     }
 }
 
-/// What a reference to a name adds to a word, and its target.
-fn name_reference(externals: &Externals, name: &Name) -> (u16, Target)
-    requires { length externals.now.entries ≤ 65535 }
-    ensures offset { result.0 ≡ offset_in (state_for externals.now.entries name.now) }
-    ensures target { result.1 ≡ name_target (state_for externals.now.entries name.now) (place_in externals.now.entries name.now) }
+/// What a reference to the external at a place adds to a word, and its target.
+fn name_reference(externals: &Externals, place: u16) -> (u16, Target)
+    ensures offset { result.0 ≡ offset_in (state_at externals.now.entries place) }
+    ensures target { result.1 ≡ name_target (state_at externals.now.entries place) place }
 {
-    let (place, state) = look_up(externals, name);
-    match state {
+    match state_at(externals, place) {
         State::Defined(segment, offset) => (offset, segment_target(segment)),
-        State::Wanted(_) => (0, Target::External(place as u16)),
+        State::Wanted(_) => (0, Target::External(place)),
     }
 }
 
 /// What a relocation word adds to its word, and the target.
 fn reference(scope: &Scope<'_>, reloc: Reloc) -> (u16, Target)
-    requires { length scope.now.externals.now.entries ≤ 65535 }
-    ensures { result ≡ referred scope.now.externals.now.entries scope.now.symbols.now scope.now.shifts (symbol_number reloc) (kind_of reloc) }
+    ensures { result ≡ placed scope.now.externals.now.entries scope.now.places.now scope.now.shifts (symbol_number reloc) (kind_of reloc) }
 {
     let shifts = scope.shifts;
     match reloc.kind() {
@@ -158,7 +156,7 @@ fn reference(scope: &Scope<'_>, reloc: Reloc) -> (u16, Target)
         Some(Kind::DataSeg) => (shifts.data, Target::DataSeg),
         Some(Kind::BssSeg) => (shifts.bss, Target::BssSeg),
         Some(Kind::External) => {
-            name_reference(scope.externals, &name_of(scope.symbols, reloc.number()))
+            name_reference(scope.externals, place_of(scope.places, reloc.number()))
         }
         Some(Kind::Absolute) | None => (0, Target::Absolute),
     }
@@ -166,8 +164,7 @@ fn reference(scope: &Scope<'_>, reloc: Reloc) -> (u16, Target)
 
 /// The cell of a word in a segment that moves by this shift.
 fn own_cell(scope: &Scope<'_>, moved: u16, word: u16, reloc: Reloc) -> Cell
-    requires { length scope.now.externals.now.entries ≤ 65535 }
-    ensures { result ≡ own_cell scope.now.externals.now.entries scope.now.symbols.now scope.now.shifts moved word reloc }
+    ensures { result ≡ placed_cell scope.now.externals.now.entries scope.now.places.now scope.now.shifts moved word reloc }
 {
     let (offset, target) = reference(scope, reloc);
     let pc = reloc.is_pc();
@@ -197,20 +194,19 @@ pub(crate) fn append_cells(
     scope: &Scope<'_>,
     own: &Words<'_>,
 )
-    requires names { length scope.now.externals.now.entries ≤ 65535 }
     requires beside { length own.now.words.now ≡ length own.now.relocs.now }
     requires small { length links.old.items + length own.now.words.now ≤ 65535 }
     requires room { vec_len cells.old + length own.now.words.now ≤ vec_capacity cells.old }
     requires links_room { vec_len links.old + length own.now.words.now ≤ vec_capacity links.old }
-    ensures cells { cells.new.items ≡ cells.old.items ++ own_cells scope.now.externals.now.entries scope.now.symbols.now scope.now.shifts (shift_by scope.now.shifts own.now.segment) own.now.words.now own.now.relocs.now }
-    ensures links { links.new.items ≡ links.old.items ++ (threaded (place_at own.now.segment) (length links.old.items) (own_cells scope.now.externals.now.entries scope.now.symbols.now scope.now.shifts (shift_by scope.now.shifts own.now.segment) own.now.words.now own.now.relocs.now) heads.old).0 }
-    ensures heads { heads.new ≡ (threaded (place_at own.now.segment) (length links.old.items) (own_cells scope.now.externals.now.entries scope.now.symbols.now scope.now.shifts (shift_by scope.now.shifts own.now.segment) own.now.words.now own.now.relocs.now) heads.old).1 }
+    ensures cells { cells.new.items ≡ cells.old.items ++ placed_cells scope.now.externals.now.entries scope.now.places.now scope.now.shifts (shift_by scope.now.shifts own.now.segment) own.now.words.now own.now.relocs.now }
+    ensures links { links.new.items ≡ links.old.items ++ (threaded (place_at own.now.segment) (length links.old.items) (placed_cells scope.now.externals.now.entries scope.now.places.now scope.now.shifts (shift_by scope.now.shifts own.now.segment) own.now.words.now own.now.relocs.now) heads.old).0 }
+    ensures heads { heads.new ≡ (threaded (place_at own.now.segment) (length links.old.items) (placed_cells scope.now.externals.now.entries scope.now.places.now scope.now.shifts (shift_by scope.now.shifts own.now.segment) own.now.words.now own.now.relocs.now) heads.old).1 }
 {
     let moved = scope.shifts.of(own.segment);
     for (i, word) in own.words.iter().enumerate() {
         let cell = own_cell(scope, moved, *word, own.relocs[i]);
         let place = place_at(own.segment, links.len() as u16);
         thread(links, heads, cell.target, place);
-        cells.push(cell).unwrap();
+        cells.push_reserved(cell);
     }
 }

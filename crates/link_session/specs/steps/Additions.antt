@@ -1,5 +1,5 @@
 -- How an image takes in one more object: its mentions, one after the other, then the cells that they bind, then its own cells.
-use Rattle.std.specs.Prelude.{ℕ, ◌+◌, ◌*◌, Bool, false, true, ◌&&◌, cond, if◌then◌else◌, nat_eq, nat_lt, List, [], ◌∷◌, ◌++◌, map, zip, filter, length, Option, Some, None, slice_get}
+use Rattle.std.specs.Prelude.{ℕ, ◌+◌, ◌*◌, Bool, false, true, ◌&&◌, cond, if◌then◌else◌, nat_eq, nat_lt, List, [], ◌∷◌, ◌++◌, map, zip, filter, length, Option, Some, None, slice_get, slice_index_or}
 use Rattle.std.specs.Cmp.Lexicographic.{pointwise}
 use Rattle.std.specs.Map.{keys_of}
 use Rattle.indexmap.specs.IndexMap.{insert_entry}
@@ -119,6 +119,38 @@ own_cell es symbols shifts moved w r = record {
 
 abbrev pub own_cells : Named → List Symbol → Shifts → ℕ → List ℕ → List Reloc → List Cell
 own_cells es symbols shifts moved words relocs = map (λ (wr : ℕ × Reloc). own_cell es symbols shifts moved wr.0 wr.1) (zip words relocs)
+
+-- what stands for the place of a symbol that is not external
+abbrev pub no_place : ℕ
+no_place = 65535
+
+-- the place of the name of each symbol that is external
+abbrev pub place_by : Named → Symbol → ℕ
+place_by es s = cond (is_external s) (place_in es s.name) no_place
+
+abbrev pub all_places : Named → List Symbol → List ℕ
+all_places es symbols = map (place_by es) symbols
+
+-- what is added to a word, its target and its cell, by the places of the symbols
+abbrev pub placed : Named → List ℕ → Shifts → ℕ → Option Kind → ℕ × Target
+placed es places shifts number (Some kinds.TextSeg) = (shifts.text, targets.TextSeg)
+placed es places shifts number (Some kinds.DataSeg) = (shifts.data, targets.DataSeg)
+placed es places shifts number (Some kinds.BssSeg) = (shifts.bss, targets.BssSeg)
+placed es places shifts number (Some kinds.External) = (
+  offset_in (state_at es (slice_index_or places number no_place)),
+  name_target (state_at es (slice_index_or places number no_place)) (slice_index_or places number no_place),
+)
+placed es places shifts number _ = (0, targets.Absolute)
+
+abbrev pub placed_cell : Named → List ℕ → Shifts → ℕ → ℕ → Reloc → Cell
+placed_cell es places shifts moved w r = record {
+  value = minus (plus w (placed es places shifts (symbol_number r) (kind_of r)).0) (if_pc r moved);
+  target = (placed es places shifts (symbol_number r) (kind_of r)).1;
+  pc = is_pc_relative r;
+}
+
+abbrev pub placed_cells : Named → List ℕ → Shifts → ℕ → List ℕ → List Reloc → List Cell
+placed_cells es places shifts moved words relocs = map (λ (wr : ℕ × Reloc). placed_cell es places shifts moved wr.0 wr.1) (zip words relocs)
 
 -- what is added to the addresses of an object that comes next
 abbrev pub next_shifts : Image → Contents → Shifts

@@ -1,4 +1,4 @@
-use Rattle.std.proofs.Common.{◌≡◌, ◌≤◌, ◌+◌, List, length, sym, ◌∙◌, ap, subst, arith, rules}
+use Rattle.std.proofs.Common.{ℕ, ◌≡◌, ◌≤◌, ◌+◌, List, length, map, sym, ◌∙◌, ap, subst, arith, rules}
 use Rattle.std.specs.Prelude.{filter, vec_len}
 use Rattle.aout_core.specs.declared.symbol.Symbol.{Symbol}
 use Rattle.aout_core.specs.Contents.{Contents}
@@ -6,26 +6,31 @@ use Rattle.aout_core.specs.WellFormed.{is_external}
 use Rattle.link_session.specs.declared.merged.Sizes.{Sizes}
 use Rattle.link_session.specs.Undo.{undo}
 use Rattle.link_session.specs.Image.{Image}
-use Rattle.link_session.specs.steps.Threads.{Threads}
+use Rattle.link_session.specs.steps.Threads.{Threads, cut_heads}
 use Rattle.link_session.specs.steps.Chains.{AreChained}
 use Rattle.link_session.specs.steps.Fields.{image_in, threads_in, sizes_of, threads_by, with_heads_back, IsBehind}
-use Rattle.link_session.specs.steps.Additions.{next_mentions, state_marks}
+use Rattle.link_session.specs.steps.Additions.{next_mentions, state_marks, all_mentioned, mentions_by, all_places}
+use Rattle.link_session.specs.steps.Settled.{settled_over}
 use Rattle.link_session.proofs.JoinLemmas.{entered-is, few_named, few_new, bound-is, heads-are, marks-are, undone, joined-is, joined_threads}
+use Rattle.link_session.proofs.PlacedLemmas.{settled_places, cut_places}
 use Rattle.link_session.proofs.join.join.Goals as goal
 
-pub bind_waiting-requires-clause-names : goal.bind_waiting-requires-clause-names
-bind_waiting-requires-clause-names c =
+pub enter_all-requires-clause-names : goal.enter_all-requires-clause-names
+enter_all-requires-clause-names c =
     let m = image_in c.args.image.now in
     let o = c.args.object.now in
-    let e = entered-is m (image_in c.make_room.new.image) o c.file-file.result.now c.next_shifts-shifts.result c.symbols.result.now c.enter_all.new.externals.entries c.enter_all.new.multiples.items
-    c.make_room.ensures.image c.file-file.ensures.value c.symbols.ensures.value c.next_shifts-shifts.ensures c.enter_all.ensures.names c.enter_all.ensures.multiples in
-    subst (λ (n : Image). length n.externals ≤ 65535) (sym e) (few_named m o c.requires.fits)
-
-pub bind_waiting-requires-clause-chained : goal.bind_waiting-requires-clause-chained
-bind_waiting-requires-clause-chained c =
+    let table : c.symbols.result.now ≡ o.symbols = c.symbols.ensures.value ∙ ap (λ (f : Contents). f.symbols) c.file-file.ensures.value in
     subst (λ (P : Type 0). P)
-    (λ i. let n : Image = sym c.make_room.ensures.image i in let t : Threads = sym c.make_room.ensures.threads i in AreChained n.text_cells n.data_cells t.text_links t.data_links t.heads)
-    c.requires.threaded.chained
+    (λ i. let n : Image = sym c.make_room.ensures.image i in length (all_mentioned n.externals (mentions_by (sym c.next_shifts-shifts.ensures i) (sym table i))) ≤ 65535)
+    (few_named m o c.requires.fits)
+
+pub bind_waiting-requires : goal.bind_waiting-requires
+bind_waiting-requires c =
+    record {
+      chained = subst (λ (P : Type 0). P)
+          (λ i. let n : Image = sym c.make_room.ensures.image i in let t : Threads = sym c.make_room.ensures.threads i in AreChained n.text_cells n.data_cells t.text_links t.data_links t.heads)
+          c.requires.threaded.chained;
+    }
 
 pub undo-requires : goal.undo-requires
 undo-requires c =
@@ -52,19 +57,19 @@ returns-in-Err-clause-err c =
     let states : c.enter_all.new.marks.items ≡ state_marks (length m.externals) m.externals (next_mentions m o) = search rules in
     let texts : length b.text_cells ≡ length m.text_cells = search rules in
     let datas : length b.data_cells ≡ length m.data_cells = search rules in
-    let left : c.deref.result.now ≡ c.bind_waiting.new.marks.items = c.deref.ensures.value in
+    let left : c.deref-in-Err.result.now ≡ c.bind_waiting.new.marks.items = c.deref-in-Err.ensures.value in
     let back = undone m n b o t u v c.requires.threaded c.enter_all.new.marks.items c.bind_waiting.new.marks.items e c.make_room.ensures.threads c.bind_waiting.ensures.else_same c.bind_waiting.ensures.links texts datas states c.bind_waiting.ensures.back in (
       c.undo.ensures.image m c.sizes-sizes.ensures ∙ ap (λ ks. undo ks b m) left ∙ back.0,
       c.undo.ensures.threads ∙ (λ i. with_heads_back (left i) (threads_by (c.sizes-sizes.ensures i) b v)) ∙ back.1,
     )
 
-pub settle-requires-clause-names : goal.settle-requires-clause-names
-settle-requires-clause-names c =
-    let m = image_in c.args.image.now in
-    let o = c.args.object.now in
-    let e = entered-is m (image_in c.make_room.new.image) o c.file-file.result.now c.next_shifts-shifts.result c.symbols.result.now c.enter_all.new.externals.entries c.enter_all.new.multiples.items
-    c.make_room.ensures.image c.file-file.ensures.value c.symbols.ensures.value c.next_shifts-shifts.ensures c.enter_all.ensures.names c.enter_all.ensures.multiples in
-    subst (λ (x : Image). length x.externals ≤ 65535) (sym c.bind_waiting.ensures.else_same) (subst (λ (x : Image). length x.externals ≤ 65535) (sym e) (few_named m o c.requires.fits))
+pub settle-requires-clause-places : goal.settle-requires-clause-places
+settle-requires-clause-places c =
+    let same : c.bind_waiting.new.image.externals.entries ≡ c.enter_all.new.externals.entries = search rules in
+    let table : c.symbols.result.now ≡ c.file-file.result.now.symbols = c.symbols.ensures.value in
+    let noted : c.enter_all.new.places.items ≡ all_places c.enter_all.new.externals.entries c.symbols.result.now = search rules in
+    let lent : c.deref-2.result.now ≡ c.enter_all.new.places.items = c.deref-2.ensures.value in
+    lent ∙ noted ∙ (λ i. all_places (sym same i) (table i))
 
 pub settle-requires-clause-text_small : goal.settle-requires-clause-text_small
 settle-requires-clause-text_small c =
@@ -97,8 +102,12 @@ returns-clause-image c =
     let b = image_in c.bind_waiting.new.image in
     let e = entered-is m (image_in c.make_room.new.image) o c.file-file.result.now c.next_shifts-shifts.result c.symbols.result.now c.enter_all.new.externals.entries c.enter_all.new.multiples.items
     c.make_room.ensures.image c.file-file.ensures.value c.symbols.ensures.value c.next_shifts-shifts.ensures c.enter_all.ensures.names c.enter_all.ensures.multiples in
+    let places : c.deref.result.now ≡ all_places n.externals c.symbols.result.now = c.deref.ensures.value ∙ (search rules) in
+    let few : length n.externals ≤ 65535 = subst (λ (x : Image). length x.externals ≤ 65535) (sym e) (few_named m o c.requires.fits) in
+    let texts = c.in_default.ensures.texts ∙ ap (λ (l : List ℕ). map (settled_over n.externals l) n.text_cells) places ∙ settled_places n.externals few c.symbols.result.now n.text_cells in
+    let datas = c.in_default.ensures.datas ∙ ap (λ (l : List ℕ). map (settled_over n.externals l) n.data_cells) places ∙ settled_places n.externals few c.symbols.result.now n.data_cells in
     let table : c.symbols.result.now ≡ o.symbols = c.symbols.ensures.value ∙ ap (λ (f : Contents). f.symbols) c.file-file.ensures.value in
-    let bound = bound-is m n o c.symbols.result.now e table c.requires.covered b c.bind_waiting.ensures.else_same c.in_default.ensures.texts c.in_default.ensures.datas in
+    let bound = bound-is m n o c.symbols.result.now e table c.requires.covered b c.bind_waiting.ensures.else_same texts datas in
     joined-is m b o c.file-file.result.now c.next_shifts-shifts.result bound c.file-file.ensures.value c.next_shifts-shifts.ensures (image_in c.settle.new.image) c.settle.ensures.image
 
 pub returns-clause-threads : goal.returns-clause-threads
@@ -112,9 +121,14 @@ returns-clause-threads c =
     let v = threads_in c.bind_waiting.new.image in
     let e = entered-is m (image_in c.make_room.new.image) o c.file-file.result.now c.next_shifts-shifts.result c.symbols.result.now c.enter_all.new.externals.entries c.enter_all.new.multiples.items
     c.make_room.ensures.image c.file-file.ensures.value c.symbols.ensures.value c.next_shifts-shifts.ensures c.enter_all.ensures.names c.enter_all.ensures.multiples in
+    let places : c.deref.result.now ≡ all_places n.externals c.symbols.result.now = c.deref.ensures.value ∙ (search rules) in
+    let few : length n.externals ≤ 65535 = subst (λ (x : Image). length x.externals ≤ 65535) (sym e) (few_named m o c.requires.fits) in
+    let texts = c.in_default.ensures.texts ∙ ap (λ (l : List ℕ). map (settled_over n.externals l) n.text_cells) places ∙ settled_places n.externals few c.symbols.result.now n.text_cells in
+    let datas = c.in_default.ensures.datas ∙ ap (λ (l : List ℕ). map (settled_over n.externals l) n.data_cells) places ∙ settled_places n.externals few c.symbols.result.now n.data_cells in
+    let cut = c.in_default.ensures.heads ∙ ap (λ (l : List ℕ). cut_heads n.externals l u.heads) places ∙ cut_places n.externals few c.symbols.result.now u.heads in
     let table : c.symbols.result.now ≡ o.symbols = c.symbols.ensures.value ∙ ap (λ (f : Contents). f.symbols) c.file-file.ensures.value in
-    let bound = bound-is m n o c.symbols.result.now e table c.requires.covered b c.bind_waiting.ensures.else_same c.in_default.ensures.texts c.in_default.ensures.datas in
-    let heads = heads-are m n o c.symbols.result.now e table t u v c.make_room.ensures.threads c.bind_waiting.ensures.links c.in_default.ensures.heads in
+    let bound = bound-is m n o c.symbols.result.now e table c.requires.covered b c.bind_waiting.ensures.else_same texts datas in
+    let heads = heads-are m n o c.symbols.result.now e table t u v c.make_room.ensures.threads c.bind_waiting.ensures.links cut in
     joined_threads m b o c.file-file.result.now c.next_shifts-shifts.result bound c.file-file.ensures.value c.next_shifts-shifts.ensures t v (threads_in c.settle.new.image) heads c.settle.ensures.threads
 
 pub returns-clause-marks : goal.returns-clause-marks
@@ -128,7 +142,12 @@ returns-clause-marks c =
     let v = threads_in c.bind_waiting.new.image in
     let e = entered-is m (image_in c.make_room.new.image) o c.file-file.result.now c.next_shifts-shifts.result c.symbols.result.now c.enter_all.new.externals.entries c.enter_all.new.multiples.items
     c.make_room.ensures.image c.file-file.ensures.value c.symbols.ensures.value c.next_shifts-shifts.ensures c.enter_all.ensures.names c.enter_all.ensures.multiples in
+    let places : c.deref.result.now ≡ all_places n.externals c.symbols.result.now = c.deref.ensures.value ∙ (search rules) in
+    let few : length n.externals ≤ 65535 = subst (λ (x : Image). length x.externals ≤ 65535) (sym e) (few_named m o c.requires.fits) in
+    let texts = c.in_default.ensures.texts ∙ ap (λ (l : List ℕ). map (settled_over n.externals l) n.text_cells) places ∙ settled_places n.externals few c.symbols.result.now n.text_cells in
+    let datas = c.in_default.ensures.datas ∙ ap (λ (l : List ℕ). map (settled_over n.externals l) n.data_cells) places ∙ settled_places n.externals few c.symbols.result.now n.data_cells in
+    let cut = c.in_default.ensures.heads ∙ ap (λ (l : List ℕ). cut_heads n.externals l u.heads) places ∙ cut_places n.externals few c.symbols.result.now u.heads in
     let table : c.symbols.result.now ≡ o.symbols = c.symbols.ensures.value ∙ ap (λ (f : Contents). f.symbols) c.file-file.ensures.value in
     let states : c.enter_all.new.marks.items ≡ state_marks (length m.externals) m.externals (next_mentions m o) = search rules in
     marks-are m n o c.symbols.result.now e table c.requires.covered t u c.make_room.ensures.threads b.text_cells b.data_cells v.heads c.enter_all.new.marks.items c.bind_waiting.new.marks.items states
-    c.in_default.ensures.texts c.in_default.ensures.datas c.in_default.ensures.heads c.bind_waiting.ensures.back c.in_default.ensures.few
+    texts datas cut c.bind_waiting.ensures.back c.in_default.ensures.few

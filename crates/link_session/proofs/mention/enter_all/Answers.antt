@@ -1,15 +1,28 @@
-use Rattle.std.proofs.Common.{arith}
+use Rattle.std.proofs.Common.{◌≡◌, ℕ, ◌++◌, List, length, drop, ap, sym, ◌∙◌, arith}
 use Rattle.std.proofs.lemmas.Grind.{common_steps}
+use Rattle.link_session.specs.Image.{Named}
+use Rattle.link_session.specs.steps.Additions.{all_mentioned, mentions_by, all_places}
+use Rattle.link_session.proofs.MentionedLemmas.{length-all_mentioned}
+use Rattle.link_session.proofs.PlacedLemmas.{noted_places, noted-all}
 use Rattle.link_session.proofs.mention.enter_all.Goals as goal
 
-pub enter-requires-clause-names_room : goal.enter-requires-clause-names_room
-enter-requires-clause-names_room c = grind (arith, common_steps)
+pub enter-place-requires-clause-names_room : goal.enter-place-requires-clause-names_room
+enter-place-requires-clause-names_room c = grind (arith, common_steps)
 
-pub enter-requires-clause-multiples_room : goal.enter-requires-clause-multiples_room
-enter-requires-clause-multiples_room c = grind (arith, common_steps)
+pub enter-place-requires-clause-multiples_room : goal.enter-place-requires-clause-multiples_room
+enter-place-requires-clause-multiples_room c = grind (arith, common_steps)
 
-pub enter-requires-clause-marks_room : goal.enter-requires-clause-marks_room
-enter-requires-clause-marks_room c = grind (arith, common_steps)
+pub enter-place-requires-clause-marks_room : goal.enter-place-requires-clause-marks_room
+enter-place-requires-clause-marks_room c = grind (arith, common_steps)
+
+pub enter-place-requires-clause-names : goal.enter-place-requires-clause-names
+enter-place-requires-clause-names c =
+    let shifts = c.args.table.now.shifts in
+    let left = mentions_by shifts (drop c.loop-symbol.symbol-index c.args.table.now.symbols.now) in
+    omega (arith, length-all_mentioned c.loop-symbol.externals.entries left, ap (λ (es : Named). length es) c.loop-symbol.invariant.names, c.requires.names)
+
+pub push_reserved-requires : goal.push_reserved-requires
+push_reserved-requires c = grind (arith, common_steps)
 
 pub loop-symbol-preserved : goal.loop-symbol-preserved
 loop-symbol-preserved c = grind (arith, common_steps)
@@ -19,6 +32,16 @@ returns-clause-names c = grind (arith, common_steps)
 
 pub returns-clause-multiples : goal.returns-clause-multiples
 returns-clause-multiples c = grind (arith, common_steps)
+
+pub returns-clause-places : goal.returns-clause-places
+returns-clause-places c =
+    let shifts = c.args.table.now.shifts in
+    let symbols = c.args.table.now.symbols.now in
+    let names : c.loop-symbol.externals.entries ≡ all_mentioned c.args.externals.now.entries (mentions_by shifts symbols) = grind (arith, common_steps) in
+    let noted : c.loop-symbol.places.items ≡ c.args.places.now.items ++ noted_places shifts c.args.externals.now.entries symbols = grind (arith, common_steps) in
+    noted
+    ∙ ap (λ (l : List ℕ). c.args.places.now.items ++ l) (noted-all shifts c.args.externals.now.entries symbols)
+    ∙ ap (λ (es : Named). c.args.places.now.items ++ all_places es symbols) (sym names)
 
 pub returns-clause-marks : goal.returns-clause-marks
 returns-clause-marks c = grind (arith, common_steps)

@@ -5,8 +5,8 @@ use Rattle.link_session.proofs.relocate.append_cells.Goals as goal
 pub thread-requires : goal.thread-requires
 thread-requires c = grind (arith, common_steps)
 
-pub unwrap-requires : goal.unwrap-requires
-unwrap-requires c = grind (arith, common_steps)
+pub push_reserved-requires : goal.push_reserved-requires
+push_reserved-requires c = grind (arith, common_steps)
 
 pub loop-i-preserved : goal.loop-i-preserved
 loop-i-preserved c = grind (arith, common_steps)

@@ -1,0 +1,75 @@
+-- The cells of an object by the places of its symbols: they are those by the names.
+use Rattle.std.proofs.Common.{◌≡◌, ℕ, ◌+◌, Bool, true, false, cond, List, [], ◌∷◌, ◌++◌, map, Option, Some, None, refl, ◌∙◌, ap}
+use Rattle.std.specs.Prelude.{zip, slice_get, slice_index_or, ⊤}
+use Rattle.std.specs.List.{AllByRecursion}
+use Rattle.aout_core.specs.declared.symbol.Symbol.{Symbol}
+use Rattle.aout_core.specs.declared.reloc.Reloc.{Reloc}
+use Rattle.aout_core.specs.declared.reloc.Kind.{Kind}
+use Rattle.aout_core.specs.declared.reloc.Kind.TheVariants as kinds
+use Rattle.aout_core.specs.declared.object.ObjectFault.{ObjectFault}
+use Rattle.aout_core.specs.Contents.{Contents}
+use Rattle.aout_core.specs.Words.{plus, minus}
+use Rattle.aout_core.specs.WellFormed.{kind_of, symbol_number, is_pc_relative, is_wanted, kind_fault, word_fault, first_bad_word, IsWellFormed}
+use Rattle.link_session.specs.declared.cell.Cell.{Cell}
+use Rattle.link_session.specs.declared.cell.Target.{Target}
+use Rattle.link_session.specs.declared.relocate.Shifts.{Shifts}
+use Rattle.link_session.specs.Cells.{name_target, offset_in, name_in, if_pc}
+use Rattle.link_session.specs.Image.{Named, state_at}
+use Rattle.link_session.specs.steps.Additions.{place_in, referred, own_cell, own_cells, no_place, all_places, placed, placed_cell, placed_cells}
+use Rattle.link_session.proofs.ListLemmas.{all_split}
+use Rattle.link_session.proofs.PlacedLemmas.{wanted_place}
+use Rattle.link_session.proofs.WellFormedLemmas.{first_of_none, well_formed_parts}
+
+-- a word of this kind refers to no symbol, or to one that it may refer to
+abbrev IsFit : List Symbol → ℕ → Option Kind → Type 0
+IsFit symbols number (Some kinds.External) = is_wanted (slice_get symbols number) ≡ true
+IsFit symbols number _ = ⊤
+
+fit : (symbols : List Symbol) (i number : ℕ) (kind : Option Kind) → kind_fault symbols i kind number ≡ None → IsFit symbols number kind
+fit symbols i number None h = tt
+fit symbols i number (Some kinds.Absolute) h = tt
+fit symbols i number (Some kinds.TextSeg) h = tt
+fit symbols i number (Some kinds.DataSeg) h = tt
+fit symbols i number (Some kinds.BssSeg) h = tt
+fit symbols i number (Some kinds.External) h = by_test (is_wanted (slice_get symbols number)) h
+  where
+    by_test : (t : Bool) → cond t None (Some (ObjectFault.BadSymbolNumber i)) ≡ None → t ≡ true
+    by_test true h = refl
+    by_test false h = absurd (cc)
+
+all_fit : (symbols : List Symbol) (i : ℕ) (rs : List Reloc) → first_bad_word symbols i rs ≡ None → AllByRecursion (λ r. IsFit symbols (symbol_number r) (kind_of r)) rs
+all_fit symbols i [] h = tt
+all_fit symbols i (r ∷ rs) h =
+    let both = first_of_none (word_fault symbols i r) (first_bad_word symbols (i + 1) rs) h in
+    (fit symbols i (symbol_number r) (kind_of r) both.0, all_fit symbols (i + 1) rs both.1)
+
+module _ (es : Named) (symbols : List Symbol) (shifts : Shifts) where
+  placed-is : (number : ℕ) (kind : Option Kind) → IsFit symbols number kind → placed es (all_places es symbols) shifts number kind ≡ referred es symbols shifts number kind
+  placed-is number None h = refl
+  placed-is number (Some kinds.Absolute) h = refl
+  placed-is number (Some kinds.TextSeg) h = refl
+  placed-is number (Some kinds.DataSeg) h = refl
+  placed-is number (Some kinds.BssSeg) h = refl
+  placed-is number (Some kinds.External) h =
+      ap (λ (k : ℕ). let r : ℕ × Target = (offset_in (state_at es k), name_target (state_at es k) k) in r) (wanted_place es symbols number h)
+
+  cell-is : (moved w : ℕ) (r : Reloc) → IsFit symbols (symbol_number r) (kind_of r) → placed_cell es (all_places es symbols) shifts moved w r ≡ own_cell es symbols shifts moved w r
+  cell-is moved w r h =
+      ap (λ (p : ℕ × Target). let c : Cell = record { value = minus (plus w p.0) (if_pc r moved); target = p.1; pc = is_pc_relative r } in c) (placed-is (symbol_number r) (kind_of r) h)
+
+  cells-are : (moved : ℕ) (ws : List ℕ) (rs : List Reloc) → AllByRecursion (λ r. IsFit symbols (symbol_number r) (kind_of r)) rs →
+      placed_cells es (all_places es symbols) shifts moved ws rs ≡ own_cells es symbols shifts moved ws rs
+  cells-are moved [] rs h = refl
+  cells-are moved (w ∷ ws) [] h = refl
+  cells-are moved (w ∷ ws) (r ∷ rs) h = let here = cell-is moved w r h.0 in let rest = cells-are moved ws rs h.1 in λ i. here i ∷ rest i
+
+-- the cells of an object's words
+module _ (es : Named) (o : Contents) (shifts : Shifts) (moved : ℕ) (well : IsWellFormed o) (places : List ℕ) (same : places ≡ all_places es o.symbols) where
+  both : AllByRecursion (λ r. IsFit o.symbols (symbol_number r) (kind_of r)) o.text_reloc × AllByRecursion (λ r. IsFit o.symbols (symbol_number r) (kind_of r)) o.data_reloc
+  both = all_split (λ r. IsFit o.symbols (symbol_number r) (kind_of r)) o.text_reloc o.data_reloc (all_fit o.symbols 0 (o.text_reloc ++ o.data_reloc) (well_formed_parts o well).1)
+
+  pub placed_texts : placed_cells es places shifts moved o.text_words o.text_reloc ≡ own_cells es o.symbols shifts moved o.text_words o.text_reloc
+  placed_texts = ap (λ (ps : List ℕ). placed_cells es ps shifts moved o.text_words o.text_reloc) same ∙ cells-are es o.symbols shifts moved o.text_words o.text_reloc both.0
+
+  pub placed_datas : placed_cells es places shifts moved o.data_words o.data_reloc ≡ own_cells es o.symbols shifts moved o.data_words o.data_reloc
+  placed_datas = ap (λ (ps : List ℕ). placed_cells es ps shifts moved o.data_words o.data_reloc) same ∙ cells-are es o.symbols shifts moved o.data_words o.data_reloc both.1

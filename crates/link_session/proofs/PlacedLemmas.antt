@@ -1,0 +1,129 @@
+-- The places of an object's symbols among the names.
+use Rattle.std.proofs.Common.{◌≡◌, ℕ, zero, suc, ◌+◌, ◌≤◌, Bool, true, false, cond, ◌&&◌, ◌||◌, eqb, List, [], ◌∷◌, ◌++◌, length, map, None, Option, Some, refl, sym, ◌∙◌, ap, arith}
+use Rattle.std.specs.Prelude.{bytes_eq, filter, slice_get, slice_index_or}
+use Rattle.std.specs.Map.{keys_of}
+use Rattle.std.proofs.lemmas.Bool.{or_left, or_right}
+use Rattle.aout_core.specs.declared.symbol.Symbol.{Symbol}
+use Rattle.aout_core.specs.WellFormed.{is_external, masked_type, is_wanted}
+use Rattle.link_session.specs.declared.cell.Cell.{Cell}
+use Rattle.link_session.specs.declared.relocate.Shifts.{Shifts}
+use Rattle.link_session.specs.declared.state.State.{State}
+use Rattle.link_session.specs.declared.state.State.TheVariants.{Wanted}
+use Rattle.link_session.specs.Mentions.{Mention, is_among, place_of}
+use Rattle.link_session.specs.Cells.{name_in}
+use Rattle.link_session.specs.Image.{Named, state_at}
+use Rattle.link_session.specs.steps.Additions.{place_in, mentioned, all_mentioned, mention_by, mentions_by, no_place, place_by, all_places}
+use Rattle.link_session.specs.steps.Chains.{Link}
+use Rattle.link_session.specs.steps.Settled.{settled_at, settled_over, places_of}
+use Rattle.link_session.specs.steps.Threads.{cut_by_state, cut_heads}
+use Rattle.link_session.proofs.MentionLemmas.{is_among-append, place_of-append}
+use Rattle.link_session.proofs.MentionedLemmas.{keys-mentioned}
+use Rattle.link_session.proofs.NamesLemmas.{unsettled, all_one}
+use Rattle.link_session.proofs.UpdateLemmas.{own_name}
+
+-- the places as they are noted, one symbol after the other
+abbrev pub noted_places : Shifts → Named → List Symbol → List ℕ
+noted_places shifts es [] = []
+noted_places shifts es (s ∷ ss) =
+    cond (is_external s) (place_in es s.name ∷ noted_places shifts (mentioned es (mention_by shifts s)) ss) (no_place ∷ noted_places shifts es ss)
+
+-- a name that is there keeps its place
+kept_once : (es : Named) (m : Mention) (name : List ℕ) → is_among (keys_of es) name ≡ true → place_in (mentioned es m) name ≡ place_in es name
+kept_once es m name h =
+    ap (place_of name) (keys-mentioned es m) ∙ place_of-append (keys_of es) (cond (is_among (keys_of es) m.name) [] (m.name ∷ [])) name h
+
+still_among : (es : Named) (m : Mention) (name : List ℕ) → is_among (keys_of es) name ≡ true → is_among (keys_of (mentioned es m)) name ≡ true
+still_among es m name h =
+    ap (λ (ns : List (List ℕ)). is_among ns name) (keys-mentioned es m)
+    ∙ is_among-append (keys_of es) (cond (is_among (keys_of es) m.name) [] (m.name ∷ [])) name
+    ∙ or_left _ _ h
+
+kept : (es : Named) (ms : List Mention) (name : List ℕ) → is_among (keys_of es) name ≡ true → place_in (all_mentioned es ms) name ≡ place_in es name
+kept es [] name h = refl
+kept es (m ∷ ms) name h = kept (mentioned es m) ms name (still_among es m name h) ∙ kept_once es m name h
+
+-- a name that is not there gets the place behind the last
+place_last : (ns : List (List ℕ)) (name : List ℕ) → is_among ns name ≡ false → place_of name (ns ++ name ∷ []) ≡ place_of name ns
+place_last [] name h = ap (λ (t : Bool). cond t 0 1) (own_name name)
+place_last (n ∷ ns) name h = by_test (bytes_eq name n) h (place_last ns name)
+  where
+    by_test : (t : Bool) → (t || is_among ns name) ≡ false → (is_among ns name ≡ false → place_of name (ns ++ name ∷ []) ≡ place_of name ns) →
+        cond t 0 (place_of name (ns ++ name ∷ []) + 1) ≡ cond t 0 (place_of name ns + 1)
+    by_test true h rest = absurd (cc)
+    by_test false h rest = ap (λ (k : ℕ). k + 1) (rest h)
+
+mentioned_place : (es : Named) (m : Mention) → place_in (mentioned es m) m.name ≡ place_in es m.name
+mentioned_place es m = ap (place_of m.name) (keys-mentioned es m) ∙ by_test (is_among (keys_of es) m.name) refl
+  where
+    by_test : (t : Bool) → is_among (keys_of es) m.name ≡ t → place_of m.name (keys_of es ++ cond t [] (m.name ∷ [])) ≡ place_of m.name (keys_of es)
+    by_test true h = place_of-append (keys_of es) [] m.name h
+    by_test false h = place_last (keys_of es) m.name h
+
+mentioned_among : (es : Named) (m : Mention) → is_among (keys_of (mentioned es m)) m.name ≡ true
+mentioned_among es m =
+    ap (λ (ns : List (List ℕ)). is_among ns m.name) (keys-mentioned es m)
+    ∙ is_among-append (keys_of es) (cond (is_among (keys_of es) m.name) [] (m.name ∷ [])) m.name
+    ∙ by_test (is_among (keys_of es) m.name) refl
+  where
+    by_test : (t : Bool) → is_among (keys_of es) m.name ≡ t → (is_among (keys_of es) m.name || is_among (cond t [] (m.name ∷ [])) m.name) ≡ true
+    by_test true h = or_left _ _ h
+    by_test false h = or_right _ _ (or_left _ _ (own_name m.name))
+
+-- what is noted is where the names stand in the end
+pub noted-all : (shifts : Shifts) (es : Named) (ss : List Symbol) → noted_places shifts es ss ≡ all_places (all_mentioned es (mentions_by shifts ss)) ss
+noted-all shifts es [] = refl
+noted-all shifts es (s ∷ ss) = by_test (is_external s) (noted-all shifts (mentioned es (mention_by shifts s)) ss) (noted-all shifts es ss)
+  where
+    with_test : Bool → Named
+    with_test t = all_mentioned es (map (mention_by shifts) (cond t (s ∷ filter is_external ss) (filter is_external ss)))
+
+    by_test : (t : Bool) → noted_places shifts (mentioned es (mention_by shifts s)) ss ≡ all_places (with_test true) ss → noted_places shifts es ss ≡ all_places (with_test false) ss →
+        cond t (place_in es s.name ∷ noted_places shifts (mentioned es (mention_by shifts s)) ss) (no_place ∷ noted_places shifts es ss)
+        ≡ cond t (place_in (with_test t) s.name) no_place ∷ all_places (with_test t) ss
+    by_test true next same =
+        let m = mention_by shifts s in
+        let here : place_in es s.name ≡ place_in (with_test true) s.name =
+        sym (kept (mentioned es m) (mentions_by shifts ss) s.name (mentioned_among es m) ∙ mentioned_place es m) in
+        λ i. here i ∷ next i
+    by_test false next same = ap (λ (l : List ℕ). no_place ∷ l) same
+
+-- behind the last name no state is known
+pub behind_last : (es : Named) (k : ℕ) → length es ≤ k → state_at es k ≡ Wanted 0
+behind_last [] k h = refl
+behind_last (e ∷ es) zero h = absurd (omega arith)
+behind_last (e ∷ es) (suc k) h = behind_last es k (omega arith)
+
+-- to bind at the places of all symbols is to bind at those of the external ones
+module _ (es : Named) (few : length es ≤ 65535) where
+  nowhere : state_at es no_place ≡ Wanted 0
+  nowhere = behind_last es no_place few
+
+  pub settled_places : (ss : List Symbol) (cs : List Cell) → map (settled_over es (all_places es ss)) cs ≡ map (settled_over es (places_of es ss)) cs
+  settled_places [] cs = refl
+  settled_places (s ∷ ss) cs = by_test (is_external s) (settled_places ss)
+    where
+      by_test : (t : Bool) → ((l : List Cell) → map (settled_over es (all_places es ss)) l ≡ map (settled_over es (places_of es ss)) l) → map (settled_over es (cond t (place_in es s.name) no_place ∷ all_places es ss)) cs
+          ≡ map (settled_over es (map (place_in es) (map (λ (x : Symbol). x.name) (cond t (s ∷ filter is_external ss) (filter is_external ss))))) cs
+      by_test true rest =
+          all_one es (place_in es s.name) (all_places es ss) cs ∙ rest (map (settled_at es (place_in es s.name)) cs) ∙ sym (all_one es (place_in es s.name) (places_of es ss) cs)
+      by_test false rest =
+          all_one es no_place (all_places es ss) cs ∙ ap (λ (l : List Cell). map (settled_over es (all_places es ss)) l) (sym (unsettled es no_place 0 nowhere cs)) ∙ rest cs
+
+  pub cut_places : (ss : List Symbol) (heads : List Link) → cut_heads es (all_places es ss) heads ≡ cut_heads es (places_of es ss) heads
+  cut_places [] heads = refl
+  cut_places (s ∷ ss) heads = by_test (is_external s) (cut_places ss)
+    where
+      by_test : (t : Bool) → ((l : List Link) → cut_heads es (all_places es ss) l ≡ cut_heads es (places_of es ss) l) → cut_heads es (cond t (place_in es s.name) no_place ∷ all_places es ss) heads
+          ≡ cut_heads es (map (place_in es) (map (λ (x : Symbol). x.name) (cond t (s ∷ filter is_external ss) (filter is_external ss)))) heads
+      by_test true rest = rest (cut_by_state (state_at es (place_in es s.name)) (place_in es s.name) heads)
+      by_test false rest = ap (λ (x : State). cut_heads es (all_places es ss) (cut_by_state x no_place heads)) nowhere ∙ rest heads
+
+-- the place of a symbol that a relocation word may refer to
+pub wanted_place : (es : Named) (ss : List Symbol) (i : ℕ) → is_wanted (slice_get ss i) ≡ true → slice_index_or (all_places es ss) i no_place ≡ place_in es (name_in (slice_get ss i))
+wanted_place es [] i h = absurd (cc)
+wanted_place es (s ∷ ss) zero h = by_test (is_external s) h
+  where
+    by_test : (t : Bool) → (t && eqb (masked_type s) 0) ≡ true → cond t (place_in es s.name) no_place ≡ place_in es s.name
+    by_test true h = refl
+    by_test false h = absurd (cc)
+wanted_place es (s ∷ ss) (suc i) h = wanted_place es ss i h
