@@ -3,6 +3,11 @@
 
 mod explaining;
 mod map;
+mod map_limits;
+mod map_names;
+mod map_objects;
+mod map_outcome;
+mod map_text;
 mod told;
 mod words;
 
