@@ -33,6 +33,7 @@ mod table;
 mod words;
 
 pub use edit::{Edit, Reply, RunFault};
+pub use layout::{Bases, link_bases};
 pub use linked::{LinkFault, Linked, Report};
 pub use linker::finish;
 pub use options::{Keep, Layout, OptionFault, Options};

@@ -1,0 +1,45 @@
+//! What the program tells.
+use std::alloc::{AllocError, Global};
+
+/// A text for standard output, lines for standard error, and the status.
+#[derive(Drop)]
+pub(crate) struct Told {
+    pub(crate) text: String,
+    pub(crate) errors: String,
+    pub(crate) status: u8,
+}
+
+impl Told {
+    /// Nothing told, and status 0.
+    pub(crate) fn new(alloc: Global) -> Told {
+        Told {
+            text: String::new(alloc),
+            errors: String::new(alloc),
+            status: 0,
+        }
+    }
+
+    /// Adds a line for standard error on a file; the status is at least this.
+    pub(crate) fn fault(&mut self, path: &str, fault: &str, status: u8) -> Result<(), AllocError> {
+        self.errors.push_str("v7-explain: ")?;
+        self.errors.push_str(path)?;
+        self.errors.push_str(": ")?;
+        self.errors.push_str(fault)?;
+        self.errors.push('\n')?;
+        self.status = self.status.max(status);
+        Ok(())
+    }
+}
+
+/// Writes what is told to the standard streams, and returns the status.
+pub(crate) fn tell(rt: &HostRuntime, told: &Told) -> u8 {
+    let written = rt.print(told.text.as_str());
+    let _ = rt.eprint(told.errors.as_str());
+    match written {
+        Ok(()) => told.status,
+        Err(_) => {
+            let _ = rt.eprint("v7-explain: write error\n");
+            2
+        }
+    }
+}
