@@ -116,7 +116,7 @@ crates/lesson/out/lesson: crates.txt $(shell find crates/aout_core crates/link_s
 
 # the manual pages: mandoc finds nothing to say of them, and their examples, and those of the documents, come out as shown
 check-manual: check-examples
-	cd man && mandoc -T lint *.1 *.5
+	cd man && mandoc -T lint *.1 *.3 *.5
 
 # the program with standard streams closed, and with words and files of each kind and number
 check-streams: build/v7
@@ -142,6 +142,7 @@ install: build/v7 build/v7-from-gnu
 	rm $(SHARE)/doc/v7/examples/.gitignore
 	if test -f build/libv7.so; then \
 		mkdir -p $(DESTDIR)$(PREFIX)/lib $(DESTDIR)$(PREFIX)/include && \
+		mkdir -p $(SHARE)/man/man3 && cp man/*.3 $(SHARE)/man/man3 && \
 		cp build/libv7.a build/libv7.so $(DESTDIR)$(PREFIX)/lib && cp include/v7.h $(DESTDIR)$(PREFIX)/include; \
 	fi
 

@@ -1,4 +1,5 @@
-/* libv7: the linker, nm, size and strip of v7, called from C. docs/LINK.md tells the rules of a link, docs/FORMAT.md the format.
+/* libv7: the linker, nm, size and strip of v7, called from C. v7(3) shows it in use; docs/LINK.md tells the rules of a link,
+ * docs/FORMAT.md the format.
  *
  * Each call takes bytes and gives bytes, and keeps nothing until the next one. An object or a file is the bytes of an a.out
  * file; a list of objects is their bytes one behind another, since the header of each says how long it is.
@@ -32,6 +33,8 @@ enum v7_fault {
     V7_LONG_NAME = 3,          /* the name of the entry point has more than 8 bytes */
     V7_CUT_NAMES = 4,          /* the size of the forced names is no multiple of 8 */
     V7_MANY_NAMES = 5,         /* more than 64 different names are forced; `place` is the number of the one too many */
+    V7_TOO_LONG = 6,           /* more than 32,767 words of text or data, 65,535 bytes of bss, or 5,461 symbols */
+    V7_NO_EDIT = 7,            /* an edit is neither V7_ADD nor V7_WITHDRAW; `place` is its number */
     /* the bytes of a file */
     V7_SHORT_HEADER = 11,      /* fewer than 16 bytes */
     V7_BAD_MAGIC = 12,         /* the first word is none of 0405, 0407, 0410 and 0411 */
@@ -59,9 +62,10 @@ enum v7_fault {
 struct v7_answer {
     uint32_t fault;     /* of enum v7_fault */
     uint32_t word;      /* V7_BAD_RELOCATION, V7_BAD_SYMBOL_NUMBER: the index of the word, text before data, from 0; else 0 */
-    size_t place;       /* of v7_link, 11 to 34: the number of the object; V7_MANY_NAMES: that of the name, from 0; else 0 */
-    size_t size;        /* the size of the result */
-    size_t report_size; /* v7_link: the size of the report; else 0 */
+    size_t place;       /* of v7_link, 11 to 34: the number of the object; of v7_session, 7 to 24: that of the edit;
+                         * V7_MANY_NAMES: that of the name; all from 0; V7_NO_MEMORY: where it ran out, or 0; else 0 */
+    size_t size;        /* the size of the result; of v7_take_apart 0 */
+    size_t report_size; /* v7_link, v7_session: the size of the report; else 0 */
 };
 
 /* Looks whether BYTES begin with an object, which can be linked; the size is then that of the object, so that the next one of
@@ -104,6 +108,58 @@ enum v7_link_option {
 uint32_t v7_link(uint32_t options, const unsigned char *entry, size_t entry_size, const unsigned char *forced, size_t forced_size,
                  const unsigned char *objects, size_t objects_size, unsigned char *room, size_t room_size, unsigned char *report,
                  size_t report_size, struct v7_answer *answer);
+
+/* Runs EDITS, and links what is left, as v7_link does. Each edit is a letter: V7_ADD adds the next of OBJECTS behind those that
+ * are kept, and V7_WITHDRAW withdraws the object that was added last and is kept. So the first N edits with the same objects
+ * are the session as it was after N of them: what is behind the last object that is asked for is not looked at. REPLIES gets a
+ * byte for each edit: V7_DONE, V7_NOTHING where there was nothing to withdraw, or 31 to 34 where the object was not added; an
+ * edit that was not made leaves the session as it was, and the status is 1. REPLIES, file and report are written, or none;
+ * for V7_NO_ROOM give REPLIES as many bytes as there are edits. Faults, the first that applies: 1 to 5 as of v7_link; then for
+ * each edit in turn V7_NO_EDIT, 11 to 14 (also where there is no further object), and 21 to 24; then 41 to 43; V7_NO_MEMORY at
+ * any time; and V7_NO_ROOM. */
+enum v7_edit { V7_ADD = 'a', V7_WITHDRAW = 'w' };
+enum v7_reply { V7_DONE = 0, V7_NOTHING = 35 };
+uint32_t v7_session(uint32_t options, const unsigned char *entry, size_t entry_size, const unsigned char *forced, size_t forced_size,
+                    const unsigned char *edits, size_t edit_count, const unsigned char *objects, size_t objects_size,
+                    unsigned char *replies, size_t replies_size, unsigned char *room, size_t room_size, unsigned char *report,
+                    size_t report_size, struct v7_answer *answer);
+
+/* A word of text or data, and its relocation word: 0 where it is a number, 2 where it refers to text, 4 to data, 6 to bss, and
+ * 8 + 16 * N where it refers to the symbol N of the table, which is an undefined external; and 1 more where it is relative to
+ * the pc. */
+struct v7_word {
+    uint16_t value;
+    uint16_t reloc;
+};
+
+/* A symbol: its name, filled up with NULs, its type word (0 to 4: undefined, absolute, text, data, bss; 32 more where it is
+ * external), and its value. Addresses count text, data and bss on, from 0. An undefined external with a value is a common of
+ * so many bytes. */
+struct v7_symbol {
+    unsigned char name[8];
+    uint16_t type;
+    uint16_t value;
+};
+
+/* Writes the object of these parts. BSS is in bytes. Faults, the first that applies: V7_TOO_LONG; V7_ODD_SIZE of BSS; for the
+ * first word that has it V7_BAD_RELOCATION or V7_BAD_SYMBOL_NUMBER; V7_NO_MEMORY; V7_NO_ROOM. */
+uint32_t v7_make(const struct v7_word *text, size_t text_count, const struct v7_word *data, size_t data_count, uint32_t bss,
+                 const struct v7_symbol *symbols, size_t symbol_count, unsigned char *room, size_t room_size, struct v7_answer *answer);
+
+/* How many words and symbols an object has, and the size of its bss in bytes. */
+struct v7_counts {
+    size_t text;
+    size_t data;
+    size_t symbols;
+    uint32_t bss;
+};
+
+/* Takes the object apart that BYTES begin with: writes its parts, all or none, and fills *COUNTS, which with V7_NO_ROOM says
+ * how much room is wanted, and with any other fault is 0. The header's entry point, at which no link looks, is not told. Room
+ * is counted in words and symbols. Faults: 11 to 14, 21 to 24, V7_NO_MEMORY, V7_NO_ROOM. */
+uint32_t v7_take_apart(const unsigned char *bytes, size_t size, struct v7_word *text, size_t text_room, struct v7_word *data,
+                       size_t data_room, struct v7_symbol *symbols, size_t symbol_room, struct v7_counts *counts,
+                       struct v7_answer *answer);
 
 #ifdef __cplusplus
 }

@@ -1,7 +1,8 @@
 #!/bin/sh
 # The examples that call libv7, in C, Python and Rust: compiles them, links objects of examples/ by them and by the program,
-# and compares file, report and status. The one in C runs under AddressSanitizer and valgrind too. What is not there is left
-# out, and named.
+# and compares file, report and status; runs the sessions, which compare by themselves; and links the objects of the large
+# benchmark by the library and the program. Those in C run under AddressSanitizer and valgrind too. What is not there is
+# left out, and named.
 #
 # usage: CC=cc tests/library.sh HEAP       HEAP is the archive of the kit that calls malloc
 set -u
@@ -46,15 +47,32 @@ links() {
     echo "$1: 6 links compared"
 }
 
+# a session, which compares by itself
+session() {
+    name=$1
+    shift
+    if "$@" >session.txt; then
+        echo "$name: a session compared"
+    else
+        cat session.txt
+        fail "$name: the session is another"
+    fi
+}
+
 $CC -O2 -Wall -o by_c -I"$top/include" "$top/examples/c/link.c" "$top/build/libv7.a" "$heap" || exit 1
+$CC -O2 -Wall -o ran_by_c -I"$top/include" "$top/examples/c/session.c" "$top/build/libv7.a" "$heap" || exit 1
 links C ./by_c
+session C ./ran_by_c
 if $CC -g -fsanitize=address -o by_asan -I"$top/include" "$top/examples/c/link.c" "$top/build/libv7.a" "$heap" 2>/dev/null; then
+    $CC -g -fsanitize=address -o ran_by_asan -I"$top/include" "$top/examples/c/session.c" "$top/build/libv7.a" "$heap" || exit 1
     links "C with AddressSanitizer" ./by_asan
+    session "C with AddressSanitizer" ./ran_by_asan
 else
     echo "AddressSanitizer is not there"
 fi
 if command -v valgrind >/dev/null; then
     links "C with valgrind" "valgrind -q --error-exitcode=9 --leak-check=full ./by_c"
+    session "C with valgrind" valgrind -q --error-exitcode=9 --leak-check=full ./ran_by_c
 else
     echo "valgrind is not there"
 fi
@@ -63,12 +81,17 @@ if command -v python3 >/dev/null; then
     PYTHONDONTWRITEBYTECODE=1
     export LIBV7 PYTHONDONTWRITEBYTECODE
     links Python "python3 $top/examples/python/link.py"
+    session Python python3 "$top/examples/python/session.py"
+    mkdir heavy
+    PYTHONPATH=$top/examples/python python3 "$top/tests/heavy_library.py" "$top/build/v7" heavy || fail "the large benchmark"
 else
     echo "python3 is not there"
 fi
 if command -v rustc >/dev/null; then
     rustc -O -o by_rust -C link-arg="$top/build/libv7.a" -C link-arg="$heap" "$top/examples/rust/link.rs" || exit 1
+    rustc -O -o ran_by_rust -C link-arg="$top/build/libv7.a" -C link-arg="$heap" "$top/examples/rust/session.rs" || exit 1
     links Rust ./by_rust
+    session Rust ./ran_by_rust
 else
     echo "rustc is not there"
 fi

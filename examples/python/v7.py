@@ -1,10 +1,17 @@
 """The linker of v7 from Python, by libv7.so. v7.h says what each call is for.
 
-    from v7 import link, nm
+    from v7 import Session, link, make, nm
+    main_o = make(text=[(0o012700, 0), (0, REFERS_TO(0))], symbols=[("_count", UNDEFINED | EXTERNAL, 0)])
     program = link([main_o, count_o], forced=["_start"])
     print(program.report, nm(program.file))
 
-Objects and files are bytes. A fault is raised as `Fault`, with its number, the number of the object, and the index of the word.
+    session = Session([main_o])
+    session.add(count_o)
+    session.withdraw()
+    print(session.link().report)
+
+Objects and files are bytes. A fault is raised as `Fault`, with its number, the number of the object or edit, and the index of
+the word.
 """
 import ctypes
 import os
@@ -13,8 +20,39 @@ from collections import namedtuple
 LIBRARY = ctypes.CDLL(os.environ.get("LIBV7", "libv7.so"))
 NO_ROOM = 60
 
+# options of a link
+RELOCATABLE, STRIP, EXTERNALS, NOT_L, PURE, SPLIT, FORCE_COMMONS = (1 << bit for bit in range(7))
+
 # what a link gives: 0, or 1 where there is something to report; the bytes of the file; the lines of the report
 Program = namedtuple("Program", "status file report")
+
+
+# an object in parts: pairs of a word and its relocation word, the size of bss, and triples of a name, a type word and a value
+Parts = namedtuple("Parts", "text data bss symbols")
+
+# type words: one of these, and EXTERNAL where other objects see the name
+UNDEFINED, ABSOLUTE, TEXT, DATA, BSS = range(5)
+EXTERNAL = 0o40
+
+# relocation words: one of these, and 1 more where the word is relative to the pc
+NUMBER, IN_TEXT, IN_DATA, IN_BSS = 0, 2, 4, 6
+
+
+def REFERS_TO(number):
+    """The relocation word of a word that refers to the symbol of this number, an undefined external."""
+    return 0o10 + 0o20 * number
+
+
+class Word(ctypes.Structure):
+    _fields_ = [("value", ctypes.c_uint16), ("reloc", ctypes.c_uint16)]
+
+
+class Symbol(ctypes.Structure):
+    _fields_ = [("name", ctypes.c_ubyte * 8), ("type", ctypes.c_uint16), ("value", ctypes.c_uint16)]
+
+
+class Counts(ctypes.Structure):
+    _fields_ = [("text", ctypes.c_size_t), ("data", ctypes.c_size_t), ("symbols", ctypes.c_size_t), ("bss", ctypes.c_uint32)]
 
 
 class Answer(ctypes.Structure):
@@ -72,19 +110,24 @@ def nm(data, options=0):
     return _given("v7_nm", ctypes.c_uint32(options), *_slice(data)).decode("latin-1")
 
 
-def link(objects, options=0, entry="", forced=()):
-    """The link of a list of objects. Forced names of more than 8 bytes are refused here."""
-    names = [name.encode("latin-1") for name in forced]
-    if any(len(name) > 8 for name in names):
+def _padded(name):
+    data = name.encode("latin-1")
+    if len(data) > 8:
         raise ValueError("a name has more than 8 bytes")
-    words = [ctypes.c_uint32(options), *_slice(entry.encode("latin-1"))]
-    words += [*_slice(b"".join(name.ljust(8, b"\0") for name in names)), *_slice(b"".join(objects))]
-    answer = Answer()
-    sizes = [0, 0]
+    return data.ljust(8, b"\0")
+
+
+def _wanted(options, entry, forced):
+    return [ctypes.c_uint32(options), *_slice(entry.encode("latin-1")), *_slice(b"".join(map(_padded, forced)))]
+
+
+def _linked(call, words, replies=()):
+    """Calls twice: for the sizes of the rooms for file and report, and for these."""
+    answer, sizes = Answer(), [0, 0]
     for _ in range(2):
         rooms = [_room(n) for n in sizes]
         given = [part for room, n in zip(rooms, sizes) for part in (room, ctypes.c_size_t(n))]
-        status = LIBRARY.v7_link(*words, *given, ctypes.byref(answer))
+        status = call(*words, *replies, *given, ctypes.byref(answer))
         if answer.fault != NO_ROOM:
             break
         sizes = [answer.size, answer.report_size]
@@ -92,3 +135,72 @@ def link(objects, options=0, entry="", forced=()):
         raise Fault(answer)
     file, report = (room.raw[:n] for room, n in zip(rooms, sizes))
     return Program(status, file, report.decode("latin-1"))
+
+
+def link(objects, options=0, entry="", forced=()):
+    """The link of a list of objects. Forced names of more than 8 bytes are refused here."""
+    words = _wanted(options, entry, forced)
+    return _linked(LIBRARY.v7_link, [*words, *_slice(b"".join(objects))])
+
+
+def _array(kind, items):
+    return (kind * max(len(items), 1))(*items), ctypes.c_size_t(len(items))
+
+
+def make(text=(), data=(), bss=0, symbols=()):
+    """The object of these parts, as those of `Parts`."""
+    rows = [Symbol((ctypes.c_ubyte * 8)(*_padded(name)), kind, value) for name, kind, value in symbols]
+    words = [_array(Word, [Word(*pair) for pair in pairs]) for pairs in (text, data)]
+    return _given("v7_make", *words[0], *words[1], ctypes.c_uint32(bss), *_array(Symbol, rows))
+
+
+def take_apart(data):
+    """The parts of the object that the bytes begin with."""
+    counts, answer = Counts(), Answer()
+    for _ in range(2):
+        rooms = [_array(kind, [kind()] * n) for kind, n in ((Word, counts.text), (Word, counts.data), (Symbol, counts.symbols))]
+        words = [part for room in rooms for part in room]
+        LIBRARY.v7_take_apart(*_slice(data), *words, ctypes.byref(counts), ctypes.byref(answer))
+        if answer.fault != NO_ROOM:
+            break
+    if answer.fault:
+        raise Fault(answer)
+    text, words, rows = (list(room[0])[: room[1].value] for room in rooms)
+    pairs = [[(word.value, word.reloc) for word in segment] for segment in (text, words)]
+    names = [(bytes(row.name).rstrip(b"\0").decode("latin-1"), row.type, row.value) for row in rows]
+    return Parts(*pairs, counts.bss, names)
+
+
+class Session:
+    """Objects that are added and withdrawn, and linked as they are at any time.
+
+    The library keeps nothing: what is kept here is the list of edits and objects, which each link runs anew. `replies` has,
+    behind a link, a number for each edit: DONE, NOTHING, or that of the limit which the object passed.
+    """
+
+    ADD, WITHDRAW = b"a", b"w"
+    DONE, NOTHING = 0, 35
+
+    def __init__(self, objects=(), entry="", forced=()):
+        self.entry, self.forced = entry, tuple(forced)
+        self.edits, self.objects, self.replies = b"", b"", []
+        for data in objects:
+            self.add(data)
+
+    def add(self, data):
+        """Adds an object behind those that are there."""
+        self.objects += data[: check(data)]
+        self.edits += self.ADD
+
+    def withdraw(self):
+        """Withdraws the object that was added last."""
+        self.edits += self.WITHDRAW
+
+    def link(self, options=0):
+        """The link of what is there."""
+        count = len(self.edits)
+        room = _room(count)
+        words = [*_wanted(options, self.entry, self.forced), *_slice(self.edits), *_slice(self.objects)]
+        program = _linked(LIBRARY.v7_session, words, [room, ctypes.c_size_t(count)])
+        self.replies = list(room.raw[:count])
+        return program

@@ -1,1 +1,3 @@
 pub mod TakingLemmas
+pub mod PartLemmas
+pub mod EditLemmas

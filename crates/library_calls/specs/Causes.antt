@@ -9,8 +9,10 @@ use Rattle.link_session.specs.declared.entry.AddFault.{AddFault}
 use Rattle.link_session.specs.declared.entry.AddFault.TheVariants as adds
 use Rattle.link_out.specs.declared.linked.LinkFault.{LinkFault}
 use Rattle.link_out.specs.declared.linked.LinkFault.TheVariants as links
+use Rattle.link_out.specs.declared.edit.RunFault.{RunFault}
+use Rattle.link_out.specs.declared.edit.RunFault.TheVariants as runs
 use Rattle.library_calls.specs.declared.cause.Cause.{Cause}
-use Rattle.library_calls.specs.declared.cause.Cause.TheVariants.{NoOption, Excluded, LongName, CutNames, ManyNames, BadFile, BadObject, NotAdded, NotLinked, Memory}
+use Rattle.library_calls.specs.declared.cause.Cause.TheVariants.{NoOption, Excluded, LongName, CutNames, ManyNames, TooLong, NoEdit, BadFile, BadObject, NotAdded, NotLinked, Memory}
 use Rattle.library_calls.specs.declared.cause.Refusal.{Refusal}
 
 abbrev pub cause_of_read : ReadFault → Cause
@@ -26,12 +28,18 @@ abbrev pub cause_of_link : LinkFault → Cause
 cause_of_link links.Memory = Memory
 cause_of_link fault = NotLinked fault
 
+abbrev pub cause_of_run : RunFault → Cause
+cause_of_run runs.Memory = Memory
+cause_of_run (runs.Link fault) = cause_of_link fault
+
 abbrev pub number_of : Cause → ℕ
 number_of NoOption = 1
 number_of Excluded = 2
 number_of LongName = 3
 number_of CutNames = 4
 number_of ManyNames = 5
+number_of TooLong = 6
+number_of NoEdit = 7
 number_of (BadFile reads.ShortHeader) = 11
 number_of (BadFile reads.BadMagic) = 12
 number_of (BadFile reads.OddSize) = 13

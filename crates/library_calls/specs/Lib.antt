@@ -2,3 +2,5 @@ pub mod Causes
 pub mod FileAnswers
 pub mod LinkWanted
 pub mod LinkAnswers
+pub mod ObjectParts
+pub mod SessionAnswers

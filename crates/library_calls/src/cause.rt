@@ -1,10 +1,10 @@
 //! Why a call has no answer.
 ghost use Rattle.std.specs.Prelude.{◌≡◌};
-ghost use Rattle.library_calls.specs.Causes.{cause_of_addition, cause_of_link, cause_of_read, number_of, word_of};
+ghost use Rattle.library_calls.specs.Causes.{cause_of_addition, cause_of_link, cause_of_read, cause_of_run, number_of, word_of};
 ghost use Rattle.library_calls.specs.declared.cause.Cause.TheVariants.{Memory};
 
 use aout_core::{DeviceFault, ObjectFault, ReadFault};
-use link_out::LinkFault;
+use link_out::{LinkFault, RunFault};
 use link_session::AddFault;
 use std::alloc::AllocError;
 use symtools::ToolFault;
@@ -22,6 +22,10 @@ pub enum Cause {
     CutNames,
     /// 5: more than 64 different names are forced.
     ManyNames,
+    /// 6: a part of an object is longer than a header can say.
+    TooLong,
+    /// 7: an edit is none.
+    NoEdit,
     /// 11 to 14: the bytes begin with no a.out file.
     BadFile(ReadFault),
     /// 21 to 24: the file is no object.
@@ -39,7 +43,8 @@ pub enum Cause {
 pub struct Refusal {
     /// Why there is no answer.
     pub cause: Cause,
-    /// The number of the object that is not taken, or of the forced name, from 0; and 0 where the cause lies in neither.
+    /// The number of the object that is not taken, of the forced name, or of the edit, from 0; and 0 where the cause lies
+    /// in none of these.
     pub place: usize,
 }
 
@@ -79,6 +84,17 @@ impl From<LinkFault> for Cause {
             LinkFault::DoesNotFit | LinkFault::TooManySymbols | LinkFault::SymbolNumber => {
                 Cause::NotLinked(fault)
             }
+        }
+    }
+}
+
+impl From<RunFault> for Cause {
+    ghost from_gives = { λ fault cause. cause ≡ cause_of_run fault };
+
+    fn from(fault: RunFault) -> Cause {
+        match fault {
+            RunFault::Memory => Cause::Memory,
+            RunFault::Link(fault) => Cause::from(fault),
         }
     }
 }
@@ -150,7 +166,8 @@ fn object_number(fault: ObjectFault) -> u32
     }
 }
 
-fn addition_number(fault: AddFault) -> u32
+/// The number of a limit that an object passes.
+pub(crate) fn addition_number(fault: AddFault) -> u8
     ensures { result ≡ number_of (Cause.NotAdded fault) }
 {
     match fault {
@@ -184,9 +201,11 @@ impl Cause {
             Cause::LongName => 3,
             Cause::CutNames => 4,
             Cause::ManyNames => 5,
+            Cause::TooLong => 6,
+            Cause::NoEdit => 7,
             Cause::BadFile(fault) => read_number(fault),
             Cause::BadObject(fault) => object_number(fault),
-            Cause::NotAdded(fault) => addition_number(fault),
+            Cause::NotAdded(fault) => u32::from(addition_number(fault)),
             Cause::NotLinked(fault) => link_number(fault),
             Cause::Memory => 50,
         }

@@ -36,7 +36,7 @@ pub fn check(alloc: Global, bytes: &[u8]) -> Result<usize, Cause>
 }
 
 /// The bytes of a file.
-fn bytes_of(alloc: Global, file: &File) -> Result<Vec<u8>, Cause>
+pub(crate) fn bytes_of(alloc: Global, file: &File) -> Result<Vec<u8>, Cause>
     ensures ok { IfOk result (λ written. written.items ≡ spelling file.now) }
     ensures err { IfErr result (λ cause. cause ≡ Memory) }
 {

@@ -20,7 +20,7 @@ pub(crate) fn first_file(alloc: Global, bytes: &[u8]) -> Result<(File, &[u8]), C
 }
 
 /// The file as an object.
-fn object_of(file: File) -> Result<Object, Cause>
+pub(crate) fn object_of(file: File) -> Result<Object, Cause>
     ensures ok { IfOk result (λ object. object_of file ≡ Ok object) }
     ensures err { IfErr result (λ cause. object_of file ≡ Err cause) }
 {

@@ -4,13 +4,21 @@
 //! follows from its header.
 #![tactic(auto)]
 
+mod apart;
 mod cause;
 mod file_calls;
 mod first;
 mod link_call;
+mod make_call;
+mod parts;
+mod session_call;
 mod taking;
 mod wanted;
 
+pub use apart::take_apart;
 pub use cause::{Cause, Refusal};
 pub use file_calls::{check, list_symbols, show_sizes, strip};
 pub use link_call::{Program, Wanted, link};
+pub use make_call::make;
+pub use parts::{ObjectParts, ObjectWord, PartLists, SymbolRow};
+pub use session_call::{Ran, run_session};

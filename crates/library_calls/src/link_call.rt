@@ -63,7 +63,7 @@ fn link_objects(
 }
 
 /// The bytes of a link.
-fn bytes_of(alloc: Global, linked: &Linked) -> Result<Program, Cause>
+pub(crate) fn program_of(alloc: Global, linked: &Linked) -> Result<Program, Cause>
     ensures ok { IfOk result (λ program. outputs_of program ≡ output_of (outcome_of linked.now)) }
     ensures err { IfErr result (λ cause. cause ≡ Memory) }
 {
@@ -93,5 +93,5 @@ pub fn link(alloc: Global, wanted: &Wanted<'_>, objects: &[u8]) -> Result<Progra
     let options = link_options(wanted.options, wanted.entry)?;
     let forced = forced_names(wanted.forced)?;
     let linked = link_objects(alloc, objects, &forced, &options)?;
-    Ok(bytes_of(alloc, &linked)?)
+    Ok(program_of(alloc, &linked)?)
 }

@@ -48,7 +48,7 @@ pub(crate) fn take_objects(
     ensures err { IfErr result (λ refusal. refusal.cause ≢ Memory → with_objects session.old.forced (objects session.old.entries) bytes.now ≡ Err refusal) }
 {
     let mut rest = bytes;
-    for i in 0..bytes.len() {
+    for _ in 0..bytes.len() {
         if rest.is_empty() {
             break;
         }

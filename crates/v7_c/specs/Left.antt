@@ -3,17 +3,24 @@
 -- Bytes are given at the beginning of a room. Where a room is too short nothing is written, and the answer says how many bytes
 -- there are. A refusal is a number, with the place of what is refused.
 use Rattle.std.specs.declared.alloc.Global.{Global}
-use Rattle.std.specs.Prelude.{◌≡◌, ℕ, ◌||◌, nat_lt, if◌then◌else◌, List, [], ◌++◌, drop, length, Vec, Result, Ok, Err}
+use Rattle.std.specs.Prelude.{ℕ, ◌||◌, nat_lt, if◌then◌else◌, List, [], ◌++◌, drop, length, Vec, Result, Ok, Err}
 use Rattle.library_calls.specs.declared.cause.Cause.{Cause}
 use Rattle.library_calls.specs.declared.cause.Cause.TheVariants.{Memory}
 use Rattle.library_calls.specs.declared.cause.Refusal.{Refusal}
 use Rattle.library_calls.specs.declared.link_call.Program.{Program}
+use Rattle.library_calls.specs.declared.parts.ObjectWord.{ObjectWord}
+use Rattle.library_calls.specs.declared.parts.PartLists.{PartLists}
+use Rattle.library_calls.specs.declared.parts.SymbolRow.{SymbolRow}
+use Rattle.library_calls.specs.declared.session_call.Ran.{Ran}
 use Rattle.library_calls.specs.Causes.{number_of, word_of}
 use Rattle.library_calls.specs.LinkAnswers.{Output, outputs_of}
+use Rattle.library_calls.specs.ObjectParts.{Pieces, pieces_in}
+use Rattle.library_calls.specs.SessionAnswers.{SessionOutput, sessions_of}
 use Rattle.v7_c.specs.declared.answer.Answer.{Answer}
+use Rattle.v7_c.specs.declared.answer.Counts.{Counts}
 
--- the bytes at the beginning of a room
-abbrev pub put_in : List ℕ → List ℕ → List ℕ
+-- these at the beginning of a room
+abbrev pub put_in : {A : Type 0} → List A → List A → List A
 put_in room bytes = bytes ++ drop (length bytes) room
 
 -- what a refusal is answered by
@@ -75,6 +82,53 @@ output_left (Ok x) room report =
 abbrev pub no_output : ℕ → List ℕ → List ℕ → LinkLeft
 no_output place room report = output_left (Err (record { cause = Memory; place = place })) room report
 
+-- the same with a third room, for the replies to the edits of a session
+pub record SessionLeft : Type 0 where
+  pub link : LinkLeft
+  pub replies : List ℕ
+
+abbrev pub session_left : LinkLeft → List ℕ → SessionLeft
+session_left link replies = record { link = link; replies = replies }
+
+-- what a session leaves: all three parts, or none
+abbrev pub ran_left : Result SessionOutput Refusal → List ℕ → List ℕ → List ℕ → SessionLeft
+ran_left (Err r) replies room report = session_left (output_left (Err r) room report) replies
+ran_left (Ok x) replies room report =
+    if nat_lt (length replies) (length x.replies) || (nat_lt (length room) (length x.output.file) || nat_lt (length report) (length x.output.report))
+    then session_left (link_left 2 (given 60 (length x.output.file) (length x.output.report)) room report) replies
+    else session_left (link_left x.output.status (given 0 (length x.output.file) (length x.output.report)) (put_in room x.output.file) (put_in report x.output.report))
+    (put_in replies x.replies)
+
+-- what a session leaves for which memory ran out, at the edit of this number
+abbrev pub no_session : ℕ → List ℕ → List ℕ → List ℕ → SessionLeft
+no_session place replies room report = ran_left (Err (record { cause = Memory; place = place })) replies room report
+
+-- what taking an object apart leaves: its words and symbols, and how many there are
+pub record PartsLeft : Type 0 where
+  pub status : ℕ
+  pub answer : Answer
+  pub counts : Counts
+  pub text : List ObjectWord
+  pub «data» : List ObjectWord
+  pub symbols : List SymbolRow
+
+abbrev pub parts_left : ℕ → Answer → Counts → List ObjectWord → List ObjectWord → List SymbolRow → PartsLeft
+parts_left status answer counts text datas symbols = record { status = status; answer = answer; counts = counts; text = text; «data» = datas; symbols = symbols }
+
+abbrev pub no_counts : Counts
+no_counts = record { text = 0; «data» = 0; symbols = 0; bss = 0 }
+
+abbrev pub counts_of : Pieces → Counts
+counts_of p = record { text = length p.text; «data» = length p.«data»; symbols = length p.symbols; bss = p.bss }
+
+-- all parts, or none
+abbrev pub apart_left : Result Pieces Cause → List ObjectWord → List ObjectWord → List SymbolRow → PartsLeft
+apart_left (Err cause) text datas symbols = parts_left 2 (refused (of_none cause)) no_counts text datas symbols
+apart_left (Ok p) text datas symbols =
+    if nat_lt (length text) (length p.text) || (nat_lt (length datas) (length p.«data») || nat_lt (length symbols) (length p.symbols))
+    then parts_left 2 (given 60 0 0) (counts_of p) text datas symbols
+    else parts_left 0 (given 0 0 0) (counts_of p) (put_in text p.text) (put_in datas p.«data») (put_in symbols p.symbols)
+
 -- the results of the code as those of the definitions
 abbrev pub items_of : Result (Vec ℕ Global) Cause → Result (List ℕ) Cause
 items_of (Ok bytes) = Ok bytes.items
@@ -83,3 +137,11 @@ items_of (Err cause) = Err cause
 abbrev pub outputs_or : Result Program Refusal → Result Output Refusal
 outputs_or (Ok program) = Ok (outputs_of program)
 outputs_or (Err r) = Err r
+
+abbrev pub sessions_or : Result Ran Refusal → Result SessionOutput Refusal
+sessions_or (Ok ran) = Ok (sessions_of ran)
+sessions_or (Err r) = Err r
+
+abbrev pub pieces_or : Result PartLists Cause → Result Pieces Cause
+pieces_or (Ok p) = Ok (pieces_in p)
+pieces_or (Err cause) = Err cause

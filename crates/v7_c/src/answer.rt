@@ -12,12 +12,25 @@ pub struct Answer {
     pub fault: u32,
     /// The index of the bad word, where the fault lies in a word.
     pub word: u32,
-    /// The number of the object, or of the forced name, that the fault lies in.
+    /// The number of the object, of the forced name, or of the edit, that the fault lies in.
     pub place: usize,
     /// How many bytes there are for the first room.
     pub size: usize,
     /// How many bytes there are for the second room.
     pub report_size: usize,
+}
+
+/// How many words and symbols an object has.
+#[repr(C)]
+#[derive(Clone, Copy)]
+pub struct Counts {
+    /// The words of the text.
+    pub text: usize,
+    /// The words of the data.
+    pub data: usize,
+    pub symbols: usize,
+    /// The size of bss in bytes.
+    pub bss: u32,
 }
 
 impl Answer {

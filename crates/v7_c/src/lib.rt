@@ -6,14 +6,17 @@
 mod answer;
 mod rooms;
 
-ghost use Rattle.std.specs.Prelude.{◌≡◌, ◌≢◌, []};
+ghost use Rattle.std.specs.Prelude.{◌≡◌, ◌≢◌, [], Err};
+ghost use Rattle.library_calls.specs.declared.cause.Cause.TheVariants.{Memory};
 ghost use Rattle.library_calls.specs.FileAnswers.{checked_in, names_in, sizes_in, stripped_in};
 ghost use Rattle.library_calls.specs.LinkAnswers.{output_in};
-ghost use Rattle.v7_c.specs.Left.{counted_by, left, left_by, link_left, no_bytes, no_output, output_left};
+ghost use Rattle.library_calls.specs.ObjectParts.{made_of, parts_in, pieces};
+ghost use Rattle.library_calls.specs.SessionAnswers.{session_in};
+ghost use Rattle.v7_c.specs.Left.{apart_left, counted_by, left, left_by, link_left, no_bytes, no_output, no_session, output_left, parts_left, ran_left, session_left};
 
-use crate::answer::Answer;
-use crate::rooms::{leave_bytes, leave_count, leave_output};
-use library_calls::Wanted;
+use crate::answer::{Answer, Counts};
+use crate::rooms::{leave_bytes, leave_count, leave_output, leave_parts, leave_session};
+use library_calls::{ObjectParts, ObjectWord, SymbolRow, Wanted};
 use std::alloc::Global;
 
 /// Checks an object, and tells how many bytes it takes.
@@ -90,4 +93,76 @@ pub extern "C" fn v7_link(
         report,
         answer,
     )
+}
+
+/// Makes an object of its parts.
+#[unsafe(no_mangle)]
+pub extern "C" fn v7_make(
+    alloc: Global,
+    text: &[ObjectWord],
+    data_words: &[ObjectWord],
+    bss: u32,
+    symbols: &[SymbolRow],
+    room: &mut [u8],
+    answer: &mut Answer,
+) -> u32
+    ensures value { answer.new.fault ≢ 50 → left result answer.new room.new
+        ≡ left_by (made_of (pieces text.now data_words.now bss symbols.now)) room.old }
+    ensures memory { answer.new.fault ≡ 50 → left result answer.new room.new ≡ no_bytes room.old }
+{
+    let parts = ObjectParts {
+        text,
+        data: data_words,
+        bss,
+        symbols,
+    };
+    leave_bytes(library_calls::make(alloc, &parts), room, answer)
+}
+
+/// Takes an object apart.
+#[unsafe(no_mangle)]
+pub extern "C" fn v7_take_apart(
+    alloc: Global,
+    bytes: &[u8],
+    text: &mut [ObjectWord],
+    data_words: &mut [ObjectWord],
+    symbols: &mut [SymbolRow],
+    counts: &mut Counts,
+    answer: &mut Answer,
+) -> u32
+    ensures value { answer.new.fault ≢ 50 → parts_left result answer.new counts.new text.new data_words.new symbols.new
+        ≡ apart_left (parts_in bytes.now) text.old data_words.old symbols.old }
+    ensures memory { answer.new.fault ≡ 50 → parts_left result answer.new counts.new text.new data_words.new symbols.new
+        ≡ apart_left (Err Memory) text.old data_words.old symbols.old }
+{
+    let parts = library_calls::take_apart(alloc, bytes);
+    leave_parts(parts, text, data_words, symbols, counts, answer)
+}
+
+/// Runs the edits of a session, and links what is left.
+#[unsafe(no_mangle)]
+pub extern "C" fn v7_session(
+    alloc: Global,
+    options: u32,
+    entry: &[u8],
+    forced: &[u8],
+    edits: &[u8],
+    objects: &[u8],
+    replies: &mut [u8],
+    room: &mut [u8],
+    report: &mut [u8],
+    answer: &mut Answer,
+) -> u32
+    ensures value { answer.new.fault ≢ 50 → session_left (link_left result answer.new room.new report.new) replies.new
+        ≡ ran_left (session_in options entry.now forced.now edits.now objects.now) replies.old room.old report.old }
+    ensures memory { answer.new.fault ≡ 50 → session_left (link_left result answer.new room.new report.new) replies.new
+        ≡ no_session answer.new.place replies.old room.old report.old }
+{
+    let wanted = Wanted {
+        options,
+        entry,
+        forced,
+    };
+    let ran = library_calls::run_session(alloc, &wanted, edits, objects);
+    leave_session(ran, replies, room, report, answer)
 }

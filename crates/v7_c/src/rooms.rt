@@ -1,20 +1,22 @@
 //! What a call gives, written into the rooms of its caller.
 ghost use Rattle.std.specs.Prelude.{◌≡◌, ◌≤◌, [], length, Ok};
 ghost use Rattle.library_calls.specs.LinkAnswers.{outputs_of};
-ghost use Rattle.v7_c.specs.Left.{counted_by, items_of, left, left_by, link_left, output_left, outputs_or, put_in};
+ghost use Rattle.library_calls.specs.ObjectParts.{pieces_in};
+ghost use Rattle.library_calls.specs.SessionAnswers.{sessions_of};
+ghost use Rattle.v7_c.specs.Left.{apart_left, counted_by, counts_of, items_of, left, left_by, link_left, output_left, outputs_or, parts_left, pieces_or, put_in, ran_left, session_left, sessions_or};
 
-use crate::answer::Answer;
-use library_calls::{Cause, Program, Refusal};
+use crate::answer::{Answer, Counts};
+use library_calls::{Cause, ObjectWord, PartLists, Program, Ran, Refusal, SymbolRow};
 
 /// The fault where a room is too short.
 const NO_ROOM: u32 = 60;
 
-/// Writes bytes at the beginning of a room.
-fn put(bytes: &[u8], room: &mut [u8])
-    requires { length bytes.now ≤ length room.old }
-    ensures { room.new ≡ put_in room.old bytes.now }
+/// Writes bytes, or what else there is, at the beginning of a room.
+fn put<T: Copy>(items: &[T], room: &mut [T])
+    requires { length items.now ≤ length room.old }
+    ensures { room.new ≡ put_in room.old items.now }
 {
-    room[..bytes.len()].copy_from_slice(bytes);
+    room[..items.len()].copy_from_slice(items);
 }
 
 /// Answers by a number of bytes.
@@ -87,6 +89,113 @@ pub(crate) fn leave_output(
         Ok(program) => leave_program(&program, room, report, answer),
         Err(refusal) => {
             *answer = Answer::refused(refusal);
+            2
+        }
+    }
+}
+
+/// Writes the link of a session and the replies into the rooms, where all fit.
+fn leave_ran(
+    ran: &Ran,
+    replies: &mut [u8],
+    room: &mut [u8],
+    report: &mut [u8],
+    answer: &mut Answer,
+) -> u32
+    ensures { session_left (link_left result answer.new room.new report.new) replies.new ≡ ran_left (Ok (sessions_of ran.now)) replies.old room.old report.old }
+{
+    let size = ran.program.file.len();
+    let report_size = ran.program.report.len();
+    if replies.len() < ran.replies.len() || room.len() < size || report.len() < report_size {
+        *answer = Answer::given(NO_ROOM, size, report_size);
+        return 2;
+    }
+    put(&ran.replies, replies);
+    put(&ran.program.file, room);
+    put(&ran.program.report, report);
+    *answer = Answer::given(0, size, report_size);
+    u32::from(ran.program.status)
+}
+
+/// Writes the link of a session and the replies into the rooms, where there is one.
+pub(crate) fn leave_session(
+    ran: Result<Ran, Refusal>,
+    replies: &mut [u8],
+    room: &mut [u8],
+    report: &mut [u8],
+    answer: &mut Answer,
+) -> u32
+    ensures { session_left (link_left result answer.new room.new report.new) replies.new ≡ ran_left (sessions_or ran) replies.old room.old report.old }
+{
+    match ran {
+        Ok(ran) => leave_ran(&ran, replies, room, report, answer),
+        Err(refusal) => {
+            *answer = Answer::refused(refusal);
+            2
+        }
+    }
+}
+
+/// The numbers of words and symbols.
+fn counts_of(parts: &PartLists) -> Counts
+    ensures { result ≡ counts_of (pieces_in parts.now) }
+{
+    Counts {
+        text: parts.text.len(),
+        data: parts.data.len(),
+        symbols: parts.symbols.len(),
+        bss: u32::from(parts.bss),
+    }
+}
+
+/// Writes the parts of an object into the rooms, where all fit.
+fn leave_lists(
+    parts: &PartLists,
+    text: &mut [ObjectWord],
+    data_words: &mut [ObjectWord],
+    symbols: &mut [SymbolRow],
+    answer: &mut Answer,
+) -> u32
+    ensures { parts_left result answer.new (counts_of (pieces_in parts.now)) text.new data_words.new symbols.new ≡ apart_left (Ok (pieces_in parts.now)) text.old data_words.old symbols.old }
+{
+    if text.len() < parts.text.len()
+        || data_words.len() < parts.data.len()
+        || symbols.len() < parts.symbols.len()
+    {
+        *answer = Answer::given(NO_ROOM, 0, 0);
+        return 2;
+    }
+    put(&parts.text, text);
+    put(&parts.data, data_words);
+    put(&parts.symbols, symbols);
+    *answer = Answer::given(0, 0, 0);
+    0
+}
+
+/// Writes the parts of an object into the rooms, where there are some.
+pub(crate) fn leave_parts(
+    parts: Result<PartLists, Cause>,
+    text: &mut [ObjectWord],
+    data_words: &mut [ObjectWord],
+    symbols: &mut [SymbolRow],
+    counts: &mut Counts,
+    answer: &mut Answer,
+) -> u32
+    ensures { parts_left result answer.new counts.new text.new data_words.new symbols.new ≡ apart_left (pieces_or parts) text.old data_words.old symbols.old }
+{
+    match parts {
+        Ok(parts) => {
+            *counts = counts_of(&parts);
+            leave_lists(&parts, text, data_words, symbols, answer)
+        }
+        Err(cause) => {
+            *counts = Counts {
+                text: 0,
+                data: 0,
+                symbols: 0,
+                bss: 0,
+            };
+            *answer = Answer::refused(Refusal::from(cause));
             2
         }
     }

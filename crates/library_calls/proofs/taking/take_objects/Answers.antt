@@ -6,19 +6,19 @@ use Rattle.library_calls.proofs.taking.take_objects.Goals as goal
 
 pub returns-in-Err-clause-err : goal.returns-in-Err-clause-err
 returns-in-Err-clause-err c = λ other.
-    let some : length c.loop-i.rest.now ≡ 0 → ⊥ = search rules in
-    refused_so_far (with_most (length c.args.bytes.now) c.args.session.now.forced (objects c.args.session.now.entries) c.args.bytes.now) (length c.args.bytes.now) c.loop-i.i c.loop-i.session c.take_first.new.session
-    c.loop-i.rest.now c.entries-place.result.now c.in-Err.cause c.loop-i-test.true some c.loop-i.invariant.1 (c.in-Err.ensures.err other) c.in-Err.ensures.unchanged c.entries-place.ensures.value
+    let some : length c.loop.rest.now ≡ 0 → ⊥ = search rules in
+    refused_so_far (with_most (length c.args.bytes.now) c.args.session.now.forced (objects c.args.session.now.entries) c.args.bytes.now) (length c.args.bytes.now) c.loop.counter c.loop.session c.take_first.new.session
+    c.loop.rest.now c.entries-place.result.now c.in-Err.cause c.loop-test.true some c.loop.invariant.1 (c.in-Err.ensures.err other) c.in-Err.ensures.unchanged c.entries-place.ensures.value
 
-pub loop-i-preserved : goal.loop-i-preserved
-loop-i-preserved c =
-    let some : length c.loop-i.rest.now ≡ 0 → ⊥ = search rules in (
-      c.in-Ok.ensures.forced ∙ c.loop-i.invariant.0,
-      more_so_far (with_most (length c.args.bytes.now) c.args.session.now.forced (objects c.args.session.now.entries) c.args.bytes.now) (length c.args.bytes.now) c.loop-i.i c.loop-i.session c.take_first.new.session
-          c.loop-i.rest.now c.in-Ok.behind.now c.loop-i-test.true some c.loop-i.invariant.1 c.in-Ok.ensures.ok c.in-Ok.ensures.behind c.in-Ok.ensures.forced,
+pub loop-preserved : goal.loop-preserved
+loop-preserved c =
+    let some : length c.loop.rest.now ≡ 0 → ⊥ = search rules in (
+      c.in-Ok.ensures.forced ∙ c.loop.invariant.0,
+      more_so_far (with_most (length c.args.bytes.now) c.args.session.now.forced (objects c.args.session.now.entries) c.args.bytes.now) (length c.args.bytes.now) c.loop.counter c.loop.session c.take_first.new.session
+          c.loop.rest.now c.in-Ok.behind.now c.loop-test.true some c.loop.invariant.1 c.in-Ok.ensures.ok c.in-Ok.ensures.behind c.in-Ok.ensures.forced,
     )
 
 pub returns-then-is_empty-clause-ok : goal.returns-then-is_empty-clause-ok
 returns-then-is_empty-clause-ok c =
-    let none : length c.loop-i.rest.now ≡ 0 = search rules in
-    all_so_far _ _ _ _ c.loop-i.rest.now none c.loop-i.invariant.1
+    let none : length c.loop.rest.now ≡ 0 = search rules in
+    all_so_far _ _ _ _ c.loop.rest.now none c.loop.invariant.1

@@ -4,7 +4,7 @@ use Rattle.library_calls.specs.LinkAnswers.{with_most}
 use Rattle.library_calls.proofs.taking.take_objects.Given as goal
 
 -- the objects so far, with those of the bytes that are left, make the whole
-abbrev pub invariant-loop-i : goal.invariant-loop-i
-invariant-loop-i l =
+abbrev pub invariant-loop : goal.invariant-loop
+invariant-loop l =
     (l.session.forced ≡ l.initial.session.forced)
-    × (with_most (length l.bytes) l.initial.session.forced (objects l.initial.session.entries) l.bytes ≡ with_most (length l.bytes - l.i) l.session.forced (objects l.session.entries) l.rest)
+    × (with_most (length l.bytes) l.initial.session.forced (objects l.initial.session.entries) l.bytes ≡ with_most (length l.bytes - l.counter) l.session.forced (objects l.session.entries) l.rest)

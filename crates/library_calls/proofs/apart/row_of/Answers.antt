@@ -1,0 +1,12 @@
+use Rattle.std.proofs.Common.{◌≡◌, ℕ, List, ◌++◌, length, take, drop, replicate, arith, sym, ap, ◌∙◌}
+use Rattle.aout_core.specs.Names.{padded}
+use Rattle.library_calls.specs.declared.parts.SymbolRow.{SymbolRow}
+use Rattle.library_calls.proofs.PartLemmas.{padded_name}
+use Rattle.library_calls.proofs.apart.row_of.Goals as goal
+
+pub returns : goal.returns
+returns c =
+    let text = c.as_bytes-text.result.now in
+    let laid : c.copy_from_slice.new.self ++ drop (length text) (replicate 8 0) ≡ padded c.args.symbol.now.name =
+    ap (λ (l : List ℕ). l ++ drop (length text) (replicate 8 0)) c.copy_from_slice.ensures.after ∙ padded_name text c.as_bytes-text.ensures.short ∙ ap padded c.as_bytes-text.ensures.value in
+    ap (λ (name : List ℕ). record { name = name; type_bits = c.args.symbol.now.type_bits; value = c.args.symbol.now.value }) laid

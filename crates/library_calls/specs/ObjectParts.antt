@@ -1,0 +1,96 @@
+-- An object by its parts: the words of text and data, each with its relocation word, the size of bss, and the symbols. (a.out(5))
+--
+-- What is made of parts has magic 0407, its relocation, and 0 for the entry point and the word without a meaning, at neither of which
+-- a link looks. A name is eight bytes, filled up with NULs, as in a file.
+use Rattle.std.specs.Prelude.{ℕ, ◌*◌, ◌%◌, Bool, ◌||◌, eqb, nat_lt, if◌then◌else◌, List, map, length, Result, Ok, Err}
+use Rattle.std.specs.List.{zip}
+use Rattle.aout_core.specs.declared.header.Header.{Header}
+use Rattle.aout_core.specs.declared.reloc.Reloc.{Reloc}
+use Rattle.aout_core.specs.declared.symbol.Symbol.{Symbol}
+use Rattle.aout_core.specs.declared.file.ReadFault.TheVariants.{OddSize}
+use Rattle.aout_core.specs.Names.{padded}
+use Rattle.aout_core.specs.Contents.{Contents}
+use Rattle.aout_core.specs.Spelling.{spelling}
+use Rattle.library_calls.specs.declared.parts.ObjectWord.{ObjectWord}
+use Rattle.library_calls.specs.declared.parts.SymbolRow.{SymbolRow}
+use Rattle.library_calls.specs.declared.parts.PartLists.{PartLists}
+use Rattle.library_calls.specs.declared.cause.Cause.{Cause}
+use Rattle.library_calls.specs.declared.cause.Cause.TheVariants.{TooLong, BadFile}
+use Rattle.library_calls.specs.Causes.{and_then}
+use Rattle.library_calls.specs.FileAnswers.{object_in, object_of}
+use Rattle.library_calls.specs.LinkWanted.{name_of}
+
+pub record Pieces : Type 0 where
+  pub text : List ObjectWord
+  pub «data» : List ObjectWord
+  pub bss : ℕ
+  pub symbols : List SymbolRow
+
+abbrev pub pieces : List ObjectWord → List ObjectWord → ℕ → List SymbolRow → Pieces
+pieces text datas bss symbols = record { text = text; «data» = datas; bss = bss; symbols = symbols }
+
+-- ---- parts made into an object
+
+-- a header has no number for the size of a part
+abbrev pub too_long : Pieces → Bool
+too_long p = nat_lt 32767 (length p.text) || (nat_lt 32767 (length p.«data») || (nat_lt 65535 p.bss || nat_lt 5461 (length p.symbols)))
+
+abbrev pub header_of : Pieces → Header
+header_of p = record {
+  magic = 0o407;
+  text_size = 2 * length p.text;
+  data_size = 2 * length p.«data»;
+  bss_size = p.bss;
+  symbol_size = 12 * length p.symbols;
+  entry_point = 0;
+  unused = 0;
+  flag = 0;
+}
+
+abbrev pub header_for : Pieces → Result Header Cause
+header_for p =
+    if too_long p then Err TooLong
+    else (if eqb (p.bss % 2) 0 then Ok (header_of p)
+    else Err (BadFile OddSize))
+
+abbrev pub reloc_of : ObjectWord → Reloc
+reloc_of w = record { 0 = w.reloc }
+
+abbrev pub symbol_of : SymbolRow → Symbol
+symbol_of row = record { name = name_of row.name; type_bits = row.type_bits; value = row.value }
+
+abbrev pub contents_for : Pieces → Header → Contents
+contents_for p h = record {
+  header = h;
+  text_words = map (λ w. w.value) p.text;
+  data_words = map (λ w. w.value) p.«data»;
+  text_reloc = map reloc_of p.text;
+  data_reloc = map reloc_of p.«data»;
+  symbols = map symbol_of p.symbols;
+}
+
+abbrev pub file_for : Pieces → Result Contents Cause
+file_for p = and_then (header_for p) (λ h. Ok (contents_for p h))
+
+-- the bytes of the object of these parts, or why they make none
+abbrev pub made_of : Pieces → Result (List ℕ) Cause
+made_of p = and_then (file_for p) (λ c. and_then (object_of c) (λ o. Ok (spelling o)))
+
+-- ---- an object taken apart
+
+-- each word with its relocation word
+abbrev pub words_with : List ℕ → List Reloc → List ObjectWord
+words_with ws rs = map (λ p. record { value = p.0; reloc = p.1.0 }) (zip ws rs)
+
+abbrev pub row_of : Symbol → SymbolRow
+row_of s = record { name = padded s.name; type_bits = s.type_bits; value = s.value }
+
+abbrev pub pieces_of : Contents → Pieces
+pieces_of c = pieces (words_with c.text_words c.text_reloc) (words_with c.data_words c.data_reloc) c.header.bss_size (map row_of c.symbols)
+
+-- the parts of the object that the bytes begin with
+abbrev pub parts_in : List ℕ → Result Pieces Cause
+parts_in bytes = and_then (object_in bytes) (λ c. Ok (pieces_of c))
+
+abbrev pub pieces_in : PartLists → Pieces
+pieces_in p = pieces p.text.items p.«data».items p.bss p.symbols.items

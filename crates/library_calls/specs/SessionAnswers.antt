@@ -1,0 +1,77 @@
+-- What a call says of a session: edits of a list of objects, a letter each, and the link of what is left. (ld(1); edits: own choice)
+--
+-- `a` adds the next object of the bytes, and `w` withdraws the last one that is kept. All edits are read, each object from the bytes
+-- behind the one before it, and the first that is not taken is the refusal. Then they are run: each has a reply, and what is left is
+-- linked.
+use Rattle.std.specs.Prelude.{ℕ, ◌+◌, eqb, if◌then◌else◌, List, [], ◌∷◌, ◌++◌, map, Result, Ok, Err}
+use Rattle.link_session.specs.Edits.{Change, addition, withdrawal, Answer, added, refused, withdrew, nothing, answers}
+use Rattle.link_out.specs.Choices.{Choices}
+use Rattle.link_out.specs.function.Link.{Outcome}
+use Rattle.link_out.specs.Runs.{link_after}
+use Rattle.library_calls.specs.declared.cause.Cause.{Cause}
+use Rattle.library_calls.specs.declared.cause.Cause.TheVariants.{NoEdit, NotAdded}
+use Rattle.library_calls.specs.declared.cause.Refusal.{Refusal}
+use Rattle.library_calls.specs.declared.session_call.Ran.{Ran}
+use Rattle.library_calls.specs.Causes.{at, and_then, number_of}
+use Rattle.library_calls.specs.FileAnswers.{behind_file, object_in}
+use Rattle.library_calls.specs.LinkAnswers.{Output, linked_or, output_of, outputs_of}
+use Rattle.library_calls.specs.LinkWanted.{choices_in, forced_in}
+
+-- ---- edits read
+
+-- 97 is the letter a, 119 the letter w; an object has no label
+abbrev pub change_in : ℕ → List ℕ → Result Change Cause
+change_in letter bytes =
+    if eqb letter 97 then and_then (object_in bytes) (λ o. Ok (addition (record { label = []; object = o })))
+    else (if eqb letter 119 then Ok withdrawal
+    else Err NoEdit)
+
+-- the bytes behind the object of an edit
+abbrev pub behind_edit : ℕ → List ℕ → List ℕ
+behind_edit letter bytes = if eqb letter 97 then behind_file bytes else bytes
+
+-- the changes with that of one edit
+abbrev pub with_edit : ℕ → List ℕ → List Change → Result (List Change) Cause
+with_edit letter bytes before = and_then (change_in letter bytes) (λ c. Ok (before ++ c ∷ []))
+
+-- the changes with those of the edits, the first of which has this number
+abbrev pub with_edits : ℕ → List Change → List ℕ → List ℕ → Result (List Change) Refusal
+with_edits number before [] bytes = Ok before
+with_edits number before (letter ∷ letters) bytes =
+    and_then (at number (with_edit letter bytes before)) (λ more. with_edits (number + 1) more letters (behind_edit letter bytes))
+
+abbrev pub changes_in : List ℕ → List ℕ → Result (List Change) Refusal
+changes_in letters bytes = with_edits 0 [] letters bytes
+
+-- ---- edits run
+
+-- 0 where the edit was made, else why it was not: the number of the limit that an object passes, or 35 where nothing is kept
+abbrev pub reply_number : Answer → ℕ
+reply_number added = 0
+reply_number (refused fault) = number_of (NotAdded fault)
+reply_number (withdrew label) = 0
+reply_number nothing = 35
+
+-- what is linked, and the replies to the edits
+pub record SessionOutput : Type 0 where
+  pub replies : List ℕ
+  pub output : Output
+
+-- 1 where an edit was not made
+abbrev pub session_status : List ℕ → ℕ → ℕ
+session_status [] status = status
+session_status (n ∷ ns) status = if eqb n 0 then session_status ns status else 1
+
+abbrev pub output_with : List ℕ → Output → SessionOutput
+output_with replies x = record { replies = replies; output = record { status = session_status replies x.status; file = x.file; report = x.report } }
+
+abbrev pub run_of : List (List ℕ) → Choices → List Change → Result SessionOutput Cause
+run_of forced o cs = and_then (linked_or (link_after forced cs o)) (λ x. Ok (output_with (map reply_number (answers forced cs)) (output_of x)))
+
+abbrev pub sessions_of : Ran → SessionOutput
+sessions_of r = record { replies = r.replies.items; output = outputs_of r.program }
+
+-- the options, then the forced names, then the edits, then the link: the first refusal, or the replies and the output
+abbrev pub session_in : ℕ → List ℕ → List ℕ → List ℕ → List ℕ → Result SessionOutput Refusal
+session_in bits entry forced letters bytes =
+    and_then (at 0 (choices_in bits entry)) (λ o. and_then (forced_in forced) (λ names. and_then (changes_in letters bytes) (λ cs. at 0 (run_of names o cs))))

@@ -1,0 +1,76 @@
+//! Objects taken apart.
+ghost use Rattle.std.specs.Prelude.{◌≡◌, ◌≢◌, map, length, Ok, Err, IfOk, IfErr};
+ghost use Rattle.library_calls.specs.ObjectParts.{parts_in, pieces_in, pieces_of, row_of, words_with};
+ghost use Rattle.library_calls.specs.declared.cause.Cause.TheVariants.{Memory};
+
+use crate::cause::Cause;
+use crate::first::first_object;
+use crate::parts::{ObjectWord, PartLists, SymbolRow};
+use aout_core::{File, Reloc, Symbol};
+use std::alloc::{AllocError, Global};
+
+/// Each word with its relocation word.
+fn words_with(
+    alloc: Global,
+    values: &[u16],
+    relocs: &[Reloc],
+) -> Result<Vec<ObjectWord>, AllocError>
+    ensures { IfOk result (λ words. words.items ≡ words_with values.now relocs.now) }
+{
+    values
+        .iter()
+        .zip(relocs)
+        .map(|(value, reloc)| ObjectWord {
+            value: *value,
+            reloc: reloc.0,
+        })
+        .collect(alloc)
+}
+
+fn row_of(symbol: &Symbol) -> SymbolRow
+    ensures { result ≡ row_of symbol.now }
+{
+    let text = symbol.name.as_bytes();
+    let mut name = [0; 8];
+    name[..text.len()].copy_from_slice(text);
+    SymbolRow {
+        name,
+        type_bits: symbol.type_bits,
+        value: symbol.value,
+    }
+}
+
+fn rows_of(alloc: Global, symbols: &[Symbol]) -> Result<Vec<SymbolRow>, AllocError>
+    ensures { IfOk result (λ rows. rows.items ≡ map row_of symbols.now) }
+{
+    symbols.iter().map(|symbol| row_of(symbol)).collect(alloc)
+}
+
+/// The parts of a file.
+fn parts_of(alloc: Global, file: &File) -> Result<PartLists, AllocError>
+    ensures { IfOk result (λ parts. pieces_in parts ≡ pieces_of file.now) }
+{
+    let text = words_with(alloc, file.text_words(), file.text_reloc())?;
+    let data = words_with(alloc, file.data_words(), file.data_reloc())?;
+    let bss = file.header().bss_size;
+    let symbols = rows_of(alloc, file.symbols())?;
+    Ok(PartLists {
+        text,
+        data,
+        bss,
+        symbols,
+    })
+}
+
+/// The parts of the object that the bytes begin with; its entry point and the word without a meaning are left out. What
+/// is behind it is not looked at. (a.out(5))
+///
+/// Errors: `BadFile`, 11 to 14, where the bytes begin with no file; `BadObject`, 21 to 24, where the file is no object;
+/// `Memory`, 50, where memory runs out.
+pub fn take_apart(alloc: Global, bytes: &[u8]) -> Result<PartLists, Cause>
+    ensures ok { IfOk result (λ parts. parts_in bytes.now ≡ Ok (pieces_in parts)) }
+    ensures err { IfErr result (λ cause. cause ≢ Memory → parts_in bytes.now ≡ Err cause) }
+{
+    let (object, _) = first_object(alloc, bytes)?;
+    Ok(parts_of(alloc, object.file())?)
+}

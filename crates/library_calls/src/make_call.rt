@@ -1,0 +1,111 @@
+//! Objects made of their parts.
+ghost use Rattle.std.specs.Prelude.{◌≡◌, ◌≢◌, map, Ok, Err, IfOk, IfErr};
+ghost use Rattle.aout_core.specs.Contents.{Fits};
+ghost use Rattle.aout_core.specs.Parts.{contents_of};
+ghost use Rattle.library_calls.specs.ObjectParts.{contents_for, file_for, header_for, made_of, pieces, reloc_of, symbol_of};
+ghost use Rattle.library_calls.specs.declared.cause.Cause.TheVariants.{Memory};
+
+use crate::cause::Cause;
+use crate::file_calls::bytes_of;
+use crate::first::object_of;
+use crate::parts::{ObjectParts, ObjectWord, SymbolRow};
+use aout_core::{File, Header, Name, Parts, ReadFault, Reloc, Symbol};
+use std::alloc::{AllocError, Global};
+
+/// The header of an object of these parts.
+fn header_for(parts: &ObjectParts<'_>) -> Result<Header, Cause>
+    ensures { result ≡ header_for (pieces parts.now.text.now parts.now.data.now parts.now.bss parts.now.symbols.now) }
+{
+    if parts.text.len() > 32_767
+        || parts.data.len() > 32_767
+        || parts.bss > 65_535
+        || parts.symbols.len() > 5_461
+    {
+        return Err(Cause::TooLong);
+    }
+    if parts.bss % 2 != 0 {
+        return Err(Cause::BadFile(ReadFault::OddSize));
+    }
+    Ok(Header {
+        magic: 0o407,
+        text_size: 2 * parts.text.len() as u16,
+        data_size: 2 * parts.data.len() as u16,
+        bss_size: parts.bss as u16,
+        symbol_size: 12 * parts.symbols.len() as u16,
+        entry_point: 0,
+        unused: 0,
+        flag: 0,
+    })
+}
+
+fn values_of(alloc: Global, words: &[ObjectWord]) -> Result<Vec<u16>, AllocError>
+    ensures { IfOk result (λ values. values.items ≡ map (λ w. w.value) words.now) }
+{
+    words.iter().map(|word| word.value).collect(alloc)
+}
+
+fn relocs_of(alloc: Global, words: &[ObjectWord]) -> Result<Vec<Reloc>, AllocError>
+    ensures { IfOk result (λ relocs. relocs.items ≡ map reloc_of words.now) }
+{
+    words.iter().map(|word| Reloc(word.reloc)).collect(alloc)
+}
+
+fn symbol_of(row: &SymbolRow) -> Symbol
+    ensures { result ≡ symbol_of row.now }
+{
+    Symbol {
+        name: Name::from_bytes(&row.name),
+        type_bits: row.type_bits,
+        value: row.value,
+    }
+}
+
+fn symbols_of(alloc: Global, rows: &[SymbolRow]) -> Result<Vec<Symbol>, AllocError>
+    ensures { IfOk result (λ symbols. symbols.items ≡ map symbol_of rows.now) }
+{
+    rows.iter().map(|row| symbol_of(row)).collect(alloc)
+}
+
+/// The parts as those of a file with this header.
+fn parts_with(alloc: Global, header: Header, parts: &ObjectParts<'_>) -> Result<Parts, AllocError>
+    ensures { IfOk result (λ lists. contents_of lists ≡ contents_for (pieces parts.now.text.now parts.now.data.now parts.now.bss parts.now.symbols.now) header) }
+{
+    let text_words = values_of(alloc, parts.text)?;
+    let data_words = values_of(alloc, parts.data)?;
+    let text_reloc = relocs_of(alloc, parts.text)?;
+    let data_reloc = relocs_of(alloc, parts.data)?;
+    let symbols = symbols_of(alloc, parts.symbols)?;
+    Ok(Parts {
+        header,
+        text_words,
+        data_words,
+        text_reloc,
+        data_reloc,
+        symbols,
+    })
+}
+
+/// The file of the parts.
+fn file_for(alloc: Global, parts: &ObjectParts<'_>) -> Result<File, Cause>
+    ensures ok { IfOk result (λ file. file_for (pieces parts.now.text.now parts.now.data.now parts.now.bss parts.now.symbols.now) ≡ Ok file) }
+    ensures err { IfErr result (λ cause. cause ≢ Memory → file_for (pieces parts.now.text.now parts.now.data.now parts.now.bss parts.now.symbols.now) ≡ Err cause) }
+{
+    let header = header_for(parts)?;
+    let lists = parts_with(alloc, header, parts)?;
+    Ok(File::from_parts(lists))
+}
+
+/// The bytes of an object of these parts, with magic 0407 and no entry point. (a.out(5))
+///
+/// Errors, the first that applies: `TooLong`, 6, where text or data have more than 32,767 words, bss more than 65,535
+/// bytes, or there are more than 5,461 symbols; `BadFile`, 13, where the size of bss is odd; `BadObject`, 23 and 24,
+/// where a relocation word has no kind, or not the number of an undefined external; `Memory`, 50, where memory runs
+/// out.
+pub fn make(alloc: Global, parts: &ObjectParts<'_>) -> Result<Vec<u8>, Cause>
+    ensures ok { IfOk result (λ written. made_of (pieces parts.now.text.now parts.now.data.now parts.now.bss parts.now.symbols.now) ≡ Ok written.items) }
+    ensures err { IfErr result (λ cause. cause ≢ Memory → made_of (pieces parts.now.text.now parts.now.data.now parts.now.bss parts.now.symbols.now) ≡ Err cause) }
+{
+    let file = file_for(alloc, parts)?;
+    let object = object_of(file)?;
+    bytes_of(alloc, object.file())
+}

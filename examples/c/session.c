@@ -1,0 +1,85 @@
+/* Makes two objects, links them, adds and withdraws, and compares, by libv7. */
+#include <stdio.h>
+#include <string.h>
+
+#include "v7.h"
+
+enum { ROOM = 256 };
+
+struct linked {
+    uint32_t status;
+    struct v7_answer answer;
+    unsigned char file[ROOM], report[ROOM], replies[8];
+};
+
+static const unsigned char none[1];
+
+/* mov $4,r0; jsr pc,_half */
+static const struct v7_word main_text[] = {{012700, 0}, {4, 0}, {004767, 0}, {0177770, 031}};
+static const struct v7_symbol main_symbols[] = {{"start", 02, 0}, {"_half", 040, 0}};
+
+/* asr r0; rts pc; and a word of data that holds the address of the first */
+static const struct v7_word half_text[] = {{006200, 0}, {000207, 0}};
+static const struct v7_word half_data[] = {{0, 02}};
+static const struct v7_symbol half_symbols[] = {{"_half", 042, 0}};
+
+static int failed;
+
+static void same(const char *name, int is_same)
+{
+    printf("%s: %s\n", name, is_same ? "as wanted" : "other than wanted");
+    if (!is_same)
+        failed = 1;
+}
+
+static int alike(const struct linked *a, const struct linked *b)
+{
+    return a->status == b->status && a->answer.fault == b->answer.fault && a->answer.size == b->answer.size &&
+           a->answer.report_size == b->answer.report_size && memcmp(a->file, b->file, a->answer.size) == 0 &&
+           memcmp(a->report, b->report, a->answer.report_size) == 0;
+}
+
+static void link_all(const unsigned char *objects, size_t size, struct linked *to)
+{
+    to->status = v7_link(0, none, 0, none, 0, objects, size, to->file, ROOM, to->report, ROOM, &to->answer);
+}
+
+static void run(const char *edits, const unsigned char *objects, size_t size, struct linked *to)
+{
+    to->status = v7_session(0, none, 0, none, 0, (const unsigned char *)edits, strlen(edits), objects, size, to->replies,
+                            strlen(edits), to->file, ROOM, to->report, ROOM, &to->answer);
+}
+
+int main(void)
+{
+    unsigned char objects[2 * ROOM];
+    size_t first, size;
+    struct v7_answer answer;
+    struct v7_counts counts;
+    struct v7_word text[4], data[1];
+    struct v7_symbol symbols[2];
+    struct linked both, alone, session;
+
+    same("the first is made", v7_make(main_text, 4, half_data, 0, 0, main_symbols, 2, objects, ROOM, &answer) == 0);
+    first = answer.size;
+    same("the second is made", v7_make(half_text, 2, half_data, 1, 0, half_symbols, 1, objects + first, ROOM, &answer) == 0);
+    size = first + answer.size;
+    same("taken apart", v7_take_apart(objects, size, text, 4, data, 1, symbols, 2, &counts, &answer) == 0 && counts.text == 4 &&
+                            counts.data == 0 && counts.bss == 0 && counts.symbols == 2 &&
+                            memcmp(text, main_text, sizeof main_text) == 0 &&
+                            memcmp(symbols, main_symbols, sizeof main_symbols) == 0);
+    link_all(objects, size, &both);
+    same("nothing to report", both.status == 0 && both.answer.report_size == 0);
+    link_all(objects, first, &alone);
+    same("a name that is not there", alone.status == 1 && alone.answer.report_size == 17 &&
+                                         memcmp(alone.report, "Undefined:\n_half\n", 17) == 0);
+    run("aa", objects, size, &session);
+    same("added", alike(&session, &both) && memcmp(session.replies, "\0\0", 2) == 0);
+    run("aaw", objects, size, &session);
+    same("withdrawn", alike(&session, &alone) && memcmp(session.replies, "\0\0\0", 3) == 0);
+    run("awwaw", objects, size, &session);
+    same("nothing left", session.status == 1 && memcmp(session.replies, "\0\0\43\0\0", 5) == 0);
+    run("ax", objects, size, &session);
+    same("no edit", session.status == 2 && session.answer.fault == V7_NO_EDIT && session.answer.place == 1);
+    return failed;
+}
