@@ -9,7 +9,7 @@
 # make before its calls do, so that another of theirs is refused.
 set -u
 cd "$(dirname "$0")/../crates/memory"
-requests=${1:-760}
+requests=${1:-800}
 work=$(mktemp -d)
 trap 'rm -rf "$work"' EXIT
 mkdir "$work/cases"
