@@ -2,9 +2,18 @@
 #![tactic(auto)]
 
 mod explaining;
+mod finding;
+mod likeness;
+mod listing;
 mod map;
+mod odd;
+mod places;
+mod reading;
+mod text;
 mod told;
 mod words;
+mod words_in;
+mod wrong;
 
 use explaining::explain_files;
 use map::write_map;
