@@ -119,10 +119,12 @@ check-manual: check-examples
 check-streams: build/v7
 	sh tests/streams.sh
 
-# listings of the examples and of 1,000 made objects are turned back; DAMAGED files are tried besides
+# listings of the examples and of 1,000 made objects are turned back, and maps compared with what v7 says of the links;
+# DAMAGED files are tried besides
 DAMAGED ?= 0
 check-explain: build/v7 build/v7-explain
 	python3 tests/explain.py build/v7-explain build/v7 $(DAMAGED)
+	python3 tests/map.py build/v7 build/v7-explain
 
 # the examples of the manual pages and of the documents come out as shown; the gate leaves the programs that they need
 check-examples: build/v7 build/v7-from-gnu build/v7-explain build/lesson

@@ -8,21 +8,22 @@ ghost use Rattle.link_session.specs.Starts.{total};
 ghost use Rattle.link_session.specs.Undo.{image_of};
 ghost use Rattle.aout_core.specs.declared.symbol.Segment.TheVariants.{TextSeg, DataSeg};
 ghost use Rattle.link_out.specs.Layouts.{bases, data_base};
-ghost use Rattle.link_out.specs.Plans.{common_size, commons_laid};
-ghost use Rattle.link_out.specs.steps.InOrder.{plan_of, room_in};
+ghost use Rattle.link_out.specs.Plans.{common_size, commons_laid, plan};
+ghost use Rattle.link_out.specs.steps.InOrder.{room_in};
 
 use crate::options::{Layout, Options};
 use link_session::{Session, State};
 use std::marker::Model;
 
-/// The bounds of the segments, in bytes. Text starts at 0, and commons at the end of data. An end may pass 65,535.
-#[derive(Clone, Copy)]
-pub(crate) struct Bases {
-    pub(crate) text_end: u64,
-    pub(crate) data_start: u64,
-    pub(crate) data_end: u64,
-    pub(crate) bss_start: u64,
-    pub(crate) bss_end: u64,
+/// The bounds of the segments of a link, in bytes. Text starts at 0, and commons at the end of data. An end may pass
+/// 65,535. (a.out(5) and ld(1); commons: own choice)
+#[derive(Clone, Copy, Debug)]
+pub struct Bases {
+    pub text_end: u64,
+    pub data_start: u64,
+    pub data_end: u64,
+    pub bss_start: u64,
+    pub bss_end: u64,
 }
 
 impl Model for Bases {
@@ -125,9 +126,10 @@ pub(crate) fn data_size(session: &Session) -> u16
     (2 * cells.len()) as u16
 }
 
-/// The bounds of the segments in the link of a session.
-pub(crate) fn link_bases(session: &Session, options: &Options) -> Bases
-    ensures value { result ≡ (plan_of session.now options.now).at }
+/// Where the segments of a session's link lie, whether `finish` would link it or not: it refuses what ends behind
+/// 65,535. (ld(1))
+pub fn link_bases(session: &Session, options: &Options) -> Bases
+    ensures value { result ≡ (plan session.now.forced (objects session.now.entries) options.now).at }
     ensures text { result.text_end ≤ 65535 }
 {
     // for its contract: what the session keeps are objects, and it is within its limits

@@ -32,6 +32,7 @@ mod words;
 
 pub use edit::{Edit, Reply, RunFault};
 pub use findings::is_missing;
+pub use layout::{Bases, link_bases};
 pub use linked::{LinkFault, Linked, Report};
 pub use linker::finish;
 pub use options::{Keep, Layout, OptionFault, Options};

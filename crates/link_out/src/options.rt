@@ -121,14 +121,15 @@ impl Options {
         }
     }
 
-    pub(crate) fn layout(&self) -> Layout
+    /// Where data lies. (ld(1))
+    pub fn layout(&self) -> Layout
         ensures { result ≡ self.now.layout }
     {
         self.layout
     }
 
-    /// Whether relocation is kept.
-    pub(crate) fn is_relocatable(&self) -> bool
+    /// Whether relocation is kept. (ld(1))
+    pub fn is_relocatable(&self) -> bool
         ensures { result ≡ self.now.relocatable }
     {
         self.relocatable
@@ -148,8 +149,8 @@ impl Options {
         self.entry
     }
 
-    /// Whether commons get an address.
-    pub(crate) fn lays_commons(&self) -> bool
+    /// Whether commons get an address: without `-r`, or with `-d`. (ld(1))
+    pub fn lays_commons(&self) -> bool
         ensures { result ≡ lays_commons self.now }
     {
         !self.relocatable || self.force_commons

@@ -1,0 +1,239 @@
+#!/usr/bin/env python3
+"""Compares the map of `v7-explain -m` with what `v7 ld`, `v7 nm` and `v7 size` say of the same objects.
+
+usage: tests/map.py V7 V7-EXPLAIN
+
+The links are those of a few lists of objects in examples/, and 200 that are made, the same in each run: objects of some
+words, with names that are defined, wanted as commons and referred to. Who defines a name, who wants it and how often
+an object refers to it are known from the objects as they were made. Further links are refused.
+"""
+import os
+import random
+import struct
+import subprocess
+import sys
+import tempfile
+
+V7, EXPLAIN = (os.path.abspath(path) for path in sys.argv[1:3])
+EXAMPLES = os.path.join(os.path.dirname(os.path.abspath(__file__)), "..", "examples")
+OPTIONS = [[], ["-n"], ["-i"], ["-r"], ["-r", "-d"], ["-x"], ["-X"], ["-s"], ["-u", "_forced"], ["-e", "_a"], ["-d"]]
+NAMES = ["_a", "_b", "_c", "_main", "_long_na", "x", "_forced", "_end", "_etext", "Lx"]
+
+
+def run(*words):
+    """Status, standard output and standard error of a command."""
+    done = subprocess.run(words, capture_output=True, check=False)
+    return done.returncode, done.stdout.decode("latin-1"), done.stderr.decode("latin-1")
+
+
+class Made:
+    """An object: words, bss, and symbols as name, type word and value; each reference is a word and a symbol's number."""
+
+    def __init__(self, text, data, bss, symbols, references):
+        self.text, self.data, self.bss, self.symbols, self.references = text, data, bss, symbols, references
+
+    def write(self, path):
+        words = [0] * (self.text + self.data)
+        relocation = [0] * len(words)
+        for word, number in self.references:
+            relocation[word] = 0o10 + 16 * number
+        header = [0o407, 2 * self.text, 2 * self.data, 2 * self.bss, 12 * len(self.symbols), 0, 0, 0]
+        with open(path, "wb") as file:
+            file.write(struct.pack(f"<{8 + 2 * len(words)}H", *header, *words, *relocation))
+            for name, kind, value in self.symbols:
+                file.write(struct.pack("<8sHH", name.encode("latin-1"), kind, value))
+
+
+def made_object(dice):
+    """An object of few words, in which a name stands once."""
+    text, data, bss = dice.randrange(6), dice.randrange(4), dice.randrange(4)
+    symbols = []
+    for name in dice.sample(NAMES, dice.randrange(7)):
+        kind = dice.choice([0o40, 0o40, 0o40, 0o40, 0o41, 0o42, 0o43, 0o44, 2, 1])
+        segment = kind & 0o37
+        value = {0: dice.choice([0, 0, 2, 3, 6]), 1: dice.randrange(65536)}.get(segment)
+        if value is None:
+            start, size = [(0, text), (text, data), (text + data, bss)][segment - 2]
+            value = 2 * (start + dice.randrange(size + 1))
+        symbols.append((name, kind, value))
+    wanted = [number for number, symbol in enumerate(symbols) if symbol[1] == 0o40]
+    references = [(word, dice.choice(wanted)) for word in range(text + data) if wanted and dice.randrange(2)]
+    return Made(text, data, bss, symbols, references)
+
+
+def parts(text):
+    """The parts of a map: the lines of each by its title, those before the first by an empty one."""
+    found = {}
+    for block in text.split("\n\n"):
+        title, *lines = block.rstrip("\n").split("\n")
+        found[title.split("  ")[0] if found else ""] = lines if found else [title] + lines
+    return found
+
+
+def names_in(lines):
+    """The names of a part: for each its line, and its lists by their labels."""
+    names = {}
+    label = name = ""
+    for line in lines:
+        if line.startswith(16 * " "):
+            names[name][1][label] += line.strip()
+        elif line.startswith("    ") and not line.startswith("       "):
+            label = line[:16].strip()
+            names[name][1][label] = line[16:]
+        else:
+            name = line[9:]
+            names[name] = (line, {})
+    return names
+
+
+def check(what, found, wanted):
+    if found != wanted:
+        print(f"{what}: the map has\n  {found}\nand not\n  {wanted}")
+        sys.exit(1)
+
+
+def listed(objects, says, item):
+    """The objects of which a symbol says something, as a list of the map has them, by name."""
+    lists = {}
+    for place, made in enumerate(objects):
+        for number, symbol in enumerate(made.symbols):
+            if symbol[1] & 0o40 and says(symbol):
+                count = sum(1 for reference in made.references if reference[1] == number)
+                lists.setdefault(symbol[0], []).append(item(f"{place}.o", symbol, count))
+    return lists
+
+
+def check_lists(what, names, objects):
+    """The lists of the externals are those of the objects as they were made."""
+    defined = listed(objects, lambda s: s[1] & 0o37, lambda path, s, n: path)
+    commons = listed(objects, lambda s: s[1] == 0o40 and s[2], lambda path, s, n: f"{path} ({s[2]})")
+    used = listed(objects, lambda s: s[1] == 0o40, lambda path, s, n: f"{path} ({n})")
+    for name, (_, lists) in names.items():
+        wanted = {}
+        if name in defined:
+            wanted["defined in"] = defined[name][0]
+            if defined[name][1:]:
+                wanted["again in"] = ", ".join(defined[name][1:])
+        if name in commons:
+            wanted["common in"] = ", ".join(commons[name])
+        if name in used:
+            wanted["used in"] = ", ".join(used[name])
+        lists = {label: text.replace(",", ", ").replace(",  ", ", ") for label, text in lists.items()}
+        if lists.get("used in", "").startswith("-u"):
+            lists["used in"] = lists["used in"][4:]
+            if not lists["used in"]:
+                del lists["used in"]
+        check(f"{what}: {name}", lists, wanted)
+
+
+def check_report(what, found, report):
+    """The undefined names and those multiply defined are those of the report."""
+    lines = report.split("\n")
+    multiples = {line.split(": ")[0] for line in lines if line.endswith(": Multiply defined")}
+    undefined = set(lines[lines.index("Undefined:") + 1:-1]) if "Undefined:" in lines else set()
+    check(f"{what}: multiples", set(names_in(found.get("Multiply defined", []))), multiples)
+    return undefined
+
+
+def check_map(what, options, paths):
+    """The map of a link that is made agrees with the link. Returns its externals."""
+    status, text, errors = run(EXPLAIN, "-m", *options, *paths)
+    check(f"{what}: standard error", errors, "")
+    linked, report, _ = run(V7, "ld", *options, "-o", "out", *paths)
+    check(f"{what}: status", status, linked)
+    check(f"{what}: columns", [line for line in text.split("\n") if len(line) > 80], [])
+    found = parts(text)
+    undefined = check_report(what, found, report)
+    if "-r" not in options:
+        check(f"{what}: undefined", set(names_in(found.get("Undefined", []))), undefined)
+    plain = run(V7, "size", "out")[1].split("=")[0]
+    text_size, data_size, bss_size = (int(size) for size in plain.split("+"))
+    segments = {line.split()[0]: line.split()[1:] for line in found["Segments"]}
+    sizes = {name: int(row[2]) for name, row in segments.items()}
+    check(f"{what}: sizes", [sizes["text"], sizes["data"], sizes["commons"] + sizes["bss"]], [text_size, data_size, bss_size])
+    run(V7, "ld", *[word for word in options if word not in ("-s", "-X")], "-x", "-o", "bare", *paths)
+    names = names_in(found.get("Externals", []))
+    check(f"{what}: externals", [line for line, _ in names.values()], run(V7, "nm", "-g", "bare")[1].split("\n")[:-1])
+    return names, found
+
+
+def check_places(what, found, objects):
+    """The segments of each object lie behind those of the object before it."""
+    begins = {line.split()[0]: int(line.split()[1], 8) for line in found["Segments"]}
+    at = [begins["text"], begins["data"], begins["bss"]]
+    rows = [line.split() for line in found["Objects"][1:]]
+    for place, (row, made) in enumerate(zip(rows, objects)):
+        sizes = [2 * made.text, 2 * made.data, 2 * made.bss]
+        wanted = [field for start, size in zip(at, sizes) for field in (f"{start:06o}", str(size))]
+        check(f"{what}: object {place}", row, wanted + [f"{place}.o"])
+        at = [start + size for start, size in zip(at, sizes)]
+    check(f"{what}: objects", len(rows), len(objects))
+
+
+def check_examples():
+    lists = [["main", "twice", "count"], ["main", "count"], ["a", "b"], ["a", "b", "c"], ["k", "l"], ["main", "main"],
+             ["main", "twice", "count", "print", "start"]]
+    for names in lists:
+        for options in OPTIONS:
+            paths = [os.path.join(EXAMPLES, f"{name}.o") for name in names]
+            short = [f"{name}.o" for name in names]
+            for path, link in zip(paths, short):
+                if not os.path.exists(link):
+                    os.symlink(path, link)
+            check_map(f"{' '.join(options + short)}", options, short)
+    return len(lists) * len(OPTIONS)
+
+
+def check_made(number):
+    dice = random.Random(number)
+    objects = [made_object(dice) for _ in range(dice.randrange(1, 7))]
+    paths = [f"{place}.o" for place in range(len(objects))]
+    for path, made in zip(paths, objects):
+        made.write(path)
+    options = dice.choice(OPTIONS)
+    what = f"link {number} {' '.join(options)}"
+    names, found = check_map(what, options, paths)
+    check_lists(what, names, objects)
+    check_places(what, found, objects)
+
+
+def check_refused(what, objects, fault, lines):
+    """A link that is refused: the fault is that of ld, and the map has these lines."""
+    paths = [f"{place}.o" for place in range(len(objects))]
+    for path, made in zip(paths, objects):
+        made.write(path)
+    check(f"{what}: fault", fault in run(V7, "ld", "-o", "out", *paths)[2], True)
+    status, text, _ = run(EXPLAIN, "-m", *paths)
+    check(f"{what}: status", status, 1)
+    for line in [fault] + lines:
+        check(f"{what}: {line}", line in text, True)
+
+
+def all_refused():
+    half = Made(16000, 0, 0, [("_x", 0o40, 0)], [(0, 0)])
+    data = Made(0, 16000, 10, [("_x", 0o40, 7)], [])
+    more = Made(0, 1000, 0, [], [])
+    # 32,000 of text, 34,000 of data, a common of 8 and 20 of bss end at 66,028
+    check_refused("does not fit", [half, data, more], "does not fit",
+                  ["  end of bss       66028   65535     493 over\n",
+                   "        0   32000      20   32020        1  1.o\n",
+                   "  commons 200720  200730       8\n",
+                   "    used in     0.o (1), 1.o (0)\n"])
+    # three times 32,000 of text
+    check_refused("text full", [half, half, half], "text full",
+                  ["  text             96000   65534   30466 over\n", "  2.o\n",
+                   "  175000  32000  000000      0  000000      0  2.o\n",
+                   "\nUndefined\n       U _x\n    used in     0.o (1), 1.o (1), 2.o (1)\n"])
+    symbols = Made(0, 0, 0, [(f"L{number}", 1, 0) for number in range(5461)], [])
+    check_refused("too many symbols", [symbols, Made(0, 0, 0, [("_x", 0o41, 8)], [])], "too many symbols",
+                  ["000010 A _x\n    defined in  1.o\n"])
+    return 3
+
+
+with tempfile.TemporaryDirectory() as room:
+    os.chdir(room)
+    examples = check_examples()
+    for link in range(200):
+        check_made(link)
+    refused = all_refused()
+    print(f"{examples} maps of examples, 200 of made links and {refused} of refused ones agree with ld, nm and size")
