@@ -1,9 +1,9 @@
 # v7: see README.md. The command `rt` of the Rattle kit has to be on the PATH.
 PREFIX ?= /usr/local
 
-.PHONY: all try demo lib check-lib test wrong-bodies memory room bench instructions simulate lesson check-manual check-examples check-streams install clean
+.PHONY: all try demo lib check-lib test wrong-bodies memory room bench instructions simulate lesson check-manual check-examples check-explain check-streams install clean
 
-all: build/v7 build/v7-from-gnu
+all: build/v7 build/v7-from-gnu build/v7-explain
 
 SOURCES := crates.txt $(shell find crates -name out -prune -o -type f -print)
 
@@ -24,6 +24,15 @@ build/v7-from-gnu: crates/v7_from_gnu/out/v7_from_gnu
 crates/v7_from_gnu/out/v7_from_gnu: crates.txt $(shell find crates/aout_core crates/gnu_objects crates/v7_from_gnu -name out -prune -o -type f -print)
 	cd crates/v7_from_gnu && rt run -- $(CURDIR)/examples/squares.gnu /dev/null
 	touch crates/v7_from_gnu/out/v7_from_gnu
+
+build/v7-explain: crates/v7_explain/out/v7_explain
+	mkdir -p build
+	cp crates/v7_explain/out/v7_explain build/v7-explain
+
+EXPLAIN_CRATES := $(addprefix crates/,aout_core link_session link_out symtools command_words gnu_objects v7_explain)
+crates/v7_explain/out/v7_explain: crates.txt $(shell find $(EXPLAIN_CRATES) -name out -prune -o -type f -print)
+	cd crates/v7_explain && rt run -- $(CURDIR)/examples/a.o
+	touch crates/v7_explain/out/v7_explain
 
 # the linker as a library, for C and for what can call C: include/v7.h. Of the C library it calls no more than
 # `malloc`, `realloc` and `free`, through the kit's c/liblibc_c.a, which libv7.so holds
@@ -122,8 +131,15 @@ check-manual: check-examples
 check-streams: build/v7
 	sh tests/streams.sh
 
+# listings of the examples and of 1,000 made objects are turned back, and maps compared with what v7 says of the links;
+# DAMAGED files are tried besides
+DAMAGED ?= 0
+check-explain: build/v7 build/v7-explain
+	python3 tests/explain.py build/v7-explain build/v7 $(DAMAGED)
+	python3 tests/map.py build/v7 build/v7-explain
+
 # the examples of the manual pages and of the documents come out as shown; the gate leaves the programs that they need
-check-examples: build/v7 build/v7-from-gnu build/lesson
+check-examples: build/v7 build/v7-from-gnu build/v7-explain build/lesson
 	cmp crates/write_object/stdout examples/main.o
 	cmp crates/lesson/data/k.o examples/k.o
 	cmp crates/lesson/data/l.o examples/l.o
@@ -133,9 +149,9 @@ check-examples: build/v7 build/v7-from-gnu build/lesson
 
 # the programs, their manual pages, the documents and the examples; and the library, where `make lib` made it
 SHARE = $(DESTDIR)$(PREFIX)/share
-install: build/v7 build/v7-from-gnu
+install: build/v7 build/v7-from-gnu build/v7-explain
 	mkdir -p $(DESTDIR)$(PREFIX)/bin $(SHARE)/man/man1 $(SHARE)/man/man5 $(SHARE)/doc/v7
-	cp build/v7 build/v7-from-gnu $(DESTDIR)$(PREFIX)/bin
+	cp build/v7 build/v7-from-gnu build/v7-explain $(DESTDIR)$(PREFIX)/bin
 	cp man/*.1 $(SHARE)/man/man1
 	cp man/*.5 $(SHARE)/man/man5
 	cp -R README.md CHANGES.md docs examples $(SHARE)/doc/v7

@@ -7,6 +7,7 @@
 #   text, data, symbols             what the lines below are
 #   ADDRESS WORD RELOCATION         a word of text or data, and its relocation word
 #   bss SIZE                        the size of bss in bytes
+#   entry VALUE, unused VALUE       two words of the header, which are 0 where these lines are left out
 #   NUMBER NAME TYPE VALUE          an entry of the symbol table
 # An address counts from the front of text, also in data, and a number from 0; both are checked. A name is cut at eight
 # bytes; \ooo in it is the byte of this octal number, as \040 for a blank. A line that is empty or begins with a / is
@@ -46,6 +47,8 @@ bytes=$(LC_ALL=C awk '
     $1 == "" || /^\// { next }
     $1 == "text" || $1 == "data" || $1 == "symbols" { part = $1; next }
     $1 == "bss" { bss = octal($2, "size"); next }
+    $1 == "entry" { entry = octal($2, "entry point"); next }
+    $1 == "unused" { unused = octal($2, "unused word"); next }
     part == "symbols" {
         if (octal($1, "number") != entries++) wrong("entry " $1 " is not in its place")
         table = table name($2) word(octal($3, "type")) word(octal($4, "value"))
@@ -63,6 +66,6 @@ bytes=$(LC_ALL=C awk '
     END {
         if (bad) exit 1
         header = word(octal("407")) word(size["text"]) word(size["data"]) word(bss) word(12 * entries)
-        print header word(0) word(0) word(0) words["text"] words["data"] relocs["text"] relocs["data"] table
+        print header word(entry) word(unused) word(0) words["text"] words["data"] relocs["text"] relocs["data"] table
     }' "$1") || exit 1
 printf "$bytes"

@@ -2,14 +2,23 @@
 #![tactic(auto)]
 
 mod explaining;
+mod finding;
+mod likeness;
+mod listing;
 mod map;
 mod map_limits;
 mod map_names;
 mod map_objects;
 mod map_outcome;
 mod map_text;
+mod odd;
+mod places;
+mod reading;
+mod text;
 mod told;
 mod words;
+mod words_in;
+mod wrong;
 
 use explaining::explain_files;
 use map::write_map;

@@ -1,0 +1,2 @@
+.globl _main
+_main: rts pc

@@ -1,0 +1,89 @@
+//! What a file is that is no a.out file of the Seventh Edition.
+use aout_core::{Header, ReadFault, Wire, read_file};
+use gnu_objects::{Refusal, convert};
+use std::alloc::Global;
+
+/// The header that a file begins with, if it is as long.
+pub(crate) fn header_of(bytes: &[u8]) -> Option<Header> {
+    let mut start = [0u8; 16];
+    if bytes.len() < start.len() {
+        return None;
+    }
+    start.copy_from_slice(&bytes[..16]);
+    Some(Header::read(&start))
+}
+
+/// Whether a file may begin with this word.
+fn is_magic(alloc: Global, magic: u16) -> bool {
+    let header = Header {
+        magic,
+        text_size: 0,
+        data_size: 0,
+        bss_size: 0,
+        symbol_size: 0,
+        entry_point: 0,
+        unused: 0,
+        flag: 0,
+    };
+    let bytes = header.to_bytes();
+    let outcome = read_file(alloc, &mut Wire::new(bytes.as_slice()));
+    !matches!(&outcome, Err(ReadFault::BadMagic))
+}
+
+/// Whether a byte stands in texts.
+fn is_of_text(byte: u8) -> bool {
+    byte == b'\n' || byte == b'\r' || byte == b'\t' || (b' ' <= byte && byte < 127)
+}
+
+/// What a file with no magic number of ours is, if it is known.
+pub(crate) fn likeness(alloc: Global, bytes: &[u8]) -> Option<&'static str> {
+    match bytes {
+        [] => return Some("the file is empty"),
+        [0x7f, b'E', b'L', b'F', ..] => {
+            return Some("this is an ELF file, of another system");
+        }
+        [0o145, 0o377, ..] => {
+            return Some(
+                "this is an archive (0177545); take its members out with the ar of its system",
+            );
+        }
+        [0o155, 0o377, ..] => {
+            return Some(
+                "this is an old archive (0177555); take its members out with the ar of its system",
+            );
+        }
+        [b'!', b'<', b'a', b'r', b'c', b'h', b'>', ..] => {
+            return Some("this is an archive; take its members out with ar");
+        }
+        _ => {}
+    }
+    if bytes.iter().all(|byte| is_of_text(*byte)) {
+        return Some("this is text");
+    }
+    match bytes {
+        [low, high, ..] if is_magic(alloc, u16::from(*high) + 256 * u16::from(*low)) => {
+            Some("a magic number with its bytes swapped: each word has its low byte first")
+        }
+        _ => None,
+    }
+}
+
+/// Whether a file is in the form of GNU's assembler and of 2.11BSD, with symbols of 8 bytes and their names behind them.
+/// A file that has no symbols is of both forms, and not told apart; nor one of another magic than 0407.
+pub(crate) fn is_of_gnu(alloc: Global, bytes: &[u8], is_odd: bool) -> bool {
+    match header_of(bytes) {
+        Some(header) if header.symbol_size > 0 => {}
+        _ => return false,
+    }
+    match convert(alloc, bytes, true) {
+        Ok(_) => true,
+        Err(
+            Refusal::TooManySymbols(_)
+            | Refusal::AlikeNames(_, _)
+            | Refusal::StabWord(_)
+            | Refusal::BadWord(_),
+        ) => true,
+        Err(Refusal::Overlay(_) | Refusal::BadPlace(_) | Refusal::Stab(_)) => is_odd,
+        Err(_) => false,
+    }
+}

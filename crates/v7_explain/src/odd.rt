@@ -1,0 +1,290 @@
+//! What is odd of a file, and not refused.
+use crate::finding::{Finding, find};
+use crate::places::{Places, Range, Segments};
+use crate::text::shown;
+use crate::words_in::{is_wanted, meant};
+use aout_core::{File, Header, Kind, Reloc, Segment, Symbol};
+use std::alloc::{AllocError, Global};
+
+/// The name of a segment, and where it lies.
+fn segment_of(segments: &Segments, symbol: &Symbol) -> Option<(&'static str, Range)> {
+    match symbol.segment() {
+        Segment::TextSeg => Some(("text", segments.text)),
+        Segment::DataSeg => Some(("data", segments.data)),
+        Segment::BssSeg => Some(("bss", segments.bss)),
+        Segment::Undefined | Segment::Absolute | Segment::Other => None,
+    }
+}
+
+/// The name of the segment that a kind of relocation word is for, and where it lies.
+fn segment_meant(segments: &Segments, reloc: Reloc) -> Option<(&'static str, Range)> {
+    match reloc.kind() {
+        Some(Kind::TextSeg) => Some(("text", segments.text)),
+        Some(Kind::DataSeg) => Some(("data", segments.data)),
+        Some(Kind::BssSeg) => Some(("bss", segments.bss)),
+        Some(Kind::Absolute | Kind::External) | None => None,
+    }
+}
+
+/// Adds a common, and that its size is odd.
+fn find_common(
+    alloc: Global,
+    findings: &mut Vec<Finding>,
+    place: usize,
+    title: &str,
+    symbol: &Symbol,
+) -> Result<(), AllocError> {
+    if !is_wanted(symbol) || symbol.value == 0 {
+        return Ok(());
+    }
+    let size = symbol.value;
+    let rounded = if size % 2 == 0 {
+        ""
+    } else {
+        ", rounded up to even"
+    };
+    let text = format!(in alloc;
+        "{title} is undefined with value {size:06o}: a common of {size} bytes{rounded}"
+    )?;
+    find(findings, place.saturating_add(10), text)
+}
+
+/// Adds a value that lies outside of its segment.
+fn find_value(
+    alloc: Global,
+    findings: &mut Vec<Finding>,
+    place: usize,
+    title: &str,
+    symbol: &Symbol,
+    segments: &Segments,
+) -> Result<(), AllocError> {
+    let Some((name, range)) = segment_of(segments, symbol) else {
+        return Ok(());
+    };
+    if range.has(symbol.value) {
+        return Ok(());
+    }
+    let value = symbol.value;
+    let start = range.start;
+    let end = range.end;
+    let text = format!(in alloc;
+        "{title} of {name} has value {value:06o}, and {name} lies from {start:06o} to {end:06o}"
+    )?;
+    find(findings, place.saturating_add(10), text)
+}
+
+/// Adds bits of the type word that are ignored.
+fn find_type_bits(
+    alloc: Global,
+    findings: &mut Vec<Finding>,
+    place: usize,
+    title: &str,
+    symbol: &Symbol,
+) -> Result<(), AllocError> {
+    let bits = symbol.type_bits;
+    if bits < 0o100 {
+        return Ok(());
+    }
+    let text = format!(in alloc;
+        "{title} has type {bits:06o}, of which the bits above 77 are ignored"
+    )?;
+    find(findings, place.saturating_add(8), text)
+}
+
+/// Whether each byte of a name prints.
+fn prints(name: &[u8]) -> bool {
+    name.iter().all(|byte| b' ' < *byte && *byte < 127)
+}
+
+/// Adds a name with bytes that do not print, and one that is empty.
+fn find_name_bytes(
+    alloc: Global,
+    findings: &mut Vec<Finding>,
+    place: usize,
+    title: &str,
+    symbol: &Symbol,
+) -> Result<(), AllocError> {
+    let name = symbol.name.as_bytes();
+    if name.is_empty() {
+        let text = format!(in alloc; "{title} has an empty name")?;
+        return find(findings, place, text);
+    }
+    if prints(name) {
+        return Ok(());
+    }
+    let text = format!(in alloc; "{title} has bytes in its name that do not print")?;
+    find(findings, place, text)
+}
+
+/// Whether the bytes of a name behind its NUL are not NULs too.
+fn has_rest(bytes: &[u8], place: usize, symbol: &Symbol) -> bool {
+    let Some(field) = bytes.get(place..place.saturating_add(8)) else {
+        return false;
+    };
+    let used = symbol.name.as_bytes().len();
+    field.iter().skip(used).any(|byte| *byte != 0)
+}
+
+/// The first symbol of the same name, before the one of this number.
+fn alike(symbols: &[Symbol], number: usize, symbol: &Symbol) -> Option<usize> {
+    symbols
+        .iter()
+        .take(number)
+        .position(|other| other.name == symbol.name)
+}
+
+/// Adds a name that an earlier symbol has.
+fn find_alike(
+    alloc: Global,
+    findings: &mut Vec<Finding>,
+    place: usize,
+    title: &str,
+    symbols: &[Symbol],
+    number: usize,
+    symbol: &Symbol,
+) -> Result<(), AllocError> {
+    let Some(first) = alike(symbols, number, symbol) else {
+        return Ok(());
+    };
+    let text = format!(in alloc;
+        "{title} has the name of symbol {first}; names are equal in eight bytes"
+    )?;
+    find(findings, place, text)
+}
+
+/// Adds what is odd of a symbol.
+fn find_symbol(
+    alloc: Global,
+    findings: &mut Vec<Finding>,
+    bytes: &[u8],
+    file: &File,
+    number: usize,
+    symbol: &Symbol,
+) -> Result<(), AllocError> {
+    let place = Places::of(file.header()).symbol(number);
+    let segments = Segments::of(file.header());
+    let name = shown(alloc, symbol.name.as_bytes())?;
+    let title = format!(in alloc; "symbol {number} {name}")?;
+    let title = title.as_str();
+    find_name_bytes(alloc, findings, place, title, symbol)?;
+    if has_rest(bytes, place, symbol) {
+        let text = format!(in alloc;
+            "{title} has bytes behind the NUL of its name, which are ignored"
+        )?;
+        find(findings, place, text)?;
+    }
+    find_alike(
+        alloc,
+        findings,
+        place,
+        title,
+        file.symbols(),
+        number,
+        symbol,
+    )?;
+    find_type_bits(alloc, findings, place, title, symbol)?;
+    find_common(alloc, findings, place, title, symbol)?;
+    find_value(alloc, findings, place, title, symbol, &segments)
+}
+
+/// Adds what is odd of a word with a relocation word.
+fn find_word(
+    alloc: Global,
+    findings: &mut Vec<Finding>,
+    places: usize,
+    segments: &Segments,
+    address: u16,
+    word: u16,
+    reloc: Reloc,
+) -> Result<(), AllocError> {
+    let bits = reloc.0;
+    if bits >= 0o20 && reloc.kind().is_some() && reloc.kind() != Some(Kind::External) {
+        let text = format!(in alloc;
+            "relocation word {bits:06o} of the word at {address:06o}: bits above 17 are ignored"
+        )?;
+        find(findings, places, text)?;
+    }
+    let Some((name, range)) = segment_meant(segments, reloc) else {
+        return Ok(());
+    };
+    let target = meant(word, reloc, address);
+    if range.has(target) {
+        return Ok(());
+    }
+    let start = range.start;
+    let end = range.end;
+    let text = format!(in alloc;
+        "the word at {address:06o} is of kind {name} and refers to {target:06o}; {name} lies from {start:06o} to {end:06o}"
+    )?;
+    find(findings, places, text)
+}
+
+/// Adds what is odd of words, the first of which has this index and this address.
+fn find_words(
+    alloc: Global,
+    findings: &mut Vec<Finding>,
+    header: &Header,
+    start: u16,
+    words: &[u16],
+    relocs: &[Reloc],
+) -> Result<(), AllocError> {
+    let places = Places::of(header);
+    let segments = Segments::of(header);
+    let mut address = start;
+    for (word, reloc) in words.iter().zip(relocs.iter()) {
+        let place = places.relocation.saturating_add(usize::from(address));
+        find_word(alloc, findings, place, &segments, address, *word, *reloc)?;
+        address = address.wrapping_add(2);
+    }
+    Ok(())
+}
+
+/// Adds words of the header that are ignored, and bytes behind the table.
+fn find_ignored(
+    alloc: Global,
+    findings: &mut Vec<Finding>,
+    bytes: &[u8],
+    header: &Header,
+) -> Result<(), AllocError> {
+    let entry = header.entry_point;
+    if entry != 0 && header.flag == 0 {
+        let text = format!(in alloc; "the entry point of an object, {entry:06o}, is ignored")?;
+        find(findings, 10, text)?;
+    }
+    let unused = header.unused;
+    if unused != 0 {
+        let text = format!(in alloc; "the unused word, {unused:06o}, is ignored")?;
+        find(findings, 12, text)?;
+    }
+    let end = Places::of(header).end;
+    let behind = bytes.len().saturating_sub(end);
+    if behind > 0 {
+        let text = format!(in alloc;
+            "0{behind:o} ({behind}) bytes behind the symbol table are not read"
+        )?;
+        find(findings, end, text)?;
+    }
+    Ok(())
+}
+
+/// What is odd of a file, which these bytes begin with.
+pub(crate) fn odd_of(alloc: Global, bytes: &[u8], file: &File) -> Result<Vec<Finding>, AllocError> {
+    let mut findings = Vec::new(alloc);
+    let header = file.header();
+    find_ignored(alloc, &mut findings, bytes, header)?;
+    let text = (file.text_words(), file.text_reloc());
+    find_words(alloc, &mut findings, header, 0, text.0, text.1)?;
+    let data = (file.data_words(), file.data_reloc());
+    find_words(
+        alloc,
+        &mut findings,
+        header,
+        header.text_size,
+        data.0,
+        data.1,
+    )?;
+    for (number, symbol) in file.symbols().iter().enumerate() {
+        find_symbol(alloc, &mut findings, bytes, file, number, symbol)?;
+    }
+    Ok(findings)
+}
