@@ -5,3 +5,7 @@
 mod files;
 #[cfg(test)]
 mod links;
+#[cfg(test)]
+mod parts;
+#[cfg(test)]
+mod sessions;

@@ -6,14 +6,14 @@ use library_calls::{Cause, Refusal, Wanted, link};
 use std::alloc::{AllocError, Global};
 
 /// What asks for nothing.
-const PLAIN: Wanted<'static> = Wanted {
+pub(crate) const PLAIN: Wanted<'static> = Wanted {
     options: 0,
     entry: &[],
     forced: &[],
 };
 
 /// Two objects, one behind the other.
-fn both(alloc: Global, first: &[u8], second: &[u8]) -> Result<Vec<u8>, AllocError> {
+pub(crate) fn both(alloc: Global, first: &[u8], second: &[u8]) -> Result<Vec<u8>, AllocError> {
     let mut objects = first.to_vec(alloc)?;
     objects.extend_from_slice(second)?;
     Ok(objects)
