@@ -11,9 +11,10 @@ build/v7: crates/v7/out/v7
 	mkdir -p build
 	cp crates/v7/out/v7 build/v7
 
-# `rt run` proves the program, builds it and runs it once: on one small object, into nothing. The gate leaves a proved
-# program too, at the same place
+# the libraries are proved side by side, where none waits for another; `rt run` proves the program, builds it and runs it
+# once: on one small object, into nothing. The gate leaves a proved program too, at the same place
 crates/v7/out/v7: $(SOURCES)
+	python3 tests/prove.py v7
 	cd crates/v7 && rt run -- ld -s -o /dev/null $(CURDIR)/examples/a.o
 	touch crates/v7/out/v7
 

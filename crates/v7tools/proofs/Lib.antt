@@ -4,8 +4,7 @@ pub mod FileRunLemmas
 pub mod LineRunLemmas
 pub mod SessionRunLemmas
 pub mod AnswerLemmas
-pub mod CommandLemmas
-pub mod ScriptLemmas
+pub mod ScriptCallLemmas
 pub mod ListingLemmas
 pub mod AdditionLemmas
 pub mod StepLemmas

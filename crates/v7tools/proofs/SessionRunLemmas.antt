@@ -10,16 +10,19 @@ use Rattle.link_session.specs.Sessions.{nothing_kept}
 use Rattle.link_session.specs.Undo.{Kept}
 use Rattle.link_out.specs.Choices.{Choices}
 use Rattle.v7tools.specs.Deeds.{History, Extends}
-use Rattle.v7tools.specs.Scripts.{Asked, lines_in, Given, ScriptFault, long_line, many_lines, and_given, given_behind}
-use Rattle.v7tools.specs.ScriptAnswers.{Answer, IfTold, IsNextOf, NamesPath, Progress, Settles, asked_by, lines_of}
+use Rattle.scripts.specs.Scripts.{Asked, lines_in, Given, ScriptFault, long_line, many_lines, and_given, given_behind}
+use Rattle.scripts.specs.ScriptAnswers.{Answer, IfTold, IsNextOf, NamesPath, Progress, Settles, asked_by, lines_of}
 use Rattle.v7tools.specs.SessionRuns.{AreFirst, AreLines, Chains, IsSessionRun, Ran, StopsBehind, answers_of, deeds_of, given, lines_asked, worst}
 use Rattle.v7tools.specs.LineRuns.{IsLineRun, LineRun}
 use Rattle.v7tools.specs.steps.SessionParts.{AnswersLine}
+use Rattle.v7tools.specs.ScriptCalls.{returned}
 use Rattle.v7tools.specs.declared.fault.CliFault.{CliFault}
 use Rattle.v7tools.specs.declared.fault.CliFault.TheVariants as faults
-use Rattle.v7tools.specs.declared.lines.Line.{Line}
+use Rattle.scripts.specs.declared.line_reader.Stop.{Stop}
+use Rattle.scripts.specs.declared.line_reader.Stop.TheVariants as stops
+use Rattle.scripts.specs.declared.lines.Line.{Line}
 use Rattle.v7tools.proofs.DeedLemmas.{asked_behind, map-append, nothing_asked}
-use Rattle.v7tools.proofs.ScriptLemmas.{behind_last_line}
+use Rattle.scripts.proofs.ScriptLemmas.{behind_last_line}
 
 -- ---- one more line
 
@@ -50,11 +53,11 @@ abbrev IsEmpty : List ℕ → List ℕ → Type 0
 IsEmpty bytes left = left ≡ []
 
 -- a script gave these lines, and goes on or is at its end
-pub record Reading (first now : Option (List ℕ)) (n : ℕ) (settled : Option Answer) (lines : List Asked) : Type 0 where
+pub record Reading (first now : Option (List ℕ)) (n : ℕ) (settled : Option Stop) (lines : List Asked) : Type 0 where
   pub told : IfTold first now (GivesFirst lines n)
-  pub goes : (settled ≡ None) ⊎ ((settled ≡ Some (Ok None)) × IfTold first now IsEmpty)
+  pub goes : (settled ≡ None) ⊎ ((settled ≡ Some stops.End) × IfTold first now IsEmpty)
 
-pub reads_first : (first : Option (List ℕ)) (settled : Option Answer) → settled ≡ None → Reading first first 0 settled []
+pub reads_first : (first : Option (List ℕ)) (settled : Option Stop) → settled ≡ None → Reading first first 0 settled []
 reads_first None settled e = record { told = tt; goes = inl e }
 reads_first (Some bytes) settled e = record { told = refl; goes = inl e }
 
@@ -81,106 +84,113 @@ before_and_given lines a g = ap (λ (l : List Asked). let r : Given = record { l
 before_end : (lines : List Asked) (fault : Option ScriptFault) → before_given lines (record { lines = []; fault = fault }) ≡ record { lines = lines; fault = fault }
 before_end lines fault = ap (λ (l : List Asked). let r : Given = record { lines = l; fault = fault } in r) (append-nil lines)
 
--- the answer of a script that is not settled
-abbrev pub Next : Option (List ℕ) → Option (List ℕ) → ℕ → Option Answer → Option Answer → Answer → Type 0
+-- what a call gives of a script that is not settled
+abbrev pub Next : Option (List ℕ) → Option (List ℕ) → ℕ → Option Stop → Option Stop → Answer → Type 0
 Next mid now n settled later answer = settled ≡ None → IfTold mid now (λ bytes left. IsNextOf n bytes left later answer)
 
--- the answer of one that is settled
-abbrev pub Stays : Option Answer → Answer → Type 0
-Stays settled answer = IfSome settled (λ a. answer ≡ a)
+-- of one that is settled
+abbrev pub Stays : Option Stop → Answer → Type 0
+Stays settled answer = IfSome settled (λ stop. answer ≡ Err stop)
 
-reads_front : (first mid : Option (List ℕ)) (n : ℕ) (settled : Option Answer) (lines : List Asked) → Reading first mid n settled lines → AreFirst first lines
+reads_front : (first mid : Option (List ℕ)) (n : ℕ) (settled : Option Stop) (lines : List Asked) → Reading first mid n settled lines → AreFirst first lines
 reads_front first mid n settled lines h =
     told_alone first mid (GivesFirst lines n) (λ a. (more : List Asked) × ((given a).lines ≡ lines ++ more)) (λ a b k. ((given_behind n (lines_in b)).lines, ap (λ (g : Given). g.lines) k)) h.told
 
-pub stays_alone : (settled : Option Answer) (answer : Answer) (same : Type 0) → IfSome settled (λ a. (answer ≡ a) × same) → Stays settled answer
+pub stays_alone : (settled : Option Stop) (answer : Answer) (same : Type 0) → IfSome settled (λ stop. (answer ≡ Err stop) × same) → Stays settled answer
 stays_alone None answer same h = tt
-stays_alone (Some a) answer same h = h.0
+stays_alone (Some stop) answer same h = h.0
 
 nothing_held : (known : Option (List ℕ)) → prepend_known [] known ≡ known
 nothing_held None = refl
 nothing_held (Some bytes) = refl
 
-module _ (first mid now : Option (List ℕ)) (n : ℕ) (settled later : Option Answer) (lines : List Asked) (h : Reading first mid n settled lines) where
-  open_script : (answer : Answer) → Stays settled answer → (answer ≡ Ok None → ⊥) → settled ≡ None
+module _ (first mid now : Option (List ℕ)) (n : ℕ) (settled later : Option Stop) (lines : List Asked) (h : Reading first mid n settled lines) where
+  open_script : (answer : Answer) → Stays settled answer → (answer ≡ Err stops.End → ⊥) → settled ≡ None
   open_script answer stays other = by h.goes
     where
-      by : (settled ≡ None) ⊎ ((settled ≡ Some (Ok None)) × IfTold first mid IsEmpty) → settled ≡ None
+      by : (settled ≡ None) ⊎ ((settled ≡ Some stops.End) × IfTold first mid IsEmpty) → settled ≡ None
       by (inl e) = e
-      by (inr (e, ended)) = absurd (other (subst (λ (s : Option Answer). Stays s answer) e stays))
+      by (inr (e, ended)) = absurd (other (subst (λ (s : Option Stop). Stays s answer) e stays))
 
   -- a line more
-  pub reads_line : (it : Line) (m : ℕ) → Stays settled (Ok (Some it)) → Settles (Ok (Some it)) later → Next mid now n settled later (Ok (Some it)) → m ≡ n + 1 → Reading first now m later (lines ++ asked_by it ∷ [])
+  pub reads_line : (it : Line) (m : ℕ) → Stays settled (Ok it) → Settles (Ok it) later → Next mid now n settled later (Ok it) → m ≡ n + 1 → Reading first now m later (lines ++ asked_by it ∷ [])
   reads_line it m stays settles next count = record { told = told; goes = goes later refl settles }
     where
-      next_told : IfTold mid now (λ bytes left. IsNextOf n bytes left later (Ok (Some it)))
-      next_told = next (open_script (Ok (Some it)) stays (λ e. cc))
+      next_told : IfTold mid now (λ bytes left. IsNextOf n bytes left later (Ok it))
+      next_told = next (open_script (Ok it) stays (λ e. cc))
 
       told : IfTold first now (GivesFirst (lines ++ asked_by it ∷ []) m)
       told =
-          told_on first mid now (GivesFirst lines n) (λ bytes left. IsNextOf n bytes left later (Ok (Some it))) (GivesFirst (lines ++ asked_by it ∷ []) m)
+          told_on first mid now (GivesFirst lines n) (λ bytes left. IsNextOf n bytes left later (Ok it)) (GivesFirst (lines ++ asked_by it ∷ []) m)
           (λ a b c first_given is.
           let g = given_behind m (lines_in c) in
           first_given ∙ ap (before_given lines) (is.0.1 ∙ ap (λ (k : ℕ). and_given (asked_by it) (given_behind k (lines_in c))) (sym count)) ∙ before_and_given lines (asked_by it) g)
           h.told next_told
 
-      goes : (s : Option Answer) → later ≡ s → IfSome s (λ a. a ≡ Ok None) → (later ≡ None) ⊎ ((later ≡ Some (Ok None)) × IfTold first now IsEmpty)
+      goes : (s : Option Stop) → later ≡ s → IfSome s (λ stop. stop ≡ stops.End) → (later ≡ None) ⊎ ((later ≡ Some stops.End) × IfTold first now IsEmpty)
       goes None e settled_so = inl e
-      goes (Some answer) e settled_so =
+      goes (Some stop) e settled_so =
           inr (
-            e ∙ ap (λ (a : Answer). let r : Option Answer = Some a in r) settled_so,
-            told_on first mid now (GivesFirst lines n) (λ bytes left. IsNextOf n bytes left later (Ok (Some it))) IsEmpty
-                (λ a b c first_given is. is.0.0 ∙ behind_last_line b (is.1.0 (subst (λ (o : Option Answer). IsSome o) (sym e) refl)))
+            e ∙ ap (λ (s : Stop). let r : Option Stop = Some s in r) settled_so,
+            told_on first mid now (GivesFirst lines n) (λ bytes left. IsNextOf n bytes left later (Ok it)) IsEmpty
+                (λ a b c first_given is. is.0.0 ∙ behind_last_line b (is.1.0 (subst (λ (o : Option Stop). IsSome o) (sym e) refl)))
                 h.told next_told,
           )
 
   -- the same of what a call gave, once it is known to be a line
-  pub reads_given : (line : Option Line) (it : Line) (m : ℕ) → line ≡ Some it → Stays settled (Ok line) → Settles (Ok line) later → Next mid now n settled later (Ok line) → m ≡ n + lines_of (Ok line) →
+  pub reads_given : (answer : Answer) (it : Line) (m : ℕ) → answer ≡ Ok it → Stays settled answer → Settles answer later → Next mid now n settled later answer → m ≡ n + lines_of answer →
       Reading first now m later (lines ++ asked_by it ∷ [])
-  reads_given line it m is stays settles next count =
-      reads_line it m (subst (λ (x : Option Line). Stays settled (Ok x)) is stays) (subst (λ (x : Option Line). Settles (Ok x) later) is settles)
-      (subst (λ (x : Option Line). Next mid now n settled later (Ok x)) is next) (subst (λ (x : Option Line). m ≡ n + lines_of (Ok x)) is count)
+  reads_given answer it m is stays settles next count =
+      reads_line it m (subst (Stays settled) is stays) (subst (λ (a : Answer). Settles a later) is settles) (subst (Next mid now n settled later) is next) (subst (λ (a : Answer). m ≡ n + lines_of a) is count)
 
   -- no line more
-  pub reads_end : Stays settled (Ok None) → Next mid now n settled later (Ok None) → AreLines first lines None
+  pub reads_end : Stays settled (Err stops.End) → Next mid now n settled later (Err stops.End) → AreLines first lines None
   reads_end stays next = by h.goes
     where
-      by : (settled ≡ None) ⊎ ((settled ≡ Some (Ok None)) × IfTold first mid IsEmpty) → AreLines first lines None
+      by : (settled ≡ None) ⊎ ((settled ≡ Some stops.End) × IfTold first mid IsEmpty) → AreLines first lines None
       by (inl e) =
           told_alone first now (λ a c. given a ≡ record { lines = lines; fault = None }) (λ a. given a ≡ record { lines = lines; fault = None }) (λ a c k. k)
-          (told_on first mid now (GivesFirst lines n) (λ bytes left. IsNextOf n bytes left later (Ok None)) (λ a c. given a ≡ record { lines = lines; fault = None })
+          (told_on first mid now (GivesFirst lines n) (λ bytes left. IsNextOf n bytes left later (Err stops.End)) (λ a c. given a ≡ record { lines = lines; fault = None })
           (λ a b c first_given is. first_given ∙ ap (before_given lines) is.1 ∙ before_end lines None) h.told (next e))
       by (inr (e, ended)) =
           told_alone first mid (λ a b. given a ≡ record { lines = lines; fault = None }) (λ a. given a ≡ record { lines = lines; fault = None }) (λ a b k. k)
           (told_both first mid (GivesFirst lines n) IsEmpty (λ a b. given a ≡ record { lines = lines; fault = None })
           (λ a b first_given empty. first_given ∙ ap (λ (l : List ℕ). before_given lines (given_behind n (lines_in l))) empty ∙ before_end lines None) h.told ended)
 
-  -- a fault behind the lines
-  stops_with : (fault : CliFault) → Settles (Err fault) later → IfTold mid now (λ bytes left. IsNextOf n bytes left later (Err fault)) → StopsBehind first lines fault
-  stops_with faults.LongLine settles next =
-      told_alone first now (λ a c. given a ≡ record { lines = lines; fault = Some long_line }) (λ a. given a ≡ record { lines = lines; fault = Some long_line }) (λ a c k. k)
-      (told_on first mid now (GivesFirst lines n) (λ bytes left. IsNextOf n bytes left later (Err faults.LongLine)) (λ a c. given a ≡ record { lines = lines; fault = Some long_line })
-      (λ a b c first_given is. first_given ∙ ap (before_given lines) is.1 ∙ before_end lines (Some long_line)) h.told next)
-  stops_with faults.ManyLines settles next =
-      told_alone first now (λ a c. given a ≡ record { lines = lines; fault = Some many_lines }) (λ a. given a ≡ record { lines = lines; fault = Some many_lines }) (λ a c k. k)
-      (told_on first mid now (GivesFirst lines n) (λ bytes left. IsNextOf n bytes left later (Err faults.ManyLines)) (λ a c. given a ≡ record { lines = lines; fault = Some many_lines })
-      (λ a b c first_given is. first_given ∙ ap (before_given lines) is.1 ∙ before_end lines (Some many_lines)) h.told next)
-  stops_with faults.ScriptFailed settles next = reads_front first mid n settled lines h
-  stops_with faults.Memory settles next =
-      told_alone first now (λ a c. (x : Asked) × (more : List Asked) × NamesPath x × ((given a).lines ≡ lines ++ x ∷ more)) (λ a. (x : Asked) × (more : List Asked) × NamesPath x × ((given a).lines ≡ lines ++ x ∷ more)) (λ a c k. k)
-      (told_on first mid now (GivesFirst lines n) (λ bytes left. IsNextOf n bytes left later (Err faults.Memory)) (λ a c. (x : Asked) × (more : List Asked) × NamesPath x × ((given a).lines ≡ lines ++ x ∷ more))
-      (λ a b c first_given is. (is.0, (given_behind (n + 1) (lines_in c)).lines, is.1, ap (λ (g : Given). g.lines) (first_given ∙ ap (before_given lines) is.2.1))) h.told next)
-  stops_with faults.Usage settles next = absurd settles
-  stops_with (faults.CannotOpen path) settles next = absurd settles
-  stops_with (faults.BadFile path fault) settles next = absurd settles
-  stops_with (faults.BadObject path fault) settles next = absurd settles
-  stops_with (faults.NotAdded path fault) settles next = absurd settles
-  stops_with (faults.NotLinked fault) settles next = absurd settles
-  stops_with (faults.CannotCreate path) settles next = absurd settles
-  stops_with faults.WriteFailed settles next = absurd settles
+  pub reads_ended : (answer : Answer) → answer ≡ Err stops.End → Stays settled answer → Next mid now n settled later answer → AreLines first lines None
+  reads_ended answer is stays next = reads_end (subst (Stays settled) is stays) (subst (Next mid now n settled later) is next)
 
-  pub reads_fault : (fault : CliFault) → Stays settled (Err fault) → Settles (Err fault) later → Next mid now n settled later (Err fault) → StopsBehind first lines fault
-  reads_fault fault stays settles next = stops_with fault settles (next (open_script (Err fault) stays (λ e. cc)))
+  -- a fault behind the lines
+  stops_with : (stop : Stop) (fault : CliFault) → Err fault ≡ returned (Err stop) → IfTold mid now (λ bytes left. IsNextOf n bytes left later (Err stop)) → StopsBehind first lines fault
+  stops_with stops.End fault e next = absurd (cc)
+  stops_with stops.LongLine fault e next =
+      let is : fault ≡ faults.LongLine = cc in
+      subst (StopsBehind first lines) (sym is)
+      (told_alone first now (λ a c. given a ≡ record { lines = lines; fault = Some long_line }) (λ a. given a ≡ record { lines = lines; fault = Some long_line }) (λ a c k. k)
+      (told_on first mid now (GivesFirst lines n) (λ bytes left. IsNextOf n bytes left later (Err stops.LongLine)) (λ a c. given a ≡ record { lines = lines; fault = Some long_line })
+      (λ a b c first_given is. first_given ∙ ap (before_given lines) is.1 ∙ before_end lines (Some long_line)) h.told next))
+  stops_with stops.ManyLines fault e next =
+      let is : fault ≡ faults.ManyLines = cc in
+      subst (StopsBehind first lines) (sym is)
+      (told_alone first now (λ a c. given a ≡ record { lines = lines; fault = Some many_lines }) (λ a. given a ≡ record { lines = lines; fault = Some many_lines }) (λ a c k. k)
+      (told_on first mid now (GivesFirst lines n) (λ bytes left. IsNextOf n bytes left later (Err stops.ManyLines)) (λ a c. given a ≡ record { lines = lines; fault = Some many_lines })
+      (λ a b c first_given is. first_given ∙ ap (before_given lines) is.1 ∙ before_end lines (Some many_lines)) h.told next))
+  stops_with stops.ReadFailed fault e next =
+      let is : fault ≡ faults.ScriptFailed = cc in
+      subst (StopsBehind first lines) (sym is) (reads_front first mid n settled lines h)
+  stops_with stops.Memory fault e next =
+      let is : fault ≡ faults.Memory = cc in
+      subst (StopsBehind first lines) (sym is)
+      (told_alone first now (λ a c. (x : Asked) × (more : List Asked) × NamesPath x × ((given a).lines ≡ lines ++ x ∷ more)) (λ a. (x : Asked) × (more : List Asked) × NamesPath x × ((given a).lines ≡ lines ++ x ∷ more)) (λ a c k. k)
+      (told_on first mid now (GivesFirst lines n) (λ bytes left. IsNextOf n bytes left later (Err stops.Memory)) (λ a c. (x : Asked) × (more : List Asked) × NamesPath x × ((given a).lines ≡ lines ++ x ∷ more))
+      (λ a b c first_given is. (is.0, (given_behind (n + 1) (lines_in c)).lines, is.1, ap (λ (g : Given). g.lines) (first_given ∙ ap (before_given lines) is.2.1))) h.told next))
+
+  pub reads_fault : (answer : Answer) (fault : CliFault) → Err fault ≡ returned answer → Stays settled answer → Next mid now n settled later answer → StopsBehind first lines fault
+  reads_fault (Ok it) fault e stays next = absurd (cc)
+  reads_fault (Err stop) fault e stays next =
+      stops_with stop fault e (next (open_script (Err stop) stays (λ same.
+      let ended : Err fault ≡ returned (Err stops.End) = e ∙ ap returned same in
+      cc)))
 
 -- ---- the lines that were run
 

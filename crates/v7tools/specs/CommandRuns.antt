@@ -57,7 +57,13 @@ abbrev pub Ends : {E : Type 0} → (E → Option (List ℕ)) → Result ℕ CliF
 Ends contents (Ok answer) status before after = (status ≡ answer) × (after ≡ before)
 Ends contents (Err fault) status before after = (status ≡ 2) × PutsUnless after.has_failed (contents before.device) (contents after.device) (fault_line fault)
 
--- the words were refused or their call was run, and the program ended so
-abbrev pub Performs : {W E : Type 0} → (W → Option (List ℕ)) → (E → Option (List ℕ)) → List (List ℕ) → Option (List ℕ) → History → History → ℕ → Latched W → Latched W → Latched E → Latched E → Type 0
-Performs out_contents error_contents words script old new status out_before out_after error_before error_after =
-    (result : Result ℕ CliFault) × RunsWords out_contents words script old new result out_before out_after × Ends error_contents result status error_before error_after
+-- what stands around a program: what was asked of the office so far, standard output and standard error
+pub record Surroundings (W E : Type 0) : Type 0 where
+  pub asked : History
+  pub output : Latched W
+  pub error : Latched E
+
+-- the words were refused or their call was run, and the program ended with this status
+abbrev pub Performs : {W E : Type 0} → (W → Option (List ℕ)) → (E → Option (List ℕ)) → List (List ℕ) → Option (List ℕ) → Surroundings W E → Surroundings W E → ℕ → Type 0
+Performs contents error_contents words script before after status =
+    (result : Result ℕ CliFault) × RunsWords contents words script before.asked after.asked result before.output after.output × Ends error_contents result status before.error after.error

@@ -4,11 +4,9 @@ pub mod Loads
 pub mod Calls
 pub mod Emits
 pub mod LinkAnswers
-pub mod Scripts
-pub mod ScriptAnswers
+pub mod ScriptCalls
 pub mod Answers
 pub mod SessionSteps
-pub mod Blocks
 pub mod Deeds
 pub mod LinkRuns
 pub mod FileRuns

@@ -28,7 +28,8 @@ pub fn emit<W: Write, V: Write>(
     ensures file_bytes { PutsUnless file.new.has_failed (W.contents file.old.device) (W.contents file.new.device) (spelling linked.now.file) }
     ensures report_untouched { IsTrue file.new.has_failed → (report.new ≡ report.old) }
     ensures report_latched { IsTrue report.old.has_failed → (report.new ≡ report.old) }
-    ensures report_bytes { file.new.has_failed ≡ false → PutsUnless report.new.has_failed (V.contents report.old.device) (V.contents report.new.device) (report_text (findings_of linked.now.report)) }
+    ensures report_bytes { file.new.has_failed ≡ false → PutsUnless report.new.has_failed
+        (V.contents report.old.device) (V.contents report.new.device) (report_text (findings_of linked.now.report)) }
 {
     write_file(&linked.file, file)?;
     linked.report.write(report)?;

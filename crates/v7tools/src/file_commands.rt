@@ -84,7 +84,8 @@ pub(crate) fn list_files<O: Office, W: BufferedWrite>(
     output: &mut Wire<W>,
 ) -> Result<u8, CliFault>
     ensures small { IfOk result (λ status. status ≤ 1) }
-    ensures run { IsListRun W.contents (OrMemory options) (nm_text options) files.items (O.history office.old) (O.history office.new) result output.old output.new }
+    ensures run { IsListRun W.contents (OrMemory options) (nm_text options) files.items
+        (O.history office.old) (O.history office.new) result output.old output.new }
     ensures passed { IsPassedOn W.waiting output.old → IsPassedOn W.waiting output.new }
 {
     let loaded = load_all(alloc, office, files)?;
@@ -99,7 +100,8 @@ pub(crate) fn size_files<O: Office, W: BufferedWrite>(
     output: &mut Wire<W>,
 ) -> Result<u8, CliFault>
     ensures small { IfOk result (λ status. status ≤ 1) }
-    ensures run { IsListRun W.contents OnlyWriteFailed size_text files.items (O.history office.old) (O.history office.new) result output.old output.new }
+    ensures run { IsListRun W.contents OnlyWriteFailed size_text files.items
+        (O.history office.old) (O.history office.new) result output.old output.new }
     ensures passed { IsPassedOn W.waiting output.old → IsPassedOn W.waiting output.new }
 {
     let loaded = load_all(alloc, office, files)?;

@@ -3,15 +3,12 @@
 
 mod additions;
 mod arguments;
-mod block_reader;
-mod block_writer;
 mod commands;
 mod disk;
 mod emitting;
 mod fault;
 mod fault_text;
 mod file_commands;
-mod lines;
 mod link_answers;
 mod link_command;
 mod linking;
@@ -26,12 +23,10 @@ mod standard_error;
 mod steps;
 
 pub use arguments::words;
-pub use block_writer::BlockWriter;
 pub use command_words::Call;
 pub use commands::{Command, Step};
 pub use emitting::emit;
 pub use fault::CliFault;
-pub use lines::Line;
 pub use link_answers::link_answer;
 pub use linking::ld;
 pub use loading::load;
@@ -39,4 +34,5 @@ pub use office::{Office, Stored};
 pub use parsing::parse;
 pub use program::{command, perform};
 pub use script::Script;
+pub use scripts::{BlockWriter, Line};
 pub use steps::step;

@@ -71,7 +71,8 @@ pub(crate) fn link_files<O: Office, W: BufferedWrite>(
     output: &mut Wire<W>,
 ) -> Result<u8, CliFault>
     ensures small { IfOk result (λ status. status ≤ 1) }
-    ensures run { IsLinkRun W.contents forced.now options.now out (map string_bytes files.items) (O.history office.old) (O.history office.new) result output.old output.new }
+    ensures run { IsLinkRun W.contents forced.now options.now out (map string_bytes files.items)
+        (O.history office.old) (O.history office.new) result output.old output.new }
     ensures passed { IsPassedOn W.waiting output.old → IsPassedOn W.waiting output.new }
 {
     let inputs = open_all(alloc, office, files)?;

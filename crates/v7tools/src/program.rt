@@ -3,7 +3,6 @@ ghost use Rattle.std.specs.Prelude.{◌≤◌, map, string_bytes, IfOk};
 ghost use Rattle.aout_core.specs.Wires.{IsPassedOn};
 ghost use Rattle.v7tools.specs.CommandRuns.{IsCallRun, Performs, RunsWords};
 
-use crate::block_writer::BlockWriter;
 use crate::disk::Disk;
 use crate::fault::CliFault;
 use crate::file_commands::{list_files, size_files, strip_files};
@@ -14,6 +13,7 @@ use crate::session_command::answer_script;
 use crate::standard_error::StandardError;
 use aout_core::{BufferedWrite, Wire};
 use command_words::Call;
+use scripts::BlockWriter;
 use std::alloc::Global;
 use std::io;
 use std::io::{Read, Write};
@@ -28,7 +28,8 @@ fn run_call<O: Office, R: Read + Drop, W: BufferedWrite>(
     call: Call,
 ) -> Result<u8, CliFault>
     ensures small { IfOk result (λ status. status ≤ 1) }
-    ensures run { IsCallRun W.contents (R.remaining script) call (O.history office.old) (O.history office.new) result output.old output.new }
+    ensures run { IsCallRun W.contents (R.remaining script) call
+        (O.history office.old) (O.history office.new) result output.old output.new }
     ensures passed { IsPassedOn W.waiting output.old → IsPassedOn W.waiting output.new }
 {
     match call {
@@ -56,7 +57,8 @@ fn run_words<O: Office, R: Read + Drop, W: BufferedWrite>(
     words: Vec<String>,
 ) -> Result<u8, CliFault>
     ensures small { IfOk result (λ status. status ≤ 1) }
-    ensures run { RunsWords W.contents (map string_bytes words.items) (R.remaining script) (O.history office.old) (O.history office.new) result output.old output.new }
+    ensures run { RunsWords W.contents (map string_bytes words.items) (R.remaining script)
+        (O.history office.old) (O.history office.new) result output.old output.new }
     ensures passed { IsPassedOn W.waiting output.old → IsPassedOn W.waiting output.new }
 {
     let call = parse(alloc, words)?;
@@ -77,7 +79,9 @@ pub fn perform<O: Office, R: Read + Drop, W: BufferedWrite, E: Write>(
     words: Vec<String>,
 ) -> u8
     ensures small { result ≤ 2 }
-    ensures run { Performs W.contents E.contents (map string_bytes words.items) (R.remaining script) (O.history office.old) (O.history office.new) result output.old output.new error.old error.new }
+    ensures run { Performs W.contents E.contents (map string_bytes words.items) (R.remaining script)
+        (record { asked = O.history office.old; output = output.old; error = error.old })
+        (record { asked = O.history office.new; output = output.new; error = error.new }) result }
     ensures passed { IsPassedOn W.waiting output.old → IsPassedOn W.waiting output.new }
 {
     match run_words(alloc, office, script, output, words) {

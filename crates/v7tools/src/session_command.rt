@@ -1,18 +1,17 @@
 //! The session as a command, over any office: each line of a script is answered before the next one is asked for.
-ghost use Rattle.std.specs.Prelude.{◌≡◌, ◌↔◌, ◌≤◌, ℕ, List, [], string_bytes, Err, IfErr, IfOk, IsTrue};
+ghost use Rattle.std.specs.Prelude.{◌≡◌, ◌↔◌, ◌≤◌, string_bytes, Err, IfErr, IfOk, IsTrue};
 ghost use Rattle.aout_core.specs.Wires.{IsPassedOn, Writes};
 ghost use Rattle.link_session.specs.Sessions.{nothing_kept};
 ghost use Rattle.link_out.specs.function.Reports.{line};
 ghost use Rattle.v7tools.specs.declared.fault.CliFault.TheVariants.{ScriptFailed, WriteFailed};
 ghost use Rattle.v7tools.specs.FaultTexts.{cli_text};
-ghost use Rattle.v7tools.specs.Scripts.{to_add, to_link};
-ghost use Rattle.v7tools.specs.ScriptAnswers.{asked_by};
+ghost use Rattle.scripts.specs.Scripts.{to_add, to_link};
+ghost use Rattle.scripts.specs.ScriptAnswers.{asked_by, begun};
 ghost use Rattle.v7tools.specs.SessionRuns.{IsSessionRun};
 ghost use Rattle.v7tools.specs.steps.SessionParts.{AnswersLine, IsNoLink, IsOpenedAt, TakesPlainStep};
 
 use crate::commands::{Command, Step};
 use crate::fault::CliFault;
-use crate::lines::Line;
 use crate::link_answers::link_answer;
 use crate::office::Office;
 use crate::script::Script;
@@ -20,6 +19,7 @@ use crate::steps::{put_fault, step};
 use aout_core::{BufferedWrite, Wire};
 use link_out::{Options, finish};
 use link_session::{Forced, Session};
+use scripts::Line;
 use std::alloc::Global;
 use std::io::{Read, Write};
 
@@ -62,7 +62,8 @@ fn answer_add<O: Office, W: Write>(
 ) -> Result<u8, CliFault>
     ensures small { IfOk result (λ status. status ≤ 1) }
     ensures latched { IsTrue answers.old.has_failed → (answers.new ≡ answers.old) }
-    ensures run { AnswersLine W.contents options.now (to_add (string_bytes path)) session.old session.new (O.history office.old) (O.history office.new) result answers.old answers.new }
+    ensures run { AnswersLine W.contents options.now (to_add (string_bytes path)) session.old session.new
+        (O.history office.old) (O.history office.new) result answers.old answers.new }
 {
     let wire = open_wire(office, path.as_str());
     take_step(alloc, session, options, Command::Add(path, wire), answers)
@@ -89,7 +90,8 @@ fn answer_link<O: Office, W: Write>(
 ) -> Result<u8, CliFault>
     ensures small { IfOk result (λ status. status ≤ 1) }
     ensures latched { IsTrue answers.old.has_failed → (answers.new ≡ answers.old) }
-    ensures run { AnswersLine W.contents options.now (to_link path.now) session.now session.now (O.history office.old) (O.history office.new) result answers.old answers.new }
+    ensures run { AnswersLine W.contents options.now (to_link path.now) session.now session.now
+        (O.history office.old) (O.history office.new) result answers.old answers.new }
 {
     match finish(alloc, session, options) {
         Ok(linked) => {
@@ -112,7 +114,8 @@ fn answer_line<O: Office, W: Write>(
 ) -> Result<u8, CliFault>
     ensures small { IfOk result (λ status. status ≤ 1) }
     ensures latched { IsTrue answers.old.has_failed → (answers.new ≡ answers.old) }
-    ensures run { AnswersLine W.contents options.now (asked_by line) session.old session.new (O.history office.old) (O.history office.new) result answers.old answers.new }
+    ensures run { AnswersLine W.contents options.now (asked_by line) session.old session.new
+        (O.history office.old) (O.history office.new) result answers.old answers.new }
 {
     let command: Command<O::Source> = match line {
         Line::Add(path) => return answer_add(alloc, office, session, options, path, answers),
@@ -138,7 +141,8 @@ fn pass_answer<O: Office, W: BufferedWrite>(
 ) -> Result<u8, CliFault>
     ensures small { IfOk result (λ status. status ≤ 1) }
     ensures latched { IsTrue answers.old.has_failed → (answers.new ≡ answers.old) }
-    ensures run { AnswersLine W.contents options.now (asked_by line) session.old session.new (O.history office.old) (O.history office.new) result answers.old answers.new }
+    ensures run { AnswersLine W.contents options.now (asked_by line) session.old session.new
+        (O.history office.old) (O.history office.new) result answers.old answers.new }
     ensures passed { IsPassedOn W.waiting answers.new }
 {
     let status = answer_line(alloc, office, session, options, line, answers)?;
@@ -155,12 +159,12 @@ fn answer_lines<O: Office, R: Read + Drop, W: BufferedWrite>(
     script: &mut Script<R>,
     answers: &mut Wire<W>,
 ) -> Result<u8, CliFault>
-    requires held { script.old.held ≡ [] }
-    requires count { script.old.line_count ≡ 0 }
-    requires settled { script.old.settled ≡ None }
+    requires empty { session.old ≡ nothing_kept session.old.forced }
+    requires fresh { script.old ≡ begun script.old.wire }
     ensures small { IfOk result (λ status. status ≤ 1) }
     ensures failed { (result ≡ Err ScriptFailed) ↔ IsTrue script.new.wire.has_failed }
-    ensures run { (forced : List (List ℕ)) → session.old ≡ nothing_kept forced → IsSessionRun W.contents forced options.now (R.remaining script.old.wire.device) (O.history office.old) (O.history office.new) result answers.old answers.new }
+    ensures run { IsSessionRun W.contents session.old.forced options.now (R.remaining script.old.wire.device)
+        (O.history office.old) (O.history office.new) result answers.old answers.new }
     ensures passed { IsPassedOn W.waiting answers.old → IsPassedOn W.waiting answers.new }
 {
     let mut status = 0;
@@ -184,8 +188,10 @@ fn answer_reader<O: Office, R: Read + Drop, W: BufferedWrite>(
     reader: R,
     answers: &mut Wire<W>,
 ) -> Result<u8, CliFault>
+    requires empty { session.old ≡ nothing_kept session.old.forced }
     ensures small { IfOk result (λ status. status ≤ 1) }
-    ensures run { (forced : List (List ℕ)) → session.old ≡ nothing_kept forced → IsSessionRun W.contents forced options.now (R.remaining reader) (O.history office.old) (O.history office.new) result answers.old answers.new }
+    ensures run { IsSessionRun W.contents session.old.forced options.now (R.remaining reader)
+        (O.history office.old) (O.history office.new) result answers.old answers.new }
     ensures passed { IsPassedOn W.waiting answers.old → IsPassedOn W.waiting answers.new }
 {
     let mut script = Script::new(alloc, Wire::new(reader))?;
@@ -202,7 +208,8 @@ pub(crate) fn answer_script<O: Office, R: Read + Drop, W: BufferedWrite>(
     answers: &mut Wire<W>,
 ) -> Result<u8, CliFault>
     ensures small { IfOk result (λ status. status ≤ 1) }
-    ensures run { IsSessionRun W.contents forced.now options.now (R.remaining script) (O.history office.old) (O.history office.new) result answers.old answers.new }
+    ensures run { IsSessionRun W.contents forced.now options.now (R.remaining script)
+        (O.history office.old) (O.history office.new) result answers.old answers.new }
     ensures passed { IsPassedOn W.waiting answers.old → IsPassedOn W.waiting answers.new }
 {
     let mut session = Session::with_forced(alloc, forced)?;

@@ -1,6 +1,6 @@
 use Rattle.std.proofs.Common.{rules, ◌≡◌, true, refl}
 use Rattle.std.specs.Prelude.{IfErr}
-use Rattle.v7tools.specs.ScriptAnswers.{asked_by}
+use Rattle.scripts.specs.ScriptAnswers.{asked_by}
 use Rattle.v7tools.specs.declared.fault.CliFault.TheVariants.{WriteFailed}
 use Rattle.v7tools.proofs.DeedLemmas.{passed_on}
 use Rattle.v7tools.proofs.LineRunLemmas.{not_passed_on}

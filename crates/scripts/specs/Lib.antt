@@ -1,0 +1,4 @@
+pub mod Scripts
+pub mod ScriptAnswers
+pub mod Blocks
+pub mod steps
