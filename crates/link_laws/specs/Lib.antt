@@ -1,0 +1,1 @@
+-- The definitions that the laws of this crate are written in.
