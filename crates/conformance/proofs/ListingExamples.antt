@@ -1,6 +1,7 @@
 -- Lists of linked files: what nm and size write of them, and statements near the law of lists that do not hold.
-use Rattle.std.proofs.Common.{◌≡◌, ◌≢◌, ◌⊎◌, ℕ, ◌+◌, true, false, ◌&&◌, List, [], ◌∷◌, ◌++◌, map, filter, length, Some, IsPermutation, refl, sym, ◌∙◌, ap, inl, inr, eq-eqb}
+use Rattle.std.proofs.Common.{◌≡◌, ◌≢◌, ◌⊎◌, ℕ, ◌+◌, true, false, List, [], ◌∷◌, ◌++◌, map, filter, length, Some, IsPermutation, refl, sym, ◌∙◌, inr, eq-eqb}
 use Rattle.std.specs.Prelude.{eqb, Ok, codes, bytes_eq, slice_index, slice_index_or, sum_by}
+use Rattle.std.specs.Fmt.{digits}
 use Rattle.std.proofs.lemmas.List.Sorted.{length_permutation}
 use Rattle.aout_core.specs.declared.symbol.Symbol.{Symbol}
 use Rattle.aout_core.specs.declared.symbol.Segment.TheVariants.{TextSeg, DataSeg, BssSeg}
@@ -23,7 +24,7 @@ use Rattle.symtools.specs.NmLists.{shown, nm_text}
 use Rattle.symtools.specs.SizeLines.{size_line, size_text}
 use Rattle.link_laws.specs.Listings.{undefined_locals, state_letter, IsListedOnce, of_sizes, UndefinedAreListed, ExternalsAreListed}
 use Rattle.conformance.specs.Samples.{sym as entry, object, _f, _g, _x, _end, L1, c_o, d_o, g_o, x4_o, y1_o, y2_o, plain, plain_s, relocatable}
-use Rattle.conformance.proofs.ClauseLemmas.{as_object, only_wanted}
+use Rattle.conformance.proofs.ClauseLemmas.{only_wanted}
 use Rattle.conformance.proofs.NeededPremises.{counts, all_kept, link_of, c_good, d_good}
 
 -- nm without options, with -g, -u and -p
@@ -65,6 +66,7 @@ listed_externals = refl
 
 -- two commons of 5 and 4 bytes, the first rounded up, and 2 bytes of bss
 listed_sizes : size_text ((codes "a.out", (link_of (y1_o ∷ y2_o ∷ []) plain).file) ∷ []) ≡ codes "2+2+12 = 16b = 020b\n"
+unfolding digits
 listed_sizes = refl
 
 -- by the law alone
@@ -134,7 +136,7 @@ names_listed_once : ((forced : List (List ℕ)) (os : List Contents) (o : Choice
     (n : NmOptions) → n.undefined ≡ false → (name : List ℕ) (row : Symbol) → entry_of x.file.symbols name ≡ Some row → filter (λ s. bytes_eq name s.name) (shown n x.file) ≡ row ∷ []) → ⊥
 names_listed_once law =
     let namesake : Contents = object [] [] [] [] 0 (entry _f 0o01 0 ∷ []) in
-    counts (λ (ss : List Symbol). length ss) (entry _f 0o42 2 ∷ entry _f 0o01 0 ∷ []) (entry _f 0o42 2 ∷ []) refl
+    counts (λ (ss : List Symbol). length ss) (entry _f 0o01 0 ∷ entry _f 0o42 2 ∷ []) (entry _f 0o42 2 ∷ []) refl
     (law [] (d_o ∷ namesake ∷ []) plain (link_of (d_o ∷ namesake ∷ []) plain) all_kept refl nm refl _f (entry _f 0o42 2) refl)
 
 -- with relocation a common waits, and has C
@@ -146,6 +148,7 @@ letters_with_relocation law =
 -- bss has the commons
 sizes_without_commons : ((forced : List (List ℕ)) (os : List Contents) (o : Choices) (x : Outcome) → link forced os o ≡ Ok x →
     (path : List ℕ) → size_text ((path, x.file) ∷ []) ≡ size_line (of_sizes (total TextSeg os) (total DataSeg os) (total BssSeg os)) ++ 10 ∷ []) → ⊥
+unfolding digits
 sizes_without_commons law =
     counts (λ (text : List ℕ). sum_by (λ b. b) text) (codes "0+0+4 = 4b = 04b\n") (codes "0+0+0 = 0b = 00b\n") refl (law [] (x4_o ∷ []) plain (link_of (x4_o ∷ []) plain) refl (codes "a.out"))
 
@@ -153,6 +156,7 @@ sizes_without_commons law =
 commons_without_rounding : ((forced : List (List ℕ)) (os : List Contents) (o : Choices) (x : Outcome) → lays_commons o ≡ true → link forced os o ≡ Ok x →
     (name : List ℕ) (size : ℕ) → externals forced os ≡ name ∷ [] → IsWanted (mentions forced os) name size →
     (path : List ℕ) → size_text ((path, x.file) ∷ []) ≡ size_line (of_sizes (total TextSeg os) (total DataSeg os) (size + total BssSeg os)) ++ 10 ∷ []) → ⊥
+unfolding digits
 commons_without_rounding law =
     let x3_o : Contents = object [] [] [] [] 0 (entry _x 0o40 3 ∷ []) in
     counts (λ (text : List ℕ). sum_by (λ b. b) text) (codes "0+0+4 = 4b = 04b\n") (codes "0+0+3 = 3b = 03b\n") refl

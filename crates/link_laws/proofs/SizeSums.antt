@@ -2,9 +2,7 @@
 use Rattle.std.proofs.Common.{◌≡◌, ℕ, ◌+◌, Bool, true, false, cond, List, [], ◌∷◌, ◌++◌, refl, sym, ◌∙◌, ap, arith, append-nil}
 use Rattle.std.specs.Prelude.{Ok}
 use Rattle.std.proofs.lemmas.List.Sums.{sum_by-cons}
-use Rattle.aout_core.specs.declared.symbol.Segment.TheVariants.{TextSeg, DataSeg, BssSeg}
 use Rattle.aout_core.specs.Contents.{Contents}
-use Rattle.link_session.specs.Starts.{total}
 use Rattle.link_session.specs.Mentions.{Mention, mentions, externals}
 use Rattle.link_session.specs.States.{state}
 use Rattle.link_out.specs.Choices.{Choices, lays_commons}
@@ -16,7 +14,7 @@ use Rattle.link_out.proofs.HasStateLemmas.{has_state}
 use Rattle.link_out.proofs.LinkedRows.{room_laid}
 use Rattle.link_out.proofs.OutcomeLemmas.{made_file}
 use Rattle.symtools.specs.SizeLines.{size_line}
-use Rattle.link_laws.specs.Listings.{of_sizes, HasSizes}
+use Rattle.link_laws.specs.Listings.{HasSizes}
 
 module _ (o : Choices) (ms : List Mention) where
   names_take : (names : List (List ℕ)) → CommonsTake o ms names (cond (lays_commons o) (room_of ms names) 0)

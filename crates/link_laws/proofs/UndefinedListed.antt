@@ -72,7 +72,7 @@ module _ (b : Bases) (earlier : List Contents) (k : Contents) where
           filter is_shown_undefined (map (moved_local b earlier k) (s ∷ ss)) ≡ filter is_shown_undefined (s ∷ ss)
       by_test true e rest =
           let same : moved_local b earlier k s ≡ s =
-              ap (λ (z : Bool). let r : Symbol = record s { value = moved_value b earlier k (cond z Undefined (cond (eqb (masked_type s) 1) Absolute (cond (eqb (masked_type s) 2) TextSeg (cond (eqb (masked_type s) 3) DataSeg (cond (eqb (masked_type s) 4) BssSeg Other))))) s.value } in r) e in
+          ap (λ (z : Bool). let r : Symbol = record s { value = moved_value b earlier k (cond z Undefined (cond (eqb (masked_type s) 1) Absolute (cond (eqb (masked_type s) 2) TextSeg (cond (eqb (masked_type s) 3) DataSeg (cond (eqb (masked_type s) 4) BssSeg Other))))) s.value } in r) e in
           λ i. cond (is_shown_undefined (same i)) (same i ∷ rest i) (rest i)
       by_test false e rest =
           ap (λ (u : Bool). cond u (moved_local b earlier k s ∷ filter is_shown_undefined (map (moved_local b earlier k) ss)) (filter is_shown_undefined (map (moved_local b earlier k) ss))) (typed_shown (moved_local b earlier k s) e)
@@ -170,9 +170,9 @@ pub undefined_are_listed : (forced : List (List ℕ)) (os : List Contents) (o : 
 undefined_are_listed forced os o x others plain linked n u without =
     let all : List Symbol = filter (is_shown n) x.file.symbols in
     let names : map (λ (s : Symbol). s.name) all ≡ x.report.undefined =
-        ap (λ (ss : List Symbol). map (λ (s : Symbol). s.name) ss) (passed forced os o x others plain linked n u)
-        ∙ ap (λ (ls : List Symbol). map (λ (s : Symbol). s.name) (ls ++ map undefined_symbol x.report.undefined)) (none_listed n (undefined_locals o os) without)
-        ∙ names_again x.report.undefined in
+    ap (λ (ss : List Symbol). map (λ (s : Symbol). s.name) ss) (passed forced os o x others plain linked n u)
+    ∙ ap (λ (ls : List Symbol). map (λ (s : Symbol). s.name) (ls ++ map undefined_symbol x.report.undefined)) (none_listed n (undefined_locals o os) without)
+    ∙ names_again x.report.undefined in
     subst (λ (ns : List (List ℕ)). IsPermutation (map (λ (s : Symbol). s.name) (arranged n all)) ns) names (IsPermutation-map (λ (s : Symbol). s.name) (arranged n all) all (IsPermutation-sym all (arranged n all) (arranged_moves n all)))
 
 pub undefined_lines : (forced : List (List ℕ)) (os : List Contents) (o : Choices) (x : Outcome) → o.keep ≢ Nothing → o.relocatable ≡ false → link forced os o ≡ Ok x →

@@ -1,7 +1,7 @@
 -- What nm and size tell of a linked file: the names that its link reported undefined, its externals, and its sizes. (nm(1), size(1), ld(1))
 --
 -- The report is of the objects, and a list is of the file alone; these laws say that they agree.
-use Rattle.std.specs.Prelude.{◌≡◌, ◌≢◌, ◌⊎◌, ℕ, ◌+◌, Bool, true, false, ◌&&◌, cond, eqb, if◌then◌else◌, List, [], ◌∷◌, ◌++◌, map, filter, codes, Some, Ok, bytes_eq, IsPermutation}
+use Rattle.std.specs.Prelude.{◌≡◌, ◌≢◌, ◌⊎◌, ℕ, ◌+◌, true, false, ◌&&◌, cond, eqb, if◌then◌else◌, List, [], ◌∷◌, ◌++◌, map, filter, codes, Some, Ok, bytes_eq, IsPermutation}
 use Rattle.std.specs.List.{flat_map}
 use Rattle.aout_core.specs.declared.header.Header.{Header}
 use Rattle.aout_core.specs.declared.symbol.Symbol.{Symbol}
