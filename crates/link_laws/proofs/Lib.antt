@@ -1,0 +1,6 @@
+-- The lemmas of this crate.
+mod ArrangedLemmas
+mod ShownLemmas
+mod UndefinedListed
+mod ExternalsListed
+mod SizeSums
