@@ -1,1 +1,4 @@
 -- The definitions that the laws of this crate are written in.
+pub mod Core
+pub mod CoreLaws
+pub mod Operands
