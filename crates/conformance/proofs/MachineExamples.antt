@@ -1,13 +1,12 @@
 -- The laws of loaded programs at samples: bytes at addresses, and what instructions find there.
-use Rattle.std.proofs.Common.{◌≡◌, ◌≢◌, ℕ, ◌+◌, ◌<◌, true, false, List, [], ◌∷◌, ◌++◌, Some, None, refl, arith}
-use Rattle.std.specs.Prelude.{Option, Ok, map}
-use Rattle.aout_core.specs.declared.symbol.Segment.TheVariants.{TextSeg, DataSeg, BssSeg}
+use Rattle.std.proofs.Common.{◌≡◌, ◌≢◌, ℕ, true, List, [], ◌∷◌, Some, None, refl, arith}
+use Rattle.std.specs.Prelude.{map}
+use Rattle.aout_core.specs.declared.symbol.Segment.TheVariants.{TextSeg}
 use Rattle.aout_core.specs.Contents.{Contents}
 use Rattle.link_session.specs.Sessions.{IsObject}
 use Rattle.link_out.specs.declared.options.Layout.TheVariants.{Pure, Split}
 use Rattle.link_out.specs.declared.options.Keep.TheVariants.{All, Nothing}
 use Rattle.link_out.specs.Choices.{Choices}
-use Rattle.link_out.specs.Results.{Outcome}
 use Rattle.link_out.specs.function.Link.{link}
 use Rattle.link_laws.specs.Core.{of_instructions, of_data, core}
 use Rattle.link_laws.specs.Operands.{operand, Calls, Defines, Arrives}
@@ -16,13 +15,13 @@ use Rattle.conformance.specs.Samples.{sym as entry, _twice, main_o, twice_o, cou
 use Rattle.conformance.proofs.LawExamples.{outcome_of}
 use Rattle.conformance.proofs.ClauseLemmas.{as_object}
 
-abbrev linked : List Contents → Choices → Contents
+abbrev pub linked : List Contents → Choices → Contents
 linked os o = (outcome_of (link [] os o)).file
 
-abbrev forward : List Contents
+abbrev pub forward : List Contents
 forward = main_o ∷ twice_o ∷ count_o ∷ []
 
-abbrev back : List Contents
+abbrev pub back : List Contents
 back = twice_o ∷ main_o ∷ count_o ∷ []
 
 -- the bytes of the operand of `mov _count,r0` and of the number behind text, and none behind that
@@ -63,19 +62,19 @@ twice_found_back : operand true 10 65524 ≡ 0
 twice_found_back = refl
 
 -- the call by the law
-main_good : IsObject main_o
+pub main_good : IsObject main_o
 main_good = as_object main_o refl refl refl refl refl refl refl refl
 
-twice_good : IsObject twice_o
+pub twice_good : IsObject twice_o
 twice_good = as_object twice_o refl refl refl refl refl refl refl refl
 
-count_good : IsObject count_o
+pub count_good : IsObject count_o
 count_good = as_object count_o refl refl refl refl refl refl refl refl
 
-all_kept : All ≢ Nothing
+pub all_kept : All ≢ Nothing
 all_kept e = cc
 
-main_calls : Calls main_o TextSeg 3 _twice
+pub main_calls : Calls main_o TextSeg 3 _twice
 main_calls = record { w = 65528; r = record { 0 = 25 }; symbol = entry _twice 32 0; word = refl; reloc = refl; pc = refl; kind = refl; named = refl; names = refl; just = refl }
 
 twice_defined : Defines twice_o _twice TextSeg 0
@@ -83,12 +82,12 @@ twice_defined = record { number = 0; symbol = entry _twice 34 0; stands = refl; 
 
 forward_call : Arrives (linked forward plain) forward [] main_o TextSeg 3 (main_o ∷ []) twice_o TextSeg 0
 forward_call =
-    calls_arrive [] forward plain (outcome_of (link [] forward plain)) (main_good, (twice_good, (count_good, tt))) all_kept refl refl refl
+    calls_arrive [] forward plain (outcome_of (link [] forward plain)) (main_good, (twice_good, (count_good, tt))) all_kept refl refl
     [] main_o (twice_o ∷ count_o ∷ []) refl (main_o ∷ []) twice_o (count_o ∷ []) refl TextSeg TextSeg 3 0 _twice main_calls twice_defined
 
 back_call : Arrives (linked back plain) back (twice_o ∷ []) main_o TextSeg 3 [] twice_o TextSeg 0
 back_call =
-    calls_arrive [] back plain (outcome_of (link [] back plain)) (twice_good, (main_good, (count_good, tt))) all_kept refl refl refl
+    calls_arrive [] back plain (outcome_of (link [] back plain)) (twice_good, (main_good, (count_good, tt))) all_kept refl refl
     (twice_o ∷ []) main_o (count_o ∷ []) refl [] twice_o (main_o ∷ count_o ∷ []) refl TextSeg TextSeg 3 0 _twice main_calls twice_defined
 
 -- it arrives at 012 in the one link, and at 0 in the other

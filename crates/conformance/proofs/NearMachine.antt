@@ -1,5 +1,5 @@
 -- Statements near the laws of loaded programs that do not hold: each has a link that shows it.
-use Rattle.std.proofs.Common.{◌≡◌, ◌≢◌, ℕ, ◌+◌, ◌*◌, ◌/◌, ◌%◌, ◌<◌, ◌≤◌, true, false, List, [], ◌∷◌, ◌++◌, Option, Some, None, refl, sym, ◌∙◌, ap, subst, arith, ◌⊎◌, inl, inr, eq-eqb}
+use Rattle.std.proofs.Common.{◌≡◌, ◌≢◌, ℕ, ◌+◌, ◌*◌, ◌/◌, ◌%◌, ◌<◌, ◌≤◌, true, false, List, [], ◌∷◌, ◌++◌, Some, None, refl, sym, ◌∙◌, ap, arith, eq-eqb}
 use Rattle.std.specs.Prelude.{eqb, Ok, slice_get}
 use Rattle.std.specs.List.{AllByRecursion}
 use Rattle.aout_core.specs.declared.header.Header.{Header}
@@ -11,30 +11,33 @@ use Rattle.aout_core.specs.declared.reloc.Kind.{Kind}
 use Rattle.aout_core.specs.declared.reloc.Kind.TheVariants as kinds
 use Rattle.aout_core.specs.Contents.{Contents}
 use Rattle.aout_core.specs.Words.{plus}
-use Rattle.aout_core.specs.WellFormed.{kind_of, is_pc_relative, symbol_number}
+use Rattle.aout_core.specs.WellFormed.{kind_of, symbol_number}
 use Rattle.link_session.specs.Starts.{total, own}
 use Rattle.link_session.specs.Sessions.{IsObject}
 use Rattle.link_out.specs.declared.options.Layout.TheVariants.{Split}
-use Rattle.link_out.specs.declared.options.Keep.TheVariants.{All, Nothing}
+use Rattle.link_out.specs.declared.options.Keep.TheVariants.{Nothing}
 use Rattle.link_out.specs.Choices.{Choices, lays_commons}
 use Rattle.link_out.specs.Results.{Outcome}
 use Rattle.link_out.specs.function.Link.{link}
-use Rattle.link_out.specs.relation.Relocated.{carried, entry_of, segment_words, segment_relocs}
+use Rattle.link_out.specs.relation.Relocated.{entry_of, segment_words, segment_relocs}
 use Rattle.link_out.specs.laws.CommonsAndLayouts.{IsCommon}
 use Rattle.link_laws.specs.Core.{Space, of_instructions, of_data, has_segment, first_address, bytes_of, is_in, core}
 use Rattle.link_laws.specs.CoreLaws.{IsLoaded, IsZero, IsOfWord}
-use Rattle.link_laws.specs.Operands.{operand, FindsMore, FindsName, segment_meant, Calls, Defines, Arrives}
+use Rattle.link_laws.specs.Operands.{FindsMore, FindsName, segment_meant, Calls, Defines, Arrives}
 use Rattle.link_laws.proofs.LoadedLemmas.{words_loaded}
-use Rattle.conformance.specs.Samples.{sym as entry, object, sized, _f, _x, _twice, a_o, b_o, c_o, d_o, d2_o, k_o, x4_o, main_o, twice_o, plain, plain_s, relocatable, with_layout}
+use Rattle.conformance.specs.Samples.{sym as entry, sized, _f, _x, _twice, a_o, b_o, c_o, d_o, d2_o, k_o, x4_o, main_o, twice_o, plain, plain_s, relocatable, with_layout}
 use Rattle.conformance.proofs.LawExamples.{outcome_of}
 use Rattle.conformance.proofs.ClauseLemmas.{as_object, only_object, only_wanted}
-use Rattle.conformance.proofs.MachineExamples.{linked, forward, back, main_good, twice_good, count_good, all_kept, main_calls}
+use Rattle.conformance.proofs.MachineExamples.{linked, forward, back, main_good, twice_good, all_kept}
 
 different : (a b : ℕ) → eqb a b ≡ false → a ≡ b → ⊥
 different a b t e = let bad : true ≡ false = sym (eq-eqb a b e) ∙ t in cc
 
 other_byte : (a b : ℕ) → eqb a b ≡ false → Some a ≡ Some b → ⊥
 other_byte a b t e = let same : a ≡ b = cc in different a b t same
+
+no_byte : (b : ℕ) → None ≡ Some b → ⊥
+no_byte b e = cc
 
 abbrev outcome : List Contents → Choices → Outcome
 outcome os o = outcome_of (link [] os o)
@@ -85,9 +88,7 @@ high_byte_first : TextIsLoaded (λ word. word / 256) of_instructions (λ start i
 high_byte_first law = other_byte 192 29 refl (law [] [] main_o (twice_o ∷ []) plain (outcome (main_o ∷ twice_o ∷ []) plain) (main_good, (twice_good, tt)) all_kept refl 0 7616 7616 refl refl)
 
 text_in_data : TextIsLoaded (λ word. word % 256) of_data (λ start i. start + 2 * i) → ⊥
-text_in_data law =
-    let bad : None ≡ Some 192 = law [] [] main_o (twice_o ∷ []) split (outcome (main_o ∷ twice_o ∷ []) split) (main_good, (twice_good, tt)) all_kept refl 0 7616 7616 refl refl in
-    absurd (cc)
+text_in_data law = no_byte 192 (law [] [] main_o (twice_o ∷ []) split (outcome (main_o ∷ twice_o ∷ []) split) (main_good, (twice_good, tt)) all_kept refl 0 7616 7616 refl refl)
 
 text_at_own_place : TextIsLoaded (λ word. word % 256) of_instructions (λ start i. 2 * i) → ⊥
 text_at_own_place law =
@@ -105,7 +106,7 @@ not_carried law =
 -- stripping: whatever the magic
 
 any_magic : ((file : Contents) (magic : ℕ) (space : Space) (address : ℕ) → core (record file { header = record file.header { magic = magic } }) space address ≡ core file space address) → ⊥
-any_magic law = let bad : None ≡ Some 192 = law (linked forward plain) 261 of_instructions 0 in absurd (cc)
+any_magic law = no_byte 192 (law (linked forward plain) 261 of_instructions 0)
 
 -- bss and commons: the byte behind them, and commons that wait
 
@@ -116,20 +117,17 @@ zero_behind_bss : ((forced : List (List ℕ)) (before : List Contents) (k : Cont
     AllByRecursion IsObject (before ++ k ∷ after) → link forced (before ++ k ∷ after) o ≡ Ok x → (n : ℕ) → n ≤ k.header.bss_size → IsZero x.file (before ++ k ∷ after) before k n) → ⊥
 zero_behind_bss law =
     let l = law [] [] two_zeros [] plain (outcome (two_zeros ∷ []) plain) (as_object two_zeros refl refl refl refl refl refl refl refl, tt) refl 2 (omega arith) in
-    let bad : None ≡ Some 0 = ap (λ (a : ℕ). core (linked (two_zeros ∷ []) plain) of_data a) (sym l.place.behind) ∙ l.zero in
-    absurd (cc)
+    no_byte 0 (ap (λ (a : ℕ). core (linked (two_zeros ∷ []) plain) of_data a) (sym l.place.behind) ∙ l.zero)
 
 zero_behind_common : ((forced : List (List ℕ)) (os : List Contents) (o : Choices) (x : Outcome) → o.keep ≢ Nothing → lays_commons o ≡ true → link forced os o ≡ Ok x →
     (name : List ℕ) (size : ℕ) → IsCommon forced os name size → (row : Symbol) → entry_of x.file.symbols name ≡ Some row → (n : ℕ) → n ≤ size → core x.file of_data (row.value + n) ≡ Some 0) → ⊥
 zero_behind_common law =
-    let bad : None ≡ Some 0 = law [] (x4_o ∷ []) plain (outcome (x4_o ∷ []) plain) all_kept refl refl _x 4 (record { wanted = only_wanted _x 4; sized = refl }) (entry _x 36 0) refl 4 (omega arith) in
-    absurd (cc)
+    no_byte 0 (law [] (x4_o ∷ []) plain (outcome (x4_o ∷ []) plain) all_kept refl refl _x 4 (record { wanted = only_wanted _x 4; sized = refl }) (entry _x 36 0) refl 4 (omega arith))
 
 zero_in_waiting : ((forced : List (List ℕ)) (os : List Contents) (o : Choices) (x : Outcome) → o.keep ≢ Nothing → link forced os o ≡ Ok x →
     (name : List ℕ) (size : ℕ) → IsCommon forced os name size → (row : Symbol) → entry_of x.file.symbols name ≡ Some row → (n : ℕ) → n < size → core x.file of_data (row.value + n) ≡ Some 0) → ⊥
 zero_in_waiting law =
-    let bad : None ≡ Some 0 = law [] (x4_o ∷ []) relocatable (outcome (x4_o ∷ []) relocatable) all_kept refl _x 4 (record { wanted = only_wanted _x 4; sized = refl }) (entry _x 32 4) refl 0 (omega arith) in
-    absurd (cc)
+    no_byte 0 (law [] (x4_o ∷ []) relocatable (outcome (x4_o ∷ []) relocatable) all_kept refl _x 4 (record { wanted = only_wanted _x 4; sized = refl }) (entry _x 32 4) refl 0 (omega arith))
 
 -- nothing else: without bss
 
@@ -219,14 +217,14 @@ c_calls = record { w = 65532; r = record { 0 = 9 }; symbol = entry _f 32 0; word
 d2_defines : Defines d2_o _f TextSeg 0
 d2_defines = record { number = 0; symbol = entry _f 34 0; stands = refl; outer = refl; names = refl; is = refl; value = refl; inside = omega arith }
 
-calls_of_multiples : ((forced : List (List ℕ)) (os : List Contents) (o : Choices) (x : Outcome) → AllByRecursion IsObject os → o.keep ≢ Nothing → o.relocatable ≡ false → link forced os o ≡ Ok x →
+calls_of_multiples : ((forced : List (List ℕ)) (os : List Contents) (o : Choices) (x : Outcome) → AllByRecursion IsObject os → o.keep ≢ Nothing → link forced os o ≡ Ok x →
     (before : List Contents) (k : Contents) (after : List Contents) → os ≡ before ++ k ∷ after → (front : List Contents) (c : Contents) (back : List Contents) → os ≡ front ++ c ∷ back →
     (from to : Segment) (i n : ℕ) (name : List ℕ) → Calls k from i name → Defines c name to n → Arrives x.file os before k from i front c to n) → ⊥
 calls_of_multiples law =
     let os : List Contents = c_o ∷ d_o ∷ d2_o ∷ [] in
     let f : Contents = linked os plain in
     let h = law [] os plain (outcome os plain)
-    (as_object c_o refl refl refl refl refl refl refl refl, (as_object d_o refl refl refl refl refl refl refl refl, (as_object d2_o refl refl refl refl refl refl refl refl, tt))) all_kept refl refl
+    (as_object c_o refl refl refl refl refl refl refl refl, (as_object d_o refl refl refl refl refl refl refl refl, (as_object d2_o refl refl refl refl refl refl refl refl, tt))) all_kept refl
     [] c_o (d_o ∷ d2_o ∷ []) refl (c_o ∷ d_o ∷ []) d2_o [] refl TextSeg TextSeg 1 0 _f c_calls d2_defines in
     let at : h.address ≡ 2 = h.place.behind in
     let word : h.word ≡ 2 + 256 * 0 = word_is 2 0 h.word (ap (λ (a : ℕ). core f of_instructions a) (sym at) ∙ h.stands.low) (ap (λ (a : ℕ). core f of_instructions (a + 1)) (sym at) ∙ h.stands.high) in

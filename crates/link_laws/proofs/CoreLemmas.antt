@@ -114,13 +114,13 @@ module _ (file : Contents) (space : Space) (address byte : ℕ) where
   -- and each byte of the core is one of a segment
   pub record IsByteOf (segment : Segment) : Type 0 where
     pub «in» : is_in file.header space segment address ≡ true
-    pub byte : segment_byte file segment (address - first_address file.header segment) ≡ Some byte
+    pub reads : segment_byte file segment (address - first_address file.header segment) ≡ Some byte
 
   loaded_back : (segment : Segment) → loaded file space segment address ≡ Some byte → IsByteOf segment
   loaded_back segment e = by_test (is_in file.header space segment address) refl e
     where
       by_test : (t : Bool) → is_in file.header space segment address ≡ t → cond t (segment_byte file segment (address - first_address file.header segment)) None ≡ Some byte → IsByteOf segment
-      by_test true p e = record { «in» = p; byte = e }
+      by_test true p e = record { «in» = p; reads = e }
       by_test false p e = absurd (cc)
 
   one_of : (x y z : Option ℕ) → first_of x (first_of y z) ≡ Some byte → (x ≡ Some byte) ⊎ ((y ≡ Some byte) ⊎ (z ≡ Some byte))

@@ -1,5 +1,5 @@
 -- What a link puts into the core: words, zeros, and nothing else.
-use Rattle.std.proofs.Common.{◌≡◌, ◌≢◌, ℕ, zero, suc, ◌+◌, ◌-◌, ◌*◌, ◌/◌, ◌%◌, ◌<◌, ◌≤◌, ◌⊎◌, inl, inr, Bool, true, false, cond, eqb, List, [], ◌∷◌, ◌++◌, length, Option, Some, None, refl, sym, ◌∙◌, ap, subst, arith}
+use Rattle.std.proofs.Common.{◌≡◌, ◌≢◌, ℕ, zero, suc, ◌+◌, ◌-◌, ◌*◌, ◌/◌, ◌%◌, ◌<◌, ◌≤◌, ◌⊎◌, inl, inr, Bool, true, false, cond, eqb, List, [], ◌∷◌, ◌++◌, length, Some, refl, sym, ◌∙◌, ap, subst, arith}
 use Rattle.std.specs.Prelude.{slice_get, nat_lt, Ok}
 use Rattle.std.specs.List.{AllByRecursion}
 use Rattle.std.proofs.lemmas.List.Sums.{sum_by-append}
@@ -35,7 +35,7 @@ use Rattle.link_out.proofs.CommonLemmas.{commons_have_room}
 use Rattle.link_laws.specs.Core.{Space, of_instructions, of_data, has_one_space, has_segment, first_address, bytes_of, segment_byte, is_in, core, IsWordAt}
 use Rattle.link_laws.specs.CoreLaws.{space_of, IsPlace, IsLoaded, IsZero, IsOfWord}
 use Rattle.link_laws.proofs.ByteLemmas.{low_byte, high_byte}
-use Rattle.link_laws.proofs.CoreLemmas.{IsWithin, within, within_back, text_before, core_at, IsByteOf, core_back, one_space}
+use Rattle.link_laws.proofs.CoreLemmas.{IsWithin, within, within_back, core_at, IsByteOf, core_back, one_space}
 
 -- places
 
@@ -330,7 +330,7 @@ nothing_else forced os o x good linked space address byte e = by_case (core_back
         IsOfWord x.file.header os space address ⊎ ((is_in x.file.header space BssSeg address ≡ true) × (byte ≡ 0))
     by_case (inl b) = inl (of_word x.file.header os space TextSeg tt good refl full.text address (within x.file.header space TextSeg address b.in))
     by_case (inr (inl b)) = inl (of_word x.file.header os space DataSeg tt good refl full.data address (within x.file.header space DataSeg address b.in))
-    by_case (inr (inr b)) = inr (b.in, same b.byte)
+    by_case (inr (inr b)) = inr (b.in, same b.reads)
       where
         same : Some 0 ≡ Some byte → byte ≡ 0
         same f = cc

@@ -13,7 +13,7 @@ use Rattle.aout_core.specs.declared.reloc.Kind.{Kind}
 use Rattle.aout_core.specs.declared.reloc.Kind.TheVariants as kinds
 use Rattle.aout_core.specs.Contents.{Contents}
 use Rattle.aout_core.specs.Words.{plus, minus}
-use Rattle.aout_core.specs.WellFormed.{is_external, masked_type, segment_of, segment_numbered, kind_of, is_pc_relative, symbol_number}
+use Rattle.aout_core.specs.WellFormed.{masked_type, segment_of, segment_numbered, kind_of, is_pc_relative, symbol_number}
 use Rattle.link_session.specs.declared.state.State.{State}
 use Rattle.link_session.specs.declared.state.State.TheVariants.{Defined, Wanted}
 use Rattle.link_session.specs.Starts.{size_of, total, own}
@@ -25,10 +25,10 @@ use Rattle.link_out.specs.Choices.{Choices}
 use Rattle.link_out.specs.Layouts.{Bases}
 use Rattle.link_out.specs.Results.{Outcome}
 use Rattle.link_out.specs.function.Plans.{Plan, plan, common_offset}
-use Rattle.link_out.specs.function.Finals.{Final, final, final_by, bound_at, waiting, reserved_or_waiting, etext, edata, end_name}
-use Rattle.link_out.specs.function.Tables.{external_row, table}
+use Rattle.link_out.specs.function.Finals.{Final, final_by, bound_at, waiting, reserved_or_waiting, etext, edata, end_name}
+use Rattle.link_out.specs.function.Tables.{external_row}
 use Rattle.link_out.specs.function.Link.{link}
-use Rattle.link_out.specs.relation.Relocated.{carried, entry_of, address_in, IsAddressOf, IsAdded, begins, segment_words, segment_relocs, IsRelocated}
+use Rattle.link_out.specs.relation.Relocated.{carried, entry_of, address_in, IsAddressOf, IsAdded, begins, external_type, segment_words, segment_relocs, IsRelocated}
 use Rattle.link_out.specs.relation.LinkedFrom.{IsLinkedFrom}
 use Rattle.link_out.specs.laws.WordsAndNames.{IsDefined}
 use Rattle.link_out.proofs.OutcomeLemmas.{made_file}
@@ -127,11 +127,19 @@ module _ (forced : List (List ℕ)) (os : List Contents) (o : Choices) (unkept :
       by_test true e = let same : external_row p name ≡ row = cc in subst (λ (s : Symbol). address_in s ≡ s.value) same (value_in name)
       by_test false e = absurd (cc)
 
-pub names_found : (forced : List (List ℕ)) (before : List Contents) (k : Contents) (after : List Contents) (o : Choices) (x : Outcome) →
-    AllByRecursion IsObject (before ++ k ∷ after) → o.keep ≢ Nothing → o.relocatable ≡ false → link forced (before ++ k ∷ after) o ≡ Ok x →
+-- a word that refers to a name finds the address of the name's external symbol more
+record FindsAddress (file : Contents) (os before : List Contents) (k : Contents) (segment : Segment) (i w : ℕ) (r : Reloc) : Type 0 where
+  symbol : Symbol
+  row : Symbol
+  named : slice_get k.symbols (symbol_number r) ≡ Some symbol
+  found : entry_of file.symbols symbol.name ≡ Some row
+  more : FindsMore file os before k segment i w r (address_in row)
+
+address_found : (forced : List (List ℕ)) (before : List Contents) (k : Contents) (after : List Contents) (o : Choices) (x : Outcome) →
+    AllByRecursion IsObject (before ++ k ∷ after) → o.keep ≢ Nothing → link forced (before ++ k ∷ after) o ≡ Ok x →
     (segment : Segment) (i w : ℕ) (r : Reloc) → slice_get (segment_words segment k) i ≡ Some w → slice_get (segment_relocs segment k) i ≡ Some r →
-    kind_of r ≡ Some kinds.External → FindsName x.file (before ++ k ∷ after) before k segment i w r
-names_found forced before k after o x good others unkept linked segment i w r ew er kind =
+    kind_of r ≡ Some kinds.External → FindsAddress x.file (before ++ k ∷ after) before k segment i w r
+address_found forced before k after o x good others linked segment i w r ew er kind =
     let os = before ++ k ∷ after in
     let l = words_loaded forced before k after o x good others linked segment i w r ew er in
     let is : IsAddressOf x.file.symbols k (symbol_number r) l.added = subst (λ (m : Option Kind). IsAdded x.file.header x.file.symbols os before k m (symbol_number r) l.added) kind l.is in
@@ -140,8 +148,22 @@ names_found forced before k after o x good others unkept linked segment i w r ew
       row = is.row;
       named = is.named;
       found = is.found;
-      more = subst (λ (a : ℕ). FindsMore x.file os before k segment i w r a) (is.gives ∙ value_given forced os o unkept x others linked is.symbol.name is.row is.found)
-          (loaded_finds x.file x.file.symbols os before k segment (words_there segment k i w ew) i w r l);
+      more = subst (λ (a : ℕ). FindsMore x.file os before k segment i w r a) is.gives (loaded_finds x.file x.file.symbols os before k segment (words_there segment k i w ew) i w r l);
+    }
+
+pub names_found : (forced : List (List ℕ)) (before : List Contents) (k : Contents) (after : List Contents) (o : Choices) (x : Outcome) →
+    AllByRecursion IsObject (before ++ k ∷ after) → o.keep ≢ Nothing → o.relocatable ≡ false → link forced (before ++ k ∷ after) o ≡ Ok x →
+    (segment : Segment) (i w : ℕ) (r : Reloc) → slice_get (segment_words segment k) i ≡ Some w → slice_get (segment_relocs segment k) i ≡ Some r →
+    kind_of r ≡ Some kinds.External → FindsName x.file (before ++ k ∷ after) before k segment i w r
+names_found forced before k after o x good others unkept linked segment i w r ew er kind =
+    let os = before ++ k ∷ after in
+    let a = address_found forced before k after o x good others linked segment i w r ew er kind in
+    record {
+      symbol = a.symbol;
+      row = a.row;
+      named = a.named;
+      found = a.found;
+      more = subst (λ (n : ℕ). FindsMore x.file os before k segment i w r n) (value_given forced os o unkept x others linked a.symbol.name a.row a.found) a.more;
     }
 
 -- segments
@@ -203,14 +225,23 @@ is_definition s segment e has = false_from_ne_true (eqb (masked_type s) 0) (λ t
     no_place DataSeg e has = cc
     no_place BssSeg e has = cc
 
-pub calls_arrive : (forced : List (List ℕ)) (os : List Contents) (o : Choices) (x : Outcome) → AllByRecursion IsObject os → o.keep ≢ Nothing → o.relocatable ≡ false → link forced os o ≡ Ok x → x.report.multiples ≡ [] →
+-- a definition there gives its value
+defined_address : (row : Symbol) (segment : Segment) → HasPlace segment → row.type_bits ≡ external_type segment → address_in row ≡ row.value
+defined_address row TextSeg has e = ap (λ (t : ℕ). cond (eqb (t % 32) 0) 0 row.value) e
+defined_address row DataSeg has e = ap (λ (t : ℕ). cond (eqb (t % 32) 0) 0 row.value) e
+defined_address row BssSeg has e = ap (λ (t : ℕ). cond (eqb (t % 32) 0) 0 row.value) e
+defined_address row Undefined has e = absurd has
+defined_address row Absolute has e = absurd has
+defined_address row Other has e = absurd has
+
+pub calls_arrive : (forced : List (List ℕ)) (os : List Contents) (o : Choices) (x : Outcome) → AllByRecursion IsObject os → o.keep ≢ Nothing → link forced os o ≡ Ok x → x.report.multiples ≡ [] →
     (before : List Contents) (k : Contents) (after : List Contents) → os ≡ before ++ k ∷ after → (front : List Contents) (c : Contents) (back : List Contents) → os ≡ front ++ c ∷ back →
     (from to : Segment) (i n : ℕ) (name : List ℕ) → Calls k from i name → Defines c name to n → Arrives x.file os before k from i front c to n
-calls_arrive forced os o x good others unkept linked once before k after all front c back other from to i n name call d =
+calls_arrive forced os o x good others linked once before k after all front c back other from to i n name call d =
     let has : HasPlace to = place_there to c n d.inside in
-    let finds : FindsName x.file os before k from i call.w call.r =
-    subst (λ (ys : List Contents). FindsName x.file ys before k from i call.w call.r) (sym all)
-    (names_found forced before k after o x (subst (λ (ys : List Contents). AllByRecursion IsObject ys) all good) others unkept (ap (λ (ys : List Contents). link forced ys o) (sym all) ∙ linked) from i call.w call.r call.word call.reloc call.kind) in
+    let finds : FindsAddress x.file os before k from i call.w call.r =
+    subst (λ (ys : List Contents). FindsAddress x.file ys before k from i call.w call.r) (sym all)
+    (address_found forced before k after o x (subst (λ (ys : List Contents). AllByRecursion IsObject ys) all good) others (ap (λ (ys : List Contents). link forced ys o) (sym all) ∙ linked) from i call.w call.r call.word call.reloc call.kind) in
     let is : IsDefined x.file os front c d.symbol =
     subst (λ (ys : List Contents). IsDefined x.file ys front c d.symbol) (sym other)
     (definitions_hold forced front c back o x others (ap (λ (ys : List Contents). link forced ys o) (sym other) ∙ linked) once d.number d.symbol d.stands d.outer (is_definition d.symbol to d.is has)) in
@@ -229,7 +260,7 @@ calls_arrive forced os o x good others unkept linked once before k after all fro
       arrives =
           ap (λ (t : Bool). operand t finds.more.address finds.more.word) (sym call.pc)
           ∙ finds.more.finds
-          ∙ (λ j. plus ((ap (λ (s : Symbol). s.value) row ∙ value) j) ((ap (λ (t : Bool). operand t (own k from + 2 * i) call.w) call.pc ∙ call.just) j))
+          ∙ (λ j. plus ((ap address_in row ∙ defined_address is.row to has (is.type_bits ∙ ap external_type d.is) ∙ value) j) ((ap (λ (t : Bool). operand t (own k from + 2 * i) call.w) call.pc ∙ call.just) j))
           ∙ wrapped (address_of x.file.header os front c to n);
     }
   where

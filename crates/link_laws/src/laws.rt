@@ -33,6 +33,7 @@ pub fn core_law()
 /// - `segments`: a word that refers to a segment of its object finds what it does there, carried with that segment; an
 ///   absolute one the same as there.
 /// - `calls`: so where no name is multiply defined, a call finds the definition of its name, in whatever object it stands.
+///   Of links that keep symbols.
 pub fn operand_law()
     ensures names { NamesAreFound }
     ensures segments { SegmentsAreFound }
