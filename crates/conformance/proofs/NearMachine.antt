@@ -88,7 +88,7 @@ high_byte_first : TextIsLoaded (λ word. word / 256) of_instructions (λ start i
 high_byte_first law = other_byte 192 29 refl (law [] [] main_o (twice_o ∷ []) plain (outcome (main_o ∷ twice_o ∷ []) plain) (main_good, (twice_good, tt)) all_kept refl 0 7616 7616 refl refl)
 
 text_in_data : TextIsLoaded (λ word. word % 256) of_data (λ start i. start + 2 * i) → ⊥
-text_in_data law = no_byte 192 (law [] [] main_o (twice_o ∷ []) split (outcome (main_o ∷ twice_o ∷ []) split) (main_good, (twice_good, tt)) all_kept refl 0 7616 7616 refl refl)
+text_in_data law = other_byte 0 192 refl (law [] [] main_o (twice_o ∷ []) split (outcome (main_o ∷ twice_o ∷ []) split) (main_good, (twice_good, tt)) all_kept refl 0 7616 7616 refl refl)
 
 text_at_own_place : TextIsLoaded (λ word. word % 256) of_instructions (λ start i. 2 * i) → ⊥
 text_at_own_place law =
