@@ -1,11 +1,10 @@
 -- The laws of loaded programs at samples: bytes at addresses, and what instructions find there.
-use Rattle.std.proofs.Common.{◌≡◌, ◌≢◌, ℕ, true, List, [], ◌∷◌, Some, None, refl, arith}
+use Rattle.std.proofs.Common.{◌≡◌, ℕ, true, List, [], ◌∷◌, Some, None, refl, arith}
 use Rattle.std.specs.Prelude.{map}
 use Rattle.aout_core.specs.declared.symbol.Segment.TheVariants.{TextSeg}
 use Rattle.aout_core.specs.Contents.{Contents}
 use Rattle.link_session.specs.Sessions.{IsObject}
 use Rattle.link_out.specs.declared.options.Layout.TheVariants.{Pure, Split}
-use Rattle.link_out.specs.declared.options.Keep.TheVariants.{All, Nothing}
 use Rattle.link_out.specs.Choices.{Choices}
 use Rattle.link_out.specs.function.Link.{link}
 use Rattle.link_laws.specs.Core.{of_instructions, of_data, core}
@@ -14,6 +13,7 @@ use Rattle.link_laws.proofs.OperandLemmas.{calls_arrive}
 use Rattle.conformance.specs.Samples.{sym as entry, _twice, main_o, twice_o, count_o, i_o, plain, with_layout}
 use Rattle.conformance.proofs.LawExamples.{outcome_of}
 use Rattle.conformance.proofs.ClauseLemmas.{as_object}
+use Rattle.conformance.proofs.NeededPremises.{all_kept}
 
 abbrev pub linked : List Contents → Choices → Contents
 linked os o = (outcome_of (link [] os o)).file
@@ -21,7 +21,7 @@ linked os o = (outcome_of (link [] os o)).file
 abbrev pub forward : List Contents
 forward = main_o ∷ twice_o ∷ count_o ∷ []
 
-abbrev pub back : List Contents
+abbrev back : List Contents
 back = twice_o ∷ main_o ∷ count_o ∷ []
 
 -- the bytes of the operand of `mov _count,r0` and of the number behind text, and none behind that
@@ -68,13 +68,10 @@ main_good = as_object main_o refl refl refl refl refl refl refl refl
 pub twice_good : IsObject twice_o
 twice_good = as_object twice_o refl refl refl refl refl refl refl refl
 
-pub count_good : IsObject count_o
+count_good : IsObject count_o
 count_good = as_object count_o refl refl refl refl refl refl refl refl
 
-pub all_kept : All ≢ Nothing
-all_kept e = cc
-
-pub main_calls : Calls main_o TextSeg 3 _twice
+main_calls : Calls main_o TextSeg 3 _twice
 main_calls = record { w = 65528; r = record { 0 = 25 }; symbol = entry _twice 32 0; word = refl; reloc = refl; pc = refl; kind = refl; named = refl; names = refl; just = refl }
 
 twice_defined : Defines twice_o _twice TextSeg 0

@@ -1,5 +1,5 @@
 -- Statements near the laws of loaded programs that do not hold: each has a link that shows it.
-use Rattle.std.proofs.Common.{◌≡◌, ◌≢◌, ℕ, ◌+◌, ◌*◌, ◌/◌, ◌%◌, ◌<◌, ◌≤◌, true, false, List, [], ◌∷◌, ◌++◌, Some, None, refl, sym, ◌∙◌, ap, arith, eq-eqb}
+use Rattle.std.proofs.Common.{◌≡◌, ◌≢◌, ℕ, ◌+◌, ◌*◌, ◌/◌, ◌%◌, ◌<◌, ◌≤◌, true, false, List, [], ◌∷◌, ◌++◌, Some, None, refl, sym, ◌∙◌, ap, arith}
 use Rattle.std.specs.Prelude.{eqb, Ok, slice_get}
 use Rattle.std.specs.List.{AllByRecursion}
 use Rattle.aout_core.specs.declared.header.Header.{Header}
@@ -28,10 +28,9 @@ use Rattle.link_laws.proofs.LoadedLemmas.{words_loaded}
 use Rattle.conformance.specs.Samples.{sym as entry, sized, _f, _x, _twice, a_o, b_o, c_o, d_o, d2_o, k_o, x4_o, main_o, twice_o, plain, plain_s, relocatable, with_layout}
 use Rattle.conformance.proofs.LawExamples.{outcome_of}
 use Rattle.conformance.proofs.ClauseLemmas.{as_object, only_object, only_wanted}
-use Rattle.conformance.proofs.MachineExamples.{linked, forward, back, main_good, twice_good, all_kept}
-
-different : (a b : ℕ) → eqb a b ≡ false → a ≡ b → ⊥
-different a b t e = let bad : true ≡ false = sym (eq-eqb a b e) ∙ t in cc
+use Rattle.conformance.proofs.NearLaws.{different}
+use Rattle.conformance.proofs.NeededPremises.{all_kept, c_good, d_good}
+use Rattle.conformance.proofs.MachineExamples.{linked, forward, main_good, twice_good}
 
 other_byte : (a b : ℕ) → eqb a b ≡ false → Some a ≡ Some b → ⊥
 other_byte a b t e = let same : a ≡ b = cc in different a b t same
@@ -224,7 +223,7 @@ calls_of_multiples law =
     let os : List Contents = c_o ∷ d_o ∷ d2_o ∷ [] in
     let f : Contents = linked os plain in
     let h = law [] os plain (outcome os plain)
-    (as_object c_o refl refl refl refl refl refl refl refl, (as_object d_o refl refl refl refl refl refl refl refl, (as_object d2_o refl refl refl refl refl refl refl refl, tt))) all_kept refl
+    (c_good, (d_good, (as_object d2_o refl refl refl refl refl refl refl refl, tt))) all_kept refl
     [] c_o (d_o ∷ d2_o ∷ []) refl (c_o ∷ d_o ∷ []) d2_o [] refl TextSeg TextSeg 1 0 _f c_calls d2_defines in
     let at : h.address ≡ 2 = h.place.behind in
     let word : h.word ≡ 2 + 256 * 0 = word_is 2 0 h.word (ap (λ (a : ℕ). core f of_instructions a) (sym at) ∙ h.stands.low) (ap (λ (a : ℕ). core f of_instructions (a + 1)) (sym at) ∙ h.stands.high) in

@@ -2,7 +2,7 @@
 --
 -- A plain file (0407) and one with pure text (0410) are loaded into one space: text from 0, data from `data_begins`, and zeros for
 -- bss behind data. With split spaces (0411) text is loaded from 0 into the space of instructions, and data from 0 into that of
--- data, with bss behind it. A word has its low byte first.
+-- data, with bss behind it. A word has its low byte first. The stack is not told of here.
 use Rattle.std.specs.Prelude.{◌≡◌, ℕ, ◌+◌, ◌-◌, ◌/◌, ◌%◌, Bool, false, ◌&&◌, ◌||◌, eqb, if◌then◌else◌, nat_le, nat_lt, Option, Some, None, slice_get}
 use Rattle.aout_core.specs.declared.header.Header.{Header}
 use Rattle.aout_core.specs.declared.symbol.Segment.{Segment}
