@@ -9,3 +9,5 @@ mod DerivedLinks
 mod NearLaws
 mod NeededPremises
 mod ListingExamples
+mod MachineExamples
+mod NearMachine

@@ -4,3 +4,7 @@ mod ShownLemmas
 mod UndefinedListed
 mod ExternalsListed
 mod SizeSums
+pub mod ByteLemmas
+pub mod CoreLemmas
+pub mod LoadedLemmas
+pub mod OperandLemmas

@@ -1,2 +1,5 @@
 -- The definitions that the laws of this crate are written in.
 pub mod Listings
+pub mod Core
+pub mod CoreLaws
+pub mod Operands
