@@ -15,8 +15,8 @@ use Rattle.conformance.proofs.LawExamples.{outcome_of}
 use Rattle.conformance.proofs.ClauseLemmas.{as_object}
 use Rattle.conformance.proofs.NeededPremises.{all_kept}
 
-abbrev pub linked : List Contents → Choices → Contents
-linked os o = (outcome_of (link [] os o)).file
+abbrev pub file_of : List Contents → Choices → Contents
+file_of os o = (outcome_of (link [] os o)).file
 
 abbrev pub forward : List Contents
 forward = main_o ∷ twice_o ∷ count_o ∷ []
@@ -25,26 +25,26 @@ abbrev back : List Contents
 back = twice_o ∷ main_o ∷ count_o ∷ []
 
 -- the bytes of the operand of `mov _count,r0` and of the number behind text, and none behind that
-plain_bytes : map (λ (n : ℕ). core (linked forward plain) of_instructions n) (2 ∷ 3 ∷ 14 ∷ 15 ∷ 16 ∷ []) ≡ Some 10 ∷ Some 0 ∷ Some 21 ∷ Some 0 ∷ None ∷ []
+plain_bytes : map (λ (n : ℕ). core (file_of forward plain) of_instructions n) (2 ∷ 3 ∷ 14 ∷ 15 ∷ 16 ∷ []) ≡ Some 10 ∷ Some 0 ∷ Some 21 ∷ Some 0 ∷ None ∷ []
 plain_bytes = refl
 
 -- the same in the space of data
-one_space : core (linked forward plain) of_data 2 ≡ Some 10
+one_space : core (file_of forward plain) of_data 2 ≡ Some 10
 one_space = refl
 
 -- pure text: nothing up to 020000, where data begins
-pure_bytes : map (λ (n : ℕ). core (linked forward (with_layout Pure plain)) of_data n) (2 ∷ 3 ∷ 14 ∷ 8191 ∷ 8192 ∷ []) ≡ Some 252 ∷ Some 31 ∷ None ∷ None ∷ Some 21 ∷ []
+pure_bytes : map (λ (n : ℕ). core (file_of forward (with_layout Pure plain)) of_data n) (2 ∷ 3 ∷ 14 ∷ 8191 ∷ 8192 ∷ []) ≡ Some 252 ∷ Some 31 ∷ None ∷ None ∷ Some 21 ∷ []
 pure_bytes = refl
 
 -- split spaces: text at 0 of the one, data at 0 of the other
-split_text : map (λ (n : ℕ). core (linked forward (with_layout Split plain)) of_instructions n) (0 ∷ 1 ∷ 13 ∷ 14 ∷ []) ≡ Some 192 ∷ Some 29 ∷ Some 0 ∷ None ∷ []
+split_text : map (λ (n : ℕ). core (file_of forward (with_layout Split plain)) of_instructions n) (0 ∷ 1 ∷ 13 ∷ 14 ∷ []) ≡ Some 192 ∷ Some 29 ∷ Some 0 ∷ None ∷ []
 split_text = refl
 
-split_data : map (λ (n : ℕ). core (linked forward (with_layout Split plain)) of_data n) (0 ∷ 1 ∷ 2 ∷ []) ≡ Some 21 ∷ Some 0 ∷ None ∷ []
+split_data : map (λ (n : ℕ). core (file_of forward (with_layout Split plain)) of_data n) (0 ∷ 1 ∷ 2 ∷ []) ≡ Some 21 ∷ Some 0 ∷ None ∷ []
 split_data = refl
 
 -- zeros for a common of 3 bytes, rounded up, and 2 bytes of bss, behind 6 of text and 4 of data
-zero_bytes : map (λ (n : ℕ). core (linked (i_o ∷ []) plain) of_data n) (9 ∷ 10 ∷ 13 ∷ 14 ∷ 15 ∷ 16 ∷ []) ≡ Some 0 ∷ Some 0 ∷ Some 0 ∷ Some 0 ∷ Some 0 ∷ None ∷ []
+zero_bytes : map (λ (n : ℕ). core (file_of (i_o ∷ []) plain) of_data n) (9 ∷ 10 ∷ 13 ∷ 14 ∷ 15 ∷ 16 ∷ []) ≡ Some 0 ∷ Some 0 ∷ Some 0 ∷ Some 0 ∷ Some 0 ∷ None ∷ []
 zero_bytes = refl
 
 -- what the pc finds: `_count` at 016 by the word at 2, `_twice` at 012 by the word at 6
@@ -77,12 +77,12 @@ main_calls = record { w = 65528; r = record { 0 = 25 }; symbol = entry _twice 32
 twice_defined : Defines twice_o _twice TextSeg 0
 twice_defined = record { number = 0; symbol = entry _twice 34 0; stands = refl; outer = refl; names = refl; is = refl; value = refl; inside = omega arith }
 
-forward_call : Arrives (linked forward plain) forward [] main_o TextSeg 3 (main_o ∷ []) twice_o TextSeg 0
+forward_call : Arrives (file_of forward plain) forward [] main_o TextSeg 3 (main_o ∷ []) twice_o TextSeg 0
 forward_call =
     calls_arrive [] forward plain (outcome_of (link [] forward plain)) (main_good, (twice_good, (count_good, tt))) all_kept refl refl
     [] main_o (twice_o ∷ count_o ∷ []) refl (main_o ∷ []) twice_o (count_o ∷ []) refl TextSeg TextSeg 3 0 _twice main_calls twice_defined
 
-back_call : Arrives (linked back plain) back (twice_o ∷ []) main_o TextSeg 3 [] twice_o TextSeg 0
+back_call : Arrives (file_of back plain) back (twice_o ∷ []) main_o TextSeg 3 [] twice_o TextSeg 0
 back_call =
     calls_arrive [] back plain (outcome_of (link [] back plain)) (twice_good, (main_good, (count_good, tt))) all_kept refl refl
     (twice_o ∷ []) main_o (count_o ∷ []) refl [] twice_o (main_o ∷ count_o ∷ []) refl TextSeg TextSeg 3 0 _twice main_calls twice_defined

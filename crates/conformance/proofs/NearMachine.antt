@@ -1,6 +1,6 @@
 -- Statements near the laws of loaded programs that do not hold: each has a link that shows it.
 use Rattle.std.proofs.Common.{◌≡◌, ◌≢◌, ℕ, ◌+◌, ◌*◌, ◌/◌, ◌%◌, ◌<◌, ◌≤◌, true, false, List, [], ◌∷◌, ◌++◌, Some, None, refl, sym, ◌∙◌, ap, arith}
-use Rattle.std.specs.Prelude.{eqb, Ok, slice_get}
+use Rattle.std.specs.Prelude.{eqb, Ok, replicate, slice_get}
 use Rattle.std.specs.List.{AllByRecursion}
 use Rattle.aout_core.specs.declared.header.Header.{Header}
 use Rattle.aout_core.specs.declared.symbol.Symbol.{Symbol}
@@ -25,12 +25,12 @@ use Rattle.link_laws.specs.Core.{Space, of_instructions, of_data, has_segment, f
 use Rattle.link_laws.specs.CoreLaws.{IsLoaded, IsZero, IsOfWord}
 use Rattle.link_laws.specs.Operands.{FindsMore, FindsName, segment_meant, Calls, Defines, Arrives}
 use Rattle.link_laws.proofs.LoadedLemmas.{words_loaded}
-use Rattle.conformance.specs.Samples.{sym as entry, sized, _f, _x, _twice, a_o, b_o, c_o, d_o, d2_o, k_o, x4_o, main_o, twice_o, plain, plain_s, relocatable, with_layout}
+use Rattle.conformance.specs.Samples.{sym as entry, object, sized, _f, _x, _twice, a_o, b_o, c_o, d_o, d2_o, k_o, x4_o, main_o, twice_o, plain, plain_s, relocatable, with_layout}
 use Rattle.conformance.proofs.LawExamples.{outcome_of}
 use Rattle.conformance.proofs.ClauseLemmas.{as_object, only_object, only_wanted}
 use Rattle.conformance.proofs.NearLaws.{different}
 use Rattle.conformance.proofs.NeededPremises.{all_kept, c_good, d_good}
-use Rattle.conformance.proofs.MachineExamples.{linked, forward, main_good, twice_good}
+use Rattle.conformance.proofs.MachineExamples.{file_of, forward, main_good, twice_good}
 
 other_byte : (a b : ℕ) → eqb a b ≡ false → Some a ≡ Some b → ⊥
 other_byte a b t e = let same : a ≡ b = cc in different a b t same
@@ -47,23 +47,32 @@ split = with_layout Split plain
 -- segments apart: in two spaces, and with the address behind each
 
 apart_in_two_spaces : ((h : Header) (space other : Space) (one two : Segment) (address : ℕ) → is_in h space one address ≡ true → is_in h other two address ≡ true → one ≡ two) → ⊥
-apart_in_two_spaces law = let bad : TextSeg ≡ DataSeg = law (linked forward split).header of_instructions of_data TextSeg DataSeg 0 refl refl in cc
+apart_in_two_spaces law = let bad : TextSeg ≡ DataSeg = law (file_of forward split).header of_instructions of_data TextSeg DataSeg 0 refl refl in cc
 
 apart_with_ends : ((h : Header) (space : Space) (one two : Segment) (address : ℕ) → has_segment h.magic one space ≡ true → has_segment h.magic two space ≡ true →
     first_address h one ≤ address → address ≤ first_address h one + bytes_of h one → first_address h two ≤ address → address ≤ first_address h two + bytes_of h two → one ≡ two) → ⊥
-apart_with_ends law = let bad : TextSeg ≡ DataSeg = law (linked forward plain).header of_data TextSeg DataSeg 14 refl refl (omega arith) (omega arith) (omega arith) (omega arith) in cc
+apart_with_ends law = let bad : TextSeg ≡ DataSeg = law (file_of forward plain).header of_data TextSeg DataSeg 14 refl refl (omega arith) (omega arith) (omega arith) (omega arith) in cc
 
 -- one space: with split spaces
 
 one_of_split : ((forced : List (List ℕ)) (os : List Contents) (o : Choices) (x : Outcome) → link forced os o ≡ Ok x → (address : ℕ) → core x.file of_instructions address ≡ core x.file of_data address) → ⊥
 one_of_split law = other_byte 192 21 refl (law [] forward split (outcome forward split) refl 0)
 
--- addresses: one less
+-- addresses: one less, and with a text that is too long
 
 fit_below_65534 : ((forced : List (List ℕ)) (os : List Contents) (o : Choices) (x : Outcome) → link forced os o ≡ Ok x → x.file.header.text_size ≤ 65535 →
     (space : Space) (address byte : ℕ) → core x.file space address ≡ Some byte → address < 65534) → ⊥
 fit_below_65534 law =
     let bad : 65534 < 65534 = law [] (sized 0 0 65535 [] ∷ []) plain (outcome (sized 0 0 65535 [] ∷ []) plain) refl (omega arith) of_data 65534 0 refl in
+    absurd (omega arith)
+
+abbrev long_text : Contents
+long_text = object (replicate 32769 0) (replicate 32769 0) [] [] 0 []
+
+fit_with_long_text : ((forced : List (List ℕ)) (os : List Contents) (o : Choices) (x : Outcome) → link forced os o ≡ Ok x →
+    (space : Space) (address byte : ℕ) → core x.file space address ≡ Some byte → address < 65535) → ⊥
+fit_with_long_text law =
+    let bad : 65536 < 65535 = law [] (long_text ∷ []) split (outcome (long_text ∷ []) split) refl of_instructions 65536 0 refl in
     absurd (omega arith)
 
 -- words: without a table, with the high byte first, in the other space, without the objects before, and not carried
@@ -98,14 +107,14 @@ not_carried : ((forced : List (List ℕ)) (before : List Contents) (k : Contents
     (segment : Segment) (i w : ℕ) (r : Reloc) → slice_get (segment_words segment k) i ≡ Some w → slice_get (segment_relocs segment k) i ≡ Some r →
     (l : IsLoaded x.file x.file.symbols (before ++ k ∷ after) before k segment i w r) → own k segment + 2 * i ≡ l.address) → ⊥
 not_carried law =
-    let l : IsLoaded (linked (main_o ∷ twice_o ∷ []) plain) (linked (main_o ∷ twice_o ∷ []) plain).symbols (main_o ∷ twice_o ∷ []) (main_o ∷ []) twice_o TextSeg 0 3264 (record { 0 = 0 }) =
+    let l : IsLoaded (file_of (main_o ∷ twice_o ∷ []) plain) (file_of (main_o ∷ twice_o ∷ []) plain).symbols (main_o ∷ twice_o ∷ []) (main_o ∷ []) twice_o TextSeg 0 3264 (record { 0 = 0 }) =
     words_loaded [] (main_o ∷ []) twice_o [] plain (outcome (main_o ∷ twice_o ∷ []) plain) (main_good, (twice_good, tt)) all_kept refl TextSeg 0 3264 (record { 0 = 0 }) refl refl in
     different 0 10 refl (law [] (main_o ∷ []) twice_o [] plain (outcome (main_o ∷ twice_o ∷ []) plain) (main_good, (twice_good, tt)) all_kept refl TextSeg 0 3264 (record { 0 = 0 }) refl refl l ∙ l.place.behind)
 
 -- stripping: whatever the magic
 
 any_magic : ((file : Contents) (magic : ℕ) (space : Space) (address : ℕ) → core (record file { header = record file.header { magic = magic } }) space address ≡ core file space address) → ⊥
-any_magic law = no_byte 192 (law (linked forward plain) 261 of_instructions 0)
+any_magic law = no_byte 192 (law (file_of forward plain) 261 of_instructions 0)
 
 -- bss and commons: the byte behind them, and commons that wait
 
@@ -116,7 +125,7 @@ zero_behind_bss : ((forced : List (List ℕ)) (before : List Contents) (k : Cont
     AllByRecursion IsObject (before ++ k ∷ after) → link forced (before ++ k ∷ after) o ≡ Ok x → (n : ℕ) → n ≤ k.header.bss_size → IsZero x.file (before ++ k ∷ after) before k n) → ⊥
 zero_behind_bss law =
     let l = law [] [] two_zeros [] plain (outcome (two_zeros ∷ []) plain) (as_object two_zeros refl refl refl refl refl refl refl refl, tt) refl 2 (omega arith) in
-    no_byte 0 (ap (λ (a : ℕ). core (linked (two_zeros ∷ []) plain) of_data a) (sym l.place.behind) ∙ l.zero)
+    no_byte 0 (ap (λ (a : ℕ). core (file_of (two_zeros ∷ []) plain) of_data a) (sym l.place.behind) ∙ l.zero)
 
 zero_behind_common : ((forced : List (List ℕ)) (os : List Contents) (o : Choices) (x : Outcome) → o.keep ≢ Nothing → lays_commons o ≡ true → link forced os o ≡ Ok x →
     (name : List ℕ) (size : ℕ) → IsCommon forced os name size → (row : Symbol) → entry_of x.file.symbols name ≡ Some row → (n : ℕ) → n ≤ size → core x.file of_data (row.value + n) ≡ Some 0) → ⊥
@@ -160,7 +169,7 @@ names_with_relocation : ((forced : List (List ℕ)) (before : List Contents) (k 
     (segment : Segment) (i w : ℕ) (r : Reloc) → slice_get (segment_words segment k) i ≡ Some w → slice_get (segment_relocs segment k) i ≡ Some r →
     kind_of r ≡ Some kinds.External → FindsName x.file (before ++ k ∷ after) before k segment i w r) → ⊥
 names_with_relocation law =
-    let f : Contents = linked (k_o ∷ []) relocatable in
+    let f : Contents = file_of (k_o ∷ []) relocatable in
     let h = law [] [] k_o [] relocatable (outcome (k_o ∷ []) relocatable) (k_good, tt) all_kept refl TextSeg 0 2 (record { 0 = 8 }) refl refl refl in
     let named : Some (entry _x 32 4) ≡ Some h.symbol = h.named in
     let symbol : entry _x 32 4 ≡ h.symbol = cc in
@@ -201,7 +210,7 @@ segments_stay : ((forced : List (List ℕ)) (before : List Contents) (k : Conten
     (segment : Segment) (i w : ℕ) (r : Reloc) → slice_get (segment_words segment k) i ≡ Some w → slice_get (segment_relocs segment k) i ≡ Some r →
     (kind : Kind) (meant : Segment) → kind_of r ≡ Some kind → segment_meant kind ≡ Some meant → FindsMore x.file (before ++ k ∷ after) before k segment i w r 0) → ⊥
 segments_stay law =
-    let f : Contents = linked (b_o ∷ a_o ∷ []) plain in
+    let f : Contents = file_of (b_o ∷ a_o ∷ []) plain in
     let h = law [] (b_o ∷ []) a_o [] plain (outcome (b_o ∷ a_o ∷ []) plain) (b_good, (a_good, tt)) refl TextSeg 1 4 (record { 0 = 4 }) refl refl kinds.DataSeg DataSeg refl refl in
     let at : h.address ≡ 4 = h.place.behind in
     let word : h.word ≡ 6 + 256 * 0 = word_is 6 0 h.word (ap (λ (a : ℕ). core f of_instructions a) (sym at) ∙ h.stands.low) (ap (λ (a : ℕ). core f of_instructions (a + 1)) (sym at) ∙ h.stands.high) in
@@ -221,7 +230,7 @@ calls_of_multiples : ((forced : List (List ℕ)) (os : List Contents) (o : Choic
     (from to : Segment) (i n : ℕ) (name : List ℕ) → Calls k from i name → Defines c name to n → Arrives x.file os before k from i front c to n) → ⊥
 calls_of_multiples law =
     let os : List Contents = c_o ∷ d_o ∷ d2_o ∷ [] in
-    let f : Contents = linked os plain in
+    let f : Contents = file_of os plain in
     let h = law [] os plain (outcome os plain)
     (c_good, (d_good, (as_object d2_o refl refl refl refl refl refl refl refl, tt))) all_kept refl
     [] c_o (d_o ∷ d2_o ∷ []) refl (c_o ∷ d_o ∷ []) d2_o [] refl TextSeg TextSeg 1 0 _f c_calls d2_defines in

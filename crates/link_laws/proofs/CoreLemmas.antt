@@ -8,7 +8,7 @@ use Rattle.aout_core.specs.declared.symbol.Segment.TheVariants.{Undefined, Absol
 use Rattle.aout_core.specs.Contents.{Contents}
 use Rattle.aout_core.specs.WellFormed.{first_of}
 use Rattle.link_out.specs.relation.Relocated.{data_begins}
-use Rattle.link_laws.specs.Core.{Space, of_instructions, of_data, has_one_space, has_segment, first_address, bytes_of, segment_byte, is_in, loaded, core}
+use Rattle.link_laws.specs.Core.{Space, of_instructions, of_data, has_one_space, has_segment, first_address, bytes_of, segment_byte, is_in, loaded_byte, core}
 
 -- what it is to be in a segment
 pub record IsWithin (h : Header) (space : Space) (segment : Segment) (address : ℕ) : Type 0 where
@@ -94,17 +94,17 @@ segments_apart h space one Absolute a p q = absurd (let bad : false ≡ true = q
 segments_apart h space one Other a p q = absurd (let bad : false ≡ true = q in cc)
 
 module _ (file : Contents) (space : Space) (address byte : ℕ) where
-  loaded_in : (segment : Segment) → is_in file.header space segment address ≡ true → loaded file space segment address ≡ segment_byte file segment (address - first_address file.header segment)
+  loaded_in : (segment : Segment) → is_in file.header space segment address ≡ true → loaded_byte file space segment address ≡ segment_byte file segment (address - first_address file.header segment)
   loaded_in segment e = ap (λ (t : Bool). let b : Option ℕ = cond t (segment_byte file segment (address - first_address file.header segment)) None in b) e
 
-  loaded_out : (segment : Segment) → (is_in file.header space segment address ≡ true → ⊥) → loaded file space segment address ≡ None
+  loaded_out : (segment : Segment) → (is_in file.header space segment address ≡ true → ⊥) → loaded_byte file space segment address ≡ None
   loaded_out segment h = ap (λ (t : Bool). let b : Option ℕ = cond t (segment_byte file segment (address - first_address file.header segment)) None in b) (false_from_ne_true (is_in file.header space segment address) h)
 
   -- a byte of a segment is in the core
   pub core_at : (segment : Segment) → is_in file.header space segment address ≡ true → segment_byte file segment (address - first_address file.header segment) ≡ Some byte → core file space address ≡ Some byte
-  core_at TextSeg p e = ap (λ (b : Option ℕ). first_of b (first_of (loaded file space DataSeg address) (loaded file space BssSeg address))) (loaded_in TextSeg p ∙ e)
+  core_at TextSeg p e = ap (λ (b : Option ℕ). first_of b (first_of (loaded_byte file space DataSeg address) (loaded_byte file space BssSeg address))) (loaded_in TextSeg p ∙ e)
   core_at DataSeg p e =
-      λ i. first_of (loaded_out TextSeg (λ q. text_or_data file.header space address q p) i) (first_of ((loaded_in DataSeg p ∙ e) i) (loaded file space BssSeg address))
+      λ i. first_of (loaded_out TextSeg (λ q. text_or_data file.header space address q p) i) (first_of ((loaded_in DataSeg p ∙ e) i) (loaded_byte file space BssSeg address))
   core_at BssSeg p e =
       λ i. first_of (loaded_out TextSeg (λ q. text_or_bss file.header space address q p) i) (first_of (loaded_out DataSeg (λ q. data_or_bss file.header space address q p) i) ((loaded_in BssSeg p ∙ e) i))
   core_at Undefined p e = absurd (let bad : false ≡ true = p in cc)
@@ -116,7 +116,7 @@ module _ (file : Contents) (space : Space) (address byte : ℕ) where
     pub «in» : is_in file.header space segment address ≡ true
     pub reads : segment_byte file segment (address - first_address file.header segment) ≡ Some byte
 
-  loaded_back : (segment : Segment) → loaded file space segment address ≡ Some byte → IsByteOf segment
+  loaded_back : (segment : Segment) → loaded_byte file space segment address ≡ Some byte → IsByteOf segment
   loaded_back segment e = by_test (is_in file.header space segment address) refl e
     where
       by_test : (t : Bool) → is_in file.header space segment address ≡ t → cond t (segment_byte file segment (address - first_address file.header segment)) None ≡ Some byte → IsByteOf segment
@@ -129,9 +129,9 @@ module _ (file : Contents) (space : Space) (address byte : ℕ) where
   one_of None None z e = inr (inr e)
 
   pub core_back : core file space address ≡ Some byte → IsByteOf TextSeg ⊎ (IsByteOf DataSeg ⊎ IsByteOf BssSeg)
-  core_back e = by_case (one_of (loaded file space TextSeg address) (loaded file space DataSeg address) (loaded file space BssSeg address) e)
+  core_back e = by_case (one_of (loaded_byte file space TextSeg address) (loaded_byte file space DataSeg address) (loaded_byte file space BssSeg address) e)
     where
-      by_case : (loaded file space TextSeg address ≡ Some byte) ⊎ ((loaded file space DataSeg address ≡ Some byte) ⊎ (loaded file space BssSeg address ≡ Some byte)) → IsByteOf TextSeg ⊎ (IsByteOf DataSeg ⊎ IsByteOf BssSeg)
+      by_case : (loaded_byte file space TextSeg address ≡ Some byte) ⊎ ((loaded_byte file space DataSeg address ≡ Some byte) ⊎ (loaded_byte file space BssSeg address ≡ Some byte)) → IsByteOf TextSeg ⊎ (IsByteOf DataSeg ⊎ IsByteOf BssSeg)
       by_case (inl f) = inl (loaded_back TextSeg f)
       by_case (inr (inl f)) = inr (inl (loaded_back DataSeg f))
       by_case (inr (inr f)) = inr (inr (loaded_back BssSeg f))

@@ -54,13 +54,13 @@ module _ (h : Header) (os before : List Contents) (k : Contents) where
   abbrev pub address_of : Segment → ℕ → ℕ
   address_of segment n = begins h (total BssSeg os) segment + total segment before + n
 
-  pub placed : (segment : Segment) → HasPlace segment → (n : ℕ) → IsPlace h os before k segment n (address_of segment n)
-  placed TextSeg has n = record { behind = refl; symbol = place_sum (own k TextSeg) n (begins h (total BssSeg os) TextSeg + total TextSeg before) }
-  placed DataSeg has n = record { behind = refl; symbol = place_sum (own k DataSeg) n (begins h (total BssSeg os) DataSeg + total DataSeg before) }
-  placed BssSeg has n = record { behind = refl; symbol = place_sum (own k BssSeg) n (begins h (total BssSeg os) BssSeg + total BssSeg before) }
-  placed Undefined has n = absurd has
-  placed Absolute has n = absurd has
-  placed Other has n = absurd has
+  pub place_at : (segment : Segment) → HasPlace segment → (n : ℕ) → IsPlace h os before k segment n (address_of segment n)
+  place_at TextSeg has n = record { behind = refl; symbol = place_sum (own k TextSeg) n (begins h (total BssSeg os) TextSeg + total TextSeg before) }
+  place_at DataSeg has n = record { behind = refl; symbol = place_sum (own k DataSeg) n (begins h (total BssSeg os) DataSeg + total DataSeg before) }
+  place_at BssSeg has n = record { behind = refl; symbol = place_sum (own k BssSeg) n (begins h (total BssSeg os) BssSeg + total BssSeg before) }
+  place_at Undefined has n = absurd has
+  place_at Absolute has n = absurd has
+  place_at Other has n = absurd has
 
 pub words_have_place : (segment : Segment) → HasWords segment → HasPlace segment
 words_have_place TextSeg has = tt
@@ -153,13 +153,13 @@ module _ (forced : List (List ℕ)) (os : List Contents) (o : Choices) (x : Outc
   full : HoldsObjects x.file os
   full = objects_fill forced os o x good linked
 
-  filled : (segment : Segment) → HasWords segment → 2 * length (segment_words segment x.file) ≡ bytes_of x.file.header segment
-  filled TextSeg has = full.text_words ∙ sym full.text
-  filled DataSeg has = full.data_words ∙ sym full.data
-  filled Undefined has = absurd has
-  filled Absolute has = absurd has
-  filled BssSeg has = absurd has
-  filled Other has = absurd has
+  segment_filled : (segment : Segment) → HasWords segment → 2 * length (segment_words segment x.file) ≡ bytes_of x.file.header segment
+  segment_filled TextSeg has = full.text_words ∙ sym full.text
+  segment_filled DataSeg has = full.data_words ∙ sym full.data
+  segment_filled Undefined has = absurd has
+  segment_filled Absolute has = absurd has
+  segment_filled BssSeg has = absurd has
+  segment_filled Other has = absurd has
 
   start : (segment : Segment) → HasWords segment → begins x.file.header (total BssSeg os) segment ≡ first_address x.file.header segment
   start TextSeg has = refl
@@ -178,12 +178,12 @@ module _ (forced : List (List ℕ)) (os : List Contents) (o : Choices) (x : Outc
         let word : ℕ = minus (plus w is.added) (cond (is_pc_relative r) (carried x.file.header os before k segment) 0) in
         record {
           address = address_of x.file.header os before k segment (2 * i);
-          place = placed x.file.header os before k segment (words_have_place segment has) (2 * i);
+          place = place_at x.file.header os before k segment (words_have_place segment has) (2 * i);
           added = is.added;
           is = is.is;
           word = subst (λ (a : ℕ). IsWordAt x.file (space_of segment) a word)
               (sums (first_address x.file.header segment) (begins x.file.header (total BssSeg os) segment) (total segment before) i (start segment has) (whole_words segment has before front))
-              (word_there x.file (space_of segment) segment has (found_in forced os o x linked segment (words_have_place segment has)) (filled segment has) (total segment before / 2 + i) word is.word);
+              (word_there x.file (space_of segment) segment has (found_in forced os o x linked segment (words_have_place segment has)) (segment_filled segment has) (total segment before / 2 + i) word is.word);
         }
       where
         sums : (f b t i : ℕ) → b ≡ f → 2 * (t / 2) ≡ t → f + 2 * (t / 2 + i) ≡ b + t + 2 * i
@@ -198,7 +198,7 @@ module _ (forced : List (List ℕ)) (os : List Contents) (o : Choices) (x : Outc
       let address : ℕ = address_of x.file.header os before k BssSeg n in
       record {
         address = address;
-        place = placed x.file.header os before k BssSeg tt n;
+        place = place_at x.file.header os before k BssSeg tt n;
         zero = zero_at x.file (found_in forced os o x linked BssSeg tt) address (over (data_begins x.file.header + x.file.header.data_size) (x.file.header.bss_size - total BssSeg os) (total BssSeg before) n)
             (under (data_begins x.file.header + x.file.header.data_size) x.file.header.bss_size (total BssSeg os) (total BssSeg before) k.header.bss_size (total BssSeg after) n sum full.bss h);
       }

@@ -38,7 +38,7 @@ use Rattle.link_out.proofs.DefinedLemmas.{definitions_hold}
 use Rattle.link_out.proofs.LinkedTheorem.{linked_exactly}
 use Rattle.link_laws.specs.CoreLaws.{IsPlace, IsLoaded}
 use Rattle.link_laws.specs.Operands.{operand, FindsMore, FindsName, segment_meant, Calls, Defines, Arrives}
-use Rattle.link_laws.proofs.LoadedLemmas.{HasPlace, address_of, placed, loaded_word, words_loaded}
+use Rattle.link_laws.proofs.LoadedLemmas.{HasPlace, address_of, place_at, loaded_word, words_loaded}
 
 -- sums
 
@@ -245,7 +245,7 @@ calls_arrive forced os o x good others linked once before k after all front c ba
     let is : IsDefined x.file os front c d.symbol =
     subst (λ (ys : List Contents). IsDefined x.file ys front c d.symbol) (sym other)
     (definitions_hold forced front c back o x others (ap (λ (ys : List Contents). link forced ys o) (sym other) ∙ linked) once d.number d.symbol d.stands d.outer (is_definition d.symbol to d.is has)) in
-    let there : IsPlace x.file.header os front c to n (address_of x.file.header os front c to n) = placed x.file.header os front c to has n in
+    let there : IsPlace x.file.header os front c to n (address_of x.file.header os front c to n) = place_at x.file.header os front c to has n in
     let same : finds.symbol ≡ call.symbol = same_Some finds.symbol call.symbol (sym finds.named ∙ call.named) in
     let row : finds.row ≡ is.row = same_Some finds.row is.row (sym finds.found ∙ ap (λ (m : List ℕ). entry_of x.file.symbols m) (ap (λ (s : Symbol). s.name) same ∙ call.names ∙ sym d.names) ∙ is.found) in
     let value : is.row.value ≡ address_of x.file.header os front c to n % 65536 =

@@ -54,13 +54,13 @@ is_in h space segment address =
     has_segment h.magic segment space && (nat_le (first_address h segment) address && nat_lt address (first_address h segment + bytes_of h segment))
 
 -- the byte that a segment has at an address of a space
-abbrev pub loaded : Contents → Space → Segment → ℕ → Option ℕ
-loaded file space segment address =
+abbrev pub loaded_byte : Contents → Space → Segment → ℕ → Option ℕ
+loaded_byte file space segment address =
     if is_in file.header space segment address then segment_byte file segment (address - first_address file.header segment) else None
 
 -- the byte at an address of a space, if there is one
 abbrev pub core : Contents → Space → ℕ → Option ℕ
-core file space address = first_of (loaded file space TextSeg address) (first_of (loaded file space DataSeg address) (loaded file space BssSeg address))
+core file space address = first_of (loaded_byte file space TextSeg address) (first_of (loaded_byte file space DataSeg address) (loaded_byte file space BssSeg address))
 
 -- the word at an address, low byte first
 pub record IsWordAt (file : Contents) (space : Space) (address word : ℕ) : Type 0 where
