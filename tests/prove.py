@@ -13,9 +13,6 @@ import tempfile
 import time
 from concurrent.futures import ThreadPoolExecutor
 
-# what it took from nothing, with the program (README.md)
-ELSEWHERE = "11 to 18 minutes on four cores"
-
 os.chdir(os.path.join(os.path.dirname(os.path.abspath(__file__)), ".."))
 
 
@@ -92,7 +89,7 @@ def proved(crate, libraries, lanes, copies):
 def main(program):
     libraries = below(program)
     count = sum(map(functions, libraries))
-    print(f"{len(libraries)} libraries of {count} functions, and then {program}: elsewhere {ELSEWHERE}", flush=True)
+    print(f"{len(libraries)} libraries of {count} functions, and then the program {program}", flush=True)
     with tempfile.TemporaryDirectory() as copies:
         lanes = {}
         with ThreadPoolExecutor(len(libraries)) as pool:
