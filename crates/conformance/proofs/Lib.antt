@@ -8,3 +8,4 @@ mod NeededClauses
 mod DerivedLinks
 mod NearLaws
 mod NeededPremises
+mod OrderExamples

@@ -1,3 +1,6 @@
 -- The lemmas of this crate.
 pub mod NameListLemmas
 pub mod ReorderedMentions
+pub mod ReorderedDefinitions
+pub mod ReorderedLinks
+pub mod ReorderedMeanings

@@ -130,7 +130,8 @@ module _ (forced : List (List ℕ)) (os ps : List Contents) (same : IsPermutatio
   unnamed_too : (name : List ℕ) → is_among (names_of (mentions forced os)) name ≡ false → is_among (names_of (mentions forced ps)) name ≡ false
   unnamed_too name h = all_others (mentions forced ps) name (in_other_order (IsOfOther name) (λ before front k s e. e) (unnamed (mentions forced os) name h))
 
-wanted_too : (forced : List (List ℕ)) (os ps : List Contents) → IsPermutation os ps → (name : List ℕ) (size : ℕ) → IsWanted (mentions forced os) name size → IsWanted (mentions forced ps) name size
+-- a name that is wanted is so in the other order, at the same size
+pub wanted_too : (forced : List (List ℕ)) (os ps : List Contents) → IsPermutation os ps → (name : List ℕ) (size : ℕ) → IsWanted (mentions forced os) name size → IsWanted (mentions forced ps) name size
 wanted_too forced os ps same name size w = record {
   undefined = in_other_order forced os ps same (LeavesOpen name) (open_anywhere name) w.undefined;
   most = in_other_order forced os ps same (WantsAtMost name size) (most_anywhere name size) w.most;

@@ -46,10 +46,10 @@ abbrev pub OrderReportsAlike : Type 0
 OrderReportsAlike = (forced : List (List ℕ)) (os ps : List Contents) (o : Choices) (x y : Outcome) → AreOrders forced os ps o x y →
     (x.report.reserved ≡ y.report.reserved) × IsPermutation x.report.undefined y.report.undefined
 
--- the entry point is found in both or in neither, where no name is multiply defined
+-- the entry point is found in both or in neither, where no name is multiply defined in one of the orders
 abbrev pub OrderFindsEntry : Type 0
 OrderFindsEntry = (forced : List (List ℕ)) (os ps : List Contents) (o : Choices) (x y : Outcome) → AreOrders forced os ps o x y →
-    x.report.multiples ≡ [] → y.report.multiples ≡ [] → x.report.entry_bad ≡ y.report.entry_bad
+    x.report.multiples ≡ [] → x.report.entry_bad ≡ y.report.entry_bad
 
 -- what a name means: the definition that a symbol of an object makes, a common of so many bytes, or nothing in the objects
 pub data Meaning : Type 0 where
@@ -81,10 +81,10 @@ pub record MeansTheSame (forced : List (List ℕ)) (os ps : List Contents) (o : 
   pub one : Means forced os o x.file name meaning
   pub other : Means forced ps o y.file name meaning
 
--- where no name is multiply defined, each name means the same
+-- where no name is multiply defined in one of the orders, each name means the same
 abbrev pub OrderKeepsMeanings : Type 0
 OrderKeepsMeanings = (forced : List (List ℕ)) (os ps : List Contents) (o : Choices) (x y : Outcome) → AreOrders forced os ps o x y → o.keep ≢ Nothing → o.relocatable ≡ false →
-    x.report.multiples ≡ [] → y.report.multiples ≡ [] → (name : List ℕ) → is_among (externals forced os) name ≡ true → MeansTheSame forced os ps o x y name
+    x.report.multiples ≡ [] → (name : List ℕ) → is_among (externals forced os) name ≡ true → MeansTheSame forced os ps o x y name
 
 -- a word of k, behind these objects in the one order and those in the other, is relocated in both files, and the name that it
 -- refers to, if it does, means the same
@@ -96,7 +96,7 @@ pub record RefersAlike (forced : List (List ℕ)) (os ps : List Contents) (o : C
 -- so each word of each object refers to the same
 abbrev pub OrderKeepsReferents : Type 0
 OrderKeepsReferents = (forced : List (List ℕ)) (os ps : List Contents) (o : Choices) (x y : Outcome) → AreOrders forced os ps o x y → o.keep ≢ Nothing → o.relocatable ≡ false →
-    x.report.multiples ≡ [] → y.report.multiples ≡ [] → AllByRecursion IsObject os →
+    x.report.multiples ≡ [] → AllByRecursion IsObject os →
     (before : List Contents) (k : Contents) (after : List Contents) → os ≡ before ++ k ∷ after → (front back : List Contents) → ps ≡ front ++ k ∷ back →
     (segment : Segment) (i w : ℕ) (r : Reloc) → slice_get (segment_words segment k) i ≡ Some w → slice_get (segment_relocs segment k) i ≡ Some r →
     RefersAlike forced os ps o x y before front k segment i w r
