@@ -1,11 +1,13 @@
 -- The law of order at the objects of docs/BLACKBOARD.md, and statements near it that do not hold.
-use Rattle.std.proofs.Common.{◌≡◌, ◌≢◌, ℕ, ◌+◌, true, false, List, [], ◌∷◌, ◌++◌, length, Option, Some, None, refl, sym, ◌∙◌, ap, arith}
+use Rattle.std.proofs.Common.{◌≡◌, ◌≢◌, ℕ, ◌+◌, ◌≤◌, true, false, List, [], ◌∷◌, ◌++◌, length, Option, Some, None, refl, sym, ◌∙◌, ap, arith}
 use Rattle.std.specs.Prelude.{codes, replicate, sum_by, Ok, Err}
 use Rattle.std.specs.List.Sorted.{IsPermutation}
 use Rattle.std.proofs.lemmas.List.Sorted.{IsPermutation-refl}
 use Rattle.aout_core.specs.declared.symbol.Symbol.{Symbol}
-use Rattle.aout_core.specs.declared.symbol.Segment.TheVariants.{TextSeg, DataSeg}
+use Rattle.aout_core.specs.declared.symbol.Segment.{Segment}
+use Rattle.aout_core.specs.declared.symbol.Segment.TheVariants.{Undefined, Absolute, TextSeg, DataSeg, BssSeg, Other}
 use Rattle.aout_core.specs.Contents.{Contents}
+use Rattle.aout_core.specs.WellFormed.{segment_of}
 use Rattle.link_session.specs.Mentions.{externals, is_among}
 use Rattle.link_out.specs.declared.linked.LinkFault.{LinkFault}
 use Rattle.link_out.specs.declared.linked.LinkFault.TheVariants.{SymbolNumber}
@@ -13,6 +15,7 @@ use Rattle.link_out.specs.declared.options.Keep.TheVariants.{Nothing}
 use Rattle.link_out.specs.Choices.{Choices}
 use Rattle.link_out.specs.Results.{Outcome}
 use Rattle.link_out.specs.function.Link.{link}
+use Rattle.link_out.specs.relation.Relocated.{entry_of as row_of, external_type}
 use Rattle.link_laws.specs.Orders.{AreOrders, Meaning, definition, common, missing, Means, MeansTheSame, OrderRefusesAlike, OrderKeepsSizes, OrderReportsAlike, OrderFindsEntry, OrderKeepsMeanings}
 use Rattle.conformance.specs.Samples.{sym as entry, object, _f, _g, _x, L1, d_o, g_o, x4_o, plain, plain_s, relocatable, with_entry}
 use Rattle.conformance.proofs.LawExamples.{outcome_of}
@@ -208,3 +211,64 @@ without_mention law = none (law [] [] [] plain x x (record { same = IsPermutatio
         by_meaning (definition k s) h = let bad : None ≡ Some h.is.row = h.is.found in cc
         by_meaning (common size) h = let bad : None ≡ Some h.1.row = h.1.found in cc
         by_meaning missing h = let bad : None ≡ Some (entry _g 0o40 0) = h.1 in cc
+
+-- the row that a name has
+row_known : (a b : Symbol) → Some a ≡ Some b → a ≡ b
+row_known a b e = cc
+
+-- a name is defined in text in one order, and in data in the other
+where_multiple : MeaningsKept (λ o x forced os name. (o.keep ≢ Nothing) × (o.relocatable ≡ false) × (is_among (externals forced os) name ≡ true)) → ⊥
+where_multiple law = none (law [] (text_f ∷ data_f ∷ []) (data_f ∷ text_f ∷ []) plain x y (record { same = first_two text_f data_f []; one = refl; other = refl }) _f (all_kept, refl, refl))
+  where
+    x : Outcome
+    x = link_of (text_f ∷ data_f ∷ []) plain
+
+    y : Outcome
+    y = link_of (data_f ∷ text_f ∷ []) plain
+
+    none : MeansTheSame [] (text_f ∷ data_f ∷ []) (data_f ∷ text_f ∷ []) plain x y _f → ⊥
+    none m = by_meaning m.meaning m.one m.other
+      where
+        by_meaning : (meaning : Meaning) → Means [] (text_f ∷ data_f ∷ []) plain x.file _f meaning → Means [] (data_f ∷ text_f ∷ []) plain y.file _f meaning → ⊥
+        by_meaning (definition k s) h g =
+            let a = row_known (entry _f 0o42 0) h.is.row (ap (λ (n : List ℕ). row_of x.file.symbols n) h.names ∙ h.is.found) in
+            let b = row_known (entry _f 0o43 2) g.is.row (ap (λ (n : List ℕ). row_of y.file.symbols n) g.names ∙ g.is.found) in
+            counts (λ (n : ℕ). n) 0o42 0o43 refl (ap (λ (r : Symbol). r.type_bits) a ∙ h.is.type_bits ∙ sym g.is.type_bits ∙ sym (ap (λ (r : Symbol). r.type_bits) b))
+        by_meaning (common size) h g = counts (λ (n : ℕ). n) 0o42 0o44 refl (ap (λ (r : Symbol). r.type_bits) (row_known (entry _f 0o42 0) h.1.row h.1.found) ∙ h.1.type_bits)
+        by_meaning missing h g = counts (λ (r : Symbol). r.type_bits) (entry _f 0o42 0) (entry _f 0o40 0) refl (row_known (entry _f 0o42 0) (entry _f 0o40 0) h.1)
+
+-- with relocation a common has no room yet
+with_relocation : MeaningsKept (λ o x forced os name. (o.keep ≢ Nothing) × (x.report.multiples ≡ []) × (is_among (externals forced os) name ≡ true)) → ⊥
+with_relocation law = none (law [] (x4_o ∷ []) (x4_o ∷ []) relocatable x x (record { same = IsPermutation-refl (x4_o ∷ []); one = refl; other = refl }) _x (all_kept, refl, refl))
+  where
+    x : Outcome
+    x = link_of (x4_o ∷ []) relocatable
+
+    undefined_type : (segment : Segment) → 0o40 ≡ external_type segment → ⊥
+    undefined_type TextSeg e = counts (λ (n : ℕ). n) 0o40 0o42 refl e
+    undefined_type DataSeg e = counts (λ (n : ℕ). n) 0o40 0o43 refl e
+    undefined_type BssSeg e = counts (λ (n : ℕ). n) 0o40 0o44 refl e
+    undefined_type Undefined e = counts (λ (n : ℕ). n) 0o40 0o41 refl e
+    undefined_type Absolute e = counts (λ (n : ℕ). n) 0o40 0o41 refl e
+    undefined_type Other e = counts (λ (n : ℕ). n) 0o40 0o41 refl e
+
+    none : MeansTheSame [] (x4_o ∷ []) (x4_o ∷ []) relocatable x x _x → ⊥
+    none m = by_meaning m.meaning m.one
+      where
+        by_meaning : (meaning : Meaning) → Means [] (x4_o ∷ []) relocatable x.file _x meaning → ⊥
+        by_meaning (definition k s) h =
+            let a = row_known (entry _x 0o40 4) h.is.row (ap (λ (n : List ℕ). row_of x.file.symbols n) h.names ∙ h.is.found) in
+            undefined_type (segment_of s) (ap (λ (r : Symbol). r.type_bits) a ∙ h.is.type_bits)
+        by_meaning (common size) h = counts (λ (n : ℕ). n) 0o40 0o44 refl (ap (λ (r : Symbol). r.type_bits) (row_known (entry _x 0o40 4) h.1.row h.1.found) ∙ h.1.type_bits)
+        by_meaning missing h = let bad : 4 ≤ 0 = h.0.most.0 refl 4 refl in absurd (omega arith)
+
+-- commons are of the same size, and lie elsewhere
+abbrev f2_o : Contents
+f2_o = object [] [] [] [] 0 (entry _f 0o40 2 ∷ [])
+
+same_commons : OrdersGive (λ x y. row_of x.file.symbols _x ≡ row_of y.file.symbols _x) → ⊥
+same_commons law =
+    let x = link_of (x4_o ∷ f2_o ∷ []) plain in
+    let y = link_of (f2_o ∷ x4_o ∷ []) plain in
+    let e : Some (entry _x 0o44 0) ≡ Some (entry _x 0o44 2) = law [] (x4_o ∷ f2_o ∷ []) (f2_o ∷ x4_o ∷ []) plain x y (record { same = first_two x4_o f2_o []; one = refl; other = refl }) in
+    counts (λ (r : Symbol). r.value) (entry _x 0o44 0) (entry _x 0o44 2) refl (row_known (entry _x 0o44 0) (entry _x 0o44 2) e)

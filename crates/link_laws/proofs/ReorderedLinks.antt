@@ -1,18 +1,16 @@
 -- Links of the same objects in two orders: refusals, sizes and reports.
-use Rattle.std.proofs.Common.{◌≡◌, ◌≢◌, ℕ, ◌+◌, ◌*◌, Bool, true, false, cond, ◌&&◌, eqb, List, [], ◌∷◌, length, Option, Some, None, refl, sym, ◌∙◌, ap, subst}
+use Rattle.std.proofs.Common.{◌≡◌, ℕ, ◌+◌, ◌*◌, Bool, true, false, cond, ◌&&◌, eqb, List, [], length, Option, Some, None, refl, sym, ◌∙◌, ap, subst}
 use Rattle.std.specs.Prelude.{bytes_eq, filter, nat_lt, Result, Ok, Err}
 use Rattle.std.specs.List.Sorted.{IsPermutation}
 use Rattle.std.proofs.lemmas.List.Concat.{length-flat_map}
 use Rattle.std.proofs.lemmas.List.Sorted.{IsPermutation-refl, IsPermutation-sym, length_permutation, sum_by-IsPermutation}
-use Rattle.aout_core.specs.declared.header.Header.{Header}
 use Rattle.aout_core.specs.declared.symbol.Segment.{Segment}
 use Rattle.aout_core.specs.declared.symbol.Segment.TheVariants.{TextSeg, DataSeg, BssSeg}
 use Rattle.aout_core.specs.Contents.{Contents}
 use Rattle.aout_core.specs.Words.{plus}
 use Rattle.link_session.specs.declared.state.State.{State}
 use Rattle.link_session.specs.declared.state.State.TheVariants.{Defined, Wanted}
-use Rattle.link_session.specs.Starts.{total}
-use Rattle.link_session.specs.Mentions.{mentions, is_among, names_by_first_mention, externals}
+use Rattle.link_session.specs.Mentions.{mentions, externals}
 use Rattle.link_session.specs.States.{state, multiple_names}
 use Rattle.link_out.specs.declared.linked.LinkFault.{LinkFault}
 use Rattle.link_out.specs.declared.linked.LinkFault.TheVariants.{DoesNotFit, TooManySymbols, SymbolNumber}
@@ -20,9 +18,9 @@ use Rattle.link_out.specs.Choices.{Choices, lays_commons}
 use Rattle.link_out.specs.KeptSymbols.{is_kept_local}
 use Rattle.link_out.specs.Layouts.{Bases, bases, magic_of}
 use Rattle.link_out.specs.Results.{Findings}
-use Rattle.link_out.specs.relation.Refusals.{kept_locals, entries, entry_count}
+use Rattle.link_out.specs.relation.Refusals.{kept_locals, entries}
 use Rattle.link_out.specs.function.Plans.{Plan, plan, commons_laid, common_offset}
-use Rattle.link_out.specs.function.Finals.{Final, final, final_at, bound_at, waiting, reserved_or_waiting, etext, edata, end_name, type_of}
+use Rattle.link_out.specs.function.Finals.{Final, final, final_at, bound_at, waiting, etext, edata, end_name, type_of}
 use Rattle.link_out.specs.function.Tables.{table, has_far_word}
 use Rattle.link_out.specs.function.Reports.{findings, entry_found_bad, undefined_names}
 use Rattle.link_out.specs.function.Link.{Outcome, linked_header, linked_file, link}
@@ -148,8 +146,7 @@ sizes_kept forced os ps o x y h =
 pub reported_alike : (forced : List (List ℕ)) (os ps : List Contents) (o : Choices) (x y : Outcome) → AreOrders forced os ps o x y → (x.report.reserved ≡ y.report.reserved) × IsPermutation x.report.undefined y.report.undefined
 reported_alike forced os ps o x y h =
     let one = made_report (plan forced os o) os x h.one in
-    let other = made_report (plan forced ps o) ps y h.other in
-    (
+    let other = made_report (plan forced ps o) ps y h.other in (
       sym (ap (λ (f : Findings). f.reserved) one) ∙ same_reserved forced os ps h.same ∙ ap (λ (f : Findings). f.reserved) other,
       subst (λ (f : Findings). IsPermutation x.report.undefined f.undefined) other (subst (λ (f : Findings). IsPermutation f.undefined (findings (plan forced ps o)).undefined) one (by_test o.relocatable)),
     )

@@ -46,7 +46,7 @@ use Rattle.link_out.proofs.ExternalLemmas.{row_at, entry_there}
 use Rattle.link_out.proofs.CommonLemmas.{commons_have_room}
 use Rattle.link_out.proofs.SegmentLemmas.{word_at}
 use Rattle.link_out.proofs.RelocatedLemmas.{words_relocated}
-use Rattle.link_laws.specs.Orders.{AreOrders, Meaning, definition, common, missing, IsDefinedBy, Means, MeansTheSame, RefersAlike}
+use Rattle.link_laws.specs.Orders.{AreOrders, definition, common, missing, IsDefinedBy, Means, MeansTheSame, RefersAlike}
 use Rattle.link_laws.proofs.ReorderedMentions.{size_if_wanted, wanted_too, same_names, same_wants, placed_again}
 use Rattle.link_laws.proofs.ReorderedDefinitions.{definition_found, said_again, defines, first_is_said}
 
@@ -110,9 +110,11 @@ has_place b before k segment value g n e = by_segment segment g n e
 -- one of the links
 module _ (forced : List (List ℕ)) (os : List Contents) (o : Choices) (x : Outcome) (others : o.keep ≢ Nothing) (linked : link forced os o ≡ Ok x) where
   missing_in : (name : List ℕ) → is_among (externals forced os) name ≡ true → IsWanted (mentions forced os) name 0 → state (mentions forced os) name ≡ Wanted 0 → Means forced os o x.file name missing
-  missing_in name known wanted st =
-      (wanted, subst (λ (f : Contents). entry_of f.symbols name ≡ Some (undefined_row f.header o name)) (made_file (plan forced os o) os x linked)
-      (entry_there (plan forced os o) os name others known ∙ ap (λ (r : Symbol). let e : Option Symbol = Some r in e) (undefined_shown forced os o name st)))
+  missing_in name known wanted st = (
+    wanted,
+    subst (λ (f : Contents). entry_of f.symbols name ≡ Some (undefined_row f.header o name)) (made_file (plan forced os o) os x linked)
+        (entry_there (plan forced os o) os name others known ∙ ap (λ (r : Symbol). let e : Option Symbol = Some r in e) (undefined_shown forced os o name st)),
+  )
 
   common_in : lays_commons o ≡ true → (name : List ℕ) (size : ℕ) → IsWanted (mentions forced os) name size → eqb size 0 ≡ false → Means forced os o x.file name (common size)
   common_in lays name size wanted sized =
