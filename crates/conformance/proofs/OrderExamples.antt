@@ -1,13 +1,13 @@
 -- The law of order at the objects of docs/BLACKBOARD.md, and statements near it that do not hold.
 use Rattle.std.proofs.Common.{◌≡◌, ◌≢◌, ℕ, ◌+◌, ◌≤◌, true, false, List, [], ◌∷◌, ◌++◌, length, Option, Some, None, refl, sym, ◌∙◌, ap, arith}
-use Rattle.std.specs.Prelude.{codes, replicate, sum_by, Ok, Err}
+use Rattle.std.specs.Prelude.{Bool, not, ◌&&◌, eqb, replicate, filter, sum_by, bytes_eq, Ok, Err}
 use Rattle.std.specs.List.Sorted.{IsPermutation}
 use Rattle.std.proofs.lemmas.List.Sorted.{IsPermutation-refl}
 use Rattle.aout_core.specs.declared.symbol.Symbol.{Symbol}
 use Rattle.aout_core.specs.declared.symbol.Segment.{Segment}
 use Rattle.aout_core.specs.declared.symbol.Segment.TheVariants.{Undefined, Absolute, TextSeg, DataSeg, BssSeg, Other}
 use Rattle.aout_core.specs.Contents.{Contents}
-use Rattle.aout_core.specs.WellFormed.{segment_of}
+use Rattle.aout_core.specs.WellFormed.{is_external, masked_type, segment_of}
 use Rattle.link_session.specs.Mentions.{externals, is_among}
 use Rattle.link_out.specs.declared.linked.LinkFault.{LinkFault}
 use Rattle.link_out.specs.declared.linked.LinkFault.TheVariants.{SymbolNumber}
@@ -16,9 +16,9 @@ use Rattle.link_out.specs.Choices.{Choices}
 use Rattle.link_out.specs.Results.{Outcome}
 use Rattle.link_out.specs.function.Link.{link}
 use Rattle.link_out.specs.relation.Relocated.{entry_of as row_of, external_type}
-use Rattle.link_laws.specs.Orders.{AreOrders, Meaning, definition, common, missing, Means, MeansTheSame, OrderRefusesAlike, OrderKeepsSizes, OrderReportsAlike, OrderFindsEntry, OrderKeepsMeanings}
-use Rattle.conformance.specs.Samples.{sym as entry, object, _f, _g, _x, L1, d_o, g_o, x4_o, plain, plain_s, relocatable, with_entry}
-use Rattle.conformance.proofs.LawExamples.{outcome_of}
+use Rattle.link_laws.specs.Orders.{AreOrders, Meaning, definition, common, missing, Means, MeansTheSame, OrderRefusesAlike, OrderKeepsSizes, OrderReportsAlike, OrderFindsEntry, OrderKeepsMeanings, defines, OnceInAnyOrder}
+use Rattle.conformance.specs.Samples.{sym as entry, object, _f, _g, _x, L1, _main, _twice, main_o, twice_o, count_o, g_o, x4_o, plain, plain_s, relocatable, with_entry}
+use Rattle.conformance.proofs.ClauseLemmas.{at_most_so}
 use Rattle.conformance.proofs.NeededPremises.{counts, all_kept, link_of}
 
 -- the first two of a list exchanged
@@ -26,24 +26,6 @@ abbrev first_two : {A : Type 0} (a b : A) (rest : List A) → IsPermutation (a �
 first_two a b rest = record { moves = (0, 1) ∷ []; below = (omega arith, omega arith, tt); is = refl }
 
 -- the two links of the blackboard
-
-abbrev _main : List ℕ
-_main = codes "_main"
-
-abbrev _twice : List ℕ
-_twice = codes "_twice"
-
-abbrev _count : List ℕ
-_count = codes "_count"
-
-abbrev main_o : Contents
-main_o = object (0o016700 ∷ 0o177774 ∷ 0o004767 ∷ 0o177770 ∷ 0o000207 ∷ []) (0 ∷ 0o51 ∷ 0 ∷ 0o31 ∷ 0 ∷ []) [] [] 0 (entry _main 0o42 0 ∷ entry _twice 0o40 0 ∷ entry _count 0o40 2 ∷ [])
-
-abbrev twice_o : Contents
-twice_o = object (0o006300 ∷ 0o000207 ∷ []) (0 ∷ 0 ∷ []) [] [] 0 (entry _twice 0o42 0 ∷ [])
-
-abbrev count_o : Contents
-count_o = object [] [] (0o25 ∷ []) (0 ∷ []) 0 (entry _count 0o43 0 ∷ [])
 
 abbrev main_first : List Contents
 main_first = main_o ∷ twice_o ∷ count_o ∷ []
@@ -103,6 +85,9 @@ law_of_sizes law = law
 
 law_of_reports : OrderReportsAlike → OrdersGive (λ x y. (x.report.reserved ≡ y.report.reserved) × IsPermutation x.report.undefined y.report.undefined)
 law_of_reports law = law
+
+law_of_entries : OrderFindsEntry → (forced : List (List ℕ)) (os ps : List Contents) (o : Choices) (x y : Outcome) → AreOrders forced os ps o x y → x.report.multiples ≡ [] → x.report.entry_bad ≡ y.report.entry_bad
+law_of_entries law = law
 
 -- text differs, and so do the table, and the entry point
 same_words : OrdersGive (λ x y. x.file.text_words ≡ y.file.text_words) → ⊥
@@ -272,3 +257,26 @@ same_commons law =
     let y = link_of (f2_o ∷ x4_o ∷ []) plain in
     let e : Some (entry _x 0o44 0) ≡ Some (entry _x 0o44 2) = law [] (x4_o ∷ f2_o ∷ []) (f2_o ∷ x4_o ∷ []) plain x y (record { same = first_two x4_o f2_o []; one = refl; other = refl }) in
     counts (λ (r : Symbol). r.value) (entry _x 0o44 0) (entry _x 0o44 2) refl (row_known (entry _x 0o44 0) (entry _x 0o44 2) e)
+
+-- a name that two symbols define
+abbrev DefineAtMost : ℕ → List Contents → Type 0
+DefineAtMost most os = (name : List ℕ) → sum_by (λ (k : Contents). length (filter (defines name) k.symbols)) os ≤ most
+
+abbrev SingleUpTo : ℕ → Type 0
+SingleUpTo most = (forced : List (List ℕ)) (os ps : List Contents) (o : Choices) (y : Outcome) → IsPermutation os ps → DefineAtMost most os → link forced ps o ≡ Ok y → y.report.multiples ≡ []
+
+law_of_single_names : OnceInAnyOrder → SingleUpTo 1
+law_of_single_names law = law
+
+single_where_two_define : SingleUpTo 2 → ⊥
+single_where_two_define law =
+    let os = text_f ∷ data_f ∷ [] in
+    let e : _f ∷ [] ≡ [] = law [] os os plain (link_of os plain) (IsPermutation-refl os) twice refl in
+    absurd (cc)
+  where
+    twice : DefineAtMost 2 (text_f ∷ data_f ∷ [])
+    twice name = by_test (bytes_eq name _f)
+      where
+        by_test : (t : Bool) → sum_by (λ (k : Contents). length (filter (λ s. is_external s && (not (eqb (masked_type s) 0) && t)) k.symbols)) (text_f ∷ data_f ∷ []) ≤ 2
+        by_test true = at_most_so 2 2 refl
+        by_test false = at_most_so 0 2 refl

@@ -4,3 +4,4 @@ pub mod ReorderedMentions
 pub mod ReorderedDefinitions
 pub mod ReorderedLinks
 pub mod ReorderedMeanings
+pub mod SingleDefinitions

@@ -112,14 +112,13 @@ stated_again before front k BssSeg value g n e = let same : BssSeg ≡ g = cc in
 stated_again before front k Other value g n e = let same : Absolute ≡ g = cc in (plus value (shift front k Absolute), ap (λ (s : Segment). Defined s (plus value (shift front k Absolute))) same)
 
 -- the same symbol of the same object defines it in another order
-pub record IsSaidAgain (ps : List Contents) (name : List ℕ) (segment : Segment) (k : Contents) (number : ℕ) (s : Symbol) : Type 0 where
+pub record IsSaidAgain (ps : List Contents) (name : List ℕ) (segment : Segment) (k : Contents) (s : Symbol) : Type 0 where
   pub offset : ℕ
   pub said : IsSaid ps name (Defined segment offset)
   pub object : said.k ≡ k
-  pub place : said.number ≡ number
   pub symbol : said.symbol ≡ s
 
-pub said_again : (os ps : List Contents) → IsPermutation os ps → (name : List ℕ) (segment : Segment) (n : ℕ) (d : IsSaid os name (Defined segment n)) → IsSaidAgain ps name segment d.k d.number d.symbol
+pub said_again : (os ps : List Contents) → IsPermutation os ps → (name : List ℕ) (segment : Segment) (n : ℕ) (d : IsSaid os name (Defined segment n)) → IsSaidAgain ps name segment d.k d.symbol
 said_again os ps same name segment n d =
     let there = placed_again os ps same d.before d.k d.after d.all in
     let moved = stated_again d.before there.before d.k (segment_of d.symbol) d.symbol.value segment n d.is in
@@ -127,7 +126,6 @@ said_again os ps same name segment n d =
       offset = moved.0;
       said = record { before = there.before; k = d.k; after = there.after; all = there.all; number = d.number; symbol = d.symbol; stands = d.stands; outer = d.outer; names = d.names; is = moved.1 };
       object = refl;
-      place = refl;
       symbol = refl;
     }
 

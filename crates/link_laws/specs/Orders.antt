@@ -3,7 +3,7 @@
 -- Refusals, sizes, and which names are reported do not depend on the order of the objects; where objects and commons lie does.
 -- Where no name is multiply defined, each name means the same in any order, so each word refers to the same thing. Orders are
 -- those that exchanges reach, as of two neighbours.
-use Rattle.std.specs.Prelude.{◌≡◌, ◌≢◌, ℕ, true, false, eqb, List, [], ◌∷◌, ◌++◌, Some, Ok, Err, slice_get}
+use Rattle.std.specs.Prelude.{◌≡◌, ◌≢◌, ℕ, ◌≤◌, Bool, true, false, not, ◌&&◌, eqb, List, [], ◌∷◌, ◌++◌, filter, length, sum_by, Some, Ok, Err, slice_get, bytes_eq}
 use Rattle.std.specs.List.{AllByRecursion}
 use Rattle.std.specs.List.Sorted.{IsPermutation}
 use Rattle.aout_core.specs.declared.symbol.Symbol.{Symbol}
@@ -29,6 +29,19 @@ pub record AreOrders (forced : List (List ℕ)) (os ps : List Contents) (o : Cho
   pub same : IsPermutation os ps
   pub one : link forced os o ≡ Ok x
   pub other : link forced ps o ≡ Ok y
+
+-- the symbol defines this name
+abbrev pub defines : List ℕ → Symbol → Bool
+defines name s = is_external s && (not (eqb (masked_type s) 0) && bytes_eq name s.name)
+
+-- no two symbols of the objects define one name
+abbrev pub DefineOnce : List Contents → Type 0
+DefineOnce os = (name : List ℕ) → sum_by (λ (k : Contents). length (filter (defines name) k.symbols)) os ≤ 1
+
+-- then no name is multiply defined, in any order
+abbrev pub OnceInAnyOrder : Type 0
+OnceInAnyOrder = (forced : List (List ℕ)) (os ps : List Contents) (o : Choices) (y : Outcome) → IsPermutation os ps →
+    DefineOnce os → link forced ps o ≡ Ok y → y.report.multiples ≡ []
 
 -- refused for the same, or not at all
 abbrev pub OrderRefusesAlike : Type 0

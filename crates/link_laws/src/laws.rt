@@ -1,5 +1,5 @@
 //! Laws of loaded programs, lists and orders: each is the contract of a function with an empty body.
-ghost use Rattle.link_laws.specs.Orders.{OrderRefusesAlike, OrderKeepsSizes, OrderReportsAlike, OrderFindsEntry, OrderKeepsMeanings, OrderKeepsReferents};
+ghost use Rattle.link_laws.specs.Orders.{OrderRefusesAlike, OrderKeepsSizes, OrderReportsAlike, OrderFindsEntry, OrderKeepsMeanings, OrderKeepsReferents, OnceInAnyOrder};
 
 /// The order of objects changes where things lie, and not what a program means: the law is of the same objects in any two
 /// orders. (ld(1))
@@ -11,6 +11,7 @@ ghost use Rattle.link_laws.specs.Orders.{OrderRefusesAlike, OrderKeepsSizes, Ord
 /// - `meanings`: where no name is multiply defined, each name means the same in a link without relocation that keeps symbols:
 ///   the same symbol of the same object, a common of the same size, or nothing in the objects.
 /// - `referents`: so each word refers to the same: to a segment of its own object, or to what its name means.
+/// - `single`: where no two symbols of the objects define one name, no name is multiply defined in any order.
 pub fn order_law()
     ensures refuses { OrderRefusesAlike }
     ensures sizes { OrderKeepsSizes }
@@ -18,4 +19,5 @@ pub fn order_law()
     ensures entry { OrderFindsEntry }
     ensures meanings { OrderKeepsMeanings }
     ensures referents { OrderKeepsReferents }
+    ensures single { OnceInAnyOrder }
 {}
