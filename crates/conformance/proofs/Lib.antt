@@ -11,3 +11,4 @@ mod NeededPremises
 mod ListingExamples
 mod MachineExamples
 mod NearMachine
+mod OrderExamples

@@ -8,3 +8,9 @@ pub mod ByteLemmas
 pub mod CoreLemmas
 pub mod LoadedLemmas
 pub mod OperandLemmas
+pub mod NameListLemmas
+pub mod ReorderedMentions
+pub mod ReorderedDefinitions
+pub mod ReorderedLinks
+pub mod ReorderedMeanings
+pub mod SingleDefinitions

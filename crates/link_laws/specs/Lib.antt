@@ -3,3 +3,4 @@ pub mod Listings
 pub mod Core
 pub mod CoreLaws
 pub mod Operands
+pub mod Orders
