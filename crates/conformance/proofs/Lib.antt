@@ -8,3 +8,5 @@ mod NeededClauses
 mod DerivedLinks
 mod NearLaws
 mod NeededPremises
+mod StepRuns
+mod StepExamples

@@ -25,7 +25,7 @@ use Rattle.conformance.proofs.LawExamples.{outcome_of}
 use Rattle.conformance.proofs.ClauseLemmas.{as_object, only_wanted}
 
 -- what is equal counts the same
-counts : {A : Type 0} (f : A → ℕ) (x y : A) → eqb (f x) (f y) ≡ false → x ≡ y → ⊥
+pub counts : {A : Type 0} (f : A → ℕ) (x y : A) → eqb (f x) (f y) ≡ false → x ≡ y → ⊥
 counts f x y apart e = let bad : true ≡ false = sym (eq-eqb (f x) (f y) (ap f e)) ∙ apart in cc
 
 all_kept : All ≢ Nothing
