@@ -1,9 +1,9 @@
 -- Runs of ld, made of the files that it opens and the link that it makes, for examples of commands in steps.
 use Rattle.std.specs.declared.alloc.Global.{Global}
-use Rattle.std.proofs.Common.{◌≡◌, ℕ, ◌+◌, ◌<◌, ◌≤◌, ◌^◌, Bool, true, false, List, [], ◌∷◌, ◌++◌, map, length, Option, Some, None, Ok, refl, arith, inr}
-use Rattle.std.specs.Prelude.{IfSome, String, Vec, eqb, nat_lt, if◌then◌else◌, string_bytes}
+use Rattle.std.proofs.Common.{◌≡◌, ℕ, ◌+◌, ◌<◌, ◌≤◌, ◌^◌, Bool, true, false, List, [], ◌∷◌, ◌++◌, map, length, Option, Some, None, Ok, refl, ap, arith, inr}
+use Rattle.std.specs.Prelude.{IfSome, String, Vec, encode_utf8_all, eqb, nat_lt, if◌then◌else◌, string_bytes}
 use denote.RawPtr.{null_ptr}
-use Rattle.std_alloc.proofs.StringFromBytes.{spelled}
+use Rattle.std.proofs.lemmas.Str.{encode_ascii}
 use Rattle.std.specs.List.{list_all}
 use Rattle.aout_core.specs.Contents.{Contents, IsSound}
 use Rattle.aout_core.specs.Front.{front}
@@ -31,9 +31,13 @@ use Rattle.conformance.proofs.LawExamples.{below}
 abbrev pub heap : Global
 heap = record { memory = record { seal = tt } }
 
--- a vector of these, and a text of one letter
+-- a vector of these
 abbrev pub vector : {A : Type 0} (xs : List A) → length xs < 2 ^ 63 → Vec A Global
 vector xs small = record { ptr = null_ptr; len = length xs; cap = length xs; alloc = heap; items = xs; ok = (refl, omega arith); small = small }
+
+-- a letter is written as itself
+pub as_written : (c : ℕ) → c < 128 → encode_utf8_all (c ∷ []) ≡ c ∷ []
+as_written c small = ap (λ (text : List ℕ). text ++ []) (encode_ascii c small)
 
 -- a device that holds these bytes
 abbrev pub holding : List ℕ → Latched (List ℕ)
