@@ -12,3 +12,5 @@ mod ListingExamples
 mod MachineExamples
 mod NearMachine
 mod OrderExamples
+mod StepRuns
+mod StepExamples
