@@ -1,11 +1,12 @@
 -- The law of order at the objects of docs/BLACKBOARD.md, and statements near it that do not hold.
 use Rattle.std.proofs.Common.{◌≡◌, ◌≢◌, ℕ, ◌+◌, ◌≤◌, true, false, List, [], ◌∷◌, ◌++◌, length, Option, Some, None, refl, sym, ◌∙◌, ap, arith}
-use Rattle.std.specs.Prelude.{Bool, not, ◌&&◌, eqb, replicate, filter, sum_by, bytes_eq, Ok, Err}
+use Rattle.std.specs.Prelude.{Bool, not, ◌&&◌, eqb, replicate, filter, sum_by, slice_get, bytes_eq, Ok, Err}
 use Rattle.std.specs.List.Sorted.{IsPermutation}
 use Rattle.std.proofs.lemmas.List.Sorted.{IsPermutation-refl}
 use Rattle.aout_core.specs.declared.symbol.Symbol.{Symbol}
 use Rattle.aout_core.specs.declared.symbol.Segment.{Segment}
 use Rattle.aout_core.specs.declared.symbol.Segment.TheVariants.{Undefined, Absolute, TextSeg, DataSeg, BssSeg, Other}
+use Rattle.aout_core.specs.declared.reloc.Reloc.{Reloc}
 use Rattle.aout_core.specs.Contents.{Contents}
 use Rattle.aout_core.specs.WellFormed.{is_external, masked_type, segment_of}
 use Rattle.link_session.specs.Mentions.{externals, is_among}
@@ -15,9 +16,9 @@ use Rattle.link_out.specs.declared.options.Keep.TheVariants.{Nothing}
 use Rattle.link_out.specs.Choices.{Choices}
 use Rattle.link_out.specs.Results.{Outcome}
 use Rattle.link_out.specs.function.Link.{link}
-use Rattle.link_out.specs.relation.Relocated.{entry_of as row_of, external_type}
-use Rattle.link_laws.specs.Orders.{AreOrders, Meaning, definition, common, missing, Means, MeansTheSame, OrderRefusesAlike, OrderKeepsSizes, OrderReportsAlike, OrderFindsEntry, OrderKeepsMeanings, defines, OnceInAnyOrder}
-use Rattle.conformance.specs.Samples.{sym as entry, object, _f, _g, _x, L1, _main, _twice, main_o, twice_o, count_o, g_o, x4_o, plain, plain_s, relocatable, with_entry}
+use Rattle.link_out.specs.relation.Relocated.{entry_of as row_of, external_type, segment_words, segment_relocs}
+use Rattle.link_laws.specs.Orders.{AreOrders, Meaning, definition, common, missing, Means, MeansTheSame, RefersAlike, OrderRefusesAlike, OrderKeepsSizes, OrderReportsAlike, OrderFindsEntry, OrderKeepsMeanings, defines, OnceInAnyOrder}
+use Rattle.conformance.specs.Samples.{sym as entry, object, sized, d_o, _f, _g, _x, L1, _main, _twice, main_o, twice_o, count_o, g_o, x4_o, plain, plain_s, relocatable, with_entry}
 use Rattle.conformance.proofs.ClauseLemmas.{at_most_so}
 use Rattle.conformance.proofs.NeededPremises.{counts, all_kept, link_of}
 
@@ -280,3 +281,19 @@ single_where_two_define law =
         by_test : (t : Bool) → sum_by (λ (k : Contents). length (filter (λ s. is_external s && (not (eqb (masked_type s) 0) && t)) k.symbols)) (text_f ∷ data_f ∷ []) ≤ 2
         by_test true = at_most_so 2 2 refl
         by_test false = at_most_so 0 2 refl
+
+-- words of a list with a file that is no object
+nothing_there : {v : ℕ} → (let none : Option ℕ = None in none) ≡ Some v → ⊥
+nothing_there e = cc
+
+abbrev no_object : Contents
+no_object = sized 8 0 0 []
+
+referents_beside_others : ((forced : List (List ℕ)) (os ps : List Contents) (o : Choices) (x y : Outcome) → AreOrders forced os ps o x y → o.keep ≢ Nothing → o.relocatable ≡ false → x.report.multiples ≡ [] →
+    (before : List Contents) (k : Contents) (after : List Contents) → os ≡ before ++ k ∷ after → (front back : List Contents) → ps ≡ front ++ k ∷ back →
+    (segment : Segment) (i w : ℕ) (r : Reloc) → slice_get (segment_words segment k) i ≡ Some w → slice_get (segment_relocs segment k) i ≡ Some r →
+    RefersAlike forced os ps o x y before front k segment i w r) → ⊥
+referents_beside_others law =
+    let os = no_object ∷ d_o ∷ [] in
+    let x = link_of os plain in
+    nothing_there (law [] os os plain x x (record { same = IsPermutation-refl os; one = refl; other = refl }) all_kept refl refl (no_object ∷ []) d_o [] refl (no_object ∷ []) [] refl TextSeg 0 0o240 (record { 0 = 0 }) refl refl).one.word
