@@ -63,7 +63,7 @@ odd_bytes = take 18 (spelling one_name) ++ (0 ∷ 7 ∷ 1 ∷ 0 ∷ 0 ∷ 9 ∷ 
 odd_bytes_read : front odd_bytes ≡ Ok one_name
 odd_bytes_read = refl
 
-below : (bytes : List ℕ) → list_all (λ (b : ℕ). nat_lt b 256) bytes ≡ true → AllByRecursion (λ (b : ℕ). b < 256) bytes
+pub below : (bytes : List ℕ) → list_all (λ (b : ℕ). nat_lt b 256) bytes ≡ true → AllByRecursion (λ (b : ℕ). b < 256) bytes
 below [] h = tt
 below (b ∷ bs) h =
     let parts = and_parts (nat_lt b 256) (list_all (λ (x : ℕ). nat_lt x 256) bs) h in

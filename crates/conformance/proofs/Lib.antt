@@ -8,3 +8,9 @@ mod NeededClauses
 mod DerivedLinks
 mod NearLaws
 mod NeededPremises
+mod ListingExamples
+mod MachineExamples
+mod NearMachine
+mod OrderExamples
+mod StepRuns
+mod StepExamples

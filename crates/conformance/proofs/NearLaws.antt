@@ -73,7 +73,7 @@ mention_beside_definition_unreported law =
     }) in
     absurd (cc)
 
-different : (a b : ℕ) → eqb a b ≡ false → a ≡ b → ⊥
+pub different : (a b : ℕ) → eqb a b ≡ false → a ≡ b → ⊥
 different a b t e = let bad : true ≡ false = sym (eq-eqb a b e) ∙ t in cc
 
 -- the links of two layouts differ so

@@ -25,22 +25,22 @@ use Rattle.conformance.proofs.LawExamples.{outcome_of}
 use Rattle.conformance.proofs.ClauseLemmas.{as_object, only_wanted}
 
 -- what is equal counts the same
-counts : {A : Type 0} (f : A → ℕ) (x y : A) → eqb (f x) (f y) ≡ false → x ≡ y → ⊥
+pub counts : {A : Type 0} (f : A → ℕ) (x y : A) → eqb (f x) (f y) ≡ false → x ≡ y → ⊥
 counts f x y apart e = let bad : true ≡ false = sym (eq-eqb (f x) (f y) (ap f e)) ∙ apart in cc
 
-all_kept : All ≢ Nothing
+pub all_kept : All ≢ Nothing
 all_kept e = cc
 
-abbrev link_of : List Contents → Choices → Outcome
+abbrev pub link_of : List Contents → Choices → Outcome
 link_of os o = outcome_of (link [] os o)
 
 abbrev both : List Contents
 both = c_o ∷ d_o ∷ []
 
-c_good : IsObject c_o
+pub c_good : IsObject c_o
 c_good = as_object c_o refl refl refl refl refl refl refl refl
 
-d_good : IsObject d_o
+pub d_good : IsObject d_o
 d_good = as_object d_o refl refl refl refl refl refl refl refl
 
 -- the law of stripping, without its premise that relocation is not kept

@@ -1,0 +1,241 @@
+-- Statements near the laws of loaded programs that do not hold: each has a link that shows it.
+use Rattle.std.proofs.Common.{◌≡◌, ◌≢◌, ℕ, ◌+◌, ◌*◌, ◌/◌, ◌%◌, ◌<◌, ◌≤◌, true, false, List, [], ◌∷◌, ◌++◌, Some, None, refl, sym, ◌∙◌, ap, arith}
+use Rattle.std.specs.Prelude.{eqb, Ok, replicate, slice_get}
+use Rattle.std.specs.List.{AllByRecursion}
+use Rattle.aout_core.specs.declared.header.Header.{Header}
+use Rattle.aout_core.specs.declared.symbol.Symbol.{Symbol}
+use Rattle.aout_core.specs.declared.symbol.Segment.{Segment}
+use Rattle.aout_core.specs.declared.symbol.Segment.TheVariants.{Undefined, Absolute, TextSeg, DataSeg, BssSeg, Other}
+use Rattle.aout_core.specs.declared.reloc.Reloc.{Reloc}
+use Rattle.aout_core.specs.declared.reloc.Kind.{Kind}
+use Rattle.aout_core.specs.declared.reloc.Kind.TheVariants as kinds
+use Rattle.aout_core.specs.Contents.{Contents}
+use Rattle.aout_core.specs.Words.{plus}
+use Rattle.aout_core.specs.WellFormed.{kind_of, symbol_number}
+use Rattle.link_session.specs.Starts.{total, own}
+use Rattle.link_session.specs.Sessions.{IsObject}
+use Rattle.link_out.specs.declared.options.Layout.TheVariants.{Split}
+use Rattle.link_out.specs.declared.options.Keep.TheVariants.{Nothing}
+use Rattle.link_out.specs.Choices.{Choices, lays_commons}
+use Rattle.link_out.specs.Results.{Outcome}
+use Rattle.link_out.specs.function.Link.{link}
+use Rattle.link_out.specs.relation.Relocated.{entry_of, segment_words, segment_relocs}
+use Rattle.link_out.specs.laws.CommonsAndLayouts.{IsCommon}
+use Rattle.link_laws.specs.Core.{Space, of_instructions, of_data, has_segment, first_address, bytes_of, is_in, core}
+use Rattle.link_laws.specs.CoreLaws.{IsLoaded, IsZero, IsOfWord}
+use Rattle.link_laws.specs.Operands.{FindsMore, FindsName, segment_meant, Calls, Defines, Arrives}
+use Rattle.link_laws.proofs.LoadedLemmas.{words_loaded}
+use Rattle.conformance.specs.Samples.{sym as entry, object, sized, _f, _x, _twice, a_o, b_o, c_o, d_o, d2_o, k_o, x4_o, main_o, twice_o, plain, plain_s, relocatable, with_layout}
+use Rattle.conformance.proofs.LawExamples.{outcome_of}
+use Rattle.conformance.proofs.ClauseLemmas.{as_object, only_object, only_wanted}
+use Rattle.conformance.proofs.NearLaws.{different}
+use Rattle.conformance.proofs.NeededPremises.{all_kept, c_good, d_good}
+use Rattle.conformance.proofs.MachineExamples.{file_of, forward, main_good, twice_good}
+
+other_byte : (a b : ℕ) → eqb a b ≡ false → Some a ≡ Some b → ⊥
+other_byte a b t e = let same : a ≡ b = cc in different a b t same
+
+no_byte : (b : ℕ) → None ≡ Some b → ⊥
+no_byte b e = cc
+
+abbrev outcome : List Contents → Choices → Outcome
+outcome os o = outcome_of (link [] os o)
+
+abbrev split : Choices
+split = with_layout Split plain
+
+-- segments apart: in two spaces, and with the address behind each
+
+apart_in_two_spaces : ((h : Header) (space other : Space) (one two : Segment) (address : ℕ) → is_in h space one address ≡ true → is_in h other two address ≡ true → one ≡ two) → ⊥
+apart_in_two_spaces law = let bad : TextSeg ≡ DataSeg = law (file_of forward split).header of_instructions of_data TextSeg DataSeg 0 refl refl in cc
+
+apart_with_ends : ((h : Header) (space : Space) (one two : Segment) (address : ℕ) → has_segment h.magic one space ≡ true → has_segment h.magic two space ≡ true →
+    first_address h one ≤ address → address ≤ first_address h one + bytes_of h one → first_address h two ≤ address → address ≤ first_address h two + bytes_of h two → one ≡ two) → ⊥
+apart_with_ends law = let bad : TextSeg ≡ DataSeg = law (file_of forward plain).header of_data TextSeg DataSeg 14 refl refl (omega arith) (omega arith) (omega arith) (omega arith) in cc
+
+-- one space: with split spaces
+
+one_of_split : ((forced : List (List ℕ)) (os : List Contents) (o : Choices) (x : Outcome) → link forced os o ≡ Ok x → (address : ℕ) → core x.file of_instructions address ≡ core x.file of_data address) → ⊥
+one_of_split law = other_byte 192 21 refl (law [] forward split (outcome forward split) refl 0)
+
+-- addresses: one less, and with a text that is too long
+
+fit_below_65534 : ((forced : List (List ℕ)) (os : List Contents) (o : Choices) (x : Outcome) → link forced os o ≡ Ok x → x.file.header.text_size ≤ 65535 →
+    (space : Space) (address byte : ℕ) → core x.file space address ≡ Some byte → address < 65534) → ⊥
+fit_below_65534 law =
+    let bad : 65534 < 65534 = law [] (sized 0 0 65535 [] ∷ []) plain (outcome (sized 0 0 65535 [] ∷ []) plain) refl (omega arith) of_data 65534 0 refl in
+    absurd (omega arith)
+
+abbrev long_text : Contents
+long_text = object (replicate 32769 0) (replicate 32769 0) [] [] 0 []
+
+fit_with_long_text : ((forced : List (List ℕ)) (os : List Contents) (o : Choices) (x : Outcome) → link forced os o ≡ Ok x →
+    (space : Space) (address byte : ℕ) → core x.file space address ≡ Some byte → address < 65535) → ⊥
+fit_with_long_text law =
+    let bad : 65536 < 65535 = law [] (long_text ∷ []) split (outcome (long_text ∷ []) split) refl of_instructions 65536 0 refl in
+    absurd (omega arith)
+
+-- words: without a table, with the high byte first, in the other space, without the objects before, and not carried
+
+loaded_without_table : ((forced : List (List ℕ)) (before : List Contents) (k : Contents) (after : List Contents) (o : Choices) (x : Outcome) →
+    AllByRecursion IsObject (before ++ k ∷ after) → link forced (before ++ k ∷ after) o ≡ Ok x →
+    (segment : Segment) (i w : ℕ) (r : Reloc) → slice_get (segment_words segment k) i ≡ Some w → slice_get (segment_relocs segment k) i ≡ Some r →
+    IsLoaded x.file x.file.symbols (before ++ k ∷ after) before k segment i w r) → ⊥
+loaded_without_table law =
+    let h = (law [] [] main_o (twice_o ∷ []) plain_s (outcome (main_o ∷ twice_o ∷ []) plain_s) (main_good, (twice_good, tt)) refl TextSeg 3 65528 (record { 0 = 25 }) refl refl).is in
+    let bad : None ≡ Some h.row = h.found in
+    absurd (cc)
+
+-- a byte of each word of text that a link has
+abbrev TextIsLoaded : (ℕ → ℕ) → Space → (ℕ → ℕ → ℕ) → Type 0
+TextIsLoaded byte space place = (forced : List (List ℕ)) (before : List Contents) (k : Contents) (after : List Contents) (o : Choices) (x : Outcome) →
+    AllByRecursion IsObject (before ++ k ∷ after) → o.keep ≢ Nothing → link forced (before ++ k ∷ after) o ≡ Ok x →
+    (i w word : ℕ) → slice_get k.text_words i ≡ Some w → slice_get x.file.text_words (total TextSeg before / 2 + i) ≡ Some word → core x.file space (place (total TextSeg before) i) ≡ Some (byte word)
+
+high_byte_first : TextIsLoaded (λ word. word / 256) of_instructions (λ start i. start + 2 * i) → ⊥
+high_byte_first law = other_byte 192 29 refl (law [] [] main_o (twice_o ∷ []) plain (outcome (main_o ∷ twice_o ∷ []) plain) (main_good, (twice_good, tt)) all_kept refl 0 7616 7616 refl refl)
+
+text_in_data : TextIsLoaded (λ word. word % 256) of_data (λ start i. start + 2 * i) → ⊥
+text_in_data law = other_byte 0 192 refl (law [] [] main_o (twice_o ∷ []) split (outcome (main_o ∷ twice_o ∷ []) split) (main_good, (twice_good, tt)) all_kept refl 0 7616 7616 refl refl)
+
+text_at_own_place : TextIsLoaded (λ word. word % 256) of_instructions (λ start i. 2 * i) → ⊥
+text_at_own_place law =
+    other_byte 10 135 refl (law [] (main_o ∷ []) twice_o [] plain (outcome (main_o ∷ twice_o ∷ []) plain) (main_good, (twice_good, tt)) all_kept refl 1 135 135 refl refl)
+
+not_carried : ((forced : List (List ℕ)) (before : List Contents) (k : Contents) (after : List Contents) (o : Choices) (x : Outcome) →
+    AllByRecursion IsObject (before ++ k ∷ after) → o.keep ≢ Nothing → link forced (before ++ k ∷ after) o ≡ Ok x →
+    (segment : Segment) (i w : ℕ) (r : Reloc) → slice_get (segment_words segment k) i ≡ Some w → slice_get (segment_relocs segment k) i ≡ Some r →
+    (l : IsLoaded x.file x.file.symbols (before ++ k ∷ after) before k segment i w r) → own k segment + 2 * i ≡ l.address) → ⊥
+not_carried law =
+    let l : IsLoaded (file_of (main_o ∷ twice_o ∷ []) plain) (file_of (main_o ∷ twice_o ∷ []) plain).symbols (main_o ∷ twice_o ∷ []) (main_o ∷ []) twice_o TextSeg 0 3264 (record { 0 = 0 }) =
+    words_loaded [] (main_o ∷ []) twice_o [] plain (outcome (main_o ∷ twice_o ∷ []) plain) (main_good, (twice_good, tt)) all_kept refl TextSeg 0 3264 (record { 0 = 0 }) refl refl in
+    different 0 10 refl (law [] (main_o ∷ []) twice_o [] plain (outcome (main_o ∷ twice_o ∷ []) plain) (main_good, (twice_good, tt)) all_kept refl TextSeg 0 3264 (record { 0 = 0 }) refl refl l ∙ l.place.behind)
+
+-- stripping: whatever the magic
+
+any_magic : ((file : Contents) (magic : ℕ) (space : Space) (address : ℕ) → core (record file { header = record file.header { magic = magic } }) space address ≡ core file space address) → ⊥
+any_magic law = no_byte 192 (law (file_of forward plain) 261 of_instructions 0)
+
+-- bss and commons: the byte behind them, and commons that wait
+
+abbrev two_zeros : Contents
+two_zeros = sized 0 0 2 []
+
+zero_behind_bss : ((forced : List (List ℕ)) (before : List Contents) (k : Contents) (after : List Contents) (o : Choices) (x : Outcome) →
+    AllByRecursion IsObject (before ++ k ∷ after) → link forced (before ++ k ∷ after) o ≡ Ok x → (n : ℕ) → n ≤ k.header.bss_size → IsZero x.file (before ++ k ∷ after) before k n) → ⊥
+zero_behind_bss law =
+    let l = law [] [] two_zeros [] plain (outcome (two_zeros ∷ []) plain) (as_object two_zeros refl refl refl refl refl refl refl refl, tt) refl 2 (omega arith) in
+    no_byte 0 (ap (λ (a : ℕ). core (file_of (two_zeros ∷ []) plain) of_data a) (sym l.place.behind) ∙ l.zero)
+
+zero_behind_common : ((forced : List (List ℕ)) (os : List Contents) (o : Choices) (x : Outcome) → o.keep ≢ Nothing → lays_commons o ≡ true → link forced os o ≡ Ok x →
+    (name : List ℕ) (size : ℕ) → IsCommon forced os name size → (row : Symbol) → entry_of x.file.symbols name ≡ Some row → (n : ℕ) → n ≤ size → core x.file of_data (row.value + n) ≡ Some 0) → ⊥
+zero_behind_common law =
+    no_byte 0 (law [] (x4_o ∷ []) plain (outcome (x4_o ∷ []) plain) all_kept refl refl _x 4 (record { wanted = only_wanted _x 4; sized = refl }) (entry _x 36 0) refl 4 (omega arith))
+
+zero_in_waiting : ((forced : List (List ℕ)) (os : List Contents) (o : Choices) (x : Outcome) → o.keep ≢ Nothing → link forced os o ≡ Ok x →
+    (name : List ℕ) (size : ℕ) → IsCommon forced os name size → (row : Symbol) → entry_of x.file.symbols name ≡ Some row → (n : ℕ) → n < size → core x.file of_data (row.value + n) ≡ Some 0) → ⊥
+zero_in_waiting law =
+    no_byte 0 (law [] (x4_o ∷ []) relocatable (outcome (x4_o ∷ []) relocatable) all_kept refl _x 4 (record { wanted = only_wanted _x 4; sized = refl }) (entry _x 32 4) refl 0 (omega arith))
+
+-- nothing else: without bss
+
+wordless : (before : List Contents) (k : Contents) (after : List Contents) → x4_o ∷ [] ≡ before ++ k ∷ after → (segment : Segment) (i w : ℕ) → slice_get (segment_words segment k) i ≡ Some w → ⊥
+wordless before k after all segment i w e = only_object (λ before k. (segment : Segment) (i w : ℕ) → slice_get (segment_words segment k) i ≡ Some w → ⊥) x4_o none before k after all segment i w e
+  where
+    none : (segment : Segment) (i w : ℕ) → slice_get (segment_words segment x4_o) i ≡ Some w → ⊥
+    none TextSeg i w e = cc
+    none DataSeg i w e = cc
+    none BssSeg i w e = cc
+    none Undefined i w e = cc
+    none Absolute i w e = cc
+    none Other i w e = cc
+
+words_alone : ((forced : List (List ℕ)) (os : List Contents) (o : Choices) (x : Outcome) → AllByRecursion IsObject os → link forced os o ≡ Ok x →
+    (space : Space) (address byte : ℕ) → core x.file space address ≡ Some byte → IsOfWord x.file.header os space address) → ⊥
+words_alone law =
+    let h = law [] (x4_o ∷ []) plain (outcome (x4_o ∷ []) plain) (as_object x4_o refl refl refl refl refl refl refl refl, tt) refl of_data 0 0 refl in
+    wordless h.before h.k h.after h.all h.segment h.i h.w h.word
+
+-- names: with relocation, without a table, and as the word stands
+
+word_is : (low high word : ℕ) → Some low ≡ Some (word % 256) → Some high ≡ Some (word / 256) → word ≡ low + 256 * high
+word_is low high word e f = let a : low ≡ word % 256 = cc in let b : high ≡ word / 256 = cc in omega arith
+
+k_good : IsObject k_o
+k_good = as_object k_o refl refl refl refl refl refl refl refl
+
+names_with_relocation : ((forced : List (List ℕ)) (before : List Contents) (k : Contents) (after : List Contents) (o : Choices) (x : Outcome) →
+    AllByRecursion IsObject (before ++ k ∷ after) → o.keep ≢ Nothing → link forced (before ++ k ∷ after) o ≡ Ok x →
+    (segment : Segment) (i w : ℕ) (r : Reloc) → slice_get (segment_words segment k) i ≡ Some w → slice_get (segment_relocs segment k) i ≡ Some r →
+    kind_of r ≡ Some kinds.External → FindsName x.file (before ++ k ∷ after) before k segment i w r) → ⊥
+names_with_relocation law =
+    let f : Contents = file_of (k_o ∷ []) relocatable in
+    let h = law [] [] k_o [] relocatable (outcome (k_o ∷ []) relocatable) (k_good, tt) all_kept refl TextSeg 0 2 (record { 0 = 8 }) refl refl refl in
+    let named : Some (entry _x 32 4) ≡ Some h.symbol = h.named in
+    let symbol : entry _x 32 4 ≡ h.symbol = cc in
+    let found : Some (entry _x 32 4) ≡ Some h.row = ap (λ (s : Symbol). entry_of f.symbols s.name) symbol ∙ h.found in
+    let row : entry _x 32 4 ≡ h.row = cc in
+    let at : h.more.address ≡ 0 = h.more.place.behind in
+    let word : h.more.word ≡ 2 + 256 * 0 = word_is 2 0 h.more.word (ap (λ (a : ℕ). core f of_instructions a) (sym at) ∙ h.more.stands.low) (ap (λ (a : ℕ). core f of_instructions (a + 1)) (sym at) ∙ h.more.stands.high) in
+    let finds : plus 0 h.more.word ≡ plus h.row.value 2 = h.more.finds in
+    different 2 6 refl (ap (λ (n : ℕ). plus 0 n) (sym word) ∙ finds ∙ ap (λ (s : Symbol). plus s.value 2) (sym row))
+
+names_without_table : ((forced : List (List ℕ)) (before : List Contents) (k : Contents) (after : List Contents) (o : Choices) (x : Outcome) →
+    AllByRecursion IsObject (before ++ k ∷ after) → o.relocatable ≡ false → link forced (before ++ k ∷ after) o ≡ Ok x →
+    (segment : Segment) (i w : ℕ) (r : Reloc) → slice_get (segment_words segment k) i ≡ Some w → slice_get (segment_relocs segment k) i ≡ Some r →
+    kind_of r ≡ Some kinds.External → FindsName x.file (before ++ k ∷ after) before k segment i w r) → ⊥
+names_without_table law =
+    let h = law [] [] main_o (twice_o ∷ []) plain_s (outcome (main_o ∷ twice_o ∷ []) plain_s) (main_good, (twice_good, tt)) refl refl TextSeg 3 65528 (record { 0 = 25 }) refl refl refl in
+    let bad : None ≡ Some h.row = h.found in
+    absurd (cc)
+
+-- the word that is beyond the name in the object is so in the program, though it is relative to the pc
+pc_forgotten : ((forced : List (List ℕ)) (before : List Contents) (k : Contents) (after : List Contents) (o : Choices) (x : Outcome) →
+    AllByRecursion IsObject (before ++ k ∷ after) → o.keep ≢ Nothing → o.relocatable ≡ false → link forced (before ++ k ∷ after) o ≡ Ok x →
+    (i w word : ℕ) (r : Reloc) (s row : Symbol) → slice_get k.text_words i ≡ Some w → slice_get k.text_reloc i ≡ Some r → kind_of r ≡ Some kinds.External →
+    slice_get k.symbols (symbol_number r) ≡ Some s → entry_of x.file.symbols s.name ≡ Some row → slice_get x.file.text_words (total TextSeg before / 2 + i) ≡ Some word → word ≡ plus row.value w) → ⊥
+pc_forgotten law =
+    different 65524 65528 refl (law [] (twice_o ∷ []) main_o [] plain (outcome (twice_o ∷ main_o ∷ []) plain) (twice_good, (main_good, tt)) all_kept refl refl 3 65528 65524 (record { 0 = 25 }) (entry _twice 32 0) (entry _twice 34 0) refl refl refl refl refl refl)
+
+-- segments: not carried
+
+a_good : IsObject a_o
+a_good = as_object a_o refl refl refl refl refl refl refl refl
+
+b_good : IsObject b_o
+b_good = as_object b_o refl refl refl refl refl refl refl refl
+
+segments_stay : ((forced : List (List ℕ)) (before : List Contents) (k : Contents) (after : List Contents) (o : Choices) (x : Outcome) →
+    AllByRecursion IsObject (before ++ k ∷ after) → link forced (before ++ k ∷ after) o ≡ Ok x →
+    (segment : Segment) (i w : ℕ) (r : Reloc) → slice_get (segment_words segment k) i ≡ Some w → slice_get (segment_relocs segment k) i ≡ Some r →
+    (kind : Kind) (meant : Segment) → kind_of r ≡ Some kind → segment_meant kind ≡ Some meant → FindsMore x.file (before ++ k ∷ after) before k segment i w r 0) → ⊥
+segments_stay law =
+    let f : Contents = file_of (b_o ∷ a_o ∷ []) plain in
+    let h = law [] (b_o ∷ []) a_o [] plain (outcome (b_o ∷ a_o ∷ []) plain) (b_good, (a_good, tt)) refl TextSeg 1 4 (record { 0 = 4 }) refl refl kinds.DataSeg DataSeg refl refl in
+    let at : h.address ≡ 4 = h.place.behind in
+    let word : h.word ≡ 6 + 256 * 0 = word_is 6 0 h.word (ap (λ (a : ℕ). core f of_instructions a) (sym at) ∙ h.stands.low) (ap (λ (a : ℕ). core f of_instructions (a + 1)) (sym at) ∙ h.stands.high) in
+    let finds : plus 0 h.word ≡ 4 = h.finds in
+    different 6 4 refl (ap (λ (n : ℕ). plus 0 n) (sym word) ∙ finds)
+
+-- calls: where the name is multiply defined
+
+c_calls : Calls c_o TextSeg 1 _f
+c_calls = record { w = 65532; r = record { 0 = 9 }; symbol = entry _f 32 0; word = refl; reloc = refl; pc = refl; kind = refl; named = refl; names = refl; just = refl }
+
+d2_defines : Defines d2_o _f TextSeg 0
+d2_defines = record { number = 0; symbol = entry _f 34 0; stands = refl; outer = refl; names = refl; is = refl; value = refl; inside = omega arith }
+
+calls_of_multiples : ((forced : List (List ℕ)) (os : List Contents) (o : Choices) (x : Outcome) → AllByRecursion IsObject os → o.keep ≢ Nothing → link forced os o ≡ Ok x →
+    (before : List Contents) (k : Contents) (after : List Contents) → os ≡ before ++ k ∷ after → (front : List Contents) (c : Contents) (back : List Contents) → os ≡ front ++ c ∷ back →
+    (from to : Segment) (i n : ℕ) (name : List ℕ) → Calls k from i name → Defines c name to n → Arrives x.file os before k from i front c to n) → ⊥
+calls_of_multiples law =
+    let os : List Contents = c_o ∷ d_o ∷ d2_o ∷ [] in
+    let f : Contents = file_of os plain in
+    let h = law [] os plain (outcome os plain)
+    (c_good, (d_good, (as_object d2_o refl refl refl refl refl refl refl refl, tt))) all_kept refl
+    [] c_o (d_o ∷ d2_o ∷ []) refl (c_o ∷ d_o ∷ []) d2_o [] refl TextSeg TextSeg 1 0 _f c_calls d2_defines in
+    let at : h.address ≡ 2 = h.place.behind in
+    let word : h.word ≡ 2 + 256 * 0 = word_is 2 0 h.word (ap (λ (a : ℕ). core f of_instructions a) (sym at) ∙ h.stands.low) (ap (λ (a : ℕ). core f of_instructions (a + 1)) (sym at) ∙ h.stands.high) in
+    let target : h.target ≡ 8 = h.there.behind in
+    let arrives : plus (h.address + 2) h.word ≡ h.target % 65536 = h.arrives in
+    different 6 8 refl ((λ i. plus (sym at i + 2) (sym word i)) ∙ arrives ∙ ap (λ (t : ℕ). t % 65536) target)

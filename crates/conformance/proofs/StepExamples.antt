@@ -1,0 +1,314 @@
+-- Commands in steps: their law at a sample, and laws near it that do not hold.
+use Rattle.std.specs.declared.alloc.Global.{Global}
+use Rattle.std.proofs.Common.{◌≡◌, ℕ, ◌<◌, ◌^◌, true, false, List, [], ◌∷◌, ◌++◌, length, Option, Some, None, Ok, refl, sym, ◌∙◌, arith}
+use Rattle.std.proofs.lemmas.Slice.Eq.{bytes_eq-Decides}
+use Rattle.std.specs.List.{AllByRecursion}
+use Rattle.std.specs.Prelude.{IfSome, String, Vec, bytes_eq, codes, cond, string_bytes, sum_by}
+use Rattle.clap.proofs.OnLiterals.{clap_on_literals}
+use Rattle.clap.specs.Simple.{subcommand_of}
+use Rattle.clap.specs.Walk.{Row}
+use Rattle.aout_core.specs.Contents.{Contents, IsSound}
+use Rattle.aout_core.specs.Front.{front}
+use Rattle.aout_core.specs.Names.{IsName}
+use Rattle.aout_core.specs.Spelling.{spelling}
+use Rattle.link_session.specs.Labelled.{Labelled}
+use Rattle.link_out.specs.declared.linked.Linked.{Linked}
+use Rattle.link_out.specs.Choices.{Choices}
+use Rattle.link_out.specs.Outcomes.{outcome_of as result_of}
+use Rattle.link_out.specs.function.Link.{link}
+use Rattle.link_out.specs.laws.PartialLinks.{KeepsNoMore}
+use Rattle.link_out.specs.laws.PartialLinksAmongOthers.{IsPart, DefinesNoMultiple}
+use Rattle.command_words.specs.declared.words.Call.TheVariants.{Ld}
+use Rattle.command_words.specs.Tools.{v7_app}
+use Rattle.v7tools.specs.CommandRuns.{AsksFor}
+use Rattle.v7tools.specs.Deeds.{Opened}
+use Rattle.v7tools.specs.Inputs.{kept_with, linked, object_in}
+use Rattle.v7tools.specs.LinkAnswers.{TakesAll}
+use Rattle.v7tools.specs.LinkRuns.{inputs_opened}
+use Rattle.command_laws.specs.Disks.{Disk, Run, file_after}
+use Rattle.command_laws.specs.StepsByCommands.{AreAt, IsAt, LeaveTheSame, Links, LinkStepsLaw, ReportTheSame}
+use Rattle.conformance.specs.Samples.{_f, b_o, d_o, d2_o, e_o, x4_o, plain, relocatable, relocatable_d}
+use Rattle.conformance.proofs.LawExamples.{outcome_of}
+use Rattle.conformance.proofs.NeededPremises.{counts}
+use Rattle.conformance.proofs.StepRuns.{as_written, contents, links, run_of, sound_file, vector}
+
+-- ---- the law of steps, by its premises
+
+-- what the law gives where these premises hold: of the two commands, of the options of the first, and of the names
+abbrev StepsGive : (Run (List ℕ) (List ℕ) → Run (List ℕ) (List ℕ) → List ℕ → Type 0) → (Choices → Type 0) → (List (List ℕ) → List Contents → List Contents → List Contents → Type 0) → Type 0
+StepsGive Between IsPartial AreSingle = (first second whole : Run (List ℕ) (List ℕ)) (own forced : List (List ℕ)) (by o : Choices) (m p q : List ℕ) (before parts after : List (List ℕ)) (bs os cs : List Contents) →
+    Links contents contents own by m parts first → Links contents contents forced o p (before ++ m ∷ after) second → Links contents contents forced o q (before ++ (parts ++ after)) whole →
+    AreAt first.disk parts os → AreAt second.disk before bs → AreAt second.disk after cs → AreAt whole.disk (before ++ (parts ++ after)) (bs ++ (os ++ cs)) →
+    Between first second m → AllByRecursion IsSound os → AllByRecursion IsName own → IsPartial by → KeepsNoMore o.keep by.keep → IsPart own forced → AreSingle forced bs os cs →
+    LeaveTheSame second p whole q × ReportTheSame contents second whole
+
+abbrev IsIntact : Run (List ℕ) (List ℕ) → Run (List ℕ) (List ℕ) → List ℕ → Type 0
+IsIntact first second m = second.disk m ≡ file_after first m
+
+abbrev LaysNoCommons : Choices → Type 0
+LaysNoCommons by = (by.relocatable ≡ true) × (by.force_commons ≡ false)
+
+law_of_steps : LinkStepsLaw contents contents → StepsGive IsIntact LaysNoCommons DefinesNoMultiple
+law_of_steps law first second whole own forced by o m p q before parts after bs os cs first_links second_links whole_links parts_at before_at after_at all_at intact sound names partial less part single =
+    law first second whole own forced by o m p q before parts after bs os cs first_links second_links whole_links parts_at before_at after_at all_at intact sound names partial.0 partial.1 less part single
+
+-- ---- files, words and runs
+
+abbrev a : List ℕ
+a = codes "a"
+
+abbrev b : List ℕ
+b = codes "b"
+
+abbrev m : List ℕ
+m = codes "m"
+
+abbrev p : List ℕ
+p = codes "p"
+
+abbrev q : List ℕ
+q = codes "q"
+
+abbrev a_path : String Global
+a_path = record { bytes = vector a (omega arith); ok = ∣ (a, (refl, as_written 97 (omega arith))) ∣₁ }
+
+abbrev b_path : String Global
+b_path = record { bytes = vector b (omega arith); ok = ∣ (b, (refl, as_written 98 (omega arith))) ∣₁ }
+
+abbrev m_path : String Global
+m_path = record { bytes = vector m (omega arith); ok = ∣ (m, (refl, as_written 109 (omega arith))) ∣₁ }
+
+abbrev p_path : String Global
+p_path = record { bytes = vector p (omega arith); ok = ∣ (p, (refl, as_written 112 (omega arith))) ∣₁ }
+
+abbrev q_path : String Global
+q_path = record { bytes = vector q (omega arith); ok = ∣ (q, (refl, as_written 113 (omega arith))) ∣₁ }
+
+abbrev one : String Global → Vec (String Global) Global
+one path = vector (path ∷ []) (omega arith)
+
+abbrev rows_read : List (List ℕ) → List Row
+rows_read words = by_found (subcommand_of v7_app words)
+  where
+    by_found : Option (List ℕ × List Row) → List Row
+    by_found None = []
+    by_found (Some it) = it.1
+
+-- ld -r -o m a, ld -r -d -o m a, ld -o p m, ld -r -o p m, ld -o q a, ld -r -o q a
+abbrev partial_words : List (List ℕ)
+partial_words = codes "ld" ∷ codes "-r" ∷ codes "-o" ∷ m ∷ a ∷ []
+
+abbrev laying_words : List (List ℕ)
+laying_words = codes "ld" ∷ codes "-r" ∷ codes "-d" ∷ codes "-o" ∷ m ∷ a ∷ []
+
+abbrev last_words : List (List ℕ)
+last_words = codes "ld" ∷ codes "-o" ∷ p ∷ m ∷ []
+
+abbrev last_r_words : List (List ℕ)
+last_r_words = codes "ld" ∷ codes "-r" ∷ codes "-o" ∷ p ∷ m ∷ []
+
+abbrev whole_words : List (List ℕ)
+whole_words = codes "ld" ∷ codes "-o" ∷ q ∷ a ∷ []
+
+abbrev whole_r_words : List (List ℕ)
+whole_r_words = codes "ld" ∷ codes "-r" ∷ codes "-o" ∷ q ∷ a ∷ []
+
+partial_asks : AsksFor partial_words (Ld relocatable [] m_path (one a_path))
+unfolding clap_on_literals
+partial_asks = record { whole = (omega arith, refl, (omega arith, refl)); asked = (refl, rows_read partial_words, refl, (refl, refl, refl, refl)); dashes = refl }
+
+laying_asks : AsksFor laying_words (Ld relocatable_d [] m_path (one a_path))
+unfolding clap_on_literals
+laying_asks = record { whole = (omega arith, refl, (omega arith, refl)); asked = (refl, rows_read laying_words, refl, (refl, refl, refl, refl)); dashes = refl }
+
+last_asks : AsksFor last_words (Ld plain [] p_path (one m_path))
+unfolding clap_on_literals
+last_asks = record { whole = (omega arith, refl, (omega arith, refl)); asked = (refl, rows_read last_words, refl, (refl, refl, refl, refl)); dashes = refl }
+
+last_r_asks : AsksFor last_r_words (Ld relocatable [] p_path (one m_path))
+unfolding clap_on_literals
+last_r_asks = record { whole = (omega arith, refl, (omega arith, refl)); asked = (refl, rows_read last_r_words, refl, (refl, refl, refl, refl)); dashes = refl }
+
+whole_asks : AsksFor whole_words (Ld plain [] q_path (one a_path))
+unfolding clap_on_literals
+whole_asks = record { whole = (omega arith, refl, (omega arith, refl)); asked = (refl, rows_read whole_words, refl, (refl, refl, refl, refl)); dashes = refl }
+
+whole_r_asks : AsksFor whole_r_words (Ld relocatable [] q_path (one a_path))
+unfolding clap_on_literals
+whole_r_asks = record { whole = (omega arith, refl, (omega arith, refl)); asked = (refl, rows_read whole_r_words, refl, (refl, refl, refl, refl)); dashes = refl }
+
+-- what is kept of a file
+abbrev entry : List ℕ → Contents → Labelled
+entry path file = record { label = path; object = file }
+
+-- the link of these objects, of which these names are reported as multiply defined, and nothing else
+abbrev made_of : List Contents → Choices → (ns : List (List ℕ)) → length ns < 2 ^ 63 → Linked
+made_of os o ns small = record {
+  file = (outcome_of (link [] os o)).file;
+  report = record { multiples = vector ns small; reserved = vector [] (omega arith); entry_bad = None; undefined = vector [] (omega arith) };
+}
+
+-- the file of the link of one object
+abbrev link_file : Contents → Choices → Contents
+link_file file o = (outcome_of (link [] (file ∷ []) o)).file
+
+-- a disk with one file
+abbrev one_file : List ℕ → Contents → Disk
+one_file path file at = cond (bytes_eq at path) (Some (spelling file)) None
+
+-- a run of the words that link one file, of which nothing is reported
+abbrev run_on : List (List ℕ) → List ℕ → Contents → String Global → Choices → Run (List ℕ) (List ℕ)
+run_on words path file out o = run_of words (one_file path file) ((path, Some (spelling file)) ∷ []) out (made_of (file ∷ []) o [] (omega arith))
+
+module _ (path : String Global) (file : Contents) (out : String Global) (o : Choices) where
+  abbrev name : List ℕ
+  name = string_bytes path
+
+  abbrev made : Linked
+  made = made_of (file ∷ []) o [] (omega arith)
+
+  run_links : (words : List (List ℕ)) → AsksFor words (Ld o [] out (one path)) → Ok file ≡ object_in (front (spelling file)) → kept_with [] [] name (Ok file) ≡ Ok (entry name file ∷ []) → link [] (file ∷ []) o ≡ Ok (result_of made) →
+      linked [] ((name, spelling file) ∷ []) o ≡ Ok (result_of made) → Links contents contents [] o (string_bytes out) (name ∷ []) (run_on words name file out o)
+  run_links words asks found accepts is by_bytes =
+      links words (one_file name file) ((name, Some (spelling file)) ∷ []) out made [] o (one path) asks (entry name file ∷ []) refl
+      (entry name file ∷ [], record { works = refl; object = file; is_found = found; accepts = accepts }, refl) is by_bytes (there, tt)
+    where
+      there : IfSome (one_file name file name) (λ known. Some (spelling file) ≡ Some known)
+      there = rw (bytes_eq-Decides name name).1 refl refl
+
+file_there : (path : List ℕ) (file : Contents) → front (spelling file) ≡ Ok file → one_file path file path ≡ Some (spelling file) → IsAt (one_file path file) path file
+file_there path file read known = record { bytes = spelling file; known = known; read = read }
+
+-- the sum of what is known to be in a file
+abbrev bytes_in : Option (List ℕ) → ℕ
+bytes_in None = 0
+bytes_in (Some bytes) = sum_by (λ (byte : ℕ). byte) bytes
+
+b_sound : AllByRecursion IsSound (b_o ∷ [])
+b_sound = (sound_file b_o refl refl, tt)
+
+-- ---- laws near that of steps
+
+-- something else is stored at m between the two
+abbrev first_run : Run (List ℕ) (List ℕ)
+first_run = run_on partial_words a b_o m_path relocatable
+
+first_links : Links contents contents [] relocatable m (a ∷ []) first_run
+first_links = run_links a_path b_o m_path relocatable partial_words partial_asks refl refl refl refl
+
+abbrev whole_run : Run (List ℕ) (List ℕ)
+whole_run = run_on whole_words a b_o q_path plain
+
+whole_links : Links contents contents [] plain q (a ∷ []) whole_run
+whole_links = run_links a_path b_o q_path plain whole_words whole_asks refl refl refl refl
+
+abbrev other_run : Run (List ℕ) (List ℕ)
+other_run = run_on last_words m e_o p_path plain
+
+other_links : Links contents contents [] plain p (m ∷ []) other_run
+other_links = run_links m_path e_o p_path plain last_words last_asks refl refl refl refl
+
+stored_between : StepsGive (λ first second m. Unit {0}) LaysNoCommons DefinesNoMultiple → ⊥
+stored_between law =
+    let ends = law first_run other_run whole_run [] [] relocatable plain m p q [] (a ∷ []) [] [] (b_o ∷ []) [] first_links other_links whole_links
+    (file_there a b_o refl refl, tt) tt tt (file_there a b_o refl refl, tt) tt b_sound tt (refl, refl) (λ name h. h) (λ name h. h) (λ name h. absurd (let bad : false ≡ true = h in cc)) in
+    counts (λ (it : Option (List ℕ)). bytes_in it) (file_after other_run p) (file_after whole_run q) refl (ends.0.one ∙ sym ends.0.two)
+
+-- commons that the first command lays out: a link that keeps relocation leaves those of the objects as they are
+abbrev laying_run : Run (List ℕ) (List ℕ)
+laying_run = run_on laying_words a x4_o m_path relocatable_d
+
+laying_links : Links contents contents [] relocatable_d m (a ∷ []) laying_run
+laying_links = run_links a_path x4_o m_path relocatable_d laying_words laying_asks refl refl refl refl
+
+abbrev last_run : Run (List ℕ) (List ℕ)
+last_run = run_on last_r_words m (link_file x4_o relocatable_d) p_path relocatable
+
+last_links : Links contents contents [] relocatable p (m ∷ []) last_run
+last_links = run_links m_path (link_file x4_o relocatable_d) p_path relocatable last_r_words last_r_asks refl refl refl refl
+
+abbrev common_run : Run (List ℕ) (List ℕ)
+common_run = run_on whole_r_words a x4_o q_path relocatable
+
+common_links : Links contents contents [] relocatable q (a ∷ []) common_run
+common_links = run_links a_path x4_o q_path relocatable whole_r_words whole_r_asks refl refl refl refl
+
+commons_laid_before : StepsGive IsIntact (λ by. by.relocatable ≡ true) DefinesNoMultiple → ⊥
+commons_laid_before law =
+    let ends = law laying_run last_run common_run [] [] relocatable_d relocatable m p q [] (a ∷ []) [] [] (x4_o ∷ []) [] laying_links last_links common_links
+    (file_there a x4_o refl refl, tt) tt tt (file_there a x4_o refl refl, tt) refl (sound_file x4_o refl refl, tt) tt refl (λ name h. h) (λ name h. h) (λ name h. absurd (let bad : false ≡ true = h in cc)) in
+    counts (λ (it : Option (List ℕ)). bytes_in it) (file_after last_run p) (file_after common_run q) refl (ends.0.one ∙ sym ends.0.two)
+
+-- a name that two of the objects define: it is reported by the first command, and not by the second
+abbrev both : List Contents
+both = d_o ∷ d2_o ∷ []
+
+abbrev two : Vec (String Global) Global
+two = vector (a_path ∷ b_path ∷ []) (omega arith)
+
+abbrev two_words : List (List ℕ)
+two_words = codes "ld" ∷ codes "-r" ∷ codes "-o" ∷ m ∷ a ∷ b ∷ []
+
+abbrev whole_two_words : List (List ℕ)
+whole_two_words = codes "ld" ∷ codes "-o" ∷ q ∷ a ∷ b ∷ []
+
+two_asks : AsksFor two_words (Ld relocatable [] m_path two)
+unfolding clap_on_literals
+two_asks = record { whole = (omega arith, refl, (omega arith, refl)); asked = (refl, rows_read two_words, refl, (refl, refl, refl, refl)); dashes = refl }
+
+whole_two_asks : AsksFor whole_two_words (Ld plain [] q_path two)
+unfolding clap_on_literals
+whole_two_asks = record { whole = (omega arith, refl, (omega arith, refl)); asked = (refl, rows_read whole_two_words, refl, (refl, refl, refl, refl)); dashes = refl }
+
+abbrev two_files : Disk
+two_files at = cond (bytes_eq at a) (Some (spelling d_o)) (cond (bytes_eq at b) (Some (spelling d2_o)) None)
+
+abbrev found_two : List Opened
+found_two = (a, Some (spelling d_o)) ∷ (b, Some (spelling d2_o)) ∷ []
+
+abbrev made_two : Choices → Linked
+made_two o = made_of both o (_f ∷ []) (omega arith)
+
+abbrev kept_two : List Labelled
+kept_two = entry a d_o ∷ entry b d2_o ∷ []
+
+taken_two : TakesAll [] [] (inputs_opened found_two) kept_two
+taken_two = (
+  entry a d_o ∷ [],
+  record { works = refl; object = d_o; is_found = refl; accepts = refl },
+  (kept_two, record { works = refl; object = d2_o; is_found = refl; accepts = refl }, refl),
+)
+
+abbrev run_two : List (List ℕ) → String Global → Choices → Run (List ℕ) (List ℕ)
+run_two words out o = run_of words two_files found_two out (made_two o)
+
+two_links : Links contents contents [] relocatable m (a ∷ b ∷ []) (run_two two_words m_path relocatable)
+two_links = links two_words two_files found_two m_path (made_two relocatable) [] relocatable two two_asks kept_two refl taken_two refl refl (refl, (refl, tt))
+
+whole_two_links : Links contents contents [] plain q (a ∷ b ∷ []) (run_two whole_two_words q_path plain)
+whole_two_links = links whole_two_words two_files found_two q_path (made_two plain) [] plain two whole_two_asks kept_two refl taken_two refl refl (refl, (refl, tt))
+
+abbrev last_two_run : Run (List ℕ) (List ℕ)
+last_two_run = run_on last_words m (made_two relocatable).file p_path plain
+
+last_two_links : Links contents contents [] plain p (m ∷ []) last_two_run
+last_two_links = run_links m_path (made_two relocatable).file p_path plain last_words last_asks refl refl refl refl
+
+are_two : AreAt two_files (a ∷ b ∷ []) both
+are_two = (record { bytes = spelling d_o; known = refl; read = refl }, (record { bytes = spelling d2_o; known = refl; read = refl }, tt))
+
+names_defined_twice : StepsGive IsIntact LaysNoCommons (λ forced bs os cs. Unit {0}) → ⊥
+names_defined_twice law =
+    let ends = law (run_two two_words m_path relocatable) last_two_run (run_two whole_two_words q_path plain) [] [] relocatable plain m p q [] (a ∷ b ∷ []) [] [] both [] two_links last_two_links whole_two_links
+    are_two tt tt are_two refl (sound_file d_o refl refl, (sound_file d2_o refl refl, tt)) tt (refl, refl) (λ name h. h) (λ name h. h) tt in
+    let bad : 0 ≡ 1 = ends.1.status in
+    counts (λ (n : ℕ). n) 0 1 refl bad
+
+-- ---- the law at a sample
+
+-- where all premises hold: the file that is linked and the one that is linked in two steps
+one_in_steps : LinkStepsLaw contents contents → LeaveTheSame (run_on last_words m (link_file b_o relocatable) p_path plain) p whole_run q
+one_in_steps law =
+    (law first_run (run_on last_words m (link_file b_o relocatable) p_path plain) whole_run [] [] relocatable plain m p q [] (a ∷ []) [] [] (b_o ∷ []) [] first_links
+    (run_links m_path (link_file b_o relocatable) p_path plain last_words last_asks refl refl refl refl) whole_links
+    (file_there a b_o refl refl, tt) tt tt (file_there a b_o refl refl, tt) refl b_sound tt refl refl (λ name h. h) (λ name h. h) (λ name h. absurd (let bad : false ≡ true = h in cc))).0

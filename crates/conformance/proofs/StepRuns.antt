@@ -1,0 +1,109 @@
+-- Runs of ld, made of the files that it opens and the link that it makes, for examples of commands in steps.
+use Rattle.std.specs.declared.alloc.Global.{Global}
+use Rattle.std.proofs.Common.{◌≡◌, ℕ, ◌+◌, ◌<◌, ◌≤◌, ◌^◌, Bool, true, false, List, [], ◌∷◌, ◌++◌, map, length, Option, Some, None, Ok, refl, ap, arith, inr}
+use Rattle.std.specs.Prelude.{IfSome, String, Vec, encode_utf8_all, eqb, nat_lt, if◌then◌else◌, string_bytes}
+use denote.RawPtr.{null_ptr}
+use Rattle.std.proofs.lemmas.Str.{encode_ascii}
+use Rattle.std.specs.List.{list_all}
+use Rattle.aout_core.specs.Contents.{Contents, IsSound}
+use Rattle.aout_core.specs.Front.{front}
+use Rattle.aout_core.specs.Spelling.{spelling}
+use Rattle.aout_core.specs.Wires.{Latched}
+use Rattle.aout_core.proofs.SpellsLemmas.{front_sound}
+use Rattle.link_session.specs.Labelled.{Labelled, objects}
+use Rattle.link_out.specs.declared.linked.Linked.{Linked}
+use Rattle.link_out.specs.Choices.{Choices}
+use Rattle.link_out.specs.Outcomes.{findings_of, outcome_of}
+use Rattle.link_out.specs.Results.{Findings}
+use Rattle.link_out.specs.function.Link.{link}
+use Rattle.link_out.specs.function.Reports.{report_text, status_of}
+use Rattle.command_words.specs.declared.words.Call.TheVariants.{Ld}
+use Rattle.v7tools.specs.CommandRuns.{AsksFor}
+use Rattle.v7tools.specs.Deeds.{Deed, Opened, opens, paths_of, stored}
+use Rattle.v7tools.specs.Inputs.{linked}
+use Rattle.v7tools.specs.LinkAnswers.{TakesAll, told}
+use Rattle.v7tools.specs.LinkRuns.{inputs_opened}
+use Rattle.v7tools.specs.declared.office.Stored.TheVariants.{Kept}
+use Rattle.command_laws.specs.Disks.{Disk, IsOn, Run}
+use Rattle.command_laws.specs.StepsByCommands.{Links}
+use Rattle.conformance.proofs.LawExamples.{below}
+
+abbrev pub heap : Global
+heap = record { memory = record { seal = tt } }
+
+-- a vector of these
+abbrev pub vector : {A : Type 0} (xs : List A) → length xs < 2 ^ 63 → Vec A Global
+vector xs small = record { ptr = null_ptr; len = length xs; cap = length xs; alloc = heap; items = xs; ok = (refl, omega arith); small = small }
+
+-- a letter is written as itself
+pub as_written : (c : ℕ) → c < 128 → encode_utf8_all (c ∷ []) ≡ c ∷ []
+as_written c small = ap (λ (text : List ℕ). text ++ []) (encode_ascii c small)
+
+-- a device that holds these bytes
+abbrev pub holding : List ℕ → Latched (List ℕ)
+holding bytes = record { device = bytes; has_failed = false }
+
+abbrev pub contents : List ℕ → Option (List ℕ)
+contents bytes = Some bytes
+
+module _ (words : List (List ℕ)) (disk : Disk) (found : List Opened) (out : String Global) (made : Linked) where
+  -- what was asked of the office
+  abbrev pub asked : List Deed
+  asked = opens found ++ stored (string_bytes out) made.file Kept ∷ []
+
+  abbrev pub text : List ℕ
+  text = report_text (findings_of made.report)
+
+  abbrev pub run_of : Run (List ℕ) (List ℕ)
+  run_of = record {
+    words = words;
+    script = None;
+    disk = disk;
+    earlier = [];
+    deeds = asked;
+    output_before = holding [];
+    output_after = holding text;
+    error_before = holding [];
+    error_after = holding [];
+    status = status_of (findings_of made.report);
+  }
+
+  small_status : (f : Findings) → status_of f ≤ 1
+  small_status f = by_test (eqb (length (report_text f)) 0)
+    where
+      by_test : (silent : Bool) → (if silent then 0 else 1) ≤ 1
+      by_test true = omega arith
+      by_test false = omega arith
+
+  module _ (forced : List (List ℕ)) (o : Choices) (files : Vec (String Global) Global) (asks : AsksFor words (Ld o forced out files)) where
+    -- it does what the contract of `perform` says
+    pub links : (kept : List Labelled) → paths_of found ≡ map string_bytes files.items → TakesAll forced [] (inputs_opened found) kept → link forced (objects kept) o ≡ Ok (outcome_of made) →
+        IfSome (told (inputs_opened found)) (λ bytes. linked forced bytes o ≡ Ok (outcome_of made)) → IsOn disk asked →
+        Links contents contents forced o (string_bytes out) (map string_bytes files.items) run_of
+    links kept all taken is bytes on_disk = record {
+      asks = record { output = out; files = files; asks = asks; out_path = refl; file_paths = refl };
+      ends = record {
+        performs = (
+          Ok (status_of (findings_of made.report)),
+          inr (record {
+            call = Ld o forced out files;
+            asks = asks;
+            run = inr (inr (inr (record {
+              made = made;
+              what = Kept;
+              found = found;
+              answer = record { all = all; link = record { over = record { kept = kept; taken = taken; link = is }; bytes = bytes } };
+              asked = refl;
+              reports = record { status = refl; write_failed = tt; fault = ((λ e. absurd e), (λ e. absurd (cc))); bytes = refl };
+            })));
+          }),
+          (refl, refl),
+        );
+        on_disk = on_disk;
+        no_fault = small_status (findings_of made.report);
+      };
+    }
+
+-- a file that is read back from its encoding is sound
+pub sound_file : (file : Contents) → list_all (λ (b : ℕ). nat_lt b 256) (spelling file) ≡ true → front (spelling file) ≡ Ok file → IsSound file
+sound_file file bytes read = front_sound (spelling file) file (below (spelling file) bytes) read

@@ -1,0 +1,268 @@
+-- What words of a linked program find, beside what they find in their objects.
+use Rattle.std.proofs.Common.{◌≡◌, ◌≢◌, ℕ, ◌+◌, ◌*◌, ◌%◌, ◌<◌, Bool, true, false, cond, not, ◌||◌, eqb, List, [], ◌∷◌, ◌++◌, Option, Some, None, refl, sym, ◌∙◌, ap, subst, arith}
+use Rattle.std.specs.Prelude.{slice_get, bytes_eq, Ok}
+use Rattle.std.specs.List.{AllByRecursion}
+use Rattle.std.proofs.lemmas.Bool.{false_from_ne_true, eqb-true}
+use Rattle.std.proofs.lemmas.Option.{same_Some}
+use Rattle.aout_core.specs.declared.header.Header.{Header}
+use Rattle.aout_core.specs.declared.symbol.Symbol.{Symbol}
+use Rattle.aout_core.specs.declared.symbol.Segment.{Segment}
+use Rattle.aout_core.specs.declared.symbol.Segment.TheVariants.{Undefined, Absolute, TextSeg, DataSeg, BssSeg, Other}
+use Rattle.aout_core.specs.declared.reloc.Reloc.{Reloc}
+use Rattle.aout_core.specs.declared.reloc.Kind.{Kind}
+use Rattle.aout_core.specs.declared.reloc.Kind.TheVariants as kinds
+use Rattle.aout_core.specs.Contents.{Contents}
+use Rattle.aout_core.specs.Words.{plus, minus}
+use Rattle.aout_core.specs.WellFormed.{masked_type, segment_of, segment_numbered, kind_of, is_pc_relative, symbol_number}
+use Rattle.link_session.specs.declared.state.State.{State}
+use Rattle.link_session.specs.declared.state.State.TheVariants.{Defined, Wanted}
+use Rattle.link_session.specs.Starts.{size_of, total, own}
+use Rattle.link_session.specs.Sessions.{IsObject}
+use Rattle.link_session.specs.Mentions.{mentions, is_among, names_by_first_mention}
+use Rattle.link_session.specs.States.{state}
+use Rattle.link_out.specs.declared.options.Keep.TheVariants.{Nothing}
+use Rattle.link_out.specs.Choices.{Choices}
+use Rattle.link_out.specs.Layouts.{Bases}
+use Rattle.link_out.specs.Results.{Outcome}
+use Rattle.link_out.specs.function.Plans.{Plan, plan, common_offset}
+use Rattle.link_out.specs.function.Finals.{Final, final_by, bound_at, waiting, reserved_or_waiting, etext, edata, end_name}
+use Rattle.link_out.specs.function.Tables.{external_row}
+use Rattle.link_out.specs.function.Link.{link}
+use Rattle.link_out.specs.relation.Relocated.{carried, entry_of, address_in, IsAddressOf, IsAdded, begins, external_type, segment_words, segment_relocs, IsRelocated}
+use Rattle.link_out.specs.relation.LinkedFrom.{IsLinkedFrom}
+use Rattle.link_out.specs.laws.WordsAndNames.{IsDefined}
+use Rattle.link_out.proofs.OutcomeLemmas.{made_file}
+use Rattle.link_out.proofs.ExternalLemmas.{entry_in_table, row_address}
+use Rattle.link_out.proofs.SegmentLemmas.{HasWords}
+use Rattle.link_out.proofs.DefinedLemmas.{definitions_hold}
+use Rattle.link_out.proofs.LinkedTheorem.{linked_exactly}
+use Rattle.link_laws.specs.CoreLaws.{IsPlace, IsLoaded}
+use Rattle.link_laws.specs.Operands.{operand, FindsMore, FindsName, segment_meant, Calls, Defines, Arrives}
+use Rattle.link_laws.proofs.LoadedLemmas.{HasPlace, address_of, place_at, loaded_word, words_loaded}
+
+-- sums
+
+by_pc : (pc : Bool) (start own n w more : ℕ) → operand pc (start + n) (minus (plus w more) (cond pc (minus start own) 0)) ≡ plus more (operand pc (own + n) w)
+by_pc true start own n w more = beside start own n w more
+  where
+    beside : (start own n w more : ℕ) → plus (start + n + 2) (minus (plus w more) (minus start own)) ≡ plus more (plus (own + n + 2) w)
+    beside start own n w more = omega arith
+by_pc false start own n w more = alone w more
+  where
+    alone : (w more : ℕ) → plus 0 (minus (plus w more) 0) ≡ plus more (plus 0 w)
+    alone w more = omega arith
+
+-- a word that is loaded finds more by what was added to it
+module _ (file : Contents) (rows : List Symbol) (os before : List Contents) (k : Contents) where
+  loaded_finds : (segment : Segment) → HasWords segment → (i w : ℕ) (r : Reloc) (l : IsLoaded file rows os before k segment i w r) → FindsMore file os before k segment i w r l.added
+  loaded_finds TextSeg has i w r l = record {
+    address = l.address;
+    place = l.place;
+    word = minus (plus w l.added) (cond (is_pc_relative r) (carried file.header os before k TextSeg) 0);
+    stands = l.word;
+    finds = ap (λ (a : ℕ). operand (is_pc_relative r) a (minus (plus w l.added) (cond (is_pc_relative r) (carried file.header os before k TextSeg) 0))) l.place.behind
+        ∙ by_pc (is_pc_relative r) (begins file.header (total BssSeg os) TextSeg + total TextSeg before) (own k TextSeg) (2 * i) w l.added;
+  }
+  loaded_finds DataSeg has i w r l = record {
+    address = l.address;
+    place = l.place;
+    word = minus (plus w l.added) (cond (is_pc_relative r) (carried file.header os before k DataSeg) 0);
+    stands = l.word;
+    finds = ap (λ (a : ℕ). operand (is_pc_relative r) a (minus (plus w l.added) (cond (is_pc_relative r) (carried file.header os before k DataSeg) 0))) l.place.behind
+        ∙ by_pc (is_pc_relative r) (begins file.header (total BssSeg os) DataSeg + total DataSeg before) (own k DataSeg) (2 * i) w l.added;
+  }
+  loaded_finds Undefined has i w r l = absurd has
+  loaded_finds Absolute has i w r l = absurd has
+  loaded_finds BssSeg has i w r l = absurd has
+  loaded_finds Other has i w r l = absurd has
+
+-- words stand only in text and data
+words_there : (segment : Segment) (k : Contents) (i w : ℕ) → slice_get (segment_words segment k) i ≡ Some w → HasWords segment
+words_there TextSeg k i w e = tt
+words_there DataSeg k i w e = tt
+words_there Undefined k i w e = absurd (cc)
+words_there Absolute k i w e = absurd (cc)
+words_there BssSeg k i w e = absurd (cc)
+words_there Other k i w e = absurd (cc)
+
+-- names
+
+reserved_written : (b : Bases) (name : List ℕ) → (reserved_or_waiting b name).address ≡ (reserved_or_waiting b name).written
+reserved_written b name = by_tests (bytes_eq name etext) (bytes_eq name edata) (bytes_eq name end_name)
+  where
+    by_tests : (t d e : Bool) → (cond t (bound_at TextSeg b.text_end) (cond d (bound_at DataSeg b.data_end) (cond e (bound_at BssSeg b.bss_end) (waiting 0)))).address
+        ≡ (cond t (bound_at TextSeg b.text_end) (cond d (bound_at DataSeg b.data_end) (cond e (bound_at BssSeg b.bss_end) (waiting 0)))).written
+    by_tests true d e = refl
+    by_tests false true e = refl
+    by_tests false false true = refl
+    by_tests false false false = refl
+
+-- without relocation a name's value is its address
+module _ (forced : List (List ℕ)) (os : List Contents) (o : Choices) (unkept : o.relocatable ≡ false) where
+  abbrev p : Plan
+  p = plan forced os o
+
+  written_by : (name : List ℕ) (st : State) → (final_by p name st).address ≡ (final_by p name st).written
+  written_by name (Defined segment offset) = refl
+  written_by name (Wanted size) =
+      ap (λ (r : Bool). let f : Final = cond (eqb size 0) (cond o.relocatable (waiting 0) (reserved_or_waiting p.at name)) (cond (not r || o.force_commons) (bound_at BssSeg (plus p.at.data_end (common_offset p.said name))) (waiting size)) in f.address) unkept
+      ∙ by_tests (eqb size 0) o.relocatable
+      ∙ sym (ap (λ (r : Bool). let f : Final = cond (eqb size 0) (cond o.relocatable (waiting 0) (reserved_or_waiting p.at name)) (cond (not r || o.force_commons) (bound_at BssSeg (plus p.at.data_end (common_offset p.said name))) (waiting size)) in f.written) unkept)
+    where
+      by_tests : (z r : Bool) →
+          (let f : Final = cond z (cond r (waiting 0) (reserved_or_waiting p.at name)) (bound_at BssSeg (plus p.at.data_end (common_offset p.said name))) in f.address)
+          ≡ (let f : Final = cond z (cond r (waiting 0) (reserved_or_waiting p.at name)) (bound_at BssSeg (plus p.at.data_end (common_offset p.said name))) in f.written)
+      by_tests true true = refl
+      by_tests true false = reserved_written p.at name
+      by_tests false r = refl
+
+  value_in : (name : List ℕ) → address_in (external_row p name) ≡ (external_row p name).value
+  value_in name = row_address forced os o name ∙ written_by name (state (mentions forced os) name)
+
+  value_given : (x : Outcome) → o.keep ≢ Nothing → link forced os o ≡ Ok x → (name : List ℕ) (row : Symbol) → entry_of x.file.symbols name ≡ Some row → address_in row ≡ row.value
+  value_given x others linked name row found =
+      by_test (is_among (names_by_first_mention (mentions forced os)) name) (sym (entry_in_table p os name others) ∙ ap (λ (f : Contents). entry_of f.symbols name) (made_file p os x linked) ∙ found)
+    where
+      by_test : (t : Bool) → cond t (Some (external_row p name)) None ≡ Some row → address_in row ≡ row.value
+      by_test true e = let same : external_row p name ≡ row = cc in subst (λ (s : Symbol). address_in s ≡ s.value) same (value_in name)
+      by_test false e = absurd (cc)
+
+-- a word that refers to a name finds the address of the name's external symbol more
+record FindsAddress (file : Contents) (os before : List Contents) (k : Contents) (segment : Segment) (i w : ℕ) (r : Reloc) : Type 0 where
+  symbol : Symbol
+  row : Symbol
+  named : slice_get k.symbols (symbol_number r) ≡ Some symbol
+  found : entry_of file.symbols symbol.name ≡ Some row
+  more : FindsMore file os before k segment i w r (address_in row)
+
+address_found : (forced : List (List ℕ)) (before : List Contents) (k : Contents) (after : List Contents) (o : Choices) (x : Outcome) →
+    AllByRecursion IsObject (before ++ k ∷ after) → o.keep ≢ Nothing → link forced (before ++ k ∷ after) o ≡ Ok x →
+    (segment : Segment) (i w : ℕ) (r : Reloc) → slice_get (segment_words segment k) i ≡ Some w → slice_get (segment_relocs segment k) i ≡ Some r →
+    kind_of r ≡ Some kinds.External → FindsAddress x.file (before ++ k ∷ after) before k segment i w r
+address_found forced before k after o x good others linked segment i w r ew er kind =
+    let os = before ++ k ∷ after in
+    let l = words_loaded forced before k after o x good others linked segment i w r ew er in
+    let is : IsAddressOf x.file.symbols k (symbol_number r) l.added = subst (λ (m : Option Kind). IsAdded x.file.header x.file.symbols os before k m (symbol_number r) l.added) kind l.is in
+    record {
+      symbol = is.symbol;
+      row = is.row;
+      named = is.named;
+      found = is.found;
+      more = subst (λ (a : ℕ). FindsMore x.file os before k segment i w r a) is.gives (loaded_finds x.file x.file.symbols os before k segment (words_there segment k i w ew) i w r l);
+    }
+
+pub names_found : (forced : List (List ℕ)) (before : List Contents) (k : Contents) (after : List Contents) (o : Choices) (x : Outcome) →
+    AllByRecursion IsObject (before ++ k ∷ after) → o.keep ≢ Nothing → o.relocatable ≡ false → link forced (before ++ k ∷ after) o ≡ Ok x →
+    (segment : Segment) (i w : ℕ) (r : Reloc) → slice_get (segment_words segment k) i ≡ Some w → slice_get (segment_relocs segment k) i ≡ Some r →
+    kind_of r ≡ Some kinds.External → FindsName x.file (before ++ k ∷ after) before k segment i w r
+names_found forced before k after o x good others unkept linked segment i w r ew er kind =
+    let os = before ++ k ∷ after in
+    let a = address_found forced before k after o x good others linked segment i w r ew er kind in
+    record {
+      symbol = a.symbol;
+      row = a.row;
+      named = a.named;
+      found = a.found;
+      more = subst (λ (n : ℕ). FindsMore x.file os before k segment i w r n) (value_given forced os o unkept x others linked a.symbol.name a.row a.found) a.more;
+    }
+
+-- segments
+
+meant_added : (h : Header) (rows : List Symbol) (os before : List Contents) (k : Contents) (kind : Kind) (meant : Segment) (number a : ℕ) → segment_meant kind ≡ Some meant → IsAdded h rows os before k (Some kind) number a → a ≡ carried h os before k meant
+meant_added h rows os before k kinds.Absolute meant number a e is = is ∙ ap (λ (s : Segment). carried h os before k s) (same_Some Absolute meant e)
+meant_added h rows os before k kinds.TextSeg meant number a e is = is ∙ ap (λ (s : Segment). carried h os before k s) (same_Some TextSeg meant e)
+meant_added h rows os before k kinds.DataSeg meant number a e is = is ∙ ap (λ (s : Segment). carried h os before k s) (same_Some DataSeg meant e)
+meant_added h rows os before k kinds.BssSeg meant number a e is = is ∙ ap (λ (s : Segment). carried h os before k s) (same_Some BssSeg meant e)
+meant_added h rows os before k kinds.External meant number a e is = absurd (cc)
+
+-- each word of a link stands relocated by the rows of its relation
+relocated_in : (forced : List (List ℕ)) (os : List Contents) (o : Choices) (x : Outcome) (l : IsLinkedFrom forced os o x) (before : List Contents) (k : Contents) (after : List Contents) → os ≡ before ++ k ∷ after →
+    (segment : Segment) (i w : ℕ) (r : Reloc) → slice_get (segment_words segment k) i ≡ Some w → slice_get (segment_relocs segment k) i ≡ Some r → IsRelocated x.file l.rows os before k segment i w r
+relocated_in forced os o x l before k after all TextSeg i w r ew er = l.text before k after all i w r ew er
+relocated_in forced os o x l before k after all DataSeg i w r ew er = l.data before k after all i w r ew er
+relocated_in forced os o x l before k after all Undefined i w r ew er = absurd (cc)
+relocated_in forced os o x l before k after all Absolute i w r ew er = absurd (cc)
+relocated_in forced os o x l before k after all BssSeg i w r ew er = absurd (cc)
+relocated_in forced os o x l before k after all Other i w r ew er = absurd (cc)
+
+pub segments_found : (forced : List (List ℕ)) (before : List Contents) (k : Contents) (after : List Contents) (o : Choices) (x : Outcome) →
+    AllByRecursion IsObject (before ++ k ∷ after) → link forced (before ++ k ∷ after) o ≡ Ok x →
+    (segment : Segment) (i w : ℕ) (r : Reloc) → slice_get (segment_words segment k) i ≡ Some w → slice_get (segment_relocs segment k) i ≡ Some r →
+    (kind : Kind) (meant : Segment) → kind_of r ≡ Some kind → segment_meant kind ≡ Some meant →
+    FindsMore x.file (before ++ k ∷ after) before k segment i w r (carried x.file.header (before ++ k ∷ after) before k meant)
+segments_found forced before k after o x good linked segment i w r ew er kind meant e m =
+    let os = before ++ k ∷ after in
+    let from = (linked_exactly forced os o x good).0 linked in
+    let has = words_there segment k i w ew in
+    let l = loaded_word forced os o x good linked before k after refl from.rows segment has i w r (relocated_in forced os o x from before k after refl segment i w r ew er) in
+    let is : IsAdded x.file.header from.rows os before k (Some kind) (symbol_number r) l.added = subst (λ (n : Option Kind). IsAdded x.file.header from.rows os before k n (symbol_number r) l.added) e l.is in
+    subst (λ (a : ℕ). FindsMore x.file os before k segment i w r a) (meant_added x.file.header from.rows os before k kind meant (symbol_number r) l.added m is)
+    (loaded_finds x.file from.rows os before k segment has i w r l)
+
+-- calls
+
+-- a byte is inside a segment that has a place
+place_there : (segment : Segment) (c : Contents) (n : ℕ) → n < size_of segment c → HasPlace segment
+place_there TextSeg c n h = tt
+place_there DataSeg c n h = tt
+place_there BssSeg c n h = tt
+place_there Undefined c n h = absurd (omega arith)
+place_there Absolute c n h = absurd (omega arith)
+place_there Other c n h = absurd (omega arith)
+
+-- a symbol of such a segment is a definition
+is_definition : (s : Symbol) (segment : Segment) → segment_of s ≡ segment → HasPlace segment → eqb (masked_type s) 0 ≡ false
+is_definition s segment e has = false_from_ne_true (eqb (masked_type s) 0) (λ t. no_place segment (sym (by_zero t) ∙ e) has)
+  where
+    by_zero : eqb (masked_type s) 0 ≡ true → segment_of s ≡ Undefined
+    by_zero t = ap segment_numbered (eqb-true (masked_type s) 0 t)
+
+    no_place : (segment : Segment) → Undefined ≡ segment → HasPlace segment → ⊥
+    no_place Undefined e has = has
+    no_place Absolute e has = has
+    no_place Other e has = has
+    no_place TextSeg e has = cc
+    no_place DataSeg e has = cc
+    no_place BssSeg e has = cc
+
+-- a definition there gives its value
+defined_address : (row : Symbol) (segment : Segment) → HasPlace segment → row.type_bits ≡ external_type segment → address_in row ≡ row.value
+defined_address row TextSeg has e = ap (λ (t : ℕ). cond (eqb (t % 32) 0) 0 row.value) e
+defined_address row DataSeg has e = ap (λ (t : ℕ). cond (eqb (t % 32) 0) 0 row.value) e
+defined_address row BssSeg has e = ap (λ (t : ℕ). cond (eqb (t % 32) 0) 0 row.value) e
+defined_address row Undefined has e = absurd has
+defined_address row Absolute has e = absurd has
+defined_address row Other has e = absurd has
+
+pub calls_arrive : (forced : List (List ℕ)) (os : List Contents) (o : Choices) (x : Outcome) → AllByRecursion IsObject os → o.keep ≢ Nothing → link forced os o ≡ Ok x → x.report.multiples ≡ [] →
+    (before : List Contents) (k : Contents) (after : List Contents) → os ≡ before ++ k ∷ after → (front : List Contents) (c : Contents) (back : List Contents) → os ≡ front ++ c ∷ back →
+    (from to : Segment) (i n : ℕ) (name : List ℕ) → Calls k from i name → Defines c name to n → Arrives x.file os before k from i front c to n
+calls_arrive forced os o x good others linked once before k after all front c back other from to i n name call d =
+    let has : HasPlace to = place_there to c n d.inside in
+    let finds : FindsAddress x.file os before k from i call.w call.r =
+    subst (λ (ys : List Contents). FindsAddress x.file ys before k from i call.w call.r) (sym all)
+    (address_found forced before k after o x (subst (λ (ys : List Contents). AllByRecursion IsObject ys) all good) others (ap (λ (ys : List Contents). link forced ys o) (sym all) ∙ linked) from i call.w call.r call.word call.reloc call.kind) in
+    let is : IsDefined x.file os front c d.symbol =
+    subst (λ (ys : List Contents). IsDefined x.file ys front c d.symbol) (sym other)
+    (definitions_hold forced front c back o x others (ap (λ (ys : List Contents). link forced ys o) (sym other) ∙ linked) once d.number d.symbol d.stands d.outer (is_definition d.symbol to d.is has)) in
+    let there : IsPlace x.file.header os front c to n (address_of x.file.header os front c to n) = place_at x.file.header os front c to has n in
+    let same : finds.symbol ≡ call.symbol = same_Some finds.symbol call.symbol (sym finds.named ∙ call.named) in
+    let row : finds.row ≡ is.row = same_Some finds.row is.row (sym finds.found ∙ ap (λ (m : List ℕ). entry_of x.file.symbols m) (ap (λ (s : Symbol). s.name) same ∙ call.names ∙ sym d.names) ∙ is.found) in
+    let value : is.row.value ≡ address_of x.file.header os front c to n % 65536 =
+    is.value ∙ (λ j. plus (d.value j) (carried x.file.header os front c (d.is j))) ∙ there.symbol in
+    record {
+      address = finds.more.address;
+      place = finds.more.place;
+      word = finds.more.word;
+      stands = finds.more.stands;
+      target = address_of x.file.header os front c to n;
+      there = there;
+      arrives =
+          ap (λ (t : Bool). operand t finds.more.address finds.more.word) (sym call.pc)
+          ∙ finds.more.finds
+          ∙ (λ j. plus ((ap address_in row ∙ defined_address is.row to has (is.type_bits ∙ ap external_type d.is) ∙ value) j) ((ap (λ (t : Bool). operand t (own k from + 2 * i) call.w) call.pc ∙ call.just) j))
+          ∙ wrapped (address_of x.file.header os front c to n);
+    }
+  where
+    wrapped : (a : ℕ) → plus (a % 65536) 0 ≡ a % 65536
+    wrapped a = omega arith

@@ -1,0 +1,6 @@
+-- The definitions that the laws of this crate are written in.
+pub mod Listings
+pub mod Core
+pub mod CoreLaws
+pub mod Operands
+pub mod Orders

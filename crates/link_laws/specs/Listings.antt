@@ -1,0 +1,110 @@
+-- What nm and size tell of a linked file: the names that its link reported undefined, its externals, and its sizes. (nm(1), size(1), ld(1))
+--
+-- The report is of the objects, and a list is of the file alone; these laws say that they agree.
+use Rattle.std.specs.Prelude.{◌≡◌, ◌≢◌, ◌⊎◌, ℕ, ◌+◌, true, false, ◌&&◌, cond, eqb, if◌then◌else◌, List, [], ◌∷◌, ◌++◌, map, filter, codes, Some, Ok, bytes_eq, IsPermutation}
+use Rattle.std.specs.List.{flat_map}
+use Rattle.aout_core.specs.declared.header.Header.{Header}
+use Rattle.aout_core.specs.declared.symbol.Symbol.{Symbol}
+use Rattle.aout_core.specs.declared.symbol.Segment.{Segment}
+use Rattle.aout_core.specs.declared.symbol.Segment.TheVariants.{TextSeg, DataSeg, BssSeg}
+use Rattle.aout_core.specs.Contents.{Contents}
+use Rattle.aout_core.specs.Words.{letter_of}
+use Rattle.aout_core.specs.WellFormed.{is_external}
+use Rattle.link_session.specs.declared.state.State.{State}
+use Rattle.link_session.specs.declared.state.State.TheVariants.{Defined, Wanted}
+use Rattle.link_session.specs.Starts.{total}
+use Rattle.link_session.specs.Mentions.{mentions, externals, is_among}
+use Rattle.link_out.specs.declared.options.Keep.TheVariants.{Nothing}
+use Rattle.link_out.specs.Choices.{Choices}
+use Rattle.link_out.specs.ReservedNames.{etext, edata, end_name}
+use Rattle.link_out.specs.function.Link.{Outcome, link}
+use Rattle.link_out.specs.relation.NameStates.{HasState}
+use Rattle.link_out.specs.relation.Relocated.{entry_of}
+use Rattle.link_out.specs.relation.LinkedTable.{row_for, carried_locals}
+use Rattle.link_out.specs.relation.Refusals.{CommonsTake, kept_locals}
+use Rattle.link_out.specs.relation.LinkedFrom.{IsLinkedFrom}
+use Rattle.symtools.specs.declared.options.NmOptions.{NmOptions}
+use Rattle.symtools.specs.SymbolLines.{is_shown_undefined, letter, symbol_line}
+use Rattle.symtools.specs.NmLists.{arranged, shown, line_front, nm_text}
+use Rattle.symtools.specs.SizeLines.{size_line, size_text}
+
+-- the locals that a link keeps and nm shows as undefined: those of type 0 and value 0. A link reports none of them, since no
+-- other object can define a local
+abbrev pub undefined_locals : Choices → List Contents → List Symbol
+undefined_locals o os = filter is_shown_undefined (kept_locals o os)
+
+-- they are not listed by `-g`
+abbrev pub listed_locals : NmOptions → List Symbol → List Symbol
+listed_locals n locals = cond n.external [] locals
+
+-- the external symbol of a name that is reported undefined
+abbrev pub undefined_symbol : List ℕ → Symbol
+undefined_symbol name = record { name = name; type_bits = 0o40; value = 0 }
+
+-- the lines of these symbols
+abbrev pub lines : NmOptions → List ℕ → List Symbol → List ℕ
+lines n path ss = flat_map (λ s. line_front n path ++ symbol_line s) ss
+
+-- by `nm -u`, with `-g` or where no such local is kept, the names that are reported undefined are listed, each once, and no others
+abbrev pub UndefinedAreListed : Type 0
+UndefinedAreListed = (forced : List (List ℕ)) (os : List Contents) (o : Choices) (x : Outcome) → o.keep ≢ Nothing → o.relocatable ≡ false → link forced os o ≡ Ok x →
+    (n : NmOptions) → n.undefined ≡ true → (n.external ≡ true) ⊎ (undefined_locals o os ≡ []) → IsPermutation (map (λ s. s.name) (shown n x.file)) x.report.undefined
+
+-- and these are its lines: those of such locals, and of the names that are reported, in the order that the options ask for
+abbrev pub UndefinedLines : Type 0
+UndefinedLines = (forced : List (List ℕ)) (os : List Contents) (o : Choices) (x : Outcome) → o.keep ≢ Nothing → o.relocatable ≡ false → link forced os o ≡ Ok x →
+    (n : NmOptions) (path : List ℕ) → n.undefined ≡ true →
+    nm_text n ((path, x.file) ∷ []) ≡ lines n path (arranged n (listed_locals n (undefined_locals o os) ++ map undefined_symbol x.report.undefined))
+
+-- without `-u`: the kept locals, and the rows of the externals that the relation of linking tells
+abbrev pub RowLines : Type 0
+RowLines = (forced : List (List ℕ)) (os : List Contents) (o : Choices) (x : Outcome) → o.keep ≢ Nothing → (l : IsLinkedFrom forced os o x) →
+    (n : NmOptions) (path : List ℕ) → n.undefined ≡ false →
+    nm_text n ((path, x.file) ∷ []) ≡ lines n path (arranged n (listed_locals n (carried_locals x.file.header os o) ++ l.rows))
+
+-- the letter of a definition
+abbrev pub segment_letter : Segment → ℕ
+segment_letter TextSeg = letter_of (codes "T")
+segment_letter DataSeg = letter_of (codes "D")
+segment_letter BssSeg = letter_of (codes "B")
+segment_letter _ = letter_of (codes "A")
+
+-- the letter of an external in this state, without relocation: a common stands in bss, and only what nothing defines has U
+abbrev pub state_letter : List ℕ → State → ℕ
+state_letter name (Defined segment offset) = segment_letter segment
+state_letter name (Wanted size) =
+    if eqb size 0 then (if bytes_eq name etext then letter_of (codes "T")
+    else (if bytes_eq name edata then letter_of (codes "D")
+    else (if bytes_eq name end_name then letter_of (codes "B")
+    else letter_of (codes "U"))))
+    else letter_of (codes "B")
+
+-- the external symbol of a name stands once among the symbols that are listed; it is the row of the name's state, with a common at
+-- an address of its own, and has that state's letter
+pub record IsListedOnce (forced : List (List ℕ)) (os : List Contents) (o : Choices) (file : Contents) (listed : List Symbol) (name : List ℕ) : Type 0 where
+  pub row : Symbol
+  pub found : entry_of file.symbols name ≡ Some row
+  pub once : filter (λ s. is_external s && bytes_eq name s.name) listed ≡ row ∷ []
+  pub state : State
+  pub has : HasState (mentions forced os) name state
+  pub at : ℕ
+  pub is : row ≡ row_for file.header (total BssSeg os) o at name state
+  pub shows : o.relocatable ≡ false → letter row ≡ state_letter name state
+
+-- each external of the objects, and each forced name, is listed once, by every `nm` without `-u`
+abbrev pub ExternalsAreListed : Type 0
+ExternalsAreListed = (forced : List (List ℕ)) (os : List Contents) (o : Choices) (x : Outcome) → o.keep ≢ Nothing → IsLinkedFrom forced os o x →
+    (n : NmOptions) → n.undefined ≡ false → (name : List ℕ) → is_among (externals forced os) name ≡ true → IsListedOnce forced os o x.file (shown n x.file) name
+
+-- a header of these sizes; `size` reads nothing else
+abbrev pub of_sizes : ℕ → ℕ → ℕ → Header
+of_sizes text «data» bss = record { magic = 0o407; text_size = text; data_size = «data»; bss_size = bss; symbol_size = 0; entry_point = 0; unused = 0; flag = 0 }
+
+-- `size` writes the sums of the objects' sizes, bss with the commons that are laid out
+pub record HasSizes (forced : List (List ℕ)) (os : List Contents) (o : Choices) (file : Contents) : Type 0 where
+  pub commons : ℕ
+  pub take : CommonsTake o (mentions forced os) (externals forced os) commons
+  pub line : (path : List ℕ) → size_text ((path, file) ∷ []) ≡ size_line (of_sizes (total TextSeg os) (total DataSeg os) (commons + total BssSeg os)) ++ 10 ∷ []
+
+abbrev pub SizesAreSums : Type 0
+SizesAreSums = (forced : List (List ℕ)) (os : List Contents) (o : Choices) (x : Outcome) → link forced os o ≡ Ok x → HasSizes forced os o x.file

@@ -1,0 +1,114 @@
+-- Laws of the order of objects: another order gives the same program, laid out otherwise. (ld(1))
+--
+-- Refusals, sizes, and which names are reported do not depend on the order of the objects; where objects and commons lie does.
+-- Where no name is multiply defined, each name means the same in any order, so each word refers to the same thing. Orders are
+-- those that exchanges reach, as of two neighbours.
+use Rattle.std.specs.Prelude.{◌≡◌, ◌≢◌, ℕ, ◌≤◌, Bool, true, false, not, ◌&&◌, eqb, List, [], ◌∷◌, ◌++◌, filter, length, sum_by, Some, Ok, Err, slice_get, bytes_eq}
+use Rattle.std.specs.List.{AllByRecursion}
+use Rattle.std.specs.List.Sorted.{IsPermutation}
+use Rattle.aout_core.specs.declared.symbol.Symbol.{Symbol}
+use Rattle.aout_core.specs.declared.symbol.Segment.{Segment}
+use Rattle.aout_core.specs.declared.reloc.Reloc.{Reloc}
+use Rattle.aout_core.specs.declared.reloc.Kind.TheVariants.{External}
+use Rattle.aout_core.specs.Contents.{Contents}
+use Rattle.aout_core.specs.WellFormed.{is_external, masked_type, kind_of, symbol_number}
+use Rattle.link_session.specs.Sessions.{IsObject}
+use Rattle.link_session.specs.Mentions.{mentions, externals, is_among}
+use Rattle.link_out.specs.declared.linked.LinkFault.{LinkFault}
+use Rattle.link_out.specs.declared.options.Keep.TheVariants.{Nothing}
+use Rattle.link_out.specs.Choices.{Choices}
+use Rattle.link_out.specs.function.Link.{Outcome, link}
+use Rattle.link_out.specs.relation.NameStates.{IsWanted}
+use Rattle.link_out.specs.relation.Relocated.{entry_of, segment_words, segment_relocs, IsRelocated}
+use Rattle.link_out.specs.relation.LinkedTable.{undefined_row}
+use Rattle.link_out.specs.laws.WordsAndNames.{IsDefined}
+use Rattle.link_out.specs.laws.CommonsAndLayouts.{IsCommon, HasRoom}
+
+-- the same objects in two orders, linked alike without relocation
+pub record AreOrders (forced : List (List ℕ)) (os ps : List Contents) (o : Choices) (x y : Outcome) : Type 0 where
+  pub same : IsPermutation os ps
+  pub one : link forced os o ≡ Ok x
+  pub other : link forced ps o ≡ Ok y
+
+-- the symbol defines this name
+abbrev pub defines : List ℕ → Symbol → Bool
+defines name s = is_external s && (not (eqb (masked_type s) 0) && bytes_eq name s.name)
+
+-- no two symbols of the objects define one name
+abbrev pub DefineOnce : List Contents → Type 0
+DefineOnce os = (name : List ℕ) → sum_by (λ (k : Contents). length (filter (defines name) k.symbols)) os ≤ 1
+
+-- then no name is multiply defined, in any order
+abbrev pub OnceInAnyOrder : Type 0
+OnceInAnyOrder = (forced : List (List ℕ)) (os ps : List Contents) (o : Choices) (y : Outcome) → IsPermutation os ps →
+    DefineOnce os → link forced ps o ≡ Ok y → y.report.multiples ≡ []
+
+-- refused for the same, or not at all
+abbrev pub OrderRefusesAlike : Type 0
+OrderRefusesAlike = (forced : List (List ℕ)) (os ps : List Contents) (o : Choices) (fault : LinkFault) → IsPermutation os ps →
+    o.relocatable ≡ false → link forced os o ≡ Err fault → link forced ps o ≡ Err fault
+
+-- the headers are the same but for the entry point, so text, data, bss and the table are as large
+abbrev pub OrderKeepsSizes : Type 0
+OrderKeepsSizes = (forced : List (List ℕ)) (os ps : List Contents) (o : Choices) (x y : Outcome) → AreOrders forced os ps o x y →
+    (record x.file.header { entry_point = y.file.header.entry_point }) ≡ y.file.header
+
+-- the same names are reported as reserved and as undefined, these in another order
+abbrev pub OrderReportsAlike : Type 0
+OrderReportsAlike = (forced : List (List ℕ)) (os ps : List Contents) (o : Choices) (x y : Outcome) → AreOrders forced os ps o x y →
+    (x.report.reserved ≡ y.report.reserved) × IsPermutation x.report.undefined y.report.undefined
+
+-- the entry point is found in both or in neither, where no name is multiply defined in one of the orders
+abbrev pub OrderFindsEntry : Type 0
+OrderFindsEntry = (forced : List (List ℕ)) (os ps : List Contents) (o : Choices) (x y : Outcome) → AreOrders forced os ps o x y →
+    x.report.multiples ≡ [] → x.report.entry_bad ≡ y.report.entry_bad
+
+-- what a name means: the definition that a symbol of an object makes, a common of so many bytes, or nothing in the objects
+pub data Meaning : Type 0 where
+  definition : Contents → Symbol → Meaning
+  common : ℕ → Meaning
+  missing : Meaning
+
+-- a symbol of one of the objects defines this name, and the file has its address, carried with that object
+pub record IsDefinedBy (file : Contents) (os : List Contents) (name : List ℕ) (k : Contents) (s : Symbol) : Type 0 where
+  pub before : List Contents
+  pub after : List Contents
+  pub all : os ≡ before ++ k ∷ after
+  pub number : ℕ
+  pub stands : slice_get k.symbols number ≡ Some s
+  pub outer : is_external s ≡ true
+  pub inner : eqb (masked_type s) 0 ≡ false
+  pub names : name ≡ s.name
+  pub is : IsDefined file os before k s
+
+-- a common has room, and a name that nothing defines has the row of an undefined one, where the linker may define its three names
+abbrev pub Means : List (List ℕ) → List Contents → Choices → Contents → List ℕ → Meaning → Type 0
+Means forced os o file name (definition k s) = IsDefinedBy file os name k s
+Means forced os o file name (common size) = IsCommon forced os name size × HasRoom file os name size
+Means forced os o file name missing = IsWanted (mentions forced os) name 0 × (entry_of file.symbols name ≡ Some (undefined_row file.header o name))
+
+-- the name means the same in two links
+pub record MeansTheSame (forced : List (List ℕ)) (os ps : List Contents) (o : Choices) (x y : Outcome) (name : List ℕ) : Type 0 where
+  pub meaning : Meaning
+  pub one : Means forced os o x.file name meaning
+  pub other : Means forced ps o y.file name meaning
+
+-- where no name is multiply defined in one of the orders, each name means the same
+abbrev pub OrderKeepsMeanings : Type 0
+OrderKeepsMeanings = (forced : List (List ℕ)) (os ps : List Contents) (o : Choices) (x y : Outcome) → AreOrders forced os ps o x y → o.keep ≢ Nothing → o.relocatable ≡ false →
+    x.report.multiples ≡ [] → (name : List ℕ) → is_among (externals forced os) name ≡ true → MeansTheSame forced os ps o x y name
+
+-- a word of k, behind these objects in the one order and those in the other, is relocated in both files, and the name that it
+-- refers to, if it does, means the same
+pub record RefersAlike (forced : List (List ℕ)) (os ps : List Contents) (o : Choices) (x y : Outcome) (before front : List Contents) (k : Contents) (segment : Segment) (i w : ℕ) (r : Reloc) : Type 0 where
+  pub one : IsRelocated x.file x.file.symbols os before k segment i w r
+  pub other : IsRelocated y.file y.file.symbols ps front k segment i w r
+  pub name : kind_of r ≡ Some External → (s : Symbol) → slice_get k.symbols (symbol_number r) ≡ Some s → MeansTheSame forced os ps o x y s.name
+
+-- so each word of each object refers to the same
+abbrev pub OrderKeepsReferents : Type 0
+OrderKeepsReferents = (forced : List (List ℕ)) (os ps : List Contents) (o : Choices) (x y : Outcome) → AreOrders forced os ps o x y → o.keep ≢ Nothing → o.relocatable ≡ false →
+    x.report.multiples ≡ [] → AllByRecursion IsObject os →
+    (before : List Contents) (k : Contents) (after : List Contents) → os ≡ before ++ k ∷ after → (front back : List Contents) → ps ≡ front ++ k ∷ back →
+    (segment : Segment) (i w : ℕ) (r : Reloc) → slice_get (segment_words segment k) i ≡ Some w → slice_get (segment_relocs segment k) i ≡ Some r →
+    RefersAlike forced os ps o x y before front k segment i w r
