@@ -1,7 +1,6 @@
 -- What a call of a script returned, and what its lines gave.
 use Rattle.std.proofs.Common.{◌≡◌, ◌↔◌, ◌∙◌, Option, Some, None, Result, Ok, Err, refl, ap}
 use Rattle.scripts.specs.ScriptAnswers.{Answer}
-use Rattle.scripts.specs.declared.line_reader.Stop.{Stop}
 use Rattle.scripts.specs.declared.line_reader.Stop.TheVariants as stops
 use Rattle.scripts.specs.declared.lines.Line.{Line}
 use Rattle.v7tools.specs.ScriptCalls.{returned}

@@ -12,16 +12,17 @@ use std::alloc::Global;
 use std::io::Read;
 use std::marker::Model;
 
-/// What a call of a script returns where there is no further line.
-fn without_line(stop: Stop) -> Result<Option<Line>, CliFault>
-    ensures { result ≡ returned (Err stop) }
+/// What a call of a script returns, by what the reader of its lines gives.
+fn returned(answer: Result<Line, Stop>) -> Result<Option<Line>, CliFault>
+    ensures { result ≡ returned answer }
 {
-    match stop {
-        Stop::End => Ok(None),
-        Stop::LongLine => Err(CliFault::LongLine),
-        Stop::ManyLines => Err(CliFault::ManyLines),
-        Stop::ReadFailed => Err(CliFault::ScriptFailed),
-        Stop::Memory => Err(CliFault::Memory),
+    match answer {
+        Ok(line) => Ok(Some(line)),
+        Err(Stop::End) => Ok(None),
+        Err(Stop::LongLine) => Err(CliFault::LongLine),
+        Err(Stop::ManyLines) => Err(CliFault::ManyLines),
+        Err(Stop::ReadFailed) => Err(CliFault::ScriptFailed),
+        Err(Stop::Memory) => Err(CliFault::Memory),
     }
 }
 
@@ -64,9 +65,6 @@ impl<R: Read + Drop> Script<R> {
         ensures failed { (result ≡ Err ScriptFailed) ↔ IsTrue self.new.wire.has_failed }
         ensures ahead { length self.new.held < BLOCK_SIZE }
     {
-        match self.lines.next_line() {
-            Ok(line) => Ok(Some(line)),
-            Err(stop) => without_line(stop),
-        }
+        returned(self.lines.next_line())
     }
 }

@@ -1,4 +1,4 @@
-use Rattle.std.proofs.Common.{arith, rules, ◌≡◌, ◌+◌, Option, Some, None, Result, Ok, Err, ap, subst, refl, ◌∙◌}
+use Rattle.std.proofs.Common.{arith, rules, ◌≡◌, ◌+◌, Option, Some, None, Result, Ok, ap, subst, refl, ◌∙◌}
 use Rattle.scripts.specs.ScriptAnswers.{Answer, Progress, lines_of}
 use Rattle.scripts.specs.declared.lines.Line.{Line}
 use Rattle.v7tools.specs.ScriptCalls.{returned}

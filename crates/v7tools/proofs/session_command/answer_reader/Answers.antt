@@ -1,5 +1,5 @@
-use Rattle.std.proofs.Common.{ap, subst, sym, ◌∙◌}
-use Rattle.scripts.specs.ScriptAnswers.{Progress, begun}
+use Rattle.std.proofs.Common.{ap, subst, ◌∙◌}
+use Rattle.scripts.specs.ScriptAnswers.{Progress}
 use Rattle.v7tools.specs.SessionRuns.{IsSessionRun}
 use Rattle.v7tools.proofs.DeedLemmas.{passed_on}
 use Rattle.v7tools.proofs.SessionRunLemmas.{no_memory}
