@@ -21,19 +21,20 @@ let at = 0;
 // ---- numbers and words as text
 
 const octal = (number) => number.toString(8).padStart(6, "0");
-const shown = (number) => (view.decimal ? String(number).padStart(5, "\u2007") : octal(number));
+const shown = (number) => (view.decimal ? String(number) : octal(number));
+const column = (number) => (view.decimal ? String(number).padStart(5, "\u2007") : octal(number));
 const small = (number) => (view.decimal ? String(number) : number.toString(8));
 
 function label(object) {
     return LESSON.objects[object].path.replace(/^.*\//, "");
 }
 
-// three values of a word: its value, what it refers to, and at which place of that
+// three values of a word: its value, what it refers to, and at which offset of that
 function wordAt(list, index) {
-    const [value, target, place] = list.slice(3 * index, 3 * index + 3);
+    const [value, target, meant] = list.slice(3 * index, 3 * index + 3);
     const waits = typeof target === "string";
     return {
-        value, place, waits,
+        value, meant, waits,
         name: waits ? target.slice(1) : "",
         pc: waits ? target[0] === "p" : target % 2 === 1,
         kind: waits ? -1 : target >> 1,
@@ -43,13 +44,13 @@ function wordAt(list, index) {
 // what the lesson in text has behind the word
 const targetText = (word) => (word.waits ? `waits for ${word.name}` : SEGMENTS[word.kind]);
 
-// the place that a word refers to, behind what it refers to
+// the offset that a word refers to, behind what it refers to
 function placeText(word) {
     if (word.waits) {
-        if (word.place === 0) return "";
-        return word.place < 0o100000 ? ` + ${small(word.place)}` : ` \u2212 ${small(0o200000 - word.place)}`;
+        if (word.meant === 0) return "";
+        return word.meant < 0o100000 ? ` + ${small(word.meant)}` : ` \u2212 ${small(0o200000 - word.meant)}`;
     }
-    return word.kind > 0 || word.pc ? ` ${shown(word.place)}` : "";
+    return word.kind > 0 || word.pc ? ` ${shown(word.meant)}` : "";
 }
 
 function stateText(kind, number) {
@@ -112,29 +113,28 @@ function changes(state) {
 function tagged(element, change) {
     if (change) {
         element.classList.add(change.replace(" ", "-"));
-        element.append(make("span", "tag", change));
+        element.append(" ", make("span", "tag", change));
     }
     return element;
 }
 
 // ---- the objects
 
-function listingRow(segment, offset, word) {
-    const row = make("tr", "");
-    row.append(make("td", "number", shown(offset)), make("td", "number value", shown(word.value)));
-    row.append(make("td", "", word.pc ? "pc" : ""), make("td", "", word.waits ? word.name + placeText(word) : targetText(word) + placeText(word)));
-    row.dataset.segment = segment;
-    return row;
+function listingRow(offset, word) {
+    const meant = word.waits ? word.name : word.kind > 0 || word.pc ? targetText(word) : "";
+    const cells = [column(offset), column(word.value), word.pc ? "pc" : "", meant + placeText(word)];
+    return make("tr", "", ...cells.map((text) => make("td", "", text)));
 }
 
 function listing(object) {
     const table = make("table", "listing");
     for (const segment of ["text", "data"]) {
         const indices = segment === "text" ? object.shownText : object.shownData;
-        if (indices.length > 0) table.append(make("tr", "", make("th", "", segment)));
-        table.lastElementChild?.firstElementChild?.setAttribute("colspan", "4");
+        const title = make("th", "", segment);
+        title.colSpan = 4;
+        if (indices.length > 0) table.append(make("tr", "", title));
         indices.forEach((index, i) => {
-            table.append(listingRow(segment, object.at[segment === "text" ? 0 : 1] + 2 * index, wordAt(object[segment], i)));
+            table.append(listingRow(object.at[segment === "text" ? 0 : 1] + 2 * index, wordAt(object[segment], i)));
         });
     }
     return table;
@@ -153,7 +153,7 @@ function card(number) {
     const head = make("h3", "", make("span", "badge", String(number + 1)), " ", label(number));
     head.title = object.path;
     const element = make("section", "card" + (place >= 0 ? " there" : ""), head);
-    element.append(button(`add${number + 1}`, place >= 0 ? `there, ${place + 1} of ${view.list.length}` : "add", String(number + 1), isOff, () => add(number)));
+    element.append(button(`add${number + 1}`, place >= 0 ? `${["1st", "2nd", "3rd"][place] ?? `${place + 1}th`} of ${view.list.length}` : "add", String(number + 1), isOff, () => add(number)));
     if (refusal) element.append(make("p", "refused", `refused here: ${refusal}`));
     element.append(listing(object));
     if (object.bss > 0) element.append(make("p", "", `bss ${object.bss} bytes`));
@@ -187,7 +187,7 @@ function summands(state, link, word) {
     for (let i = 0; 3 * i < state.names.length; i++) {
         if (state.names[3 * i] === own.name) {
             const address = link.names[i];
-            return { own, minus, plus: address === null ? 0 : address, of: own.name + (address === null ? ", no address" : "") };
+            return { own, minus, plus: address === null ? 0 : address, of: own.name };
         }
     }
     return null;
@@ -210,7 +210,7 @@ function wordRow(state, link, word, change) {
     row.id = `${word.segment}-${word.offset}`;
     const base = link && word.segment === "data" ? link.bases[1] : 0;
     const final = link ? link.entries[word.place][word.segment][word.i] : word.value;
-    row.append(make("span", "number offset", shown(base + word.offset)), make("span", "number value", shown(final)));
+    row.append(make("span", "number offset", column(base + word.offset)), make("span", "number value", column(final)));
     row.append(make("span", "pc", word.pc ? "pc" : ""));
     if (link) row.append(computation(state, link, word, final));
     else row.append(make("span", "", make("span", "target", targetText(word)), make("span", "place", placeText(word))));
@@ -229,6 +229,7 @@ function segmentTitle(state, link, segment) {
 
 function segmentElement(state, link, segment, changed) {
     const element = make("section", "segment", segmentTitle(state, link, segment));
+    element.id = segment;
     let last = null;
     for (const word of wordsOf(state, segment)) {
         if (last === null || last.place !== word.place) {
@@ -283,13 +284,15 @@ function lanes(spans) {
 }
 
 const middle = (element) => element.offsetTop + element.offsetHeight / 2;
-const rowAt = (segment, place) => document.getElementById(segment === "bss" ? "bss" : `${segment}-${place}`);
+const rowAt = (segment, offset) => document.getElementById(`${segment}-${offset}`);
 
+// from words to the words that they refer to, or to the title of the segment where that is not shown
 function arrowSpans(words) {
     const spans = [];
     for (const word of words) {
         const from = rowAt(word.segment, word.offset);
-        const to = word.kind > 0 ? rowAt(SEGMENTS[word.kind], word.place) : null;
+        const segment = SEGMENTS[word.kind];
+        const to = word.kind > 0 ? rowAt(segment, word.meant) ?? document.querySelector(`#${segment} h3`) : null;
         if (!to) continue;
         const [y1, y2] = [middle(from) - 4, middle(to) + 4];
         spans.push({ start: Math.min(y1, y2), end: Math.max(y1, y2), y1, y2, from, to });
@@ -346,11 +349,12 @@ function draw(state) {
 
 function names(state, link, changed) {
     const table = make("table", "names");
+    if (link && link.names.length > 0) table.append(make("tr", "heads", ...["name", "in the image", "address"].map((text) => make("td", "note", text))));
     for (let i = 0; 3 * i < state.names.length; i++) {
         const [name, kind, number] = state.names.slice(3 * i, 3 * i + 3);
         const known = tagged(make("td", "known", make("span", "", stateText(kind, number))), changed.get(`name ${name}`));
         const row = make("tr", "name", make("th", "", name), known);
-        if (link && link.names) row.append(make("td", "number address", link.names[i] === null ? "no address" : shown(link.names[i])));
+        if (link) row.append(make("td", "number address", link.names[i] === null ? "none" : shown(link.names[i])));
         table.append(row);
     }
     for (const name of state.multiples) table.append(make("tr", "name", make("th", "", name), make("td", "known multiple", make("span", "", "multiply defined"))));
@@ -446,6 +450,7 @@ function render() {
     main.querySelector(".step").setAttribute("role", "status");
     if (asked && asked.refused) main.append(make("p", "refused", `refused: ${asked.refused}`));
     if (noteText()) main.append(make("p", "note", noteText()));
+    if (link && view.list.length > 0) main.append(make("p", "note", "object's word + address or move of what it refers to (\u2212 own move, with pc) = final word"));
     main.append(image(state, link, changed));
     const right = make("aside", "known", make("h2", "", "Names"), names(state, link, changed));
     if (state.names.length < 3 * state.nameCount) right.append(make("p", "note", `${state.names.length / 3} of ${counted(state.nameCount, "name")}`));
@@ -539,6 +544,12 @@ window.addEventListener("hashchange", () => {
     step(wanted);
 });
 window.addEventListener("resize", () => draw(stateNow()));
+for (const [event, isPaper] of [["beforeprint", true], ["afterprint", false]]) {
+    window.addEventListener(event, () => {
+        document.documentElement.classList.toggle("print", isPaper);
+        draw(stateNow());
+    });
+}
 
 view = viewOf(location.hash.slice(1));
 trail = [view];

@@ -13,13 +13,18 @@ import sys
 import tempfile
 from itertools import permutations
 
+SYSTEM = "/usr/bin/python3"
+PACKAGES = "Debian's packages are chromium, chromium-driver and python3-selenium"
+
 try:
     from selenium import webdriver
     from selenium.webdriver.chrome.service import Service
     from selenium.webdriver.common.action_chains import ActionChains
     from selenium.webdriver.common.keys import Keys
 except ImportError:
-    sys.exit("not run, as python3-selenium is missing; Debian's packages are chromium, chromium-driver and python3-selenium")
+    if os.path.exists(SYSTEM) and os.path.realpath(sys.executable) != os.path.realpath(SYSTEM):
+        os.execv(SYSTEM, [SYSTEM, *sys.argv])  # the system's Python has the package, where another one comes first
+    sys.exit(f"not run, as python3-selenium is missing; {PACKAGES}")
 
 LAYOUTS = {"plain": [], "-n": ["-n"], "-i": ["-i"], "-r": ["-r"]}
 PICTURES = "docs/pictures"
@@ -152,7 +157,7 @@ def compare_state(tools, page, what, step, files):
 
 def compare_words(shown, linked, what):
     """Each word with its address, its final value and the computation of this."""
-    header, addresses = linked["header"], {line[9:]: line[:6] for line in linked["table"].splitlines() if line[7] != "U"}
+    header, addresses = linked["header"], {line[9:]: line[:6] for line in linked["table"].splitlines() if line[7] not in "UC"}
     data = {0o407: header[1], 0o410: (header[1] + 8191) // 8192 * 8192, 0o411: 0}[header[0]]
     for word in shown["words"]:
         place = f"{what}: {word['segment']} {word['number']}"
@@ -183,7 +188,7 @@ def compare_addresses(tools, page, what, files):
         for name, _, address in shown["names"]:
             line = [line for line in linked["table"].splitlines() if line[9:] == name and line[7].isupper()]
             if address and line:
-                same(f"{where}: {name}", address, "no address" if line[0][7] in "UC" and layout == "-r" or line[0][7] == "U" else line[0][:6])
+                same(f"{where}: {name}", address, "none" if line[0][7] in "UC" else line[0][:6])
     page.type("a")
 
 
@@ -330,7 +335,7 @@ def refusals(tools, files):
 def main():
     lesson, v7, page_folder, *files = sys.argv[1:]
     if not all(os.path.exists(path) for path in ("/usr/bin/chromium", "/usr/bin/chromedriver")):
-        sys.exit("not run, as chromium or chromedriver is missing; Debian's packages are chromium, chromium-driver and python3-selenium")
+        sys.exit(f"not run, as chromium or chromedriver is missing; {PACKAGES}")
     with tempfile.TemporaryDirectory() as room:
         tools = Tools(lesson, v7, page_folder, room)
         refusals(tools, files)
