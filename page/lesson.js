@@ -140,9 +140,10 @@ function listing(object) {
     return table;
 }
 
+// how many words of an object are shown, unless all are
 function hiddenText(object) {
     const count = object.shownText.length + object.shownData.length;
-    return count === object.words ? "" : `${count} of ${object.words} words are shown: those at names, as far as there is room`;
+    return count === object.words ? "" : `${count} of ${object.words} words`;
 }
 
 function card(number) {
@@ -157,7 +158,7 @@ function card(number) {
     if (refusal) element.append(make("p", "refused", `refused here: ${refusal}`));
     element.append(listing(object));
     if (object.bss > 0) element.append(make("p", "", `bss ${object.bss} bytes`));
-    if (hiddenText(object)) element.append(make("p", "note", hiddenText(object)));
+    if (hiddenText(object)) element.append(make("p", "note", `${hiddenText(object)} are shown`));
     element.append(make("pre", "symbols", object.symbols));
     return element;
 }
@@ -432,9 +433,11 @@ function stepText() {
     return view.list.length > 0 ? `add ${label(view.list[view.list.length - 1])}` : "no objects yet: add one";
 }
 
+// that words are left out, if any are
 function noteText() {
     const hidden = view.list.filter((object) => hiddenText(LESSON.objects[object]));
-    return hidden.length > 0 ? `Not all words are shown: ${hidden.map((object) => `of ${label(object)} ${hiddenText(LESSON.objects[object]).replace(/ are shown:/, "")}`).join("; ")}` : "";
+    const counts = hidden.map((object) => `of ${label(object)} ${hiddenText(LESSON.objects[object])}`);
+    return hidden.length > 0 ? `Only words that refer to names are shown, and those beside them, as far as there is room: ${counts.join("; ")}` : "";
 }
 
 function render() {
@@ -553,5 +556,4 @@ for (const [event, isPaper] of [["beforeprint", true], ["afterprint", false]]) {
 
 view = viewOf(location.hash.slice(1));
 trail = [view];
-document.documentElement.dataset.ready = "";
 render();
