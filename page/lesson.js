@@ -385,9 +385,10 @@ function cutText(list) {
 
 // the marks of the last addition of a list
 function marksOf(list, title, cut) {
-    const marks = STATES.get(list.join()).marks;
+    const { marks, markCount } = STATES.get(list.join());
     const element = make("section", "addition", make("h3", "", title));
     element.append(marks.length > 0 ? make("ul", "marks", ...marks.map(markItem)) : make("p", "note", "no mark: nothing that was there changed"));
+    if (marks.length < markCount) element.append(make("p", "note", `${marks.length} of ${counted(markCount, "mark")}`));
     if (cutText(list)) element.append(make("p", "note", `${cut} ${cutText(list)}`));
     return element;
 }

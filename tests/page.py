@@ -97,12 +97,14 @@ class Tools:
 class Page:
     """The page in the browser."""
 
-    def __init__(self, path, size="1366,768"):
+    def __init__(self, path, width=1280, height=720):
         options = webdriver.ChromeOptions()
-        for word in ("--headless=new", "--no-sandbox", "--disable-dev-shm-usage", "--force-device-scale-factor=1", f"--window-size={size}"):
+        for word in ("--headless=new", "--no-sandbox", "--disable-dev-shm-usage"):
             options.add_argument(word)
         options.set_capability("goog:loggingPrefs", {"browser": "ALL"})
         self.driver = webdriver.Chrome(service=Service("/usr/bin/chromedriver"), options=options)
+        metrics = {"width": width, "height": height, "deviceScaleFactor": 1, "mobile": False}
+        self.driver.execute_cdp_cmd("Emulation.setDeviceMetricsOverride", metrics)
         self.url = "file://" + path
         self.open("")
 
@@ -112,7 +114,7 @@ class Page:
 
     def type(self, *keys):
         for key in keys:
-            ActionChains(self.driver).send_keys(key).perform()
+            ActionChains(self.driver, duration=0).send_keys(key).perform()
 
     def click(self, name):
         self.driver.find_element("id", name).click()
@@ -354,4 +356,5 @@ def main():
     return 1 if faults else 0
 
 
-sys.exit(main())
+if __name__ == "__main__":
+    sys.exit(main())

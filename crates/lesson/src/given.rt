@@ -51,13 +51,10 @@ pub(crate) fn offset_of(index: usize) -> u16 {
 
 /// Whether a word refers to a name, or is beside one that does.
 fn is_near_name(relocs: &[Reloc], index: usize) -> bool {
-    let near = relocs.iter().skip(index.saturating_sub(1)).take(3);
-    for reloc in near {
-        if matches!(reloc.kind(), Some(Kind::External)) {
-            return true;
-        }
-    }
-    false
+    let end = index.saturating_add(2).min(relocs.len());
+    let near = relocs.get(index.saturating_sub(1)..end).unwrap_or(&[]);
+    near.iter()
+        .any(|reloc| matches!(reloc.kind(), Some(Kind::External)))
 }
 
 /// Which words are shown of a segment: all where there are few, and else the first two, and those that refer to names

@@ -2,7 +2,7 @@
 use crate::entries::put_entries;
 use crate::files::object_in;
 use crate::given::Given;
-use crate::json::{begin, put_key, put_numbers, put_text, put_word};
+use crate::json::{begin, put_key, put_number, put_numbers, put_text, put_word};
 use crate::links::{Shown, put_links};
 use crate::marks::put_marks;
 use crate::parts::{put_names, put_state};
@@ -64,6 +64,8 @@ fn put_session(
     put_multiples(out, session.multiples(), shown.most)?;
     put_key(out, "marks")?;
     put_marks(out, session, shown.most)?;
+    put_key(out, "markCount")?;
+    put_number(out, session.last_marks().len() as u64)?;
     put_key(out, "links")?;
     put_links(alloc, out, session, shown)?;
     out.push('}')?;
