@@ -310,8 +310,8 @@ function chainSpans(words) {
     return [...chains].map(([name, ys]) => ({ name, ys, start: Math.min(...ys) - 12, end: Math.max(...ys) }));
 }
 
-function arrow(span, edge) {
-    const x = edge + 22 + 12 * span.lane;
+function arrow(span, edge, gap) {
+    const x = edge + 22 + gap * span.lane;
     const isChanged = span.from.classList.contains("bound");
     const path = `M ${edge} ${span.y1} H ${x - 6} Q ${x} ${span.y1} ${x} ${span.y1 + 6 * Math.sign(span.y2 - span.y1)} V ${span.y2 - 6 * Math.sign(span.y2 - span.y1)} Q ${x} ${span.y2} ${x - 6} ${span.y2} H ${edge + 10}`;
     const group = svg("g", { class: isChanged ? "arrow changed" : "arrow" });
@@ -337,12 +337,13 @@ function draw(state) {
     if (!first) return;
     const arrows = arrowSpans(words);
     const chains = view.layout < 0 ? chainSpans(words) : [];
-    const right = 30 + 12 * lanes(arrows);
+    const count = lanes(arrows);
+    const gap = Math.max(3, Math.min(12, 84 / count));
     lanes(chains);
-    element.style.setProperty("--right", `${right}px`);
+    element.style.setProperty("--right", `${30 + gap * count}px`);
     const drawing = svg("svg", { width: element.scrollWidth, height: element.scrollHeight, "aria-hidden": "true" });
     const edge = first.offsetLeft + first.offsetWidth;
-    drawing.append(...arrows.map((span) => arrow(span, edge)), ...chains.map((span) => chain(span, first.offsetLeft)));
+    drawing.append(...arrows.map((span) => arrow(span, edge, gap)), ...chains.map((span) => chain(span, first.offsetLeft)));
     element.append(drawing);
 }
 
@@ -466,7 +467,7 @@ function render() {
     else document.body.append(page);
     draw(state);
     if (focus) document.getElementById(focus)?.focus({ preventScroll: true });
-    document.querySelector("main .bound, main .new, main .put-back")?.scrollIntoView({ block: "nearest" });
+    document.querySelector("main .bound, main .new, main .put-back")?.scrollIntoView({ block: "center" });
 }
 
 // ---- steps, and the address of the page

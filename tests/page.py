@@ -32,17 +32,17 @@ PICTURES = "docs/pictures"
 # what stands on the page, as lines of text; a word is its segment and the texts of its parts
 READ = """
 const text = (element) => element ? element.textContent : "";
+const part = (element, name) => text(element.querySelector(`.${name}`));
 const all = (selector, of) => [...document.querySelectorAll(selector)].map(of);
 return {
     words: all(".word", (row) => ({
-        segment: row.id.split("-")[0], number: Number(row.id.split("-")[1]), offset: text(row.querySelector(".offset")),
-        value: text(row.querySelector(".value")), pc: text(row.querySelector(".pc")), target: text(row.querySelector(".target")),
-        place: text(row.querySelector(".place")), sum: text(row.querySelector(".sum")), of: text(row.querySelector(".of")), tag: text(row.querySelector(".tag")) })),
+        segment: row.id.split("-")[0], number: Number(row.id.split("-")[1]),
+        ...Object.fromEntries(["offset", "value", "pc", "target", "place", "sum", "of", "tag"].map((name) => [name, part(row, name)])) })),
     bss: text(document.querySelector("#bss .size")),
-    names: all(".name", (row) => [text(row.querySelector("th")), text(row.querySelector(".known > span")), text(row.querySelector(".address"))]),
+    names: all(".name", (row) => [text(row.querySelector("th")), text(row.querySelector(".known > span")), part(row, "address")]),
     marks: all("#last-marks .was", text), sums: all("#last-marks .sum", text), done: all(".done .was", text),
-    table: text(document.querySelector(".table")), report: text(document.querySelector(".report")),
-    refused: text(document.querySelector("main .refused")), notes: all("main .note", text), step: text(document.querySelector("#step")),
+    table: part(document, "table"), report: part(document, "report"), step: part(document, "step"),
+    refused: text(document.querySelector("main .refused")), notes: all("main .note", text),
     hash: location.hash, focus: document.activeElement.id };
 """
 
@@ -89,9 +89,11 @@ class Tools:
         with open(out, "rb") as file:
             data = file.read()
         header = struct.unpack_from("<8H", data)
-        segments = {"text": struct.unpack_from(f"<{header[1] // 2}H", data, 16), "data": struct.unpack_from(f"<{header[2] // 2}H", data, 16 + header[1])}
+        text = struct.unpack_from(f"<{header[1] // 2}H", data, 16)
+        words = struct.unpack_from(f"<{header[2] // 2}H", data, 16 + header[1])
         table = subprocess.run([self.v7, "nm", "-p", out], capture_output=True, text=True, check=True).stdout
-        return {"header": header, "segments": segments, "table": table, "report": done.stdout or "nothing to report\n"}
+        report = done.stdout or "nothing to report\n"
+        return {"header": header, "segments": {"text": text, "data": words}, "table": table, "report": report}
 
 
 class Page:
@@ -159,7 +161,8 @@ def compare_state(tools, page, what, step, files):
 
 def compare_words(shown, linked, what):
     """Each word with its address, its final value and the computation of this."""
-    header, addresses = linked["header"], {line[9:]: line[:6] for line in linked["table"].splitlines() if line[7] not in "UC"}
+    header = linked["header"]
+    addresses = {line[9:]: line[:6] for line in linked["table"].splitlines() if line[7] not in "UC"}
     data = {0o407: header[1], 0o410: (header[1] + 8191) // 8192 * 8192, 0o411: 0}[header[0]]
     for word in shown["words"]:
         place = f"{what}: {word['segment']} {word['number']}"
@@ -268,8 +271,9 @@ def looks(page, what):
 def pictures(page):
     """Pictures of four states."""
     os.makedirs(PICTURES, exist_ok=True)
-    for name, address in (("waits", "#objects=1"), ("bound", "#objects=1,2"), ("withdrawn", "#objects=1&withdrawn=2"), ("addresses", "#objects=1,2,3,4&addresses=-n")):
-        page.open(address)
+    states = {"waits": "objects=1", "bound": "objects=1,2", "withdrawn": "objects=1&withdrawn=2", "addresses": "objects=1,2,3,4&addresses=-n"}
+    for name, address in states.items():
+        page.open("#" + address)
         looks(page, name)
         page.driver.save_screenshot(f"{PICTURES}/{name}.png")
 
@@ -287,7 +291,9 @@ def counts(tools, files):
         given = [files[number % len(files)] for number in range(count)]
         data, size = states_in(tools.page_of(given, "counted.html"))
         reached = [tuple(state["list"]) for state in data["states"] if state["list"]]
-        orders = [list_ for n in range(1, count + 1) for list_ in permutations(range(count), n)] if count <= 5 else [tuple(range(n)) for n in range(1, count + 1)]
+        orders = [order for n in range(1, count + 1) for order in permutations(range(count), n)]
+        if count > 5:
+            orders = [tuple(range(n)) for n in range(1, count + 1)]
         same(f"lists of {count} objects", (len(reached), sorted(reached)), (lists, sorted(orders)))
         same(f"bytes of {count} objects", size <= 5_000_000, True)
 
@@ -331,7 +337,8 @@ def refusals(tools, files):
     with open(full, "wb") as out:
         out.write(object_of([(0, 0)] * 32_767, []))
     data, _ = states_in(tools.page_of([full, files[0]], "full.html"))
-    same("refused", [(state["list"], state["object"], state["refused"]) for state in data["states"] if "refused" in state], [([0], [1], "text full"), ([1], [0], "text full")])
+    refused = [(state["list"], state["object"], state["refused"]) for state in data["states"] if "refused" in state]
+    same("refused", refused, [([0], [1], "text full"), ([1], [0], "text full")])
 
 
 def main():
