@@ -154,7 +154,8 @@ function card(number) {
     const head = make("h3", "", make("span", "badge", String(number + 1)), " ", label(number));
     head.title = object.path;
     const element = make("section", "card" + (place >= 0 ? " there" : ""), head);
-    element.append(button(`add${number + 1}`, place >= 0 ? `${["1st", "2nd", "3rd"][place] ?? `${place + 1}th`} of ${view.list.length}` : "add", String(number + 1), isOff, () => add(number)));
+    const text = place >= 0 ? `${["1st", "2nd", "3rd"][place] ?? `${place + 1}th`} of ${view.list.length}` : "add";
+    element.append(button(`add${number + 1}`, text, String(number + 1), isOff, () => add(number)));
     if (refusal) element.append(make("p", "refused", `refused here: ${refusal}`));
     element.append(listing(object));
     if (object.bss > 0) element.append(make("p", "", `bss ${object.bss} bytes`));
@@ -184,7 +185,8 @@ function summands(state, link, word) {
     const own = wordAt(LESSON.objects[view.list[word.place]][word.segment], word.i);
     const entry = link.entries[word.place];
     const minus = own.pc ? entry.moves[word.segment === "text" ? 0 : 1] : 0;
-    if (!own.waits) return { own, minus, plus: own.kind > 0 ? entry.moves[own.kind - 1] : 0, of: own.kind > 0 ? SEGMENTS[own.kind] : "" };
+    if (!own.waits && own.kind > 0) return { own, minus, plus: entry.moves[own.kind - 1], of: SEGMENTS[own.kind] };
+    if (!own.waits) return { own, minus, plus: 0, of: "" };
     for (let i = 0; 3 * i < state.names.length; i++) {
         if (state.names[3 * i] === own.name) {
             const address = link.names[i];
@@ -253,7 +255,9 @@ function image(state, link, changed) {
         if (state.sizes[segment === "text" ? 0 : 1] > 0) element.append(segmentElement(state, link, segment, changed));
     }
     if (link && link.bases[2] < link.bases[3]) {
-        element.append(make("section", "segment", make("h3", "", "commons", make("span", "size", `${link.bases[3] - link.bases[2]} bytes`), make("span", "size", `${shown(link.bases[2])} to ${shown(link.bases[3])}`))));
+        const title = make("h3", "", "commons", make("span", "size", `${link.bases[3] - link.bases[2]} bytes`));
+        title.append(make("span", "size", `${shown(link.bases[2])} to ${shown(link.bases[3])}`));
+        element.append(make("section", "segment", title));
     }
     if (state.sizes[2] > 0) {
         const bss = make("section", "segment", segmentTitle(state, link, "bss"));
@@ -313,7 +317,9 @@ function chainSpans(words) {
 function arrow(span, edge, gap) {
     const x = edge + 22 + gap * span.lane;
     const isChanged = span.from.classList.contains("bound");
-    const path = `M ${edge} ${span.y1} H ${x - 6} Q ${x} ${span.y1} ${x} ${span.y1 + 6 * Math.sign(span.y2 - span.y1)} V ${span.y2 - 6 * Math.sign(span.y2 - span.y1)} Q ${x} ${span.y2} ${x - 6} ${span.y2} H ${edge + 10}`;
+    const bend = 6 * Math.sign(span.y2 - span.y1);
+    const there = `M ${edge} ${span.y1} H ${x - 6} Q ${x} ${span.y1} ${x} ${span.y1 + bend}`;
+    const path = `${there} V ${span.y2 - bend} Q ${x} ${span.y2} ${x - 6} ${span.y2} H ${edge + 10}`;
     const group = svg("g", { class: isChanged ? "arrow changed" : "arrow" });
     group.append(svg("path", { d: path }), svg("path", { class: "head", d: `M ${edge + 1} ${span.y2} l 11 -6 v 12 z` }));
     for (const event of ["mouseenter", "focus"]) span.from.addEventListener(event, () => group.classList.add("over"));
@@ -359,7 +365,9 @@ function names(state, link, changed) {
         if (link) row.append(make("td", "number address", link.names[i] === null ? "none" : shown(link.names[i])));
         table.append(row);
     }
-    for (const name of state.multiples) table.append(make("tr", "name", make("th", "", name), make("td", "known multiple", make("span", "", "multiply defined"))));
+    for (const name of state.multiples) {
+        table.append(make("tr", "name", make("th", "", name), make("td", "known multiple", make("span", "", "multiply defined"))));
+    }
     return table;
 }
 
@@ -379,9 +387,11 @@ function counted(number, what) {
 // what a withdrawal of the last object of a list cuts off
 function cutText(list) {
     const [state, before] = [STATES.get(list.join()), STATES.get(list.slice(0, -1).join())];
-    const parts = ["text", "data"].map((segment, i) => [state.sizes[i] - before.sizes[i], `word${state.sizes[i] - before.sizes[i] === 1 ? "" : "s"} of ${segment}`]);
-    parts.push([state.sizes[2] - before.sizes[2], "bytes of bss"], [state.nameCount - before.nameCount, state.nameCount - before.nameCount === 1 ? "name" : "names"]);
-    return parts.filter(([number]) => number > 0).map(([number, what]) => `${number} ${what}`).join(", ");
+    const [text, data, bss] = state.sizes.map((size, i) => size - before.sizes[i]);
+    const names = state.nameCount - before.nameCount;
+    const parts = [[text, `${counted(text, "word")} of text`], [data, `${counted(data, "word")} of data`]];
+    parts.push([bss, `${bss} bytes of bss`], [names, counted(names, "name")]);
+    return parts.filter(([number]) => number > 0).map(([, text]) => text).join(", ");
 }
 
 // the marks of the last addition of a list
@@ -403,7 +413,7 @@ function marks() {
     for (let count = view.list.length; count > 0; count--) {
         const name = label(view.list[count - 1]);
         const isLast = count === view.list.length;
-        element.append(marksOf(view.list.slice(0, count), isLast ? `A withdrawal of ${name} puts back` : `then, one of ${name}`, "and cuts off"));
+        element.append(marksOf(view.list.slice(0, count), isLast ? `A withdrawal of ${name} puts back` : `the next one, of ${name}`, "and cuts off"));
         if (isLast) element.lastElementChild.id = "last-marks";
     }
     if (view.list.length === 0 && view.gone < 0) element.append(make("p", "note", "no additions"));
@@ -423,8 +433,10 @@ function linkPanels(link) {
 function bar() {
     const element = make("nav", "bar");
     element.append(button("withdraw", "withdraw", "w", view.list.length === 0, withdraw));
-    element.append(button("back", "step back", "\u2190", at === 0, () => go(at - 1)), button("forth", "step forth", "\u2192", at === trail.length - 1, () => go(at + 1)));
-    const group = make("span", "group", toggle("addresses", "addresses", "a", view.layout >= 0, () => show({ ...view, layout: view.layout < 0 ? 0 : -1 })));
+    element.append(button("back", "step back", "\u2190", at === 0, () => go(at - 1)));
+    element.append(button("forth", "step forth", "\u2192", at === trail.length - 1, () => go(at + 1)));
+    const other = view.layout < 0 ? 0 : -1;
+    const group = make("span", "group", toggle("addresses", "addresses", "a", view.layout >= 0, () => show({ ...view, layout: other })));
     LAYOUTS.forEach((name, i) => group.append(toggle(`layout${i}`, name, "pnir"[i], view.layout === i, () => show({ ...view, layout: i }))));
     element.append(group, toggle("decimal", "decimal", "d", view.decimal, () => show({ ...view, decimal: !view.decimal })));
     return element;

@@ -333,12 +333,23 @@ def refusals(tools, files):
     for path, text in ((cut, "truncated"), (os.path.join(tools.room, "nothing.o"), "cannot open"), (tools.lesson, "bad magic number")):
         done = subprocess.run([tools.lesson, "-p", tools.page, files[0], path], capture_output=True, text=True)
         same(f"{path}", (done.returncode, done.stdout, done.stderr), (2, "", f"lesson: {path}: {text}\n"))
-    full = os.path.join(tools.room, "full.o")
-    with open(full, "wb") as out:
+    for words in ([], ["-p"], ["-p", tools.page], ["-n", files[0]], ["-n", "0", files[0]], ["-n", "3", files[0]], ["-x", files[0]]):
+        done = subprocess.run([tools.lesson, *words], capture_output=True, text=True)
+        same(f"lesson {words}", (done.returncode, done.stdout, done.stderr[:8]), (2, "", "lesson: "))
+
+
+def full(tools, files):
+    """An object is refused, and a link, each with the text that the programs have."""
+    path = os.path.join(tools.room, "full.o")
+    with open(path, "wb") as out:
         out.write(object_of([(0, 0)] * 32_767, []))
-    data, _ = states_in(tools.page_of([full, files[0]], "full.html"))
+    data, _ = states_in(tools.page_of([path, files[0]], "full.html"))
     refused = [(state["list"], state["object"], state["refused"]) for state in data["states"] if "refused" in state]
     same("refused", refused, [([0], [1], "text full"), ([1], [0], "text full")])
+    page = Page(tools.page_of([path, files[3]], "full.html"))
+    page.type("1", "2")
+    compare_addresses(tools, page, "full.o l.o", [path, files[3]])
+    page.quit()
 
 
 def main():
@@ -357,6 +368,7 @@ def main():
         pictures(page)
         page.quit()
         large(tools, files)
+        full(tools, files)
     print(f"{compared} things were compared")
     for fault in faults[:20]:
         print(fault)

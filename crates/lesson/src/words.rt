@@ -29,23 +29,17 @@ enum Next {
     Step,
     Folder,
     File,
+    /// Behind an unknown option.
+    Nothing,
 }
 
-/// What a first word makes of the next one; an unknown option has none.
-fn behind_first(word: &str) -> Option<Next> {
+/// What the word behind the first one is, or the first one itself where it is a file.
+fn behind_first(word: &str) -> Next {
     match word {
-        "-n" => Some(Next::Step),
-        "-p" => Some(Next::Folder),
-        _ if word.starts_with('-') => None,
-        _ => Some(Next::File),
-    }
-}
-
-/// The number of a step, from 1.
-fn step_in(word: &str) -> Option<usize> {
-    match word.parse::<usize>() {
-        Ok(0) | Err(_) => None,
-        Ok(step) => Some(step),
+        "-n" => Next::Step,
+        "-p" => Next::Folder,
+        _ if word.starts_with('-') => Next::Nothing,
+        _ => Next::File,
     }
 }
 
@@ -56,14 +50,15 @@ pub(crate) fn words_given(rt: &HostRuntime) -> Result<Words> {
     let mut next = Next::First;
     for word in env::args(rt)?.skip(1) {
         if next == Next::Step {
-            asked = Asked::Step(step_in(word.as_str()).unwrap_or(0));
+            // 0 where the word is no number, and there is no such step
+            asked = Asked::Step(word.as_str().parse::<usize>().unwrap_or(0));
             next = Next::File;
         } else if next == Next::Folder {
             asked = Asked::Page(word);
             next = Next::File;
         } else {
             if next == Next::First {
-                next = behind_first(word.as_str()).unwrap_or(Next::First);
+                next = behind_first(word.as_str());
             }
             if next == Next::File {
                 files.push(word)?;
