@@ -117,7 +117,7 @@ lesson: build/lesson
 # the same in every order as one page, which a browser shows from the disk
 PAGE_FILES := $(foreach file,main.o twice.o k.o l.o,examples/$(file))
 page: build/lesson
-	build/lesson -p page $(or $(FILES),$(PAGE_FILES)) >build/lesson.new
+	build/lesson -p page $(or $(FILES),$(PAGE_FILES)) >build/lesson.new || { rm build/lesson.new; exit 2; }
 	mv build/lesson.new build/lesson.html
 
 # opens the page in Chromium, goes through all its states, and compares them with what lesson, v7 ld and v7 nm print. It
