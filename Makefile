@@ -1,7 +1,7 @@
 # v7: see README.md. The command `rt` of the Rattle kit has to be on the PATH.
 PREFIX ?= /usr/local
 
-.PHONY: all try demo lib check-lib test wrong-bodies memory room bench instructions simulate lesson check-manual check-examples check-explain check-streams install clean
+.PHONY: all try demo lib check-lib test wrong-bodies memory room bench instructions simulate lesson page check-page check-manual check-examples check-explain check-streams install clean
 
 all: build/v7 build/v7-from-gnu build/v7-explain
 
@@ -113,15 +113,26 @@ simulate: build/v7
 	echo '21 doubled is 42' | cmp - build/doubled.txt
 
 # adds the objects FILES to a session one by one and takes them out again, and shows each state; docs/LESSON.md
-FILES ?= examples/k.o examples/l.o
 lesson: build/lesson
-	build/lesson $(FILES)
+	build/lesson $(or $(FILES),examples/k.o examples/l.o)
+
+# the same in every order as one page, which a browser shows from the disk
+PAGE_FILES := $(foreach file,main.o twice.o k.o l.o,examples/$(file))
+page: build/lesson
+	build/lesson -p page $(or $(FILES),$(PAGE_FILES)) >build/lesson.new || { rm build/lesson.new; exit 2; }
+	mv build/lesson.new build/lesson.html
+
+# opens the page in Chromium, goes through all its states, and compares them with what lesson, v7 ld and v7 nm print. It
+# needs Debian's chromium, chromium-driver and python3-selenium
+check-page: build/v7 build/lesson
+	python3 tests/page.py build/lesson build/v7 page $(PAGE_FILES)
 
 build/lesson: crates/lesson/out/lesson
 	mkdir -p build
 	cp crates/lesson/out/lesson build/lesson
 
-crates/lesson/out/lesson: crates.txt $(shell find crates/aout_core crates/link_session crates/lesson -name out -prune -o -type f -print)
+LESSON_CRATES := $(addprefix crates/,aout_core link_session link_out symtools lesson)
+crates/lesson/out/lesson: crates.txt $(shell find $(LESSON_CRATES) -name out -prune -o -type f -print)
 	cd crates/lesson && rt run -- data/k.o data/l.o
 	touch crates/lesson/out/lesson
 

@@ -14,7 +14,7 @@ OPTIONS = {"": 0, "-r": v7.RELOCATABLE, "-s": v7.STRIP, "-i": v7.SPLIT}
 
 
 def referring(number):
-    text = [(index, v7.REFERS_TO(index)) for _ in range(4) for index in range(NAMES)]
+    text = [(index, v7.refers_to(index)) for _ in range(4) for index in range(NAMES)]
     text += [(0o240, v7.NUMBER)] * (162 + number % 2 - len(text))
     return v7.make(text, symbols=[(f"n{number * NAMES + index:04d}", v7.UNDEFINED | v7.EXTERNAL, 0) for index in range(NAMES)])
 

@@ -5,7 +5,7 @@ import v7
 
 # mov $4,r0; jsr pc,_half
 MAIN = v7.make(
-    text=[(0o012700, v7.NUMBER), (4, v7.NUMBER), (0o004767, v7.NUMBER), (0o177770, v7.REFERS_TO(1) + 1)],
+    text=[(0o012700, v7.NUMBER), (4, v7.NUMBER), (0o004767, v7.NUMBER), (0o177770, v7.refers_to(1) + v7.FROM_PC)],
     symbols=[("start", v7.TEXT, 0), ("_half", v7.UNDEFINED | v7.EXTERNAL, 0)],
 )
 

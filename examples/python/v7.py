@@ -1,17 +1,20 @@
 """The linker of v7 from Python, by libv7.so. v7.h says what each call is for.
 
-    from v7 import Session, link, make, nm
-    main_o = make(text=[(0o012700, 0), (0, REFERS_TO(0))], symbols=[("_count", UNDEFINED | EXTERNAL, 0)])
-    program = link([main_o, count_o], forced=["_start"])
-    print(program.report, nm(program.file))
+    import v7
+    # mov $_count,r0, and a word of data that is named so
+    main_o = v7.make(text=[(0o012700, v7.NUMBER), (0, v7.refers_to(0))], symbols=[("_count", v7.UNDEFINED | v7.EXTERNAL, 0)])
+    count_o = v7.make(data=[(21, v7.NUMBER)], symbols=[("_count", v7.DATA | v7.EXTERNAL, 0)])
+    program = v7.link([main_o, count_o])
+    print(program.report, v7.nm(program.file))
 
-    session = Session([main_o])
+    session = v7.Session([main_o])
     session.add(count_o)
     session.withdraw()
     print(session.link().report)
 
-Objects and files are bytes. A fault is raised as `Fault`, with its number, the number of the object or edit, and the index of
-the word.
+Objects and files are bytes; an address in data or bss counts from the front of text. A fault is raised as `Fault`, with its
+number, the number of the object or edit, and the index of the word. The environment variable LIBV7 is the path of
+libv7.so, where the system's loader does not find it by its name.
 """
 import ctypes
 import os
@@ -34,13 +37,40 @@ Parts = namedtuple("Parts", "text data bss symbols")
 UNDEFINED, ABSOLUTE, TEXT, DATA, BSS = range(5)
 EXTERNAL = 0o40
 
-# relocation words: one of these, and 1 more where the word is relative to the pc
+# relocation words: one of these or of `refers_to`, and FROM_PC added where the word is relative to the pc
 NUMBER, IN_TEXT, IN_DATA, IN_BSS = 0, 2, 4, 6
+FROM_PC = 1
 
 
-def REFERS_TO(number):
+def refers_to(number):
     """The relocation word of a word that refers to the symbol of this number, an undefined external."""
     return 0o10 + 0o20 * number
+
+
+# what the faults of v7.h mean, by their numbers
+FAULTS = {
+    1: "no such option",
+    2: "options exclude each other",
+    3: "the name of the entry point has more than 8 bytes",
+    5: "more than 64 names are forced",
+    6: "too many words, bytes of bss or symbols",
+    11: "short header",
+    12: "bad magic number",
+    13: "odd size",
+    14: "truncated",
+    21: "not an object",
+    22: "no relocation",
+    23: "bad relocation",
+    24: "bad symbol number",
+    31: "text full",
+    32: "data full",
+    33: "bss full",
+    34: "names full",
+    41: "does not fit",
+    42: "too many symbols",
+    43: "symbol number too large",
+    50: "no memory",
+}
 
 
 class Word(ctypes.Structure):
@@ -67,7 +97,9 @@ class Answer(ctypes.Structure):
 
 class Fault(Exception):
     def __init__(self, answer):
-        super().__init__(f"fault {answer.fault}, object {answer.place}, word {answer.word}")
+        text = FAULTS.get(answer.fault, f"fault {answer.fault}")
+        where = f" at word {answer.word}" if answer.fault in (23, 24) else ""
+        super().__init__(f"{text}{where}, object {answer.place}" if 10 < answer.fault < 40 else text + where)
         self.fault, self.place, self.word = answer.fault, answer.place, answer.word
 
 

@@ -1,69 +1,54 @@
-//! Adds objects to a session one by one and withdraws them again, and shows after each step all that a linker knows.
+//! The program `lesson`, for a class: what a linker knows after each addition and withdrawal, as text or as a page.
 #![tactic(auto)]
 
+mod entries;
+mod files;
+mod given;
+mod json;
 mod lines;
+mod links;
+mod marks;
+mod page;
+mod parts;
+mod states;
+mod steps;
+mod walk;
+mod words;
 
-use anyhow::{Result, anyhow};
-use aout_core::{Object, Wire, read_file};
-use lines::show;
+use anyhow::{Error, Result};
 use link_session::Session;
-use std::{env, fs};
+use page::write_page;
+use std::process::ExitCode;
+use steps::{All, play};
+use words::{Asked, Words, words_given};
 
-fn object_at(rt: &HostRuntime, path: &str) -> Result<Object> {
-    let Ok(device) = fs::open(rt, path) else {
-        return Err(anyhow!("{path}: cannot open"));
+/// Does what the words ask for.
+fn run(rt: &HostRuntime, session: &mut Session) -> Result<()> {
+    let Words { asked, files } = words_given(rt)?;
+    match asked {
+        Asked::All => play(rt, session, files, All::Steps),
+        Asked::Step(step) => play(rt, session, files, All::Only(step)),
+        Asked::Page(folder) => write_page(rt, session, folder.as_str(), files),
+    }
+}
+
+/// The status where something is wrong, which is told.
+fn fail(rt: &HostRuntime, error: &Error) -> u8 {
+    match format!(in rt.alloc(); "lesson: {error}\n") {
+        Ok(text) => {
+            let _ = rt.eprint(text.as_str());
+        }
+        Err(_) => {
+            let _ = rt.eprint("lesson: no memory\n");
+        }
+    }
+    2
+}
+
+fn main(rt: HostRuntime) -> ExitCode {
+    let status = match run(&rt, &mut Session::new(rt.alloc())) {
+        Ok(()) => 0,
+        Err(error) => fail(&rt, &error),
     };
-    let file = match read_file(rt.alloc(), &mut Wire::new(device)) {
-        Ok(file) => file,
-        Err(fault) => return Err(anyhow!("{path}: {fault}")),
-    };
-    match Object::from_file(file) {
-        Ok(object) => Ok(object),
-        Err((_, fault)) => Err(anyhow!("{path}: {fault}")),
-    }
-}
-
-fn add(rt: &HostRuntime, session: &mut Session, path: String) -> Result<()> {
-    let object = object_at(rt, path.as_str())?;
-    println!(rt; "add {path}")?;
-    if let Err(refused) = session.add(path, object) {
-        return Err(anyhow!("{}: {}", refused.label, refused.cause));
-    }
-    show(rt, session)
-}
-
-fn add_all(rt: &HostRuntime, session: &mut Session) -> Result<()> {
-    for path in env::args(rt)?.skip(1) {
-        add(rt, session, path)?;
-    }
-    Ok(())
-}
-
-/// The label of the object that was withdrawn.
-fn withdraw(session: &mut Session) -> Option<String> {
-    let (label, _) = session.withdraw()?;
-    Some(label)
-}
-
-fn withdraw_all(rt: &HostRuntime, session: &mut Session) -> Result<()> {
-    for _ in 0..session.entries().len() {
-        let Some(label) = withdraw(session) else {
-            break;
-        };
-        println!(rt; "withdraw {label}")?;
-        show(rt, session)?;
-    }
-    Ok(())
-}
-
-fn play(rt: &HostRuntime, session: &mut Session) -> Result<()> {
-    add_all(rt, session)?;
-    if session.entries().is_empty() {
-        return Err(anyhow!("usage: lesson FILE..."));
-    }
-    withdraw_all(rt, session)
-}
-
-fn main(rt: HostRuntime) -> Result<()> {
-    play(&rt, &mut Session::new(rt.alloc()))
+    ExitCode::from(status)
 }

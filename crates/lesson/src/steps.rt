@@ -1,0 +1,109 @@
+//! Steps of a session as text: each object is added, and then each is withdrawn, the last one first.
+use crate::files::{bytes_at, object_in};
+use crate::lines::show;
+use anyhow::{Result, anyhow};
+use aout_core::Object;
+use link_session::Session;
+
+/// Which steps are shown.
+#[derive(Clone, Copy, PartialEq, Eq)]
+pub(crate) enum All {
+    Steps,
+    /// The one of this number, from 1.
+    Only(usize),
+}
+
+impl All {
+    fn has(self, step: usize) -> bool {
+        match self {
+            All::Steps => true,
+            All::Only(only) => step == only,
+        }
+    }
+}
+
+fn object_at(rt: &HostRuntime, path: &str) -> Result<Object> {
+    let bytes = bytes_at(rt, path)?;
+    object_in(rt.alloc(), path, &bytes)
+}
+
+/// The text of a step, if it is shown.
+fn show_step(
+    rt: &HostRuntime,
+    session: &Session,
+    is_shown: bool,
+    edit: &str,
+    label: &str,
+) -> Result<()> {
+    if !is_shown {
+        return Ok(());
+    }
+    println!(rt; "{edit} {label}")?;
+    show(rt, session)
+}
+
+/// Adds an object to a session.
+pub(crate) fn add(session: &mut Session, path: String, object: Object) -> Result<()> {
+    match session.add(path, object) {
+        Ok(()) => Ok(()),
+        Err(refused) => Err(anyhow!("{}: {}", refused.label, refused.cause)),
+    }
+}
+
+fn add_file(rt: &HostRuntime, session: &mut Session, path: String, is_shown: bool) -> Result<()> {
+    let object = object_at(rt, path.as_str())?;
+    let label = path.clone()?;
+    add(session, path, object)?;
+    show_step(rt, session, is_shown, "add", label.as_str())
+}
+
+/// Adds the objects, and returns the number of the next step.
+fn add_all(
+    rt: &HostRuntime,
+    session: &mut Session,
+    files: Vec<String>,
+    shown: All,
+) -> Result<usize> {
+    let mut step = 1usize;
+    for path in files {
+        add_file(rt, session, path, shown.has(step))?;
+        step = step.saturating_add(1);
+    }
+    Ok(step)
+}
+
+/// The label of the object that was withdrawn.
+fn withdraw(session: &mut Session) -> Option<String> {
+    let (label, _) = session.withdraw()?;
+    Some(label)
+}
+
+/// Withdraws all objects, from this step on.
+fn withdraw_all(rt: &HostRuntime, session: &mut Session, first: usize, shown: All) -> Result<()> {
+    let mut step = first;
+    for _ in 0..session.entries().len() {
+        let Some(label) = withdraw(session) else {
+            break;
+        };
+        show_step(rt, session, shown.has(step), "withdraw", label.as_str())?;
+        step = step.saturating_add(1);
+    }
+    Ok(())
+}
+
+/// Plays all steps, and shows some.
+pub(crate) fn play(
+    rt: &HostRuntime,
+    session: &mut Session,
+    files: Vec<String>,
+    shown: All,
+) -> Result<()> {
+    let count = files.len().saturating_mul(2);
+    if let All::Only(step) = shown
+        && count < step
+    {
+        return Err(anyhow!("there are {count} steps"));
+    }
+    let next = add_all(rt, session, files, shown)?;
+    withdraw_all(rt, session, next, shown)
+}
