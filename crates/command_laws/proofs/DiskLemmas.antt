@@ -1,11 +1,10 @@
 -- What is on a disk, and which objects a link takes from it.
-use Rattle.std.proofs.Common.{◌≡◌, ℕ, ◌≤◌, Bool, true, false, cond, List, [], ◌∷◌, ◌++◌, map, Option, Some, None, Result, Ok, Err, refl, sym, ap, ◌∙◌, subst}
+use Rattle.std.proofs.Common.{◌≡◌, ℕ, ◌≤◌, Bool, true, false, cond, List, [], ◌∷◌, ◌++◌, Option, Some, None, Result, Ok, refl, sym, ap, ◌∙◌, subst}
 use Rattle.std.proofs.lemmas.List.{append-nil, append_assoc, map-append}
 use Rattle.std.proofs.lemmas.Slice.Eq.{bytes_eq-Decides}
 use Rattle.std.specs.List.{AllByRecursion}
 use Rattle.std.specs.Prelude.{IfSome, bytes_eq, nat_lt}
 use Rattle.std.proofs.lemmas.Bool.{ltb-false}
-use Rattle.aout_core.specs.declared.file.ReadFault.{ReadFault}
 use Rattle.aout_core.specs.declared.object.ObjectFault.{ObjectFault}
 use Rattle.aout_core.specs.Contents.{Contents, IsSound}
 use Rattle.aout_core.specs.Front.{front}
@@ -18,13 +17,12 @@ use Rattle.link_session.specs.declared.entry.AddFault.TheVariants.{TextFull}
 use Rattle.link_session.specs.Edits.{limit_passed, refusal}
 use Rattle.link_session.specs.Labelled.{Labelled, objects}
 use Rattle.link_session.specs.Starts.{total}
-use Rattle.v7tools.specs.Deeds.{Deed, Opened, opens, paths_of, stored}
-use Rattle.v7tools.specs.Inputs.{Cause, added_unless, bad_object, object_in, object_or}
-use Rattle.v7tools.specs.LinkAnswers.{Takes, TakesAll}
+use Rattle.v7tools.specs.Deeds.{Deed, Opened, opens, paths_of}
+use Rattle.v7tools.specs.Inputs.{Cause, added_unless, object_in, object_or}
+use Rattle.v7tools.specs.LinkAnswers.{TakesAll}
 use Rattle.v7tools.specs.LinkRuns.{inputs_opened}
-use Rattle.v7tools.specs.declared.office.Stored.TheVariants.{Kept}
-use Rattle.command_laws.specs.Disks.{Disk, IsOn, bytes_left, disk_after, with_file}
-use Rattle.command_laws.specs.StepsByCommands.{AreAt, IsAt}
+use Rattle.command_laws.specs.Disks.{Disk, IsOn, disk_after, with_file}
+use Rattle.command_laws.specs.StepsByCommands.{AreAt}
 
 -- ---- what was opened and stored
 

@@ -1,28 +1,25 @@
 -- What ld and strip did in a run that ends well.
 use Rattle.std.specs.declared.alloc.Global.{Global}
-use Rattle.std.proofs.Common.{◌≡◌, ℕ, ◌≤◌, List, [], ◌∷◌, ◌++◌, map, Option, Some, None, Result, Ok, Err, sym, ap, ◌∙◌, arith, inl, inr, subst}
+use Rattle.std.proofs.Common.{◌≡◌, ℕ, ◌≤◌, List, [], ◌∷◌, ◌++◌, map, Option, Some, Result, Ok, Err, sym, ap, ◌∙◌, arith, inl, inr, subst}
 use Rattle.std.proofs.lemmas.List.{append_cancel_left}
 use Rattle.std.specs.Prelude.{String, Vec, string_bytes}
-use Rattle.std.specs.Io.KnownBytes.{Appends}
 use Rattle.aout_core.specs.Wires.{Latched}
-use Rattle.link_session.specs.Labelled.{Labelled, objects}
 use Rattle.link_out.specs.declared.linked.Linked.{Linked}
 use Rattle.link_out.specs.Choices.{Choices}
-use Rattle.link_out.specs.Outcomes.{findings_of, outcome_of}
-use Rattle.link_out.specs.function.Reports.{Findings, report_text, status_of}
-use Rattle.link_out.specs.function.Link.{link}
+use Rattle.link_out.specs.Outcomes.{findings_of}
+use Rattle.link_out.specs.function.Reports.{report_text, status_of}
 use Rattle.command_words.specs.declared.words.Call.{Call}
 use Rattle.command_words.specs.declared.words.Call.TheVariants.{Ld, Nm, Size, Strip, Session}
 use Rattle.v7tools.specs.CommandRuns.{AsksFor, Ends, IsCallRun, RunsWords}
-use Rattle.v7tools.specs.Deeds.{Deed, History, Extends, Opened, opens, paths_of, stored}
-use Rattle.v7tools.specs.FileRuns.{AreRead, IsStripping, IsStripRun, Loaded, strips}
-use Rattle.v7tools.specs.LinkAnswers.{LinksAll, TakesAll}
-use Rattle.v7tools.specs.LinkRuns.{inputs_opened, IsLinkOfFiles, IsLinkRun, Refuses, ReportsIf, StoresLink}
+use Rattle.v7tools.specs.Deeds.{Deed, Extends, Opened, opens, paths_of, stored}
+use Rattle.v7tools.specs.FileRuns.{AreRead, IsStripRun, Loaded, strips}
+use Rattle.v7tools.specs.LinkAnswers.{LinksAll}
+use Rattle.v7tools.specs.LinkRuns.{inputs_opened, IsLinkOfFiles, IsLinkRun, ReportsIf}
 use Rattle.v7tools.specs.declared.fault.CliFault.{CliFault}
 use Rattle.v7tools.specs.declared.office.Stored.{Stored}
 use Rattle.v7tools.specs.declared.office.Stored.TheVariants.{Kept, NotCreated, Failed}
 use Rattle.v7tools.proofs.DeedLemmas.{asked_behind}
-use Rattle.command_laws.specs.Disks.{Run, EndsWell, Writes}
+use Rattle.command_laws.specs.Disks.{Run, Writes}
 use Rattle.command_laws.specs.StepsByCommands.{Links, Strips}
 use Rattle.command_laws.proofs.CallLemmas.{IsLink, IsStrip, same_link, same_strip}
 

@@ -1,40 +1,37 @@
 -- The file of a link of sound objects is sound: its words have 16 bits, and its names are names.
-use Rattle.std.proofs.Common.{◌≡◌, ℕ, ◌+◌, ◌*◌, ◌%◌, ◌<◌, ◌≤◌, Bool, true, false, cond, ◌&&◌, ◌||◌, max, List, [], ◌∷◌, ◌++◌, map, length, Option, Some, None, Ok, refl, sym, ap, ◌∙◌, arith, subst}
+use Rattle.std.proofs.Common.{◌≡◌, ℕ, ◌<◌, ◌≤◌, Bool, true, false, cond, ◌&&◌, ◌||◌, max, List, [], ◌∷◌, ◌++◌, map, length, Option, Some, None, Ok, refl, arith, subst}
 use Rattle.std.proofs.lemmas.Bool.{ltb-false}
-use Rattle.std.specs.Prelude.{bytes_eq, eqb, filter, nat_lt}
+use Rattle.std.specs.Prelude.{bytes_eq, eqb, filter}
 use Rattle.std.specs.List.{AllByRecursion, flat_map, list_any}
-use Rattle.aout_core.specs.declared.header.Header.{Header}
 use Rattle.aout_core.specs.declared.reloc.Reloc.{Reloc}
 use Rattle.aout_core.specs.declared.symbol.Segment.{Segment}
 use Rattle.aout_core.specs.declared.symbol.Segment.TheVariants.{Undefined, Absolute, TextSeg, DataSeg, BssSeg, Other}
 use Rattle.aout_core.specs.declared.symbol.Symbol.{Symbol}
-use Rattle.aout_core.specs.Contents.{AreWords, Contents, Fits, IsSound, IsSymbol, IsWord}
+use Rattle.aout_core.specs.Contents.{Contents, IsSound, IsSymbol, IsWord}
 use Rattle.aout_core.specs.Names.{IsName}
 use Rattle.aout_core.specs.WellFormed.{is_external, segment_of, IsWellFormed}
 use Rattle.aout_core.specs.Words.{minus, plus}
-use Rattle.link_session.specs.declared.state.State.{State}
-use Rattle.link_session.specs.declared.state.State.TheVariants.{Defined, Wanted}
 use Rattle.link_session.specs.Cells.{Referent, referent, to_name, to_segment, words_of}
 use Rattle.link_session.specs.Earlier.{with_earlier}
 use Rattle.link_session.specs.Mentions.{Mention, forced_mention, is_among, mention, mentions, mentions_in, names_by_first_mention, names_of, new_names, statement}
 use Rattle.link_session.specs.Sessions.{IsObject}
 use Rattle.link_session.specs.Starts.{total}
-use Rattle.link_session.specs.States.{Definition, first_definition, segment_number, size_wanted_by, state_by, wanted_size}
-use Rattle.link_session.proofs.ListLemmas.{all_append, all_map}
+use Rattle.link_session.specs.States.{Definition, first_definition, size_wanted_by, state_by, wanted_size}
+use Rattle.link_session.proofs.ListLemmas.{all_append}
 use Rattle.link_out.specs.declared.options.Keep.{Keep}
 use Rattle.link_out.specs.declared.options.Keep.TheVariants.{All, Externals, NotL, Nothing}
 use Rattle.link_out.specs.declared.options.Layout.{Layout}
 use Rattle.link_out.specs.declared.options.Layout.TheVariants.{Plain, Pure, Split}
 use Rattle.link_out.specs.Choices.{Choices, lays_commons}
 use Rattle.link_out.specs.KeptSymbols.{is_kept_local, rows_kept}
-use Rattle.link_out.specs.Layouts.{Bases, base, data_base, magic_of}
+use Rattle.link_out.specs.Layouts.{Bases, base, magic_of}
 use Rattle.link_out.specs.ReservedNames.{edata, end_name, etext}
-use Rattle.link_out.specs.function.Finals.{Final, bound_at, final, final_at, reserved_or_waiting, type_of, waiting}
-use Rattle.link_out.specs.function.Link.{Outcome, link, linked_file, linked_header}
-use Rattle.link_out.specs.function.Plans.{Plan, common_offset, commons_laid, plan}
+use Rattle.link_out.specs.function.Finals.{Final, bound_at, final, final_at, type_of, waiting}
+use Rattle.link_out.specs.function.Link.{Outcome, link}
+use Rattle.link_out.specs.function.Plans.{Plan, common_offset, plan}
 use Rattle.link_out.specs.function.Reports.{entry_word, is_in_text}
-use Rattle.link_out.specs.function.Tables.{external_row, external_rows, final_reloc, final_relocs, has_far_in, has_far_word, is_out_of_reach, local_rows, moved_local, moved_value, name_bits, referent_bits, row_of, segment_bits, table, waits_far}
-use Rattle.link_out.specs.function.Words.{final_word, final_words, move}
+use Rattle.link_out.specs.function.Tables.{external_row, external_rows, final_reloc, final_relocs, has_far_in, is_out_of_reach, local_rows, moved_local, moved_value, name_bits, referent_bits, row_of, segment_bits, table, waits_far}
+use Rattle.link_out.specs.function.Words.{final_word, final_words}
 use Rattle.link_out.proofs.FitLemmas.{linked_fits}
 use Rattle.link_out.proofs.OutcomeLemmas.{IsMade, made}
 

@@ -1,7 +1,7 @@
 -- A link in two steps, and a program that is stripped.
 use Rattle.std.proofs.Common.{◌≡◌, ℕ, ◌≤◌, Bool, true, false, List, [], ◌∷◌, ◌++◌, Option, Some, None, Result, Ok, refl, sym, ap, ◌∙◌, arith, subst}
 use Rattle.std.specs.List.{AllByRecursion}
-use Rattle.std.specs.Prelude.{IfSome, string_bytes}
+use Rattle.std.specs.Prelude.{IfSome}
 use Rattle.aout_core.specs.declared.file.ReadFault.{ReadFault}
 use Rattle.aout_core.specs.Contents.{Contents, IsSound}
 use Rattle.aout_core.specs.Front.{front}
@@ -10,7 +10,6 @@ use Rattle.aout_core.specs.Spelling.{spelling}
 use Rattle.aout_core.specs.Strip.{stripped}
 use Rattle.aout_core.specs.WellFormed.{IsWellFormed}
 use Rattle.aout_core.specs.declared.symbol.Segment.TheVariants.{TextSeg}
-use Rattle.link_session.specs.Labelled.{objects}
 use Rattle.link_session.specs.Starts.{total}
 use Rattle.link_session.proofs.ListLemmas.{all_split}
 use Rattle.link_out.specs.declared.linked.Linked.{Linked}
@@ -24,10 +23,10 @@ use Rattle.link_out.specs.function.Link.{link}
 use Rattle.link_out.specs.function.Reports.{Findings, report_text, status_of}
 use Rattle.link_out.specs.laws.PartialLinksAmongOthers.{PartialStandsAmongOthers}
 use Rattle.link_out.specs.laws.Stripping.{StripLaw}
-use Rattle.v7tools.specs.Deeds.{Deed, Opened, opens, paths_of, stored}
+use Rattle.v7tools.specs.Deeds.{Deed, opens, paths_of, stored}
 use Rattle.v7tools.specs.declared.office.Stored.TheVariants.{Kept}
 use Rattle.command_laws.specs.Disks.{Disk, IsOn, Run, Writes, disk_after, file_after, with_file}
-use Rattle.command_laws.specs.StepsByCommands.{AreAt, IsAt, LeaveTheSame, Links, LinkStepsLaw, ReportTheSame, StripStepsLaw, Strips}
+use Rattle.command_laws.specs.StepsByCommands.{AreAt, IsAt, Links, LinkStepsLaw, ReportTheSame, StripStepsLaw}
 use Rattle.command_laws.proofs.DiskLemmas.{AreTaken, after_opens, are_at_append, given, objects_taken, read_back, stored_there}
 use Rattle.command_laws.proofs.SoundLemmas.{linked_sound}
 use Rattle.command_laws.proofs.RunLemmas.{LinkDone, StripDone, link_done, strip_done}

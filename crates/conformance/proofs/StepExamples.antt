@@ -174,7 +174,7 @@ module _ (path : String Global) (file : Contents) (out : String Global) (o : Cho
       (entry name file ∷ [], record { works = refl; object = file; is_found = found; accepts = accepts }, refl) is by_bytes (there, tt)
     where
       there : IfSome (one_file name file name) (λ known. Some (spelling file) ≡ Some known)
-      there = rw (bytes_eq-Decides name name).1 refl refl
+      there = let same : bytes_eq name name ≡ true = (bytes_eq-Decides name name).1 refl in rw same refl
 
 file_there : (path : List ℕ) (file : Contents) → front (spelling file) ≡ Ok file → one_file path file path ≡ Some (spelling file) → IsAt (one_file path file) path file
 file_there path file read known = record { bytes = spelling file; known = known; read = read }

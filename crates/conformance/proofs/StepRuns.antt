@@ -1,6 +1,6 @@
 -- Runs of ld, made of the files that it opens and the link that it makes, for examples of commands in steps.
 use Rattle.std.specs.declared.alloc.Global.{Global}
-use Rattle.std.proofs.Common.{◌≡◌, ℕ, ◌+◌, ◌<◌, ◌≤◌, ◌^◌, Bool, true, false, List, [], ◌∷◌, ◌++◌, map, length, Option, Some, None, Ok, refl, ap, arith, inr}
+use Rattle.std.proofs.Common.{◌≡◌, ℕ, ◌<◌, ◌≤◌, ◌^◌, Bool, true, false, List, [], ◌∷◌, ◌++◌, map, length, Option, Some, None, Ok, refl, ap, arith, inr}
 use Rattle.std.specs.Prelude.{IfSome, String, Vec, encode_utf8_all, eqb, nat_lt, if◌then◌else◌, string_bytes}
 use denote.RawPtr.{null_ptr}
 use Rattle.std.proofs.lemmas.Str.{encode_ascii}
@@ -94,7 +94,7 @@ module _ (words : List (List ℕ)) (disk : Disk) (found : List Opened) (out : St
               found = found;
               answer = record { all = all; link = record { over = record { kept = kept; taken = taken; link = is }; bytes = bytes } };
               asked = refl;
-              reports = record { status = refl; write_failed = tt; fault = ((λ e. absurd e), (λ e. absurd (cc))); bytes = refl };
+              reports = record { status = refl; write_failed = tt; fault = ((λ e. e), (λ e. e)); bytes = refl };
             })));
           }),
           (refl, refl),
