@@ -28,7 +28,7 @@ extern "C" {
 enum v7_fault {
     V7_NO_FAULT = 0,
     /* what is asked for */
-    V7_NO_OPTION = 1,          /* a bit of OPTIONS stands for none */
+    V7_NO_OPTION = 1,          /* a bit of OPTIONS stands for none, or FORM is none */
     V7_EXCLUDED = 2,           /* options exclude each other: V7_RELOCATABLE with V7_STRIP, V7_PURE or V7_SPLIT, or the last two */
     V7_LONG_NAME = 3,          /* the name of the entry point has more than 8 bytes */
     V7_CUT_NAMES = 4,          /* the size of the forced names is no multiple of 8 */
@@ -62,10 +62,10 @@ enum v7_fault {
 struct v7_answer {
     uint32_t fault;     /* of enum v7_fault */
     uint32_t word;      /* V7_BAD_RELOCATION, V7_BAD_SYMBOL_NUMBER: the index of the word, text before data, from 0; else 0 */
-    size_t place;       /* of v7_link, 11 to 34: the number of the object; of v7_session, 7 to 24: that of the edit;
+    size_t place;       /* of v7_link, 11 to 34: the number of the object; of v7_session and v7_state, 7 to 24: that of the edit;
                          * V7_MANY_NAMES: that of the name; all from 0; V7_NO_MEMORY: where it ran out, or 0; else 0 */
     size_t size;        /* the size of the result; of v7_take_apart 0 */
-    size_t report_size; /* v7_link, v7_session: the size of the report; else 0 */
+    size_t report_size; /* v7_link, v7_session: the size of the report; v7_state: the number of replies; else 0 */
 };
 
 /* Looks whether BYTES begin with an object, which can be linked; the size is then that of the object, so that the next one of
@@ -123,6 +123,20 @@ uint32_t v7_session(uint32_t options, const unsigned char *entry, size_t entry_s
                     const unsigned char *edits, size_t edit_count, const unsigned char *objects, size_t objects_size,
                     unsigned char *replies, size_t replies_size, unsigned char *room, size_t room_size, unsigned char *report,
                     size_t report_size, struct v7_answer *answer);
+
+/* Runs EDITS as v7_session does, and tells what the session then shows, without a link. ROOM gets it as lines, each of which ends
+ * with a newline, or as one JSON object: the words of the merged text and data, each with its offset in bytes, its value and what
+ * it refers to or waits for; the size of bss in bytes; the external names with what is known of each; the names that are multiply
+ * defined; and the marks of the addition of the last object that is kept: what it overwrote, in the order in which it did. Lines
+ * have offsets and values in octal and sizes in decimal; a byte of a name that does not print, a blank and a backslash are \ooo
+ * there. JSON has all numbers in decimal; a byte of a name that does not print, a quote and a backslash are \u00xx there. v7(3)
+ * tells its members. REPLIES are as those of v7_session; `report_size` is how many there are. The status is 1 where an edit
+ * was not made. State and replies are written, or neither. Faults, the first that applies: V7_NO_OPTION of FORM; 4 and 5; then for
+ * each edit in turn those of v7_session; V7_NO_MEMORY at any time; and V7_NO_ROOM. */
+enum v7_form { V7_LINES = 0, V7_JSON = 1 };
+uint32_t v7_state(uint32_t form, const unsigned char *forced, size_t forced_size, const unsigned char *edits, size_t edit_count,
+                  const unsigned char *objects, size_t objects_size, unsigned char *replies, size_t replies_size,
+                  unsigned char *room, size_t room_size, struct v7_answer *answer);
 
 /* A word of text or data, and its relocation word: 0 where it is a number, 2 where it refers to text, 4 to data, 6 to bss, and
  * 8 + 16 * N where it refers to the symbol N of the table, which is an undefined external; and 1 more where it is relative to

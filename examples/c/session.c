@@ -14,6 +14,13 @@ struct linked {
 
 static const unsigned char none[1];
 
+/* what a session of the first object shows */
+static const char first_state[] = "  text 000000  012700     a number\n"
+                                  "  text 000002  000004     a number\n"
+                                  "  text 000004  004767     a number\n"
+                                  "  text 000006  177770 pc  waits for _half\n"
+                                  "  name _half: undefined\n";
+
 /* mov $4,r0; jsr pc,_half */
 static const struct v7_word main_text[] = {{012700, 0}, {4, 0}, {004767, 0}, {0177770, 031}};
 static const struct v7_symbol main_symbols[] = {{"start", 02, 0}, {"_half", 040, 0}};
@@ -50,6 +57,17 @@ static void run(const char *edits, const unsigned char *objects, size_t size, st
                             strlen(edits), to->file, ROOM, to->report, ROOM, &to->answer);
 }
 
+/* whether the state behind the edits is this, as lines */
+static int shows(const char *edits, const unsigned char *objects, size_t size, const char *state)
+{
+    unsigned char room[ROOM], replies[8];
+    struct v7_answer answer;
+    uint32_t status = v7_state(V7_LINES, none, 0, (const unsigned char *)edits, strlen(edits), objects, size, replies, 8, room,
+                               ROOM, &answer);
+
+    return status == 0 && answer.report_size == strlen(edits) && answer.size == strlen(state) && memcmp(room, state, answer.size) == 0;
+}
+
 int main(void)
 {
     unsigned char objects[2 * ROOM];
@@ -77,6 +95,7 @@ int main(void)
     same("added", alike(&session, &both) && memcmp(session.replies, "\0\0", 2) == 0);
     run("aaw", objects, size, &session);
     same("withdrawn", alike(&session, &alone) && memcmp(session.replies, "\0\0\0", 3) == 0);
+    same("shown as before", shows("a", objects, size, first_state) && shows("aaw", objects, size, first_state));
     run("awwaw", objects, size, &session);
     same("nothing left", session.status == 1 && memcmp(session.replies, "\0\0\43\0\0", 5) == 0);
     run("ax", objects, size, &session);

@@ -33,10 +33,16 @@ def main():
     same("made of parts", v7.make(*v7.take_apart(MAIN)), MAIN)
 
     session = v7.Session([MAIN])
+    waiting = {"value": 0o177770, "pc": True, "target": "external", "name": "_half"}
+    shown = session.text()
+    same("a word that waits", session.state()["text"][3], {"offset": 6, **waiting})
     session.add(HALF)
     same("added", session.link(), both)
+    marks = [{"name": "_half", "was": {"state": "undefined", "value": 0}}, {"segment": "text", "offset": 6, "was": waiting}]
+    same("what the addition overwrote", session.state()["marks"], marks)
     session.withdraw()
     same("withdrawn", session.link(), alone)
+    same("shown as before", session.text(), shown)
     session.withdraw()
     session.withdraw()
     same("nothing left", session.link().status, 1)

@@ -11,12 +11,14 @@
     session.add(count_o)
     session.withdraw()
     print(session.link().report)
+    print(session.text(), session.state()["externals"])
 
 Objects and files are bytes; an address in data or bss counts from the front of text. A fault is raised as `Fault`, with its
 number, the number of the object or edit, and the index of the word. The environment variable LIBV7 is the path of
 libv7.so, where the system's loader does not find it by its name.
 """
 import ctypes
+import json
 import os
 from collections import namedtuple
 
@@ -206,12 +208,13 @@ def take_apart(data):
 class Session:
     """Objects that are added and withdrawn, and linked as they are at any time.
 
-    The library keeps nothing: what is kept here is the list of edits and objects, which each link runs anew. `replies` has,
-    behind a link, a number for each edit: DONE, NOTHING, or that of the limit which the object passed.
+    The library keeps nothing: what is kept here is the list of edits and objects, which each call runs anew. `replies` has,
+    behind a link or a state, a number for each edit: DONE, NOTHING, or that of the limit which the object passed.
     """
 
     ADD, WITHDRAW = b"a", b"w"
     DONE, NOTHING = 0, 35
+    LINES, JSON = 0, 1
 
     def __init__(self, objects=(), entry="", forced=()):
         self.entry, self.forced = entry, tuple(forced)
@@ -236,3 +239,20 @@ class Session:
         program = _linked(LIBRARY.v7_session, words, [room, ctypes.c_size_t(count)])
         self.replies = list(room.raw[:count])
         return program
+
+    def text(self):
+        """What is there, as lines: the words, the names, and what the last addition overwrote."""
+        return self._shown(self.LINES)
+
+    def state(self):
+        """The same as a dict: of `objects`, `text`, `data`, `bss`, `externals`, `multiples` and `marks`, as v7(3) has them."""
+        return json.loads(self._shown(self.JSON))
+
+    def _shown(self, form):
+        """Calls twice: for the size of the state, and for the state and the replies."""
+        words = [ctypes.c_uint32(form), *_slice(b"".join(map(_padded, self.forced))), *_slice(self.edits), *_slice(self.objects)]
+        count = len(self.edits)
+        replies = _room(count)
+        state = _given("v7_state", *words, replies, ctypes.c_size_t(count))
+        self.replies = list(replies.raw[:count])
+        return state.decode("latin-1")

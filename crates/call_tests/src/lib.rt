@@ -9,3 +9,5 @@ mod links;
 mod parts;
 #[cfg(test)]
 mod sessions;
+#[cfg(test)]
+mod states;

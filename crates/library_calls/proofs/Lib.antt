@@ -1,3 +1,4 @@
 pub mod TakingLemmas
 pub mod PartLemmas
 pub mod EditLemmas
+pub mod StateLemmas

@@ -4,3 +4,5 @@ pub mod LinkWanted
 pub mod LinkAnswers
 pub mod ObjectParts
 pub mod SessionAnswers
+pub mod StateAnswers
+pub mod steps

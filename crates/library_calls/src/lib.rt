@@ -12,6 +12,7 @@ mod link_call;
 mod make_call;
 mod parts;
 mod session_call;
+mod state_call;
 mod taking;
 mod wanted;
 
@@ -22,3 +23,4 @@ pub use link_call::{Program, Wanted, link};
 pub use make_call::make;
 pub use parts::{ObjectParts, ObjectWord, PartLists, SymbolRow};
 pub use session_call::{Ran, run_session};
+pub use state_call::{Form, Shown, show_session};

@@ -60,7 +60,7 @@ fn take_edit<'a>(
 }
 
 /// The edits of the letters, with the objects of the bytes, one behind another.
-fn read_edits(alloc: Global, letters: &[u8], bytes: &[u8]) -> Result<Vec<Edit>, Refusal>
+pub(crate) fn read_edits(alloc: Global, letters: &[u8], bytes: &[u8]) -> Result<Vec<Edit>, Refusal>
     ensures ok { IfOk result (λ edits. changes_in letters.now bytes.now ≡ Ok (map change_of edits.items)) }
     ensures err { IfErr result (λ refusal. refusal.cause ≢ Memory → changes_in letters.now bytes.now ≡ Err refusal) }
 {
@@ -110,7 +110,7 @@ fn reply_numbers(alloc: Global, replies: &[Reply]) -> Result<Vec<u8>, AllocError
 
 /// The status of a session, by that of its link: 1 where an edit was not made.
 #[tactic(auto, using(crate::proofs::EditLemmas::by_reply))]
-fn session_status(replies: &[u8], status: u8) -> u8
+pub(crate) fn session_status(replies: &[u8], status: u8) -> u8
     ensures { result ≡ session_status replies.now status }
 {
     for reply in replies {

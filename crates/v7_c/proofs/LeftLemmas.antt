@@ -1,19 +1,21 @@
 -- What a call leaves, by what the library returned.
-use Rattle.std.proofs.Common.{◌≡◌, ℕ, Bool, true, false, cond, nat_lt, ◌||◌, List, length, Result, Ok, Err, refl, sym, ap, ◌∙◌, arith}
+use Rattle.std.proofs.Common.{◌≡◌, ℕ, Bool, true, false, cond, nat_lt, ◌||◌, List, length, Result, Ok, Err, IfOk, IfErr, refl, sym, ap, subst, ◌∙◌, arith}
 use Rattle.aout_core.specs.declared.object.ObjectFault.TheVariants as objects
 use Rattle.library_calls.specs.declared.cause.Cause.{Cause}
 use Rattle.library_calls.specs.declared.cause.Cause.TheVariants.{NoOption, Excluded, LongName, CutNames, ManyNames, TooLong, NoEdit, BadFile, BadObject, NotAdded, NotLinked, Memory}
 use Rattle.library_calls.specs.declared.cause.Refusal.{Refusal}
-use Rattle.library_calls.specs.declared.link_call.Program.{Program}
 use Rattle.library_calls.specs.declared.parts.ObjectWord.{ObjectWord}
 use Rattle.library_calls.specs.declared.parts.PartLists.{PartLists}
 use Rattle.library_calls.specs.declared.parts.SymbolRow.{SymbolRow}
 use Rattle.library_calls.specs.declared.session_call.Ran.{Ran}
+use Rattle.library_calls.specs.declared.state_call.Shown.{Shown}
 use Rattle.library_calls.specs.Causes.{number_of, word_of}
+use Rattle.library_calls.specs.LinkAnswers.{Output}
 use Rattle.library_calls.specs.ObjectParts.{pieces_in}
+use Rattle.library_calls.specs.StateAnswers.{Asked, IsShown, told_of}
 use Rattle.v7_c.specs.declared.answer.Answer.{Answer}
 use Rattle.v7_c.specs.declared.answer.Counts.{Counts}
-use Rattle.v7_c.specs.Left.{LinkLeft, PartsLeft, SessionLeft, apart_left, counts_of, no_counts, of_none, parts_left, pieces_or, put_in, refused, given, link_left, output_left, no_output, no_session, outputs_or, ran_left, session_left, sessions_or}
+use Rattle.v7_c.specs.Left.{LeavesState, LinkLeft, PartsLeft, SessionLeft, apart_left, counts_of, no_counts, of_none, parts_left, pieces_or, put_in, refused, given, link_left, output_left, no_output, no_session, ran_left, session_left, sessions_or, told_left, told_or}
 
 -- a cause of the number of no memory lies in no word
 no_word : (cause : Cause) → number_of cause ≡ 50 → word_of cause ≡ 0
@@ -46,17 +48,26 @@ not_memory true x y hx hy h = absurd (omega (arith, sym hx ∙ h))
 not_memory false x y hx hy h = absurd (omega (arith, sym hy ∙ h))
 
 module _ (status : ℕ) (answer : Answer) (old new report_old report_new : List ℕ) where
-  pub output_memory : (r : Result Program Refusal) → link_left status answer new report_new ≡ output_left (outputs_or r) old report_old → answer.fault ≡ 50 →
+  pub output_memory : (r : Result Output Refusal) → link_left status answer new report_new ≡ output_left r old report_old → answer.fault ≡ 50 →
       link_left status answer new report_new ≡ no_output answer.place old report_old
-  output_memory (Ok p) is h =
-      absurd (not_memory (nat_lt (length old) (length p.file.items) || nat_lt (length report_old) (length p.report.items))
-      (link_left 2 (given 60 (length p.file.items) (length p.report.items)) old report_old)
-      (link_left p.status (given 0 (length p.file.items) (length p.report.items)) (put_in old p.file.items) (put_in report_old p.report.items))
+  output_memory (Ok x) is h =
+      absurd (not_memory (nat_lt (length old) (length x.file) || nat_lt (length report_old) (length x.report))
+      (link_left 2 (given 60 (length x.file) (length x.report)) old report_old)
+      (link_left x.status (given 0 (length x.file) (length x.report)) (put_in old x.file) (put_in report_old x.report))
       refl refl (sym (ap (λ (l : LinkLeft). l.answer.fault) is) ∙ h))
   output_memory (Err refusal) is h =
       is
       ∙ ap (λ (a : Answer). link_left 2 a old report_old) (no_memory refusal (sym (ap (λ (l : LinkLeft). l.answer.fault) is) ∙ h))
       ∙ ap (λ place. no_output place old report_old) (sym (ap (λ (l : LinkLeft). l.answer.place) is))
+
+  -- what is left of a session that the library shows
+  pub leaves_state : (asked : Result Asked Refusal) (r : Result Shown Refusal) → IfOk r (λ shown. IsShown asked (Ok (told_of shown))) →
+      IfErr r (λ refusal. (refusal.cause ≡ Memory → ⊥) → asked ≡ Err refusal) → link_left status answer new report_new ≡ told_left (told_or r) old report_old → (answer.fault ≡ 50 → ⊥) →
+      LeavesState asked old report_old (link_left status answer new report_new)
+  leaves_state asked (Ok shown) ok err is other = record { told = Ok (told_of shown); shown = ok; is = is }
+  leaves_state asked (Err refusal) ok err is other =
+      let same = err (λ memory. other (ap (λ (l : LinkLeft). l.answer.fault) is ∙ ap number_of memory)) in
+      record { told = Err refusal; shown = subst (λ (a : Result Asked Refusal). IsShown a (Err refusal)) (sym same) refl; is = is }
 
 no_session_memory : (b : Bool) (x y : SessionLeft) → x.link.answer.fault ≡ 60 → y.link.answer.fault ≡ 0 → (cond b x y).link.answer.fault ≡ 50 → ⊥
 no_session_memory true x y hx hy h = absurd (omega (arith, sym hx ∙ h))

@@ -3,7 +3,7 @@
 -- Bytes are given at the beginning of a room. Where a room is too short nothing is written, and the answer says how many bytes
 -- there are. A refusal is a number, with the place of what is refused.
 use Rattle.std.specs.declared.alloc.Global.{Global}
-use Rattle.std.specs.Prelude.{ℕ, ◌||◌, nat_lt, if◌then◌else◌, List, [], ◌++◌, drop, length, Vec, Result, Ok, Err}
+use Rattle.std.specs.Prelude.{◌≡◌, ℕ, ◌||◌, nat_lt, if◌then◌else◌, List, [], ◌++◌, drop, length, Vec, Result, Ok, Err}
 use Rattle.library_calls.specs.declared.cause.Cause.{Cause}
 use Rattle.library_calls.specs.declared.cause.Cause.TheVariants.{Memory}
 use Rattle.library_calls.specs.declared.cause.Refusal.{Refusal}
@@ -12,10 +12,12 @@ use Rattle.library_calls.specs.declared.parts.ObjectWord.{ObjectWord}
 use Rattle.library_calls.specs.declared.parts.PartLists.{PartLists}
 use Rattle.library_calls.specs.declared.parts.SymbolRow.{SymbolRow}
 use Rattle.library_calls.specs.declared.session_call.Ran.{Ran}
+use Rattle.library_calls.specs.declared.state_call.Shown.{Shown}
 use Rattle.library_calls.specs.Causes.{number_of, word_of}
 use Rattle.library_calls.specs.LinkAnswers.{Output, outputs_of}
 use Rattle.library_calls.specs.ObjectParts.{Pieces, pieces_in}
 use Rattle.library_calls.specs.SessionAnswers.{SessionOutput, sessions_of}
+use Rattle.library_calls.specs.StateAnswers.{Asked, IsShown, Told, told_of}
 use Rattle.v7_c.specs.declared.answer.Answer.{Answer}
 use Rattle.v7_c.specs.declared.answer.Counts.{Counts}
 
@@ -103,6 +105,20 @@ ran_left (Ok x) replies room report =
 abbrev pub no_session : ℕ → List ℕ → List ℕ → List ℕ → SessionLeft
 no_session place replies room report = ran_left (Err (record { cause = Memory; place = place })) replies room report
 
+-- what a call leaves that shows a session: the state and the replies, or neither
+abbrev pub output_told : Result Told Refusal → Result Output Refusal
+output_told (Ok x) = Ok (record { status = x.status; file = x.state; report = x.replies })
+output_told (Err r) = Err r
+
+abbrev pub told_left : Result Told Refusal → List ℕ → List ℕ → LinkLeft
+told_left r room replies = output_left (output_told r) room replies
+
+-- it is one that the session may show which is asked for
+pub record LeavesState (asked : Result Asked Refusal) (room replies : List ℕ) (left : LinkLeft) : Type 0 where
+  pub told : Result Told Refusal
+  pub shown : IsShown asked told
+  pub is : left ≡ told_left told room replies
+
 -- what taking an object apart leaves: its words and symbols, and how many there are
 pub record PartsLeft : Type 0 where
   pub status : ℕ
@@ -141,6 +157,10 @@ outputs_or (Err r) = Err r
 abbrev pub sessions_or : Result Ran Refusal → Result SessionOutput Refusal
 sessions_or (Ok ran) = Ok (sessions_of ran)
 sessions_or (Err r) = Err r
+
+abbrev pub told_or : Result Shown Refusal → Result Told Refusal
+told_or (Ok shown) = Ok (told_of shown)
+told_or (Err r) = Err r
 
 abbrev pub pieces_or : Result PartLists Cause → Result Pieces Cause
 pieces_or (Ok p) = Ok (pieces_in p)

@@ -12,10 +12,13 @@ ghost use Rattle.library_calls.specs.FileAnswers.{checked_in, names_in, sizes_in
 ghost use Rattle.library_calls.specs.LinkAnswers.{output_in};
 ghost use Rattle.library_calls.specs.ObjectParts.{made_of, parts_in, pieces};
 ghost use Rattle.library_calls.specs.SessionAnswers.{session_in};
-ghost use Rattle.v7_c.specs.Left.{apart_left, counted_by, left, left_by, link_left, no_bytes, no_output, no_session, output_left, parts_left, ran_left, session_left};
+ghost use Rattle.library_calls.specs.StateAnswers.{asked_in};
+ghost use Rattle.v7_c.specs.Left.{LeavesState, apart_left, counted_by, left, left_by, link_left, no_bytes, no_output, no_session, output_left, parts_left, ran_left, session_left};
 
 use crate::answer::{Answer, Counts};
-use crate::rooms::{leave_bytes, leave_count, leave_output, leave_parts, leave_session};
+use crate::rooms::{
+    leave_bytes, leave_count, leave_output, leave_parts, leave_session, leave_state,
+};
 use library_calls::{ObjectParts, ObjectWord, SymbolRow, Wanted};
 use std::alloc::Global;
 
@@ -165,4 +168,25 @@ pub extern "C" fn v7_session(
     };
     let ran = library_calls::run_session(alloc, &wanted, edits, objects);
     leave_session(ran, replies, room, report, answer)
+}
+
+/// Runs the edits of a session, and tells what it then shows.
+#[unsafe(no_mangle)]
+pub extern "C" fn v7_state(
+    alloc: Global,
+    form: u32,
+    forced: &[u8],
+    edits: &[u8],
+    objects: &[u8],
+    replies: &mut [u8],
+    room: &mut [u8],
+    answer: &mut Answer,
+) -> u32
+    ensures value { answer.new.fault ≢ 50 → LeavesState (asked_in form forced.now edits.now objects.now) room.old replies.old
+        (link_left result answer.new room.new replies.new) }
+    ensures memory { answer.new.fault ≡ 50 → link_left result answer.new room.new replies.new
+        ≡ no_output answer.new.place room.old replies.old }
+{
+    let shown = library_calls::show_session(alloc, form, forced, edits, objects);
+    leave_state(shown, room, replies, answer)
 }

@@ -3,10 +3,11 @@ ghost use Rattle.std.specs.Prelude.{◌≡◌, ◌≤◌, [], length, Ok};
 ghost use Rattle.library_calls.specs.LinkAnswers.{outputs_of};
 ghost use Rattle.library_calls.specs.ObjectParts.{pieces_in};
 ghost use Rattle.library_calls.specs.SessionAnswers.{sessions_of};
-ghost use Rattle.v7_c.specs.Left.{apart_left, counted_by, counts_of, items_of, left, left_by, link_left, output_left, outputs_or, parts_left, pieces_or, put_in, ran_left, session_left, sessions_or};
+ghost use Rattle.library_calls.specs.StateAnswers.{told_of};
+ghost use Rattle.v7_c.specs.Left.{apart_left, counted_by, counts_of, items_of, left, left_by, link_left, output_left, outputs_or, parts_left, pieces_or, put_in, ran_left, session_left, sessions_or, told_left, told_or};
 
 use crate::answer::{Answer, Counts};
-use library_calls::{Cause, ObjectWord, PartLists, Program, Ran, Refusal, SymbolRow};
+use library_calls::{Cause, ObjectWord, PartLists, Program, Ran, Refusal, Shown, SymbolRow};
 
 /// The fault where a room is too short.
 const NO_ROOM: u32 = 60;
@@ -60,20 +61,42 @@ pub(crate) fn leave_bytes(
     }
 }
 
-/// Writes the file of a link and its report into the rooms, where both fit.
-fn leave_program(program: &Program, room: &mut [u8], report: &mut [u8], answer: &mut Answer) -> u32
-    ensures { link_left result answer.new room.new report.new ≡ output_left (Ok (outputs_of program.now)) room.old report.old }
+/// Writes two results into their rooms, where both fit.
+fn leave_both(
+    status: u8,
+    bytes: &[u8],
+    more: &[u8],
+    room: &mut [u8],
+    report: &mut [u8],
+    answer: &mut Answer,
+) -> u32
+    ensures { link_left result answer.new room.new report.new
+        ≡ output_left (Ok (record { status = status; file = bytes.now; report = more.now })) room.old report.old }
 {
-    let size = program.file.len();
-    let report_size = program.report.len();
+    let size = bytes.len();
+    let report_size = more.len();
     if room.len() < size || report.len() < report_size {
         *answer = Answer::given(NO_ROOM, size, report_size);
         return 2;
     }
-    put(&program.file, room);
-    put(&program.report, report);
+    put(bytes, room);
+    put(more, report);
     *answer = Answer::given(0, size, report_size);
-    u32::from(program.status)
+    u32::from(status)
+}
+
+/// Writes the file of a link and its report into the rooms, where both fit.
+fn leave_program(program: &Program, room: &mut [u8], report: &mut [u8], answer: &mut Answer) -> u32
+    ensures { link_left result answer.new room.new report.new ≡ output_left (Ok (outputs_of program.now)) room.old report.old }
+{
+    leave_both(
+        program.status,
+        &program.file,
+        &program.report,
+        room,
+        report,
+        answer,
+    )
 }
 
 /// Writes a link into the rooms, where there is one.
@@ -129,6 +152,38 @@ pub(crate) fn leave_session(
 {
     match ran {
         Ok(ran) => leave_ran(&ran, replies, room, report, answer),
+        Err(refusal) => {
+            *answer = Answer::refused(refusal);
+            2
+        }
+    }
+}
+
+/// Writes the state of a session and the replies into the rooms, where both fit.
+fn leave_shown(shown: &Shown, room: &mut [u8], replies: &mut [u8], answer: &mut Answer) -> u32
+    ensures { link_left result answer.new room.new replies.new ≡ told_left (Ok (told_of shown.now)) room.old replies.old }
+{
+    leave_both(
+        shown.status,
+        &shown.state,
+        &shown.replies,
+        room,
+        replies,
+        answer,
+    )
+}
+
+/// Writes the state of a session and the replies into the rooms, where there is one.
+pub(crate) fn leave_state(
+    shown: Result<Shown, Refusal>,
+    room: &mut [u8],
+    replies: &mut [u8],
+    answer: &mut Answer,
+) -> u32
+    ensures { link_left result answer.new room.new replies.new ≡ told_left (told_or shown) room.old replies.old }
+{
+    match shown {
+        Ok(shown) => leave_shown(&shown, room, replies, answer),
         Err(refusal) => {
             *answer = Answer::refused(refusal);
             2

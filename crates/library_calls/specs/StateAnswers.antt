@@ -1,0 +1,65 @@
+-- What a call shows of a session: the replies to its edits, and the state that they leave. (own choice)
+--
+-- The edits are read and run as those of a session that is linked. What the last addition overwrote is told by marks, which take
+-- that addition back.
+use Rattle.std.specs.Prelude.{◌≡◌, ℕ, zero, suc, List, [], ◌∷◌, map, Result, Ok, Err}
+use Rattle.link_session.specs.declared.mark.Mark.{Mark}
+use Rattle.link_session.specs.Edits.{Change, answers, survivors}
+use Rattle.link_session.specs.Labelled.{objects}
+use Rattle.link_session.specs.Undo.{Kept, IsJournal}
+use Rattle.session_text.specs.StateJson.{state_json}
+use Rattle.session_text.specs.StateLines.{state_lines}
+use Rattle.library_calls.specs.declared.cause.Cause.{Cause}
+use Rattle.library_calls.specs.declared.cause.Cause.TheVariants.{NoOption}
+use Rattle.library_calls.specs.declared.cause.Refusal.{Refusal}
+use Rattle.library_calls.specs.declared.state_call.Form.{Form}
+use Rattle.library_calls.specs.declared.state_call.Form.TheVariants.{Lines, Json}
+use Rattle.library_calls.specs.declared.state_call.Shown.{Shown}
+use Rattle.library_calls.specs.Causes.{at, and_then}
+use Rattle.library_calls.specs.LinkWanted.{forced_in}
+use Rattle.library_calls.specs.SessionAnswers.{changes_in, reply_number, session_status}
+
+-- 0: lines, 1: JSON
+abbrev pub form_in : ℕ → Result Form Cause
+form_in zero = Ok Lines
+form_in (suc zero) = Ok Json
+form_in (suc (suc n)) = Err NoOption
+
+abbrev pub spelt_in : Form → Kept → List ℕ
+spelt_in Lines s = state_lines s
+spelt_in Json s = state_json s
+
+-- what is asked for: the form, the forced names, and the edits
+pub record Asked : Type 0 where
+  pub form : Form
+  pub forced : List (List ℕ)
+  pub changes : List Change
+
+-- the form, then the forced names, then the edits: the first refusal, or all of them
+abbrev pub asked_in : ℕ → List ℕ → List ℕ → List ℕ → Result Asked Refusal
+asked_in form forced letters bytes =
+    and_then (at 0 (form_in form)) (λ f. and_then (forced_in forced) (λ names. and_then (changes_in letters bytes) (λ cs. Ok (record { form = f; forced = names; changes = cs }))))
+
+-- what is told: the status, the replies to the edits, and the state
+pub record Told : Type 0 where
+  pub status : ℕ
+  pub replies : List ℕ
+  pub state : List ℕ
+
+abbrev pub told_of : Shown → Told
+told_of s = record { status = s.status; replies = s.replies.items; state = s.state.items }
+
+-- the replies to the edits, the status by them, and the state of a session of what is left, with marks that take its objects back
+pub record Shows (x : Asked) (told : Told) : Type 0 where
+  pub replies : told.replies ≡ map reply_number (answers x.forced x.changes)
+  pub status : told.status ≡ session_status told.replies 0
+  pub journal : List (List Mark)
+  pub undoes : IsJournal x.forced (objects (survivors x.forced x.changes)) journal
+  pub state : told.state ≡ spelt_in x.form (record { forced = x.forced; entries = survivors x.forced x.changes; journal = journal })
+
+-- what is shown for what is asked, or its refusal
+abbrev pub IsShown : Result Asked Refusal → Result Told Refusal → Type 0
+IsShown (Err refusal) (Err r) = refusal ≡ r
+IsShown (Err refusal) (Ok told) = ⊥
+IsShown (Ok x) (Err r) = ⊥
+IsShown (Ok x) (Ok told) = Shows x told

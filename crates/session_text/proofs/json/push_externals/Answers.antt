@@ -1,0 +1,14 @@
+use Rattle.std.proofs.Common.{ℕ, List, ◌++◌, ◌∙◌, sym}
+use Rattle.link_session.specs.declared.state.State.{State}
+use Rattle.link_session.specs.Undo.{image_of}
+use Rattle.session_text.specs.Items.{each}
+use Rattle.session_text.specs.StateJson.{external_json}
+use Rattle.session_text.proofs.EachLemmas.{one_more_at}
+use Rattle.session_text.proofs.json.push_externals.Goals as goal
+
+pub loop-index-preserved : goal.loop-index-preserved
+loop-index-preserved c =
+    let es = (image_of c.args.session.now).externals in
+    let spelling = external_json in
+    one_more_at spelling es c.loop-index.index (c.unwrap-name.result.0, c.unwrap-name.result.1) (c.args.text.now.items ++ each spelling es) c.loop-index.text.items c.push_external.new.text.items
+    (sym c.external.ensures ∙ c.unwrap-name.ensures) c.loop-index.invariant c.in_ok-push_external.ensures
