@@ -1,5 +1,5 @@
 -- Lists of symbols, sizes, and links of inputs.
-use Rattle.std.specs.Prelude.{◌≡◌, true, false, [], ◌∷◌, ◌++◌, take, Err, codes, refl}
+use Rattle.std.specs.Prelude.{◌≡◌, true, false, [], ◌∷◌, take, Err, codes, refl}
 use Rattle.std.specs.Fmt.{digits}
 use Rattle.aout_core.specs.declared.file.ReadFault.TheVariants.{Truncated}
 use Rattle.aout_core.specs.declared.object.ObjectFault.TheVariants.{NoRelocation}
