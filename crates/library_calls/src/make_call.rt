@@ -68,7 +68,8 @@ fn symbols_of(alloc: Global, rows: &[SymbolRow]) -> Result<Vec<Symbol>, AllocErr
 
 /// The parts as those of a file with this header.
 fn parts_with(alloc: Global, header: Header, parts: &ObjectParts<'_>) -> Result<Parts, AllocError>
-    ensures { IfOk result (λ lists. contents_of lists ≡ contents_for (pieces parts.now.text.now parts.now.data.now parts.now.bss parts.now.symbols.now) header) }
+    ensures { IfOk result (λ lists. contents_of lists
+        ≡ contents_for (pieces parts.now.text.now parts.now.data.now parts.now.bss parts.now.symbols.now) header) }
 {
     let text_words = values_of(alloc, parts.text)?;
     let data_words = values_of(alloc, parts.data)?;
@@ -88,7 +89,8 @@ fn parts_with(alloc: Global, header: Header, parts: &ObjectParts<'_>) -> Result<
 /// The file of the parts.
 fn file_for(alloc: Global, parts: &ObjectParts<'_>) -> Result<File, Cause>
     ensures ok { IfOk result (λ file. file_for (pieces parts.now.text.now parts.now.data.now parts.now.bss parts.now.symbols.now) ≡ Ok file) }
-    ensures err { IfErr result (λ cause. cause ≢ Memory → file_for (pieces parts.now.text.now parts.now.data.now parts.now.bss parts.now.symbols.now) ≡ Err cause) }
+    ensures err { IfErr result (λ cause. cause ≢ Memory
+        → file_for (pieces parts.now.text.now parts.now.data.now parts.now.bss parts.now.symbols.now) ≡ Err cause) }
 {
     let header = header_for(parts)?;
     let lists = parts_with(alloc, header, parts)?;
@@ -103,7 +105,8 @@ fn file_for(alloc: Global, parts: &ObjectParts<'_>) -> Result<File, Cause>
 /// out.
 pub fn make(alloc: Global, parts: &ObjectParts<'_>) -> Result<Vec<u8>, Cause>
     ensures ok { IfOk result (λ written. made_of (pieces parts.now.text.now parts.now.data.now parts.now.bss parts.now.symbols.now) ≡ Ok written.items) }
-    ensures err { IfErr result (λ cause. cause ≢ Memory → made_of (pieces parts.now.text.now parts.now.data.now parts.now.bss parts.now.symbols.now) ≡ Err cause) }
+    ensures err { IfErr result (λ cause. cause ≢ Memory
+        → made_of (pieces parts.now.text.now parts.now.data.now parts.now.bss parts.now.symbols.now) ≡ Err cause) }
 {
     let file = file_for(alloc, parts)?;
     let object = object_of(file)?;

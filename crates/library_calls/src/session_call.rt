@@ -161,7 +161,8 @@ pub fn run_session(
     objects: &[u8],
 ) -> Result<Ran, Refusal>
     ensures ok { IfOk result (λ ran. session_in wanted.now.options wanted.now.entry.now wanted.now.forced.now letters.now objects.now ≡ Ok (sessions_of ran)) }
-    ensures err { IfErr result (λ r. r.cause ≢ Memory → session_in wanted.now.options wanted.now.entry.now wanted.now.forced.now letters.now objects.now ≡ Err r) }
+    ensures err { IfErr result (λ r. r.cause ≢ Memory
+        → session_in wanted.now.options wanted.now.entry.now wanted.now.forced.now letters.now objects.now ≡ Err r) }
 {
     let options = link_options(wanted.options, wanted.entry)?;
     let forced = forced_names(wanted.forced)?;

@@ -116,7 +116,8 @@ fn edit_and_show(
     edits: Vec<Edit>,
     form: Form,
 ) -> Result<Shown, Cause>
-    ensures ok { IfOk result (λ shown. session.old.entries ≡ [] → Shows (record { form = form; forced = session.old.forced; changes = map change_of edits.items }) (told_of shown)) }
+    ensures ok { IfOk result (λ shown. session.old.entries ≡ []
+        → Shows (record { form = form; forced = session.old.forced; changes = map change_of edits.items }) (told_of shown)) }
     ensures err { IfErr result (λ cause. cause ≡ Memory) }
 {
     let replies = make_edits(alloc, session, edits)?;

@@ -211,7 +211,8 @@ fn leave_lists(
     symbols: &mut [SymbolRow],
     answer: &mut Answer,
 ) -> u32
-    ensures { parts_left result answer.new (counts_of (pieces_in parts.now)) text.new data_words.new symbols.new ≡ apart_left (Ok (pieces_in parts.now)) text.old data_words.old symbols.old }
+    ensures { parts_left result answer.new (counts_of (pieces_in parts.now)) text.new data_words.new symbols.new
+        ≡ apart_left (Ok (pieces_in parts.now)) text.old data_words.old symbols.old }
 {
     if text.len() < parts.text.len()
         || data_words.len() < parts.data.len()
