@@ -1,5 +1,5 @@
 -- Names that one symbol defines at most are not multiply defined.
-use Rattle.std.proofs.Common.{◌≡◌, ℕ, suc, ◌+◌, ◌≤◌, Bool, true, false, cond, not, ◌&&◌, eqb, List, [], ◌∷◌, ◌++◌, map, length, Option, Some, None, refl, sym, ◌∙◌, ap, subst, arith}
+use Rattle.std.proofs.Common.{◌≡◌, ℕ, suc, ◌+◌, ◌≤◌, Bool, true, false, cond, not, ◌&&◌, eqb, List, [], ◌∷◌, ◌++◌, map, length, Option, Some, refl, sym, ◌∙◌, ap, subst, arith}
 use Rattle.std.specs.Prelude.{bytes_eq, filter, sum_by, Ok}
 use Rattle.std.specs.List.{AllByRecursion}
 use Rattle.std.specs.List.Sorted.{IsPermutation}
@@ -19,7 +19,7 @@ use Rattle.link_out.specs.Choices.{Choices}
 use Rattle.link_out.specs.Results.{Findings}
 use Rattle.link_out.specs.function.Plans.{plan}
 use Rattle.link_out.specs.function.Link.{Outcome, link}
-use Rattle.link_out.proofs.MultipleLemmas.{AgreesIn, no_definition, of_each_name, no_multiples, own_again}
+use Rattle.link_out.proofs.MultipleLemmas.{AgreesIn, of_each_name, no_multiples, own_again}
 use Rattle.link_out.proofs.NeighbourMentions.{blocks}
 use Rattle.link_out.proofs.OutcomeLemmas.{made_report}
 use Rattle.link_laws.specs.Orders.{defines, DefineOnce}
