@@ -197,12 +197,21 @@ def compare_addresses(tools, page, what, files):
     page.type("a")
 
 
+def compare_tags(shown, what, marks, tag):
+    """The words with a tag are those of which the marks tell."""
+    parts = [mark.split() for mark in marks]
+    wanted = {(part[0], part[1]) for part in parts if part[0] in ("text", "data") and part[2] == "was"}
+    tagged = {(word["segment"], f"{word['number']:06o}") for word in shown["words"] if word["tag"] == tag}
+    same(f"{what}: {tag}", tagged, wanted)
+
+
 def walk(tools, page, files, chosen):
     """All lists that begin with these: each is reached by a key, compared, and left by a key."""
     here = [files[number] for number in chosen]
     if chosen:
         what = " ".join(os.path.basename(file) for file in here)
-        compare_state(tools, page, f"add {what}", len(here), here)
+        shown = compare_state(tools, page, f"add {what}", len(here), here)
+        compare_tags(shown, f"add {what}", shown["marks"], "bound")
         compare_addresses(tools, page, what, here)
     for number in range(len(files)):
         if number not in chosen:
@@ -214,7 +223,19 @@ def walk(tools, page, files, chosen):
             shown = compare_state(tools, page, what, len(longer) + 1, longer)
             wanted = [line.removeprefix("mark ") for line in tools.step(len(longer), longer) if line.startswith("mark ")]
             same(f"{what}: put back", [words_of(line) for line in shown["done"]], wanted)
-    return len(chosen)
+            compare_tags(shown, what, shown["done"], "put back")
+
+
+def program(tools, files):
+    """Five objects in their order, with words that refer to each segment of their own."""
+    page = Page(tools.page_of(files, "program.html"))
+    for number in range(1, len(files) + 1):
+        here = files[:number]
+        what = " ".join(os.path.basename(file) for file in here)
+        page.type(str(number))
+        compare_state(tools, page, what, number, here)
+        compare_addresses(tools, page, what, here)
+    page.quit()
 
 
 def clicks(tools, page, files):
@@ -367,6 +388,8 @@ def main():
         walk(tools, page, files, [])
         pictures(page)
         page.quit()
+        examples = os.path.dirname(files[0])
+        program(tools, [os.path.join(examples, name) for name in ("start.o", "print.o", "main.o", "twice.o", "count.o")])
         large(tools, files)
         full(tools, files)
     print(f"{compared} things were compared")
