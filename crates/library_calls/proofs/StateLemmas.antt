@@ -1,10 +1,10 @@
 -- Edits that are made one by one, and what a session shows behind them.
-use Rattle.std.proofs.Common.{◌≡◌, ℕ, Result, Ok, Err, Option, None, List, [], ◌∷◌, ◌++◌, map, length, append_assoc, append-nil, arith, sym, ap, ◌∙◌, subst, String}
+use Rattle.std.proofs.Common.{◌≡◌, ℕ, Result, Ok, None, List, [], ◌∷◌, ◌++◌, map, length, append_assoc, append-nil, arith, sym, ap, ◌∙◌, subst, String}
 use Rattle.std.specs.declared.alloc.Global.{Global}
 use Rattle.aout_core.specs.Contents.{Contents}
 use Rattle.link_session.specs.declared.entry.AddFault.{AddFault}
 use Rattle.link_session.specs.declared.entry.AddFault.TheVariants.{Memory}
-use Rattle.link_session.specs.Edits.{Change, addition, withdrawal, refusal, answer_to, answers_from, kept_after, survivors_from}
+use Rattle.link_session.specs.Edits.{Change, addition, withdrawal, refusal, answers_from, survivors_from}
 use Rattle.link_session.specs.Labelled.{Labelled, objects}
 use Rattle.link_session.specs.Sessions.{Adds, Withdraws, IsCause, labelled}
 use Rattle.link_session.specs.Undo.{Kept, IsJournal}

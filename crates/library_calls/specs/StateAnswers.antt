@@ -2,7 +2,7 @@
 --
 -- The edits are read and run as those of a session that is linked. What the last addition overwrote is told by marks, which take
 -- that addition back.
-use Rattle.std.specs.Prelude.{◌≡◌, ℕ, zero, suc, List, [], ◌∷◌, map, Result, Ok, Err}
+use Rattle.std.specs.Prelude.{◌≡◌, ℕ, zero, suc, List, map, Result, Ok, Err}
 use Rattle.link_session.specs.declared.mark.Mark.{Mark}
 use Rattle.link_session.specs.Edits.{Change, answers, survivors}
 use Rattle.link_session.specs.Labelled.{objects}

@@ -1,6 +1,5 @@
-use Rattle.std.proofs.Common.{◌≡◌, ℕ, List, ◌++◌, length, take, drop, replicate, arith, sym, ap, ◌∙◌}
+use Rattle.std.proofs.Common.{◌≡◌, ℕ, List, ◌++◌, length, drop, replicate, ap, ◌∙◌}
 use Rattle.aout_core.specs.Names.{padded}
-use Rattle.library_calls.specs.declared.parts.SymbolRow.{SymbolRow}
 use Rattle.library_calls.proofs.PartLemmas.{padded_name}
 use Rattle.library_calls.proofs.apart.row_of.Goals as goal
 

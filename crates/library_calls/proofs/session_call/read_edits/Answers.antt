@@ -1,4 +1,4 @@
-use Rattle.std.proofs.Common.{◌≡◌, [], map, get_or, refl}
+use Rattle.std.proofs.Common.{[], map, get_or, refl}
 use Rattle.link_out.specs.Runs.{change_of}
 use Rattle.library_calls.specs.SessionAnswers.{with_edits}
 use Rattle.library_calls.proofs.EditLemmas.{one_more_edit, one_edit_refused}

@@ -1,4 +1,4 @@
-use Rattle.std.proofs.Common.{◌≡◌, map, ap, ◌∙◌}
+use Rattle.std.proofs.Common.{map, ap, ◌∙◌}
 use Rattle.link_out.specs.Outcomes.{outcome_of}
 use Rattle.link_out.specs.Runs.{answer_of, change_of}
 use Rattle.library_calls.proofs.EditLemmas.{ran_or}

@@ -1,4 +1,4 @@
-use Rattle.std.proofs.Common.{◌≡◌, List, [], map, ap, subst, sym}
+use Rattle.std.proofs.Common.{map, ap, subst, sym}
 use Rattle.link_session.specs.Undo.{Kept}
 use Rattle.link_out.specs.Runs.{change_of}
 use Rattle.library_calls.specs.StateAnswers.{Shows, told_of}

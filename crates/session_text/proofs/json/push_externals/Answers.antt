@@ -1,5 +1,4 @@
-use Rattle.std.proofs.Common.{ℕ, List, ◌++◌, ◌∙◌, sym}
-use Rattle.link_session.specs.declared.state.State.{State}
+use Rattle.std.proofs.Common.{◌++◌, ◌∙◌, sym}
 use Rattle.link_session.specs.Undo.{image_of}
 use Rattle.session_text.specs.Items.{each}
 use Rattle.session_text.specs.StateJson.{external_json}
