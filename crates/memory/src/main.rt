@@ -3,7 +3,7 @@
 //! those that the calls make is refused. See tests/memory.sh.
 #![tactic(auto)]
 
-use memory_calls::{Outcome, commands, files, links, programs, scripts, sessions};
+use memory_calls::{Outcome, commands, files, links, programs, script_steps, sessions};
 use std::alloc::Global;
 use std::io;
 
@@ -57,12 +57,12 @@ fn call_commands(rt: &HostRuntime) -> io::Result<()> {
 
 fn call_scripts(rt: &HostRuntime) -> io::Result<()> {
     let alloc = rt.alloc();
-    report(rt, "next_line", scripts::reading_lines(alloc))?;
-    report(rt, "step, add", scripts::adding_by_a_step(alloc))?;
-    let outcome = scripts::adding_behind_by_a_step(alloc);
+    report(rt, "next_line", script_steps::reading_lines(alloc))?;
+    report(rt, "step, add", script_steps::adding_by_a_step(alloc))?;
+    let outcome = script_steps::adding_behind_by_a_step(alloc);
     report(rt, "step, add behind another", outcome)?;
-    report(rt, "step, link", scripts::linking_by_a_step(alloc))?;
-    report(rt, "steps otherwise", scripts::other_steps(alloc))
+    report(rt, "step, link", script_steps::linking_by_a_step(alloc))?;
+    report(rt, "steps otherwise", script_steps::other_steps(alloc))
 }
 
 fn main(rt: HostRuntime) -> io::Result<()> {

@@ -6,7 +6,7 @@ pub mod files;
 pub mod links;
 mod outcome;
 pub mod programs;
-pub mod scripts;
+pub mod script_steps;
 pub mod sessions;
 
 pub use outcome::Outcome;

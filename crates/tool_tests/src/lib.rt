@@ -15,7 +15,7 @@ mod memory_office;
 #[cfg(test)]
 mod script_calls;
 #[cfg(test)]
-mod scripts;
+mod script_lines;
 #[cfg(test)]
 mod sessions;
 #[cfg(test)]

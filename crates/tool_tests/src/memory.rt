@@ -1,5 +1,5 @@
 //! The calls that may be refused memory, while none is.
-use memory_calls::{Outcome, commands, files, links, programs, scripts, sessions};
+use memory_calls::{Outcome, commands, files, links, programs, script_steps, sessions};
 
 #[test]
 fn memory_refused_reading(rt: HostRuntime) {
@@ -45,14 +45,14 @@ fn memory_refused_listing(rt: HostRuntime) {
 
 #[test]
 fn memory_refused_script(rt: HostRuntime) {
-    assert!(rt; scripts::reading_lines(rt.alloc()) == Outcome::Done);
+    assert!(rt; script_steps::reading_lines(rt.alloc()) == Outcome::Done);
 }
 
 #[test]
 fn memory_refused_steps(rt: HostRuntime) {
-    assert!(rt; scripts::adding_by_a_step(rt.alloc()) == Outcome::Done);
-    assert!(rt; scripts::adding_behind_by_a_step(rt.alloc()) == Outcome::Done);
-    assert!(rt; scripts::linking_by_a_step(rt.alloc()) == Outcome::Done);
+    assert!(rt; script_steps::adding_by_a_step(rt.alloc()) == Outcome::Done);
+    assert!(rt; script_steps::adding_behind_by_a_step(rt.alloc()) == Outcome::Done);
+    assert!(rt; script_steps::linking_by_a_step(rt.alloc()) == Outcome::Done);
 }
 
 #[test]
@@ -66,5 +66,5 @@ fn no_memory_needed(rt: HostRuntime) {
     assert!(rt; links::emitting(rt.alloc()) == Outcome::Done);
     assert!(rt; commands::sizing(rt.alloc()) == Outcome::Done);
     assert!(rt; commands::showing(rt.alloc()) == Outcome::Done);
-    assert!(rt; scripts::other_steps(rt.alloc()) == Outcome::Done);
+    assert!(rt; script_steps::other_steps(rt.alloc()) == Outcome::Done);
 }
