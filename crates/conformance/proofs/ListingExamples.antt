@@ -41,7 +41,7 @@ abbrev nm_up : NmOptions
 nm_up = record nm_u { table_order = true }
 
 -- a local without a type
-abbrev local_o : Contents
+abbrev pub local_o : Contents
 local_o = object [] [] [] [] 0 (entry L1 0 0 ∷ [])
 
 abbrev names_by : NmOptions → Outcome → List (List ℕ)
