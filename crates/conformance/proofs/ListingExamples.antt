@@ -121,7 +121,7 @@ reserved_names_listed law =
 
 -- ---- the lines of undefined symbols
 
--- what `nm -u` writes of a link by such options: the lines of these symbols, taken of the locals and of the names that are reported
+-- what `nm -u` writes of a link by such options: the lines of symbols taken of the undefined locals, and of the names that are reported
 abbrev UndefinedWritten : (Choices → Type 0) → (NmOptions → List Symbol → List Symbol → List Symbol) → Type 0
 UndefinedWritten IsSo listed = (forced : List (List ℕ)) (os : List Contents) (o : Choices) (x : Outcome) → IsSo o → link forced os o ≡ Ok x → (n : NmOptions) (path : List ℕ) → n.undefined ≡ true →
     nm_text n ((path, x.file) ∷ []) ≡ lines n path (listed n (undefined_locals o os) (map undefined_symbol x.report.undefined))
@@ -161,7 +161,7 @@ lines_with_relocation law = other_text (codes "       U _f\n") [] refl (law [] (
 
 -- ---- the lines of rows
 
--- what nm writes of a link where this is so: the lines of these symbols, taken of the locals that some options keep and of the rows
+-- what nm writes of a link where this is so: the lines of symbols taken of the locals that these options keep, and of the rows
 abbrev RowsWritten : (Choices → NmOptions → Type 0) → (Choices → Choices) → (NmOptions → List Symbol → List Symbol → List Symbol) → Type 0
 RowsWritten IsSo keeping listed = (forced : List (List ℕ)) (os : List Contents) (o : Choices) (x : Outcome) (l : IsLinkedFrom forced os o x) (n : NmOptions) → IsSo o n → (path : List ℕ) →
     nm_text n ((path, x.file) ∷ []) ≡ lines n path (listed n (carried_locals x.file.header os (keeping o)) l.rows)
@@ -178,7 +178,7 @@ g_good = as_object g_o refl refl refl refl refl refl refl refl
 local_good : IsObject local_o
 local_good = as_object local_o refl refl refl refl refl refl refl refl
 
--- a text of lines, of rows that are known
+-- the same text, of rows that are known
 of_rows : (n : NmOptions) (listed : List Symbol → List Symbol) (rows others : List Symbol) → rows ≡ others → (text : List ℕ) → text ≡ lines n path (listed others) → text ≡ lines n path (listed rows)
 of_rows n listed rows others same text e = e ∙ ap (λ ss. lines n path (listed ss)) (sym same)
 

@@ -156,7 +156,7 @@ words_alone law =
     let h = law [] (x4_o ∷ []) plain (outcome (x4_o ∷ []) plain) (as_object x4_o refl refl refl refl refl refl refl refl, tt) refl of_data 0 0 refl in
     wordless h.before h.k h.after h.all h.segment h.i h.w h.word
 
--- nothing else: one byte of each word alone, the bytes behind them, and files that are no objects
+-- nothing else: one byte of each word alone, each word a byte further on, and beside files that are no objects
 
 -- a byte of a word that lies so beside the address where the word begins
 record IsBeside (Lies : ℕ → ℕ → Type 0) (h : Header) (os : List Contents) (space : Space) (address : ℕ) : Type 0 where
@@ -193,7 +193,7 @@ b_good = as_object b_o refl refl refl refl refl refl refl refl
 abbrev b_file : Contents
 b_file = file_of (b_o ∷ []) plain
 
--- where the word of `b.o` stands, some number of words behind 0
+-- a byte of the one word of `b.o` lies so beside an even address
 of_b : (Lies : ℕ → ℕ → Type 0) (address byte : ℕ) → NothingBut (AllByRecursion IsObject) Lies → core b_file of_instructions address ≡ Some byte → is_in b_file.header of_instructions BssSeg address ≡ false → (i : ℕ) × Lies address (2 * i)
 of_b Lies address byte law e apart = by_either (law [] (b_o ∷ []) plain (outcome (b_o ∷ []) plain) (b_good, tt) refl of_instructions address byte e)
   where
