@@ -107,7 +107,7 @@ module _ (forced : List (List ℕ)) (os : List Contents) (o : Choices) (x : Outc
   passed reserved h = absurd (cc)
   passed undefined h = absurd (cc)
 
--- lists of no and of one object
+-- lists of no object, of one, and of two
 
 no_object : (before : List Contents) (k : Contents) (after : List Contents) → [] ≡ before ++ k ∷ after → ⊥
 no_object [] k after e = cc
@@ -122,6 +122,13 @@ none_kept file rows locals segment before k after e i w r ew er = absurd (no_obj
 pub only_object : (P : List Contents → Contents → Type 0) (j : Contents) → P [] j → (before : List Contents) (k : Contents) (after : List Contents) → j ∷ [] ≡ before ++ k ∷ after → P before k
 only_object P j h [] k after e = let same : j ≡ k = cc in subst (λ (c : Contents). P [] c) same h
 only_object P j h (b ∷ before) k after e = let rest : [] ≡ before ++ k ∷ after = cc in absurd (no_object before k after rest)
+
+pub one_of_two : (P : List Contents → Contents → Type 0) (i j : Contents) → P [] i → P (i ∷ []) j → (before : List Contents) (k : Contents) (after : List Contents) → i ∷ j ∷ [] ≡ before ++ k ∷ after → P before k
+one_of_two P i j h g [] k after e = let same : i ≡ k = cc in subst (λ (c : Contents). P [] c) same h
+one_of_two P i j h g (b ∷ before) k after e =
+    let same : i ≡ b = cc in
+    let rest : j ∷ [] ≡ before ++ k ∷ after = cc in
+    subst (λ (c : Contents). P (c ∷ before) k) same (only_object (λ front k. P (i ∷ front) k) j g before k after rest)
 
 -- objects, and an object without words
 

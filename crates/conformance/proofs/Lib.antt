@@ -14,3 +14,4 @@ mod NearMachine
 mod OrderExamples
 mod StepRuns
 mod StepExamples
+mod StripExamples

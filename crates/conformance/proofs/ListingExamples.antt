@@ -1,6 +1,7 @@
 -- Lists of linked files: what nm and size write of them, and statements near the law of lists that do not hold.
-use Rattle.std.proofs.Common.{◌≡◌, ◌≢◌, ◌⊎◌, ℕ, ◌+◌, true, false, List, [], ◌∷◌, ◌++◌, map, filter, length, Some, IsPermutation, refl, sym, ◌∙◌, inr, eq-eqb}
-use Rattle.std.specs.Prelude.{eqb, Ok, codes, bytes_eq, slice_index, slice_index_or, sum_by}
+use Rattle.std.proofs.Common.{◌≡◌, ◌≢◌, ◌⊎◌, ℕ, ◌+◌, true, false, List, [], ◌∷◌, ◌++◌, map, filter, length, Some, IsPermutation, refl, sym, ◌∙◌, ap, inr, eq-eqb}
+use Rattle.std.specs.Prelude.{eqb, Ok, codes, bytes_eq, drop, slice_index, slice_index_or, sum_by}
+use Rattle.std.specs.List.{flat_map}
 use Rattle.std.specs.Fmt.{digits}
 use Rattle.std.proofs.lemmas.List.Sorted.{length_permutation}
 use Rattle.aout_core.specs.declared.symbol.Symbol.{Symbol}
@@ -10,21 +11,22 @@ use Rattle.link_session.specs.declared.state.State.{State}
 use Rattle.link_session.specs.declared.state.State.TheVariants.{Wanted}
 use Rattle.link_session.specs.Starts.{total}
 use Rattle.link_session.specs.Mentions.{mentions, externals, is_among}
-use Rattle.link_out.specs.declared.options.Keep.TheVariants.{Nothing}
+use Rattle.link_session.specs.Sessions.{IsObject}
+use Rattle.link_out.specs.declared.options.Keep.TheVariants.{All, Externals, Nothing}
 use Rattle.link_out.specs.Choices.{Choices, lays_commons}
 use Rattle.link_out.specs.Results.{Outcome}
 use Rattle.link_out.specs.function.Link.{link}
 use Rattle.link_out.specs.relation.NameStates.{HasState, IsWanted}
 use Rattle.link_out.specs.relation.Relocated.{entry_of}
-use Rattle.link_out.specs.relation.LinkedFrom.{IsLinkedFrom}
+use Rattle.link_out.specs.relation.LinkedFrom.{IsLinkedFrom, carried_locals}
 use Rattle.link_out.proofs.LinkedTheorem.{linked_exactly}
 use Rattle.symtools.specs.declared.options.NmOptions.{NmOptions}
-use Rattle.symtools.specs.SymbolLines.{letter}
-use Rattle.symtools.specs.NmLists.{shown, nm_text}
+use Rattle.symtools.specs.SymbolLines.{letter, symbol_line, value_column}
+use Rattle.symtools.specs.NmLists.{arranged, shown, nm_text}
 use Rattle.symtools.specs.SizeLines.{size_line, size_text}
-use Rattle.link_laws.specs.Listings.{undefined_locals, state_letter, IsListedOnce, of_sizes, UndefinedAreListed, ExternalsAreListed}
-use Rattle.conformance.specs.Samples.{sym as entry, object, _f, _g, _x, _end, L1, c_o, d_o, g_o, x4_o, y1_o, y2_o, plain, plain_s, relocatable}
-use Rattle.conformance.proofs.ClauseLemmas.{only_wanted}
+use Rattle.link_laws.specs.Listings.{undefined_locals, listed_locals, undefined_symbol, lines, state_letter, IsListedOnce, of_sizes, UndefinedAreListed, UndefinedLines, RowLines, ExternalsAreListed}
+use Rattle.conformance.specs.Samples.{sym as entry, object, _f, _g, _x, _end, L1, c_o, d_o, g_o, x4_o, y1_o, y2_o, plain, plain_s, relocatable, with_keep}
+use Rattle.conformance.proofs.ClauseLemmas.{as_object, only_wanted}
 use Rattle.conformance.proofs.NeededPremises.{counts, all_kept, link_of, c_good, d_good}
 
 -- nm without options, with -g, -u and -p
@@ -40,8 +42,14 @@ nm_u = record nm { undefined = true }
 abbrev nm_up : NmOptions
 nm_up = record nm_u { table_order = true }
 
+abbrev nm_p : NmOptions
+nm_p = record nm { table_order = true }
+
+abbrev path : List ℕ
+path = codes "a.out"
+
 -- a local without a type
-abbrev local_o : Contents
+abbrev pub local_o : Contents
 local_o = object [] [] [] [] 0 (entry L1 0 0 ∷ [])
 
 abbrev names_by : NmOptions → Outcome → List (List ℕ)
@@ -110,6 +118,129 @@ reserved_names_listed law =
     let end_o : Contents = object [] [] [] [] 0 (entry _end 0o40 0 ∷ []) in
     let bad : false ≡ true = law [] (end_o ∷ []) plain (link_of (end_o ∷ []) plain) all_kept refl refl nm_u refl _end refl (only_wanted _end 0) in
     absurd (cc)
+
+-- ---- the lines of undefined symbols
+
+-- what `nm -u` writes of a link by such options: the lines of symbols taken of the undefined locals, and of the names that are reported
+abbrev UndefinedWritten : (Choices → Type 0) → (NmOptions → List Symbol → List Symbol → List Symbol) → Type 0
+UndefinedWritten IsSo listed = (forced : List (List ℕ)) (os : List Contents) (o : Choices) (x : Outcome) → IsSo o → link forced os o ≡ Ok x → (n : NmOptions) (path : List ℕ) → n.undefined ≡ true →
+    nm_text n ((path, x.file) ∷ []) ≡ lines n path (listed n (undefined_locals o os) (map undefined_symbol x.report.undefined))
+
+abbrev KeepsAndBinds : Choices → Type 0
+KeepsAndBinds o = (o.keep ≢ Nothing) × (o.relocatable ≡ false)
+
+abbrev both_arranged : NmOptions → List Symbol → List Symbol → List Symbol
+both_arranged n locals externals = arranged n (listed_locals n locals ++ externals)
+
+law_of_undefined_lines : UndefinedLines → UndefinedWritten KeepsAndBinds both_arranged
+law_of_undefined_lines law forced os o x h linked n path by_u = law forced os o x h.0 h.1 linked n path by_u
+
+-- by the law alone
+told_lines : UndefinedLines → nm_text nm_up ((path, (link_of (g_o ∷ local_o ∷ []) plain).file) ∷ []) ≡ codes "       u L1\n       U _g\n"
+told_lines law = law [] (g_o ∷ local_o ∷ []) plain (link_of (g_o ∷ local_o ∷ []) plain) all_kept refl refl nm_up path refl
+
+other_text : (xs ys : List ℕ) → eqb (sum_by (λ b. b) xs) (sum_by (λ b. b) ys) ≡ false → xs ≡ ys → ⊥
+other_text xs ys apart e = counts (λ (text : List ℕ). sum_by (λ b. b) text) xs ys apart e
+
+locals_left_out : UndefinedWritten KeepsAndBinds (λ n locals names. arranged n names) → ⊥
+locals_left_out law = other_text (codes "       u L1\n") [] refl (law [] (local_o ∷ []) plain (link_of (local_o ∷ []) plain) (all_kept, refl) refl nm_u path refl)
+
+locals_among_externals : UndefinedWritten KeepsAndBinds (λ n locals names. arranged n (locals ++ names)) → ⊥
+locals_among_externals law = other_text [] (codes "       u L1\n") refl (law [] (local_o ∷ []) plain (link_of (local_o ∷ []) plain) (all_kept, refl) refl (record nm_u { external = true }) path refl)
+
+lines_as_reported : UndefinedWritten KeepsAndBinds (λ n locals names. listed_locals n locals ++ names) → ⊥
+lines_as_reported law =
+    counts (λ (text : List ℕ). slice_index_or text 10 0) (codes "       U _f\n       U _g\n") (codes "       U _g\n       U _f\n") refl
+    (law [] (g_o ∷ c_o ∷ []) plain (link_of (g_o ∷ c_o ∷ []) plain) (all_kept, refl) refl nm_u path refl)
+
+lines_without_table : UndefinedWritten (λ o. o.relocatable ≡ false) both_arranged → ⊥
+lines_without_table law = other_text [] (codes "       U _f\n") refl (law [] (c_o ∷ []) plain_s (link_of (c_o ∷ []) plain_s) refl refl nm_u path refl)
+
+lines_with_relocation : UndefinedWritten (λ o. o.keep ≢ Nothing) both_arranged → ⊥
+lines_with_relocation law = other_text (codes "       U _f\n") [] refl (law [] (c_o ∷ []) relocatable (link_of (c_o ∷ []) relocatable) all_kept refl nm_u path refl)
+
+-- ---- the lines of rows
+
+-- what nm writes of a link where this is so: the lines of symbols taken of the locals that these options keep, and of the rows
+abbrev RowsWritten : (Choices → NmOptions → Type 0) → (Choices → Choices) → (NmOptions → List Symbol → List Symbol → List Symbol) → Type 0
+RowsWritten IsSo keeping listed = (forced : List (List ℕ)) (os : List Contents) (o : Choices) (x : Outcome) (l : IsLinkedFrom forced os o x) (n : NmOptions) → IsSo o n → (path : List ℕ) →
+    nm_text n ((path, x.file) ∷ []) ≡ lines n path (listed n (carried_locals x.file.header os (keeping o)) l.rows)
+
+abbrev KeepsAndLists : Choices → NmOptions → Type 0
+KeepsAndLists o n = (o.keep ≢ Nothing) × (n.undefined ≡ false)
+
+law_of_rows : RowLines → RowsWritten KeepsAndLists (λ o. o) both_arranged
+law_of_rows law forced os o x l n h path = law forced os o x h.0 l n path h.1
+
+g_good : IsObject g_o
+g_good = as_object g_o refl refl refl refl refl refl refl refl
+
+local_good : IsObject local_o
+local_good = as_object local_o refl refl refl refl refl refl refl refl
+
+-- the same text, of rows that are known
+of_rows : (n : NmOptions) (listed : List Symbol → List Symbol) (rows others : List Symbol) → rows ≡ others → (text : List ℕ) → text ≡ lines n path (listed others) → text ≡ lines n path (listed rows)
+of_rows n listed rows others same text e = e ∙ ap (λ ss. lines n path (listed ss)) (sym same)
+
+abbrev Linked : List Contents → Choices → Type 0
+Linked os o = IsLinkedFrom [] os o (link_of os o)
+
+two_linked : Linked (g_o ∷ c_o ∷ []) plain
+two_linked = (linked_exactly [] (g_o ∷ c_o ∷ []) plain (link_of (g_o ∷ c_o ∷ []) plain) (g_good, (c_good, tt))).0 refl
+
+local_linked : Linked (local_o ∷ []) plain
+local_linked = (linked_exactly [] (local_o ∷ []) plain (link_of (local_o ∷ []) plain) (local_good, tt)).0 refl
+
+two_rows : entry _g 0o40 0 ∷ entry _f 0o40 0 ∷ [] ≡ two_linked.rows
+two_rows = ap (λ ss. drop 1 ss) two_linked.table
+
+-- by the law and the relation
+told_rows : RowLines → nm_text nm ((path, (link_of (g_o ∷ c_o ∷ []) plain).file) ∷ []) ≡ codes "000000 t L1\n       U _f\n       U _g\n"
+told_rows law =
+    of_rows nm (both_arranged nm (entry L1 0o02 0 ∷ [])) (entry _g 0o40 0 ∷ entry _f 0o40 0 ∷ []) two_linked.rows two_rows (nm_text nm ((path, (link_of (g_o ∷ c_o ∷ []) plain).file) ∷ []))
+    (law [] (g_o ∷ c_o ∷ []) plain (link_of (g_o ∷ c_o ∷ []) plain) all_kept two_linked nm path refl)
+
+all_locals_listed : RowsWritten KeepsAndLists (λ o. with_keep All o) both_arranged → ⊥
+all_locals_listed law =
+    let o = with_keep Externals plain in
+    let l : Linked (local_o ∷ []) o = (linked_exactly [] (local_o ∷ []) o (link_of (local_o ∷ []) o) (local_good, tt)).0 refl in
+    other_text [] (codes "       u L1\n") refl
+    (of_rows nm (both_arranged nm (entry L1 0 0 ∷ [])) [] l.rows l.table [] (law [] (local_o ∷ []) o (link_of (local_o ∷ []) o) l nm ((λ e. cc), refl) path))
+
+locals_beside_externals : RowsWritten KeepsAndLists (λ o. o) (λ n locals rows. arranged n (locals ++ rows)) → ⊥
+locals_beside_externals law =
+    other_text [] (codes "       u L1\n") refl
+    (of_rows nm_g (λ rows. arranged nm_g (entry L1 0 0 ∷ rows)) [] local_linked.rows (ap (λ ss. drop 1 ss) local_linked.table) []
+    (law [] (local_o ∷ []) plain (link_of (local_o ∷ []) plain) local_linked nm_g (all_kept, refl) path))
+
+rows_in_table_order : RowsWritten KeepsAndLists (λ o. o) (λ n locals rows. listed_locals n locals ++ rows) → ⊥
+rows_in_table_order law =
+    counts (λ (text : List ℕ). slice_index_or text 22 0) (codes "000000 t L1\n       U _f\n       U _g\n") (codes "000000 t L1\n       U _g\n       U _f\n") refl
+    (of_rows nm (λ rows. entry L1 0o02 0 ∷ rows) (entry _g 0o40 0 ∷ entry _f 0o40 0 ∷ []) two_linked.rows two_rows (codes "000000 t L1\n       U _f\n       U _g\n")
+    (law [] (g_o ∷ c_o ∷ []) plain (link_of (g_o ∷ c_o ∷ []) plain) two_linked nm (all_kept, refl) path))
+
+rows_by_u : RowsWritten (λ o n. o.keep ≢ Nothing) (λ o. o) both_arranged → ⊥
+rows_by_u law =
+    let l : Linked (d_o ∷ []) plain = (linked_exactly [] (d_o ∷ []) plain (link_of (d_o ∷ []) plain) (d_good, tt)).0 refl in
+    other_text [] (codes "000002 T _f\n") refl
+    (of_rows nm_u (both_arranged nm_u []) (entry _f 0o42 2 ∷ []) l.rows l.table [] (law [] (d_o ∷ []) plain (link_of (d_o ∷ []) plain) l nm_u all_kept path))
+
+-- a line is not empty
+no_line : (front rest : List ℕ) → [] ≡ (front ++ 10 ∷ []) ++ rest → ⊥
+no_line [] rest e = cc
+no_line (b ∷ front) rest e = cc
+
+rows_without_table : RowsWritten (λ o n. n.undefined ≡ false) (λ o. o) both_arranged → ⊥
+rows_without_table law = none l.rows l.names (law [] (c_o ∷ []) plain_s (link_of (c_o ∷ []) plain_s) l nm_p refl path)
+  where
+    l : Linked (c_o ∷ []) plain_s
+    l = (linked_exactly [] (c_o ∷ []) plain_s (link_of (c_o ∷ []) plain_s) (c_good, tt)).0 refl
+
+    none : (rows : List Symbol) → map (λ s. s.name) rows ≡ _f ∷ [] → [] ≡ lines nm_p path rows → ⊥
+    none [] names e = cc
+    none (r ∷ rows) names e = no_line (value_column r ++ (32 ∷ letter r ∷ 32 ∷ r.name)) (flat_map (λ s. symbol_line s) rows) e
+
+-- ---- each external
 
 -- each external is listed once, where this is so
 abbrev ListedOnceWhere : (Choices → NmOptions → Type 0) → Type 0

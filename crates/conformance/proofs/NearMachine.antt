@@ -1,5 +1,5 @@
 -- Statements near the laws of loaded programs that do not hold: each has a link that shows it.
-use Rattle.std.proofs.Common.{◌≡◌, ◌≢◌, ℕ, ◌+◌, ◌*◌, ◌/◌, ◌%◌, ◌<◌, ◌≤◌, true, false, List, [], ◌∷◌, ◌++◌, Some, None, refl, sym, ◌∙◌, ap, arith}
+use Rattle.std.proofs.Common.{◌≡◌, ◌≢◌, ℕ, ◌+◌, ◌*◌, ◌/◌, ◌%◌, ◌<◌, ◌≤◌, true, false, List, [], ◌∷◌, ◌++◌, Some, None, ◌⊎◌, refl, sym, ◌∙◌, ap, arith, inl, inr, subst}
 use Rattle.std.specs.Prelude.{eqb, Ok, replicate, slice_get}
 use Rattle.std.specs.List.{AllByRecursion}
 use Rattle.aout_core.specs.declared.header.Header.{Header}
@@ -19,17 +19,17 @@ use Rattle.link_out.specs.declared.options.Keep.TheVariants.{Nothing}
 use Rattle.link_out.specs.Choices.{Choices, lays_commons}
 use Rattle.link_out.specs.Results.{Outcome}
 use Rattle.link_out.specs.function.Link.{link}
-use Rattle.link_out.specs.relation.Relocated.{entry_of, segment_words, segment_relocs}
+use Rattle.link_out.specs.relation.Relocated.{begins, entry_of, segment_words, segment_relocs}
 use Rattle.link_out.specs.laws.CommonsAndLayouts.{IsCommon}
 use Rattle.link_laws.specs.Core.{Space, of_instructions, of_data, has_segment, first_address, bytes_of, is_in, core}
-use Rattle.link_laws.specs.CoreLaws.{IsLoaded, IsZero, IsOfWord}
+use Rattle.link_laws.specs.CoreLaws.{IsLoaded, IsZero, IsOfWord, NothingElse}
 use Rattle.link_laws.specs.Operands.{FindsMore, FindsName, segment_meant, Calls, Defines, Arrives}
 use Rattle.link_laws.proofs.LoadedLemmas.{words_loaded}
 use Rattle.conformance.specs.Samples.{sym as entry, object, sized, _f, _x, _twice, a_o, b_o, c_o, d_o, d2_o, k_o, x4_o, main_o, twice_o, plain, plain_s, relocatable, with_layout}
 use Rattle.conformance.proofs.LawExamples.{outcome_of}
-use Rattle.conformance.proofs.ClauseLemmas.{as_object, only_object, only_wanted}
+use Rattle.conformance.proofs.ClauseLemmas.{as_object, one_of_two, only_object, only_wanted}
 use Rattle.conformance.proofs.NearLaws.{different}
-use Rattle.conformance.proofs.NeededPremises.{all_kept, c_good, d_good}
+use Rattle.conformance.proofs.NeededPremises.{all_kept, no_object, c_good, d_good}
 use Rattle.conformance.proofs.MachineExamples.{file_of, forward, main_good, twice_good}
 
 other_byte : (a b : ℕ) → eqb a b ≡ false → Some a ≡ Some b → ⊥
@@ -156,6 +156,104 @@ words_alone law =
     let h = law [] (x4_o ∷ []) plain (outcome (x4_o ∷ []) plain) (as_object x4_o refl refl refl refl refl refl refl refl, tt) refl of_data 0 0 refl in
     wordless h.before h.k h.after h.all h.segment h.i h.w h.word
 
+-- nothing else: one byte of each word alone, each word a byte further on, and beside files that are no objects
+
+-- a byte of a word that lies so beside the address where the word begins
+record IsBeside (Lies : ℕ → ℕ → Type 0) (h : Header) (os : List Contents) (space : Space) (address : ℕ) : Type 0 where
+  before : List Contents
+  k : Contents
+  after : List Contents
+  all : os ≡ before ++ k ∷ after
+  segment : Segment
+  «in» : has_segment h.magic segment space ≡ true
+  i : ℕ
+  w : ℕ
+  word : slice_get (segment_words segment k) i ≡ Some w
+  at : Lies address (begins h (total BssSeg os) segment + total segment before + 2 * i)
+
+-- each byte of the core is such a one, or a zero of bss, where the objects are so
+abbrev NothingBut : (List Contents → Type 0) → (ℕ → ℕ → Type 0) → Type 0
+NothingBut AreSo Lies = (forced : List (List ℕ)) (os : List Contents) (o : Choices) (x : Outcome) → AreSo os → link forced os o ≡ Ok x → (space : Space) (address byte : ℕ) → core x.file space address ≡ Some byte →
+    IsBeside Lies x.file.header os space address ⊎ ((is_in x.file.header space BssSeg address ≡ true) × (byte ≡ 0))
+
+abbrev LiesInWord : ℕ → ℕ → Type 0
+LiesInWord address start = (address ≡ start) ⊎ (address ≡ start + 1)
+
+law_of_nothing : NothingElse → NothingBut (AllByRecursion IsObject) LiesInWord
+law_of_nothing law forced os o x good linked space address byte e = by_either (law forced os o x good linked space address byte e)
+  where
+    by_either : IsOfWord x.file.header os space address ⊎ ((is_in x.file.header space BssSeg address ≡ true) × (byte ≡ 0)) →
+        IsBeside LiesInWord x.file.header os space address ⊎ ((is_in x.file.header space BssSeg address ≡ true) × (byte ≡ 0))
+    by_either (inl h) = inl (record { before = h.before; k = h.k; after = h.after; all = h.all; segment = h.segment; «in» = h.«in»; i = h.i; w = h.w; word = h.word; at = h.at })
+    by_either (inr h) = inr h
+
+b_good : IsObject b_o
+b_good = as_object b_o refl refl refl refl refl refl refl refl
+
+abbrev b_file : Contents
+b_file = file_of (b_o ∷ []) plain
+
+-- a byte of the one word of `b.o` lies so beside an even address
+of_b : (Lies : ℕ → ℕ → Type 0) (address byte : ℕ) → NothingBut (AllByRecursion IsObject) Lies → core b_file of_instructions address ≡ Some byte → is_in b_file.header of_instructions BssSeg address ≡ false → (i : ℕ) × Lies address (2 * i)
+of_b Lies address byte law e apart = by_either (law [] (b_o ∷ []) plain (outcome (b_o ∷ []) plain) (b_good, tt) refl of_instructions address byte e)
+  where
+    by_segment : (segment : Segment) (i w : ℕ) → slice_get (segment_words segment b_o) i ≡ Some w → Lies address (begins b_file.header (total BssSeg (b_o ∷ [])) segment + total segment [] + 2 * i) → (i : ℕ) × Lies address (2 * i)
+    by_segment TextSeg i w e at = (i, let same : 0 + 0 + 2 * i ≡ 2 * i = omega arith in subst (λ (start : ℕ). Lies address start) same at)
+    by_segment DataSeg i w e at = absurd (cc)
+    by_segment BssSeg i w e at = absurd (cc)
+    by_segment Undefined i w e at = absurd (cc)
+    by_segment Absolute i w e at = absurd (cc)
+    by_segment Other i w e at = absurd (cc)
+
+    by_either : IsBeside Lies b_file.header (b_o ∷ []) of_instructions address ⊎ ((is_in b_file.header of_instructions BssSeg address ≡ true) × (byte ≡ 0)) → (i : ℕ) × Lies address (2 * i)
+    by_either (inl h) =
+        only_object (λ before k. (segment : Segment) (i w : ℕ) → slice_get (segment_words segment k) i ≡ Some w → Lies address (begins b_file.header (total BssSeg (b_o ∷ [])) segment + total segment before + 2 * i) → (i : ℕ) × Lies address (2 * i))
+        b_o by_segment h.before h.k h.after h.all h.segment h.i h.w h.word h.at
+    by_either (inr h) = let bad : true ≡ false = sym h.0 ∙ apart in absurd (cc)
+
+low_bytes_alone : NothingBut (AllByRecursion IsObject) (λ address start. address ≡ start) → ⊥
+low_bytes_alone law = let h = of_b (λ address start. address ≡ start) 1 0 law refl refl in let at : 1 ≡ 2 * h.0 = h.1 in absurd (omega arith)
+
+high_bytes_alone : NothingBut (AllByRecursion IsObject) (λ address start. address ≡ start + 1) → ⊥
+high_bytes_alone law = let h = of_b (λ address start. address ≡ start + 1) 0 135 law refl refl in let at : 0 ≡ 2 * h.0 + 1 = h.1 in absurd (omega arith)
+
+words_one_byte_on : NothingBut (AllByRecursion IsObject) (λ address start. (start + 1 ≤ address) × (address ≤ start + 2)) → ⊥
+words_one_byte_on law =
+    let h = of_b (λ address start. (start + 1 ≤ address) × (address ≤ start + 2)) 0 135 law refl refl in
+    let at : 2 * h.0 + 1 ≤ 0 = h.1.0 in
+    absurd (omega arith)
+
+-- 8 bytes of text are announced before `d.o`, and none are there
+nothing_beside_others : NothingBut (λ os. Unit {0}) LiesInWord → ⊥
+nothing_beside_others law = by_either 160 (law [] (no_object ∷ d_o ∷ []) plain (outcome (no_object ∷ d_o ∷ []) plain) tt refl of_instructions 0 160 refl)
+  where
+    h : Header
+    h = (file_of (no_object ∷ d_o ∷ []) plain).header
+
+    Lies : List Contents → Contents → Type 0
+    Lies before k = (segment : Segment) (i w : ℕ) → slice_get (segment_words segment k) i ≡ Some w → LiesInWord 0 (begins h (total BssSeg (no_object ∷ d_o ∷ [])) segment + total segment before + 2 * i) → ⊥
+
+    in_first : Lies [] no_object
+    in_first TextSeg i w e at = cc
+    in_first DataSeg i w e at = cc
+    in_first BssSeg i w e at = cc
+    in_first Undefined i w e at = cc
+    in_first Absolute i w e at = cc
+    in_first Other i w e at = cc
+
+    in_second : Lies (no_object ∷ []) d_o
+    in_second TextSeg i w e (inl at) = let far : 0 ≡ 0 + 8 + 2 * i = at in absurd (omega arith)
+    in_second TextSeg i w e (inr at) = let far : 0 ≡ 0 + 8 + 2 * i + 1 = at in absurd (omega arith)
+    in_second DataSeg i w e at = cc
+    in_second BssSeg i w e at = cc
+    in_second Undefined i w e at = cc
+    in_second Absolute i w e at = cc
+    in_second Other i w e at = cc
+
+    by_either : (byte : ℕ) → IsBeside LiesInWord h (no_object ∷ d_o ∷ []) of_instructions 0 ⊎ ((is_in h of_instructions BssSeg 0 ≡ true) × (byte ≡ 0)) → ⊥
+    by_either byte (inl b) = one_of_two Lies no_object d_o in_first in_second b.before b.k b.after b.all b.segment b.i b.w b.word b.at
+    by_either byte (inr b) = let bad : false ≡ true = b.0 in cc
+
 -- names: with relocation, without a table, and as the word stands
 
 word_is : (low high word : ℕ) → Some low ≡ Some (word % 256) → Some high ≡ Some (word / 256) → word ≡ low + 256 * high
@@ -201,9 +299,6 @@ pc_forgotten law =
 
 a_good : IsObject a_o
 a_good = as_object a_o refl refl refl refl refl refl refl refl
-
-b_good : IsObject b_o
-b_good = as_object b_o refl refl refl refl refl refl refl refl
 
 segments_stay : ((forced : List (List ℕ)) (before : List Contents) (k : Contents) (after : List Contents) (o : Choices) (x : Outcome) →
     AllByRecursion IsObject (before ++ k ∷ after) → link forced (before ++ k ∷ after) o ≡ Ok x →

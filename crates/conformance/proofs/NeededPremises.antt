@@ -64,8 +64,11 @@ words_without_table law =
     absurd (cc)
 
 -- what the segments hold, of lists that are no objects
+abbrev pub no_object : Contents
+no_object = sized 8 0 0 []
+
 filled_by_others : ((forced : List (List ℕ)) (os : List Contents) (o : Choices) (x : Outcome) → link forced os o ≡ Ok x → HoldsObjects x.file os) → ⊥
-filled_by_others law = counts (λ (n : ℕ). n) 0 8 refl (law [] (sized 8 0 0 [] ∷ []) plain (link_of (sized 8 0 0 [] ∷ []) plain) refl).text_words
+filled_by_others law = counts (λ (n : ℕ). n) 0 8 refl (law [] (no_object ∷ []) plain (link_of (no_object ∷ []) plain) refl).text_words
 
 -- definitions, where a name is multiply defined
 definitions_of_multiples : ((forced : List (List ℕ)) (before : List Contents) (k : Contents) (after : List Contents) (o : Choices) (x : Outcome) →

@@ -18,9 +18,9 @@ use Rattle.link_out.specs.Results.{Outcome}
 use Rattle.link_out.specs.function.Link.{link}
 use Rattle.link_out.specs.relation.Relocated.{entry_of as row_of, external_type, segment_words, segment_relocs}
 use Rattle.link_laws.specs.Orders.{AreOrders, Meaning, definition, common, missing, Means, MeansTheSame, RefersAlike, OrderKeepsSizes, OrderReportsAlike, OrderFindsEntry, OrderKeepsMeanings, defines, OnceInAnyOrder}
-use Rattle.conformance.specs.Samples.{sym as entry, object, sized, d_o, _f, _g, _x, L1, _main, _twice, main_o, twice_o, count_o, g_o, x4_o, plain, plain_s, relocatable, with_entry}
+use Rattle.conformance.specs.Samples.{sym as entry, object, d_o, _f, _g, _x, L1, _main, _twice, main_o, twice_o, count_o, g_o, x4_o, plain, plain_s, relocatable, with_entry}
 use Rattle.conformance.proofs.ClauseLemmas.{at_most_so}
-use Rattle.conformance.proofs.NeededPremises.{counts, all_kept, link_of}
+use Rattle.conformance.proofs.NeededPremises.{counts, all_kept, link_of, no_object}
 
 -- the first two of a list exchanged
 abbrev first_two : {A : Type 0} (a b : A) (rest : List A) → IsPermutation (a ∷ b ∷ rest) (b ∷ a ∷ rest)
@@ -285,9 +285,6 @@ single_where_two_define law =
 -- words of a list with a file that is no object
 nothing_there : {v : ℕ} → (let none : Option ℕ = None in none) ≡ Some v → ⊥
 nothing_there e = cc
-
-abbrev no_object : Contents
-no_object = sized 8 0 0 []
 
 referents_beside_others : ((forced : List (List ℕ)) (os ps : List Contents) (o : Choices) (x y : Outcome) → AreOrders forced os ps o x y → o.keep ≢ Nothing → o.relocatable ≡ false → x.report.multiples ≡ [] →
     (before : List Contents) (k : Contents) (after : List Contents) → os ≡ before ++ k ∷ after → (front back : List Contents) → ps ≡ front ++ k ∷ back →

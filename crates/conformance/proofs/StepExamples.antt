@@ -1,6 +1,6 @@
 -- Commands in steps: their law at a sample, and laws near it that do not hold.
 use Rattle.std.specs.declared.alloc.Global.{Global}
-use Rattle.std.proofs.Common.{◌≡◌, ℕ, ◌<◌, ◌^◌, true, false, List, [], ◌∷◌, ◌++◌, length, Option, Some, None, Ok, refl, sym, ◌∙◌, arith}
+use Rattle.std.proofs.Common.{◌≡◌, ℕ, ◌<◌, ◌^◌, true, false, List, [], ◌∷◌, ◌++◌, length, Option, Some, None, Ok, refl, sym, ◌∙◌, ap, arith}
 use Rattle.std.proofs.lemmas.Slice.Eq.{bytes_eq-Decides}
 use Rattle.std.specs.List.{AllByRecursion}
 use Rattle.std.specs.Prelude.{IfSome, String, Vec, bytes_eq, codes, cond, string_bytes, sum_by}
@@ -12,7 +12,10 @@ use Rattle.aout_core.specs.Front.{front}
 use Rattle.aout_core.specs.Names.{IsName}
 use Rattle.aout_core.specs.Spelling.{spelling}
 use Rattle.link_session.specs.Labelled.{Labelled}
+use Rattle.link_session.specs.Mentions.{mentions, is_among}
+use Rattle.link_session.specs.States.{multiple_names}
 use Rattle.link_out.specs.declared.linked.Linked.{Linked}
+use Rattle.link_out.specs.declared.options.Keep.TheVariants.{Externals}
 use Rattle.link_out.specs.Choices.{Choices}
 use Rattle.link_out.specs.Outcomes.{outcome_of as result_of}
 use Rattle.link_out.specs.function.Link.{link}
@@ -27,34 +30,39 @@ use Rattle.v7tools.specs.LinkAnswers.{TakesAll}
 use Rattle.v7tools.specs.LinkRuns.{inputs_opened}
 use Rattle.command_laws.specs.Disks.{Disk, Run, file_after}
 use Rattle.command_laws.specs.StepsByCommands.{AreAt, IsAt, LeaveTheSame, Links, LinkStepsLaw, ReportTheSame}
-use Rattle.conformance.specs.Samples.{_f, b_o, d_o, d2_o, e_o, x4_o, plain, relocatable, relocatable_d}
-use Rattle.conformance.proofs.LawExamples.{outcome_of}
+use Rattle.conformance.specs.Samples.{_f, _g, b_o, d_o, d2_o, e_o, x4_o, plain, relocatable, relocatable_d, with_keep}
+use Rattle.conformance.proofs.LawExamples.{below, outcome_of}
 use Rattle.conformance.proofs.NeededPremises.{counts}
+use Rattle.conformance.proofs.ListingExamples.{local_o}
 use Rattle.conformance.proofs.StepRuns.{as_written, contents, links, run_of, sound_file, vector}
 
 -- ---- the law of steps, by its premises
 
--- what the law gives where these premises hold: of the two commands, of the options of the first, and of the names
-abbrev StepsGive : (Run (List ℕ) (List ℕ) → Run (List ℕ) (List ℕ) → List ℕ → Type 0) → (Choices → Type 0) → (List (List ℕ) → List Contents → List Contents → List Contents → Type 0) → Type 0
-StepsGive Between IsPartial AreSingle = (first second whole : Run (List ℕ) (List ℕ)) (own forced : List (List ℕ)) (by o : Choices) (m p q : List ℕ) (before parts after : List (List ℕ)) (bs os cs : List Contents) →
+-- what the law gives where these premises hold: of the two commands, of their options, and of the names
+abbrev StepsGive : (Run (List ℕ) (List ℕ) → Run (List ℕ) (List ℕ) → List ℕ → Type 0) → (Choices → Choices → Type 0) →
+    (List (List ℕ) → List (List ℕ) → List Contents → List Contents → List Contents → Type 0) → Type 0
+StepsGive Between AreOptions AreNamed = (first second whole : Run (List ℕ) (List ℕ)) (own forced : List (List ℕ)) (by o : Choices) (m p q : List ℕ) (before parts after : List (List ℕ)) (bs os cs : List Contents) →
     Links contents contents own by m parts first → Links contents contents forced o p (before ++ m ∷ after) second → Links contents contents forced o q (before ++ (parts ++ after)) whole →
     AreAt first.disk parts os → AreAt second.disk before bs → AreAt second.disk after cs → AreAt whole.disk (before ++ (parts ++ after)) (bs ++ (os ++ cs)) →
-    Between first second m → AllByRecursion IsSound os → AllByRecursion IsName own → IsPartial by → KeepsNoMore o.keep by.keep → IsPart own forced → AreSingle forced bs os cs →
+    Between first second m → AllByRecursion IsSound os → AllByRecursion IsName own → AreOptions by o → AreNamed own forced bs os cs →
     LeaveTheSame second p whole q × ReportTheSame contents second whole
 
-abbrev IsIntact : Run (List ℕ) (List ℕ) → Run (List ℕ) (List ℕ) → List ℕ → Type 0
+abbrev pub IsIntact : Run (List ℕ) (List ℕ) → Run (List ℕ) (List ℕ) → List ℕ → Type 0
 IsIntact first second m = second.disk m ≡ file_after first m
 
-abbrev LaysNoCommons : Choices → Type 0
-LaysNoCommons by = (by.relocatable ≡ true) × (by.force_commons ≡ false)
+abbrev IsPartial : Choices → Choices → Type 0
+IsPartial by o = (by.relocatable ≡ true) × (by.force_commons ≡ false) × KeepsNoMore o.keep by.keep
 
-law_of_steps : LinkStepsLaw contents contents → StepsGive IsIntact LaysNoCommons DefinesNoMultiple
-law_of_steps law first second whole own forced by o m p q before parts after bs os cs first_links second_links whole_links parts_at before_at after_at all_at intact sound names partial less part single =
-    law first second whole own forced by o m p q before parts after bs os cs first_links second_links whole_links parts_at before_at after_at all_at intact sound names partial.0 partial.1 less part single
+abbrev NamesAgree : List (List ℕ) → List (List ℕ) → List Contents → List Contents → List Contents → Type 0
+NamesAgree own forced bs os cs = IsPart own forced × DefinesNoMultiple forced bs os cs
+
+law_of_steps : LinkStepsLaw contents contents → StepsGive IsIntact IsPartial NamesAgree
+law_of_steps law first second whole own forced by o m p q before parts after bs os cs first_links second_links whole_links parts_at before_at after_at all_at intact sound names fit named =
+    law first second whole own forced by o m p q before parts after bs os cs first_links second_links whole_links parts_at before_at after_at all_at intact sound names fit.0 fit.1 fit.2 named.0 named.1
 
 -- ---- files, words and runs
 
-abbrev a : List ℕ
+abbrev pub a : List ℕ
 a = codes "a"
 
 abbrev b : List ℕ
@@ -63,13 +71,13 @@ b = codes "b"
 abbrev m : List ℕ
 m = codes "m"
 
-abbrev p : List ℕ
+abbrev pub p : List ℕ
 p = codes "p"
 
-abbrev q : List ℕ
+abbrev pub q : List ℕ
 q = codes "q"
 
-abbrev a_path : String Global
+abbrev pub a_path : String Global
 a_path = record { bytes = vector a (omega arith); ok = ∣ (a, (refl, as_written 97 (omega arith))) ∣₁ }
 
 abbrev b_path : String Global
@@ -78,16 +86,16 @@ b_path = record { bytes = vector b (omega arith); ok = ∣ (b, (refl, as_written
 abbrev m_path : String Global
 m_path = record { bytes = vector m (omega arith); ok = ∣ (m, (refl, as_written 109 (omega arith))) ∣₁ }
 
-abbrev p_path : String Global
+abbrev pub p_path : String Global
 p_path = record { bytes = vector p (omega arith); ok = ∣ (p, (refl, as_written 112 (omega arith))) ∣₁ }
 
-abbrev q_path : String Global
+abbrev pub q_path : String Global
 q_path = record { bytes = vector q (omega arith); ok = ∣ (q, (refl, as_written 113 (omega arith))) ∣₁ }
 
-abbrev one : String Global → Vec (String Global) Global
+abbrev pub one : String Global → Vec (String Global) Global
 one path = vector (path ∷ []) (omega arith)
 
-abbrev rows_read : List (List ℕ) → List Row
+abbrev pub rows_read : List (List ℕ) → List Row
 rows_read words = by_found (subcommand_of v7_app words)
   where
     by_found : Option (List ℕ × List Row) → List Row
@@ -107,7 +115,7 @@ last_words = codes "ld" ∷ codes "-o" ∷ p ∷ m ∷ []
 abbrev last_r_words : List (List ℕ)
 last_r_words = codes "ld" ∷ codes "-r" ∷ codes "-o" ∷ p ∷ m ∷ []
 
-abbrev whole_words : List (List ℕ)
+abbrev pub whole_words : List (List ℕ)
 whole_words = codes "ld" ∷ codes "-o" ∷ q ∷ a ∷ []
 
 abbrev whole_r_words : List (List ℕ)
@@ -129,7 +137,7 @@ last_r_asks : AsksFor last_r_words (Ld relocatable [] p_path (one m_path))
 unfolding clap_on_literals
 last_r_asks = record { whole = (omega arith, refl, (omega arith, refl)); asked = (refl, rows_read last_r_words, refl, (refl, refl, refl, refl)); dashes = refl }
 
-whole_asks : AsksFor whole_words (Ld plain [] q_path (one a_path))
+pub whole_asks : AsksFor whole_words (Ld plain [] q_path (one a_path))
 unfolding clap_on_literals
 whole_asks = record { whole = (omega arith, refl, (omega arith, refl)); asked = (refl, rows_read whole_words, refl, (refl, refl, refl, refl)); dashes = refl }
 
@@ -149,15 +157,15 @@ made_of os o ns small = record {
 }
 
 -- the file of the link of one object
-abbrev link_file : Contents → Choices → Contents
+abbrev pub link_file : Contents → Choices → Contents
 link_file file o = (outcome_of (link [] (file ∷ []) o)).file
 
 -- a disk with one file
-abbrev one_file : List ℕ → Contents → Disk
+abbrev pub one_file : List ℕ → Contents → Disk
 one_file path file at = cond (bytes_eq at path) (Some (spelling file)) None
 
 -- a run of the words that link one file, of which nothing is reported
-abbrev run_on : List (List ℕ) → List ℕ → Contents → String Global → Choices → Run (List ℕ) (List ℕ)
+abbrev pub run_on : List (List ℕ) → List ℕ → Contents → String Global → Choices → Run (List ℕ) (List ℕ)
 run_on words path file out o = run_of words (one_file path file) ((path, Some (spelling file)) ∷ []) out (made_of (file ∷ []) o [] (omega arith))
 
 module _ (path : String Global) (file : Contents) (out : String Global) (o : Choices) where
@@ -167,7 +175,7 @@ module _ (path : String Global) (file : Contents) (out : String Global) (o : Cho
   abbrev made : Linked
   made = made_of (file ∷ []) o [] (omega arith)
 
-  run_links : (words : List (List ℕ)) → AsksFor words (Ld o [] out (one path)) → Ok file ≡ object_in (front (spelling file)) → kept_with [] [] name (Ok file) ≡ Ok (entry name file ∷ []) → link [] (file ∷ []) o ≡ Ok (result_of made) →
+  pub run_links : (words : List (List ℕ)) → AsksFor words (Ld o [] out (one path)) → Ok file ≡ object_in (front (spelling file)) → kept_with [] [] name (Ok file) ≡ Ok (entry name file ∷ []) → link [] (file ∷ []) o ≡ Ok (result_of made) →
       linked [] ((name, spelling file) ∷ []) o ≡ Ok (result_of made) → Links contents contents [] o (string_bytes out) (name ∷ []) (run_on words name file out o)
   run_links words asks found accepts is by_bytes =
       links words (one_file name file) ((name, Some (spelling file)) ∷ []) out made [] o (one path) asks (entry name file ∷ []) refl
@@ -176,16 +184,22 @@ module _ (path : String Global) (file : Contents) (out : String Global) (o : Cho
       there : IfSome (one_file name file name) (λ known. Some (spelling file) ≡ Some known)
       there = let same : bytes_eq name name ≡ true = (bytes_eq-Decides name name).1 refl in rw same refl
 
-file_there : (path : List ℕ) (file : Contents) → front (spelling file) ≡ Ok file → one_file path file path ≡ Some (spelling file) → IsAt (one_file path file) path file
+pub file_there : (path : List ℕ) (file : Contents) → front (spelling file) ≡ Ok file → one_file path file path ≡ Some (spelling file) → IsAt (one_file path file) path file
 file_there path file read known = record { bytes = spelling file; known = known; read = read }
 
 -- the sum of what is known to be in a file
-abbrev bytes_in : Option (List ℕ) → ℕ
+abbrev pub bytes_in : Option (List ℕ) → ℕ
 bytes_in None = 0
 bytes_in (Some bytes) = sum_by (λ (byte : ℕ). byte) bytes
 
+g_name : IsName _g
+g_name = record { short = omega arith; no_nul = refl; bytes = below _g refl }
+
 b_sound : AllByRecursion IsSound (b_o ∷ [])
 b_sound = (sound_file b_o refl refl, tt)
+
+none_multiple : (os : List Contents) → multiple_names (mentions [] (os ++ [])) ≡ [] → DefinesNoMultiple [] [] os []
+none_multiple os none name h = let bad : false ≡ true = sym (ap (λ names. is_among names name) none) ∙ h in absurd (cc)
 
 -- ---- laws near that of steps
 
@@ -208,10 +222,10 @@ other_run = run_on last_words m e_o p_path plain
 other_links : Links contents contents [] plain p (m ∷ []) other_run
 other_links = run_links m_path e_o p_path plain last_words last_asks refl refl refl refl
 
-stored_between : StepsGive (λ first second m. Unit {0}) LaysNoCommons DefinesNoMultiple → ⊥
+stored_between : StepsGive (λ first second m. Unit {0}) IsPartial NamesAgree → ⊥
 stored_between law =
     let ends = law first_run other_run whole_run [] [] relocatable plain m p q [] (a ∷ []) [] [] (b_o ∷ []) [] first_links other_links whole_links
-    (file_there a b_o refl refl, tt) tt tt (file_there a b_o refl refl, tt) tt b_sound tt (refl, refl) (λ name h. h) (λ name h. h) (λ name h. absurd (let bad : false ≡ true = h in cc)) in
+    (file_there a b_o refl refl, tt) tt tt (file_there a b_o refl refl, tt) tt b_sound tt (refl, refl, λ name h. h) ((λ name h. h), none_multiple (b_o ∷ []) refl) in
     counts (λ (it : Option (List ℕ)). bytes_in it) (file_after other_run p) (file_after whole_run q) refl (ends.0.one ∙ sym ends.0.two)
 
 -- commons that the first command lays out: a link that keeps relocation leaves those of the objects as they are
@@ -233,10 +247,10 @@ common_run = run_on whole_r_words a x4_o q_path relocatable
 common_links : Links contents contents [] relocatable q (a ∷ []) common_run
 common_links = run_links a_path x4_o q_path relocatable whole_r_words whole_r_asks refl refl refl refl
 
-commons_laid_before : StepsGive IsIntact (λ by. by.relocatable ≡ true) DefinesNoMultiple → ⊥
+commons_laid_before : StepsGive IsIntact (λ by o. (by.relocatable ≡ true) × KeepsNoMore o.keep by.keep) NamesAgree → ⊥
 commons_laid_before law =
     let ends = law laying_run last_run common_run [] [] relocatable_d relocatable m p q [] (a ∷ []) [] [] (x4_o ∷ []) [] laying_links last_links common_links
-    (file_there a x4_o refl refl, tt) tt tt (file_there a x4_o refl refl, tt) refl (sound_file x4_o refl refl, tt) tt refl (λ name h. h) (λ name h. h) (λ name h. absurd (let bad : false ≡ true = h in cc)) in
+    (file_there a x4_o refl refl, tt) tt tt (file_there a x4_o refl refl, tt) refl (sound_file x4_o refl refl, tt) tt (refl, λ name h. h) ((λ name h. h), none_multiple (x4_o ∷ []) refl) in
     counts (λ (it : Option (List ℕ)). bytes_in it) (file_after last_run p) (file_after common_run q) refl (ends.0.one ∙ sym ends.0.two)
 
 -- a name that two of the objects define: it is reported by the first command, and not by the second
@@ -297,12 +311,81 @@ last_two_links = run_links m_path (made_two relocatable).file p_path plain last_
 are_two : AreAt two_files (a ∷ b ∷ []) both
 are_two = (record { bytes = spelling d_o; known = refl; read = refl }, (record { bytes = spelling d2_o; known = refl; read = refl }, tt))
 
-names_defined_twice : StepsGive IsIntact LaysNoCommons (λ forced bs os cs. Unit {0}) → ⊥
+names_defined_twice : StepsGive IsIntact IsPartial (λ own forced bs os cs. IsPart own forced) → ⊥
 names_defined_twice law =
     let ends = law (run_two two_words m_path relocatable) last_two_run (run_two whole_two_words q_path plain) [] [] relocatable plain m p q [] (a ∷ b ∷ []) [] [] both [] two_links last_two_links whole_two_links
-    are_two tt tt are_two refl (sound_file d_o refl refl, (sound_file d2_o refl refl, tt)) tt (refl, refl) (λ name h. h) (λ name h. h) tt in
+    are_two tt tt are_two refl (sound_file d_o refl refl, (sound_file d2_o refl refl, tt)) tt (refl, refl, λ name h. h) (λ name h. h) in
     let bad : 0 ≡ 1 = ends.1.status in
     counts (λ (n : ℕ). n) 0 1 refl bad
+
+-- a local that the first command drops
+abbrev dropping_words : List (List ℕ)
+dropping_words = codes "ld" ∷ codes "-r" ∷ codes "-x" ∷ codes "-o" ∷ m ∷ a ∷ []
+
+dropping_asks : AsksFor dropping_words (Ld (with_keep Externals relocatable) [] m_path (one a_path))
+unfolding clap_on_literals
+dropping_asks = record { whole = (omega arith, refl, (omega arith, refl)); asked = (refl, rows_read dropping_words, refl, (refl, refl, refl, refl)); dashes = refl }
+
+abbrev dropping_run : Run (List ℕ) (List ℕ)
+dropping_run = run_on dropping_words a local_o m_path (with_keep Externals relocatable)
+
+dropping_links : Links contents contents [] (with_keep Externals relocatable) m (a ∷ []) dropping_run
+dropping_links = run_links a_path local_o m_path (with_keep Externals relocatable) dropping_words dropping_asks refl refl refl refl
+
+abbrev without_local : Run (List ℕ) (List ℕ)
+without_local = run_on last_words m (link_file local_o (with_keep Externals relocatable)) p_path plain
+
+without_local_links : Links contents contents [] plain p (m ∷ []) without_local
+without_local_links = run_links m_path (link_file local_o (with_keep Externals relocatable)) p_path plain last_words last_asks refl refl refl refl
+
+abbrev with_local : Run (List ℕ) (List ℕ)
+with_local = run_on whole_words a local_o q_path plain
+
+with_local_links : Links contents contents [] plain q (a ∷ []) with_local
+with_local_links = run_links a_path local_o q_path plain whole_words whole_asks refl refl refl refl
+
+locals_dropped_before : StepsGive IsIntact (λ by o. (by.relocatable ≡ true) × (by.force_commons ≡ false)) NamesAgree → ⊥
+locals_dropped_before law =
+    let ends = law dropping_run without_local with_local [] [] (with_keep Externals relocatable) plain m p q [] (a ∷ []) [] [] (local_o ∷ []) [] dropping_links without_local_links with_local_links
+    (file_there a local_o refl refl, tt) tt tt (file_there a local_o refl refl, tt) refl (sound_file local_o refl refl, tt) tt (refl, refl) ((λ name h. h), none_multiple (local_o ∷ []) refl) in
+    counts (λ (it : Option (List ℕ)). bytes_in it) (file_after without_local p) (file_after with_local q) refl (ends.0.one ∙ sym ends.0.two)
+
+-- a name that is forced in the first command alone: it stays in the table
+abbrev forcing_words : List (List ℕ)
+forcing_words = codes "ld" ∷ codes "-r" ∷ codes "-u" ∷ _g ∷ codes "-o" ∷ m ∷ a ∷ []
+
+forcing_asks : AsksFor forcing_words (Ld relocatable (_g ∷ []) m_path (one a_path))
+unfolding clap_on_literals
+forcing_asks = record { whole = (omega arith, refl, (omega arith, refl)); asked = (refl, rows_read forcing_words, refl, (refl, refl, refl, refl)); dashes = refl }
+
+abbrev forced_made : Linked
+forced_made = record (made_of (b_o ∷ []) relocatable [] (omega arith)) { file = (outcome_of (link (_g ∷ []) (b_o ∷ []) relocatable)).file }
+
+abbrev forcing_run : Run (List ℕ) (List ℕ)
+forcing_run = run_of forcing_words (one_file a b_o) ((a, Some (spelling b_o)) ∷ []) m_path forced_made
+
+forcing_links : Links contents contents (_g ∷ []) relocatable m (a ∷ []) forcing_run
+forcing_links =
+    links forcing_words (one_file a b_o) ((a, Some (spelling b_o)) ∷ []) m_path forced_made (_g ∷ []) relocatable (one a_path) forcing_asks (entry a b_o ∷ []) refl
+    (entry a b_o ∷ [], record { works = refl; object = b_o; is_found = refl; accepts = refl }, refl) refl refl (refl, tt)
+
+abbrev with_name : Run (List ℕ) (List ℕ)
+with_name = run_on last_r_words m forced_made.file p_path relocatable
+
+with_name_links : Links contents contents [] relocatable p (m ∷ []) with_name
+with_name_links = run_links m_path forced_made.file p_path relocatable last_r_words last_r_asks refl refl refl refl
+
+abbrev without_name : Run (List ℕ) (List ℕ)
+without_name = run_on whole_r_words a b_o q_path relocatable
+
+without_name_links : Links contents contents [] relocatable q (a ∷ []) without_name
+without_name_links = run_links a_path b_o q_path relocatable whole_r_words whole_r_asks refl refl refl refl
+
+names_forced_before : StepsGive IsIntact IsPartial (λ own forced bs os cs. DefinesNoMultiple forced bs os cs) → ⊥
+names_forced_before law =
+    let ends = law forcing_run with_name without_name (_g ∷ []) [] relocatable relocatable m p q [] (a ∷ []) [] [] (b_o ∷ []) [] forcing_links with_name_links without_name_links
+    (file_there a b_o refl refl, tt) tt tt (file_there a b_o refl refl, tt) refl b_sound (g_name, tt) (refl, refl, λ name h. h) (none_multiple (b_o ∷ []) refl) in
+    counts (λ (it : Option (List ℕ)). bytes_in it) (file_after with_name p) (file_after without_name q) refl (ends.0.one ∙ sym ends.0.two)
 
 -- ---- the law at a sample
 
@@ -311,4 +394,4 @@ one_in_steps : LinkStepsLaw contents contents → LeaveTheSame (run_on last_word
 one_in_steps law =
     (law first_run (run_on last_words m (link_file b_o relocatable) p_path plain) whole_run [] [] relocatable plain m p q [] (a ∷ []) [] [] (b_o ∷ []) [] first_links
     (run_links m_path (link_file b_o relocatable) p_path plain last_words last_asks refl refl refl refl) whole_links
-    (file_there a b_o refl refl, tt) tt tt (file_there a b_o refl refl, tt) refl b_sound tt refl refl (λ name h. h) (λ name h. h) (λ name h. absurd (let bad : false ≡ true = h in cc))).0
+    (file_there a b_o refl refl, tt) tt tt (file_there a b_o refl refl, tt) refl b_sound tt refl refl (λ name h. h) (λ name h. h) (none_multiple (b_o ∷ []) refl)).0
