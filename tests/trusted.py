@@ -2,9 +2,9 @@
 """Lists the files that a reader has to trust, and fails where a promise leads to another.
 
 A promise is the contract of a public function, or what contracts see of a public type. From the definitions that it cites
-this follows the imports. Each file that they lead to has to stand in specs/ of its crate, not in a folder of STEPS there,
+this follows the imports. Each file that they lead to has to stand in specs/ of its crate, not in a folder of INTERNAL there,
 and with its lines in the table "What a reader has to trust" of docs/PROOFS.md, which has no other. Nothing in src/ or
-specs/ of a crate may import the steps of another.
+specs/ of a crate may import the internals of another.
 
 The lines that are counted are those of definitions: imports, comments and empty lines are left out.
 """
@@ -14,7 +14,7 @@ import re
 import sys
 
 # folders of what loops and private functions do
-STEPS = ["steps"]
+INTERNAL = ["internal"]
 
 # definitions name no constants of the code, but for the ids by which `command_words` knows its options
 IDS = ["command_words"]
@@ -114,7 +114,7 @@ def trusted():
             if module.endswith("TheConstants") and "/specs/" in why and crate not in IDS:
                 faults.append(f"{why}, a constant of the code")
             continue
-        if folder == "proofs" or module.split(".")[0] in STEPS:
+        if folder == "proofs" or module.split(".")[0] in INTERNAL:
             faults.append(f"{why}, of {crate}/{folder}/{module.replace('.', '/')}")
             continue
         path = f"crates/{crate}/specs/{module.replace('.', '/')}.antt"
@@ -126,12 +126,12 @@ def trusted():
     return reached
 
 
-def other_steps():
-    """Imports of the steps of another crate."""
+def other_internals():
+    """Imports of the internals of another crate."""
     for path in glob.glob("crates/*/src/**/*.rt", recursive=True) + glob.glob("crates/*/specs/**/*.antt", recursive=True):
         for name, (crate, folder, module) in imports(read(path)):
-            if module.split(".")[0] in STEPS and path.split("/")[1] != crate:
-                faults.append(f"{path} imports {name}, of the steps of {crate}")
+            if module.split(".")[0] in INTERNAL and path.split("/")[1] != crate:
+                faults.append(f"{path} imports {name}, of the internals of {crate}")
 
 
 def count(path):
@@ -140,10 +140,10 @@ def count(path):
 
 
 def placed(crate, name):
-    """The file of definitions of this name, in specs/ or in a folder of it that has no steps."""
+    """The file of definitions of this name, in specs/ or in a folder of it that is not internal."""
     paths = [
         path for path in glob.glob(f"crates/{crate}/specs/**/{name}.antt", recursive=True)
-        if path.split("/")[3] not in STEPS
+        if path.split("/")[3] not in INTERNAL
     ]
     if len(paths) != 1:
         faults.append(f"crates/{crate}/specs has {len(paths)} files {name}.antt")
@@ -162,7 +162,7 @@ def listed():
 
 def main():
     reached = trusted()
-    other_steps()
+    other_internals()
     total = 0
     for crate in LIBRARIES:
         files = sorted(path for path in reached if path.startswith(f"crates/{crate}/"))

@@ -7,12 +7,12 @@ use Rattle.aout_core.specs.declared.header.Header.{Header}
 use Rattle.aout_core.specs.declared.reloc.Reloc.{Reloc}
 use Rattle.aout_core.specs.Words.{words_in}
 use Rattle.aout_core.specs.Contents.{Contents, has_whole_sizes, with_relocation}
-use Rattle.aout_core.specs.Spelling.{relocation_at, symbols_at, file_length}
-use Rattle.aout_core.specs.Front.{part, relocs_in, symbol_in, symbols_in, contents_in}
-use Rattle.aout_core.specs.steps.Rows.{row_in, word_in, reloc_in}
-use Rattle.aout_core.proofs.SpellingLemmas.{with_relocation-add}
-use Rattle.aout_core.proofs.FrontLemmas.{with_relocation-even}
-use Rattle.aout_core.proofs.SpellsLemmas.{symbols_front}
+use Rattle.aout_core.specs.Encoding.{relocation_at, symbols_at, file_length}
+use Rattle.aout_core.specs.Decoding.{part, relocs_in, symbol_in, symbols_in, contents_in}
+use Rattle.aout_core.specs.internal.Rows.{row_in, word_in, reloc_in}
+use Rattle.aout_core.proofs.EncodingLemmas.{with_relocation-add}
+use Rattle.aout_core.proofs.DecodingLemmas.{with_relocation-even}
+use Rattle.aout_core.proofs.EncodesLemmas.{symbols_front}
 
 -- a part of the whole is a part of the bytes behind the header
 behind : (start body rest : List ℕ) (from : ℕ) → length start ≡ 16 → from ≤ length body → drop (16 + from) (start ++ (body ++ rest)) ≡ drop from body ++ rest
@@ -147,7 +147,7 @@ length-all_rows : (text words first second table : List ℕ) → length (all_row
 length-all_rows text words first second table =
     omega (arith, length-append text (words ++ (first ++ (second ++ table))), length-append words (first ++ (second ++ table)), length-append first (second ++ table), length-append second table)
 
--- a file whose lists were read so is the one that the bytes spell behind their header
+-- a file whose lists were read so is the one that the bytes encode behind their header
 pub rows_are_body : (h : Header) (text words first second table : List ℕ) (c : Contents) → IsTrue (has_whole_sizes h) → AreRows h text words first second table c →
     (16 + length (all_rows text words first second table) ≡ file_length h) × ((start rest : List ℕ) → length start ≡ 16 → c ≡ contents_in h (start ++ (all_rows text words first second table ++ rest)))
 rows_are_body h text words first second table c sizes rows =

@@ -3,9 +3,9 @@ use Rattle.std.proofs.Common.{◌≡◌, ℕ, List, ◌++◌, Option, sym, ◌�
 use Rattle.std.specs.List.{flat_map}
 use Rattle.aout_core.specs.Words.{all_word_bytes}
 use Rattle.aout_core.specs.Contents.{Contents}
-use Rattle.aout_core.specs.Spelling.{header_spelling, reloc_spelling, symbol_spelling, spelling}
+use Rattle.aout_core.specs.Encoding.{header_encoding, reloc_encoding, symbol_encoding, encoding}
 use Rattle.aout_core.specs.Wires.{AppendsPrefix}
-use Rattle.aout_core.specs.steps.Blocks.{AppendsBut}
+use Rattle.aout_core.specs.internal.Blocks.{AppendsBut}
 use Rattle.aout_core.proofs.OutgoingLemmas.{appends_but_more, broke_before, broke_more}
 
 -- text and data, and their relocation
@@ -13,52 +13,52 @@ abbrev pub segments : Contents → List ℕ
 segments c = all_word_bytes c.text_words ++ all_word_bytes c.data_words
 
 abbrev pub relocation : Contents → List ℕ
-relocation c = reloc_spelling c.text_reloc ++ reloc_spelling c.data_reloc
+relocation c = reloc_encoding c.text_reloc ++ reloc_encoding c.data_reloc
 
 abbrev table : Contents → List ℕ
-table c = flat_map symbol_spelling c.symbols
+table c = flat_map symbol_encoding c.symbols
 
 -- the file up to its relocation, and up to its symbols
 abbrev to_relocation : Contents → List ℕ
-to_relocation c = header_spelling c.header ++ segments c
+to_relocation c = header_encoding c.header ++ segments c
 
 abbrev to_table : Contents → List ℕ
 to_table c = to_relocation c ++ relocation c
 
-in_two : (c : Contents) → spelling c ≡ to_relocation c ++ (relocation c ++ table c)
+in_two : (c : Contents) → encoding c ≡ to_relocation c ++ (relocation c ++ table c)
 in_two c =
     let text = all_word_bytes c.text_words in
     let data_words = all_word_bytes c.data_words in
-    let first = reloc_spelling c.text_reloc in
-    let second = reloc_spelling c.data_reloc in
-    ap (λ l. header_spelling c.header ++ (text ++ (data_words ++ l))) (sym (append_assoc first second (table c)))
-    ∙ ap (λ l. header_spelling c.header ++ l) (sym (append_assoc text data_words (relocation c ++ table c)))
-    ∙ sym (append_assoc (header_spelling c.header) (segments c) (relocation c ++ table c))
+    let first = reloc_encoding c.text_reloc in
+    let second = reloc_encoding c.data_reloc in
+    ap (λ l. header_encoding c.header ++ (text ++ (data_words ++ l))) (sym (append_assoc first second (table c)))
+    ∙ ap (λ l. header_encoding c.header ++ l) (sym (append_assoc text data_words (relocation c ++ table c)))
+    ∙ sym (append_assoc (header_encoding c.header) (segments c) (relocation c ++ table c))
 
-at_table : (c : Contents) → spelling c ≡ to_table c ++ table c
+at_table : (c : Contents) → encoding c ≡ to_table c ++ table c
 at_table c = in_two c ∙ sym (append_assoc (to_relocation c) (relocation c) (table c))
 
-pub broke_in_header : (c : Contents) (a b : Option (List ℕ)) → AppendsPrefix a b (header_spelling c.header) → AppendsPrefix a b (spelling c)
+pub broke_in_header : (c : Contents) (a b : Option (List ℕ)) → AppendsPrefix a b (header_encoding c.header) → AppendsPrefix a b (encoding c)
 broke_in_header c a b broke =
-    broke_before a b (spelling c) (header_spelling c.header) (segments c ++ (relocation c ++ table c)) (in_two c ∙ append_assoc (header_spelling c.header) (segments c) (relocation c ++ table c)) broke
+    broke_before a b (encoding c) (header_encoding c.header) (segments c ++ (relocation c ++ table c)) (in_two c ∙ append_assoc (header_encoding c.header) (segments c) (relocation c ++ table c)) broke
 
-pub broke_in_segments : (c : Contents) (a b d : Option (List ℕ)) (waiting : List ℕ) → AppendsBut a b waiting (header_spelling c.header) → AppendsPrefix b d (waiting ++ segments c) → AppendsPrefix a d (spelling c)
+pub broke_in_segments : (c : Contents) (a b d : Option (List ℕ)) (waiting : List ℕ) → AppendsBut a b waiting (header_encoding c.header) → AppendsPrefix b d (waiting ++ segments c) → AppendsPrefix a d (encoding c)
 broke_in_segments c a b d waiting sent broke =
-    broke_before a d (spelling c) (to_relocation c) (relocation c ++ table c) (in_two c) (broke_more a b d waiting (header_spelling c.header) (segments c) sent broke)
+    broke_before a d (encoding c) (to_relocation c) (relocation c ++ table c) (in_two c) (broke_more a b d waiting (header_encoding c.header) (segments c) sent broke)
 
 -- the header, text and data went out but for what waits
-pub sent_segments : (c : Contents) (a b d : Option (List ℕ)) (waiting left : List ℕ) → AppendsBut a b waiting (header_spelling c.header) → AppendsBut b d left (waiting ++ segments c) → AppendsBut a d left (to_relocation c)
-sent_segments c a b d waiting left first second = appends_but_more a b d waiting left (header_spelling c.header) (segments c) first second
+pub sent_segments : (c : Contents) (a b d : Option (List ℕ)) (waiting left : List ℕ) → AppendsBut a b waiting (header_encoding c.header) → AppendsBut b d left (waiting ++ segments c) → AppendsBut a d left (to_relocation c)
+sent_segments c a b d waiting left first second = appends_but_more a b d waiting left (header_encoding c.header) (segments c) first second
 
-pub broke_in_relocation : (c : Contents) (a b d : Option (List ℕ)) (waiting : List ℕ) → AppendsBut a b waiting (to_relocation c) → AppendsPrefix b d (waiting ++ relocation c) → AppendsPrefix a d (spelling c)
-broke_in_relocation c a b d waiting sent broke = broke_before a d (spelling c) (to_table c) (table c) (at_table c) (broke_more a b d waiting (to_relocation c) (relocation c) sent broke)
+pub broke_in_relocation : (c : Contents) (a b d : Option (List ℕ)) (waiting : List ℕ) → AppendsBut a b waiting (to_relocation c) → AppendsPrefix b d (waiting ++ relocation c) → AppendsPrefix a d (encoding c)
+broke_in_relocation c a b d waiting sent broke = broke_before a d (encoding c) (to_table c) (table c) (at_table c) (broke_more a b d waiting (to_relocation c) (relocation c) sent broke)
 
 pub sent_relocation : (c : Contents) (a b d : Option (List ℕ)) (waiting left : List ℕ) → AppendsBut a b waiting (to_relocation c) → AppendsBut b d left (waiting ++ relocation c) → AppendsBut a d left (to_table c)
 sent_relocation c a b d waiting left first second = appends_but_more a b d waiting left (to_relocation c) (relocation c) first second
 
-pub broke_in_table : (c : Contents) (a b d : Option (List ℕ)) (waiting : List ℕ) → AppendsBut a b waiting (to_table c) → AppendsPrefix b d (waiting ++ table c) → AppendsPrefix a d (spelling c)
+pub broke_in_table : (c : Contents) (a b d : Option (List ℕ)) (waiting : List ℕ) → AppendsBut a b waiting (to_table c) → AppendsPrefix b d (waiting ++ table c) → AppendsPrefix a d (encoding c)
 broke_in_table c a b d waiting sent broke = subst (AppendsPrefix a d) (sym (at_table c)) (broke_more a b d waiting (to_table c) (table c) sent broke)
 
 -- all went out but for what waits
-pub sent_symbols : (c : Contents) (a b d : Option (List ℕ)) (waiting left : List ℕ) → AppendsBut a b waiting (to_table c) → AppendsBut b d left (waiting ++ table c) → AppendsBut a d left (spelling c)
+pub sent_symbols : (c : Contents) (a b d : Option (List ℕ)) (waiting left : List ℕ) → AppendsBut a b waiting (to_table c) → AppendsBut b d left (waiting ++ table c) → AppendsBut a d left (encoding c)
 sent_symbols c a b d waiting left first second = subst (AppendsBut a d left) (sym (at_table c)) (appends_but_more a b d waiting left (to_table c) (table c) first second)

@@ -7,10 +7,10 @@ use Rattle.aout_core.specs.declared.file.ReadFault.{ReadFault}
 use Rattle.aout_core.specs.declared.file.ReadFault.TheVariants.{ShortHeader, BadMagic, OddSize, Memory, Truncated, Device}
 use Rattle.std.specs.Prelude.{Err}
 use Rattle.aout_core.specs.declared.header.Header.{Header}
-use Rattle.aout_core.specs.Spelling.{file_length}
-use Rattle.aout_core.specs.steps.ReadParts.{EndsEarly, IsBodyRead}
-use Rattle.aout_core.specs.steps.Blocks.{Awaited, awaited, EndsBefore, Refills, Takes}
-use Rattle.aout_core.specs.steps.Rows.{row_in, TakesItem, TakesRow}
+use Rattle.aout_core.specs.Encoding.{file_length}
+use Rattle.aout_core.specs.internal.ReadParts.{EndsEarly, IsBodyRead}
+use Rattle.aout_core.specs.internal.Blocks.{Awaited, awaited, EndsBefore, Refills, Takes}
+use Rattle.aout_core.specs.internal.Rows.{row_in, TakesItem, TakesRow}
 
 -- bytes taken from those that waited
 pub taken_waiting : (a : Option (List ℕ)) (waiting out rest : List ℕ) → waiting ≡ out ++ rest → Consumes (prepend_known waiting a) (prepend_known rest a) out
@@ -138,8 +138,8 @@ row_taken item_in width count w v u a b d items more all item row one pushed =
       bytes = row.bytes ++ one.bytes;
       size = length-append row.bytes one.bytes ∙ ap (λ n. n + length one.bytes) row.size ∙ ap (λ n. width * count + n) one.size ∙ sym next;
       takes = takes_more w v u a b d row.bytes one.bytes row.takes one.takes;
-      spelt = pushed ∙ ap (λ l. l ++ item ∷ []) row.spelt ∙ append_assoc items (row_in item_in width count row.bytes) (item ∷ [])
-          ∙ ap (λ x. items ++ (row_in item_in width count row.bytes ++ x ∷ [])) one.spelt
+      encoded = pushed ∙ ap (λ l. l ++ item ∷ []) row.encoded ∙ append_assoc items (row_in item_in width count row.bytes) (item ∷ [])
+          ∙ ap (λ x. items ++ (row_in item_in width count row.bytes ++ x ∷ [])) one.encoded
           ∙ ap (λ l. items ++ l) (sym (row_in-more item_in width count row.bytes one.bytes row.size one.size));
     }
   where

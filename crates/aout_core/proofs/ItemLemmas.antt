@@ -7,8 +7,8 @@ use Rattle.std.specs.Io.KnownBytes.{prepend_known}
 use Rattle.std.proofs.KnownBytes.{Consumes-nil}
 use Rattle.std.proofs.Math.Nat.{mul-le-mul_left}
 use Rattle.aout_core.specs.Wires.{AppendsPrefix}
-use Rattle.aout_core.specs.steps.Blocks.{AppendsBut, Awaited, awaited}
-use Rattle.aout_core.specs.steps.Rows.{row_in, TakesRow}
+use Rattle.aout_core.specs.internal.Blocks.{AppendsBut, Awaited, awaited}
+use Rattle.aout_core.specs.internal.Rows.{row_in, TakesRow}
 use Rattle.aout_core.proofs.IncomingLemmas.{taken_waiting, takes_more}
 use Rattle.aout_core.proofs.OutgoingLemmas.{appends_but_more, broke_before, broke_more}
 
@@ -94,7 +94,7 @@ waiting_taken item_in width n w reader items more within read =
         taken = taken_waiting reader w.waiting front back (sym (take-append-drop (width * n) w.waiting));
         left = omega (arith, size, length-drop (width * n) w.waiting);
       };
-      spelt = read ∙ ap (λ l. items ++ l) (row_in-front item_in width n w.waiting within);
+      encoded = read ∙ ap (λ l. items ++ l) (row_in-front item_in width n w.waiting within);
     }
 
 -- a row behind a row
@@ -105,7 +105,7 @@ rows_taken item_in width m n w v u a b d items more all first second =
       bytes = first.bytes ++ second.bytes;
       size = length-append first.bytes second.bytes ∙ ap (λ k. k + length second.bytes) first.size ∙ ap (λ k. width * m + k) second.size ∙ mul-add width m n;
       takes = takes_more w v u a b d first.bytes second.bytes first.takes second.takes;
-      spelt = second.spelt ∙ ap (λ l. l ++ row_in item_in width n second.bytes) first.spelt
+      encoded = second.encoded ∙ ap (λ l. l ++ row_in item_in width n second.bytes) first.encoded
           ∙ append_assoc items (row_in item_in width m first.bytes) (row_in item_in width n second.bytes)
           ∙ ap (λ l. items ++ l) (sym (row_in-append item_in width m n first.bytes second.bytes first.size));
     }
@@ -120,7 +120,7 @@ none_taken item_in width zero w a items none =
       bytes = [];
       size = omega arith;
       takes = record { taken = Consumes-nil (prepend_known w.waiting a); left = omega arith };
-      spelt = sym (append-nil items);
+      encoded = sym (append-nil items);
     }
 none_taken item_in width (suc n) w a items none = absurd (omega arith)
 
@@ -142,33 +142,33 @@ one_missing item_in width m count w u a b items more row fewer within =
     mul-one-more x n = omega arith
 
 -- a part of a list of texts, and what stands behind it
-parts_spelt : {A : Type 0} (spelling : A → List ℕ) (rest few behind : List A) (done all : List ℕ) → rest ≡ few ++ behind → all ≡ done ++ flat_map spelling rest →
-    all ≡ (done ++ flat_map spelling few) ++ flat_map spelling behind
-parts_spelt spelling rest few behind done all split so_far =
-    so_far ∙ ap (λ l. done ++ flat_map spelling l) split ∙ ap (λ l. done ++ l) (flat_map-append spelling few behind) ∙ sym (append_assoc done (flat_map spelling few) (flat_map spelling behind))
+parts_encoded : {A : Type 0} (encoding : A → List ℕ) (rest few behind : List A) (done all : List ℕ) → rest ≡ few ++ behind → all ≡ done ++ flat_map encoding rest →
+    all ≡ (done ++ flat_map encoding few) ++ flat_map encoding behind
+parts_encoded encoding rest few behind done all split so_far =
+    so_far ∙ ap (λ l. done ++ flat_map encoding l) split ∙ ap (λ l. done ++ l) (flat_map-append encoding few behind) ∙ sym (append_assoc done (flat_map encoding few) (flat_map encoding behind))
 
 -- what went out but for what waits, and what is still to be put
-pub record IsPutBut {A : Type 0} (spelling : A → List ℕ) (old new : Option (List ℕ)) (waiting all : List ℕ) (rest : List A) : Type 0 where
+pub record IsPutBut {A : Type 0} (encoding : A → List ℕ) (old new : Option (List ℕ)) (waiting all : List ℕ) (rest : List A) : Type 0 where
   pub done : List ℕ
   pub sent : AppendsBut old new waiting done
-  pub split : all ≡ done ++ flat_map spelling rest
+  pub split : all ≡ done ++ flat_map encoding rest
 
-pub few_put : {A : Type 0} (spelling : A → List ℕ) (a b d : Option (List ℕ)) (waiting left all : List ℕ) (rest few behind : List A) → rest ≡ few ++ behind →
-    IsPutBut spelling a b waiting all rest → AppendsBut b d left (waiting ++ flat_map spelling few) → IsPutBut spelling a d left all behind
-few_put spelling a b d waiting left all rest few behind split put more =
+pub few_put : {A : Type 0} (encoding : A → List ℕ) (a b d : Option (List ℕ)) (waiting left all : List ℕ) (rest few behind : List A) → rest ≡ few ++ behind →
+    IsPutBut encoding a b waiting all rest → AppendsBut b d left (waiting ++ flat_map encoding few) → IsPutBut encoding a d left all behind
+few_put encoding a b d waiting left all rest few behind split put more =
     record {
-      done = put.done ++ flat_map spelling few;
-      sent = appends_but_more a b d waiting left put.done (flat_map spelling few) put.sent more;
-      split = parts_spelt spelling rest few behind put.done all split put.split;
+      done = put.done ++ flat_map encoding few;
+      sent = appends_but_more a b d waiting left put.done (flat_map encoding few) put.sent more;
+      split = parts_encoded encoding rest few behind put.done all split put.split;
     }
 
-pub few_broke : {A : Type 0} (spelling : A → List ℕ) (a b d : Option (List ℕ)) (waiting all : List ℕ) (rest few behind : List A) → rest ≡ few ++ behind →
-    IsPutBut spelling a b waiting all rest → AppendsPrefix b d (waiting ++ flat_map spelling few) → AppendsPrefix a d all
-few_broke spelling a b d waiting all rest few behind split put broke =
-    broke_before a d all (put.done ++ flat_map spelling few) (flat_map spelling behind) (parts_spelt spelling rest few behind put.done all split put.split)
-    (broke_more a b d waiting put.done (flat_map spelling few) put.sent broke)
+pub few_broke : {A : Type 0} (encoding : A → List ℕ) (a b d : Option (List ℕ)) (waiting all : List ℕ) (rest few behind : List A) → rest ≡ few ++ behind →
+    IsPutBut encoding a b waiting all rest → AppendsPrefix b d (waiting ++ flat_map encoding few) → AppendsPrefix a d all
+few_broke encoding a b d waiting all rest few behind split put broke =
+    broke_before a d all (put.done ++ flat_map encoding few) (flat_map encoding behind) (parts_encoded encoding rest few behind put.done all split put.split)
+    (broke_more a b d waiting put.done (flat_map encoding few) put.sent broke)
 
-pub all_put : {A : Type 0} (spelling : A → List ℕ) (a b : Option (List ℕ)) (waiting all : List ℕ) (rest : List A) → length rest ≡ 0 →
-    IsPutBut spelling a b waiting all rest → AppendsBut a b waiting all
-all_put spelling a b waiting all [] none put = subst (AppendsBut a b waiting) (sym (put.split ∙ append-nil put.done)) put.sent
-all_put spelling a b waiting all (x ∷ xs) none put = absurd (omega arith)
+pub all_put : {A : Type 0} (encoding : A → List ℕ) (a b : Option (List ℕ)) (waiting all : List ℕ) (rest : List A) → length rest ≡ 0 →
+    IsPutBut encoding a b waiting all rest → AppendsBut a b waiting all
+all_put encoding a b waiting all [] none put = subst (AppendsBut a b waiting) (sym (put.split ∙ append-nil put.done)) put.sent
+all_put encoding a b waiting all (x ∷ xs) none put = absurd (omega arith)

@@ -1,7 +1,7 @@
-pub mod SpellingLemmas
-pub mod FrontLemmas
+pub mod EncodingLemmas
+pub mod DecodingLemmas
 pub mod AlikeLemmas
-pub mod SpellsLemmas
+pub mod EncodesLemmas
 pub mod NameLemmas
 pub mod WordFaultLemmas
 pub mod PutsLemmas

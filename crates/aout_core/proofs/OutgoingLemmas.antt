@@ -4,7 +4,7 @@ use Rattle.std.specs.Prelude.{Result, Ok, Err, IsErr}
 use Rattle.std.specs.Io.KnownBytes.{Appends}
 use Rattle.std.proofs.KnownBytes.{Appends-trans}
 use Rattle.aout_core.specs.Wires.{AppendsPrefix, Puts}
-use Rattle.aout_core.specs.steps.Blocks.{AppendsBut, PutsBut}
+use Rattle.aout_core.specs.internal.Blocks.{AppendsBut, PutsBut}
 use Rattle.aout_core.proofs.PutsLemmas.{front_before}
 
 -- the text behind a text that broke off

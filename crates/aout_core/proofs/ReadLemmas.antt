@@ -6,38 +6,38 @@ use Rattle.aout_core.specs.declared.file.ReadFault.{ReadFault}
 use Rattle.aout_core.specs.declared.file.ReadFault.TheVariants.{ShortHeader, BadMagic, OddSize, Memory, Truncated, Device}
 use Rattle.aout_core.specs.Words.{words_in}
 use Rattle.aout_core.specs.Contents.{Contents, is_magic, has_whole_sizes, Fits}
-use Rattle.aout_core.specs.Spelling.{file_length}
-use Rattle.aout_core.specs.Front.{header_of, header_in, contents_in, front_with, front}
+use Rattle.aout_core.specs.Encoding.{file_length}
+use Rattle.aout_core.specs.Decoding.{header_of, header_in, contents_in, decode_with, decode}
 use Rattle.aout_core.specs.Reading.{IsFileHeader, HasHeader, IsReadOf, LeavesAfter}
-use Rattle.aout_core.specs.steps.ReadParts.{TakesHeader, TakesBody, EndsEarly, IsHeaderRead, IsBodyRead}
-use Rattle.aout_core.proofs.FrontLemmas.{contents_in_fits}
+use Rattle.aout_core.specs.internal.ReadParts.{TakesHeader, TakesBody, EndsEarly, IsHeaderRead, IsBodyRead}
+use Rattle.aout_core.proofs.DecodingLemmas.{contents_in_fits}
 
 -- what is made of a whole body fits
 pub body_fits : (h : Header) (body : List ℕ) (c : Contents) → IsFileHeader h → 16 + length body ≡ file_length h →
     ((start rest : List ℕ) → length start ≡ 16 → c ≡ contents_in h (start ++ (body ++ rest))) → Fits c
-body_fits h body c good whole spelt =
+body_fits h body c good whole encoded =
     let bytes = replicate 16 0 ++ (body ++ []) in
     let long : file_length h ≤ length bytes = omega (arith, length-append (replicate 16 0) (body ++ []), length-append body []) in
-    subst Fits (sym (spelt (replicate 16 0) [] refl)) (contents_in_fits h bytes good.magic good.sizes long)
+    subst Fits (sym (encoded (replicate 16 0) [] refl)) (contents_in_fits h bytes good.magic good.sizes long)
 
 header_front : (start rest : List ℕ) → length start ≡ 16 → header_in (start ++ rest) ≡ header_in start
 header_front start rest long =
     let all : take 16 start ≡ start = take_all 16 start (omega arith) in
     ap (λ (bytes : List ℕ). header_of (words_in bytes)) (take_at start rest 16 long ∙ sym all)
 
--- the text begins with sixteen bytes that spell this header, and the rest stands behind them
+-- the text begins with sixteen bytes that encode this header, and the rest stands behind them
 record Begins (bytes rest : List ℕ) (h : Header) : Type 0 where
   start : List ℕ
   long : length start ≡ 16
   whole : bytes ≡ start ++ rest
-  spelt : header_in bytes ≡ h
+  encoded : header_in bytes ≡ h
 
 begins : (bytes rest : List ℕ) (h : Header) → TakesHeader (Some bytes) (Some rest) h → Begins bytes rest h
 begins bytes rest h t = record {
   start = t.start;
   long = t.long;
   whole = t.taken;
-  spelt = ap header_in t.taken ∙ header_front t.start rest t.long ∙ sym t.spelt;
+  encoded = ap header_in t.taken ∙ header_front t.start rest t.long ∙ sym t.encoded;
 }
 
 rest_behind : (bytes rest : List ℕ) (h : Header) → Begins bytes rest h → rest ≡ drop 16 bytes
@@ -50,24 +50,24 @@ has_sixteen : (bytes rest : List ℕ) (h : Header) → Begins bytes rest h → n
 has_sixteen bytes rest h b = le-ltb _ _ (omega (arith, length-begins bytes rest h b))
 
 -- the first that applies, under the header that the text begins with
-front_by : (bytes rest : List ℕ) (h : Header) → Begins bytes rest h → front bytes ≡ front_with h bytes
-front_by bytes rest h b = ap (λ (x : Header). front_with x bytes) b.spelt
+decode_by : (bytes rest : List ℕ) (h : Header) → Begins bytes rest h → decode bytes ≡ decode_with h bytes
+decode_by bytes rest h b = ap (λ (x : Header). decode_with x bytes) b.encoded
 
-bad_magic : (bytes rest : List ℕ) (h : Header) → Begins bytes rest h → is_magic h.magic ≡ false → front bytes ≡ Err BadMagic
-bad_magic bytes rest h b bad = front_by bytes rest h b ∙ rw (has_sixteen bytes rest h b, bad) refl
+bad_magic : (bytes rest : List ℕ) (h : Header) → Begins bytes rest h → is_magic h.magic ≡ false → decode bytes ≡ Err BadMagic
+bad_magic bytes rest h b bad = decode_by bytes rest h b ∙ rw (has_sixteen bytes rest h b, bad) refl
 
-odd_size : (bytes rest : List ℕ) (h : Header) → Begins bytes rest h → is_magic h.magic ≡ true → has_whole_sizes h ≡ false → front bytes ≡ Err OddSize
-odd_size bytes rest h b magic bad = front_by bytes rest h b ∙ rw (has_sixteen bytes rest h b, magic, bad) refl
+odd_size : (bytes rest : List ℕ) (h : Header) → Begins bytes rest h → is_magic h.magic ≡ true → has_whole_sizes h ≡ false → decode bytes ≡ Err OddSize
+odd_size bytes rest h b magic bad = decode_by bytes rest h b ∙ rw (has_sixteen bytes rest h b, magic, bad) refl
 
-truncated : (bytes rest : List ℕ) (h : Header) → Begins bytes rest h → IsFileHeader h → 16 + length rest < file_length h → front bytes ≡ Err Truncated
+truncated : (bytes rest : List ℕ) (h : Header) → Begins bytes rest h → IsFileHeader h → 16 + length rest < file_length h → decode bytes ≡ Err Truncated
 truncated bytes rest h b good lt =
     let short : nat_lt (length bytes) (file_length h) ≡ true = lt-ltb _ _ (omega (arith, length-begins bytes rest h b)) in
-    front_by bytes rest h b ∙ rw (has_sixteen bytes rest h b, good.magic, good.sizes, short) refl
+    decode_by bytes rest h b ∙ rw (has_sixteen bytes rest h b, good.magic, good.sizes, short) refl
 
-whole_file : (bytes rest : List ℕ) (h : Header) → Begins bytes rest h → IsFileHeader h → file_length h ≤ 16 + length rest → front bytes ≡ Ok (contents_in h bytes)
+whole_file : (bytes rest : List ℕ) (h : Header) → Begins bytes rest h → IsFileHeader h → file_length h ≤ 16 + length rest → decode bytes ≡ Ok (contents_in h bytes)
 whole_file bytes rest h b good le =
     let long : nat_lt (length bytes) (file_length h) ≡ false = le-ltb _ _ (omega (arith, length-begins bytes rest h b)) in
-    front_by bytes rest h b ∙ rw (has_sixteen bytes rest h b, good.magic, good.sizes, long) refl
+    decode_by bytes rest h b ∙ rw (has_sixteen bytes rest h b, good.magic, good.sizes, long) refl
 
 -- the end came early: these were all the bytes
 early_end : (bytes : List ℕ) (left : Option (List ℕ)) (before size : ℕ) → EndsEarly (Some bytes) left before size → (before + length bytes < size) × (left ≡ Some [])
@@ -76,7 +76,7 @@ early_end bytes (Some rest) before size e =
     let same : bytes ≡ e.bytes = e.taken ∙ ap (λ l. e.bytes ++ l) e.end ∙ append-nil e.bytes in
     (subst (λ (l : List ℕ). before + length l < size) (sym same) e.short, ap Some e.end)
 
-short_header : (bytes : List ℕ) → length bytes < 16 → front bytes ≡ Err ShortHeader
+short_header : (bytes : List ℕ) → length bytes < 16 → decode bytes ≡ Err ShortHeader
 short_header bytes h = let short : nat_lt (length bytes) 16 ≡ true = lt-ltb _ _ h in rw short refl
 
 -- a header that is refused is what the text begins with
@@ -97,9 +97,9 @@ file_behind : (c : Contents) (bytes rest : List ℕ) (left : Option (List ℕ)) 
 file_behind c bytes rest None h b good t = absurd t.taken
 file_behind c bytes rest (Some more) h b good t =
     let whole : bytes ≡ b.start ++ (t.body ++ more) = b.whole ∙ ap (λ l. b.start ++ l) t.taken in
-    let header : c.header ≡ h = ap (λ (x : Contents). x.header) (t.spelt b.start more b.long) in
+    let header : c.header ≡ h = ap (λ (x : Contents). x.header) (t.encoded b.start more b.long) in
     let long : length rest ≡ length t.body + length more = ap length t.taken ∙ length-append t.body more in
-    let same : contents_in h bytes ≡ c = ap (contents_in h) whole ∙ sym (t.spelt b.start more b.long) in
+    let same : contents_in h bytes ≡ c = ap (contents_in h) whole ∙ sym (t.encoded b.start more b.long) in
     let size : length (b.start ++ t.body) ≡ file_length c.header = length-append b.start t.body ∙ ap (λ n. n + length t.body) b.long ∙ t.long ∙ ap file_length (sym header) in
     let behind : drop (file_length c.header) bytes ≡ more =
     ap (drop (file_length c.header)) (whole ∙ sym (append_assoc b.start t.body more)) ∙ drop_at (b.start ++ t.body) more (file_length c.header) size in
@@ -117,8 +117,8 @@ read_behind (Err Memory) bytes (Some rest) None h t good body = absurd body.0
 read_behind (Err Memory) bytes (Some rest) (Some more) h t good body =
     let b = begins bytes rest h t in
     let size = length-begins bytes rest h b in
-    let header : HasHeader bytes = record { long = omega arith; header = subst IsFileHeader (sym b.spelt) good } in
-    ((header, subst (λ (x : Header). 16 < file_length x) (sym b.spelt) body.1), ap Some (body.0 ∙ rest_behind bytes rest h b))
+    let header : HasHeader bytes = record { long = omega arith; header = subst IsFileHeader (sym b.encoded) good } in
+    ((header, subst (λ (x : Header). 16 < file_length x) (sym b.encoded) body.1), ap Some (body.0 ∙ rest_behind bytes rest h b))
 read_behind (Err Truncated) bytes (Some rest) left h t good body =
     let end = early_end rest left 16 (file_length h) body in
     (truncated bytes rest h (begins bytes rest h t) good end.0, end.1)

@@ -7,7 +7,7 @@ use Rattle.byteorder.specs.Endian.{little_number}
 use Rattle.aout_core.specs.declared.symbol.Symbol.{Symbol}
 use Rattle.aout_core.specs.Words.{words_in}
 use Rattle.aout_core.specs.Names.{before_nul}
-use Rattle.aout_core.specs.Front.{part, symbol_in}
+use Rattle.aout_core.specs.Decoding.{part, symbol_in}
 use Rattle.aout_core.proofs.NameLemmas.{length-before_nul-le}
 
 two_words : (bytes : List ℕ) → length bytes ≡ 12 →

@@ -4,23 +4,23 @@
 use Rattle.std.specs.Prelude.{◌≡◌, ℕ, List, ◌++◌, take, Ok}
 use Rattle.aout_core.specs.Words.{AreBytes}
 use Rattle.aout_core.specs.Contents.{Contents, IsSound}
-use Rattle.aout_core.specs.Spelling.{file_length, spelling}
-use Rattle.aout_core.specs.Front.{front}
-use Rattle.aout_core.specs.Spells.{Spells}
+use Rattle.aout_core.specs.Encoding.{file_length, encoding}
+use Rattle.aout_core.specs.Decoding.{decode}
+use Rattle.aout_core.specs.Encodes.{Encodes}
 
 -- the encoding of a file, whatever follows it, is read as that file
-abbrev pub SpellingLaw : Type 0
-SpellingLaw = (c : Contents) (rest : List ℕ) → IsSound c → front (spelling c ++ rest) ≡ Ok c
+abbrev pub EncodingLaw : Type 0
+EncodingLaw = (c : Contents) (rest : List ℕ) → IsSound c → decode (encoding c ++ rest) ≡ Ok c
 
 -- the file that is read from bytes is sound, and the bytes up to its end encode it
 abbrev pub ReadingLaw : Type 0
-ReadingLaw = (bytes : List ℕ) (c : Contents) → AreBytes bytes → front bytes ≡ Ok c →
-    IsSound c × Spells (take (file_length c.header) bytes) c
+ReadingLaw = (bytes : List ℕ) (c : Contents) → AreBytes bytes → decode bytes ≡ Ok c →
+    IsSound c × Encodes (take (file_length c.header) bytes) c
 
 -- the same bytes encode one file at most
 abbrev pub OneFile : Type 0
-OneFile = (bytes : List ℕ) (c d : Contents) → IsSound c → IsSound d → Spells bytes c → Spells bytes d → c ≡ d
+OneFile = (bytes : List ℕ) (c d : Contents) → IsSound c → IsSound d → Encodes bytes c → Encodes bytes d → c ≡ d
 
 -- bytes that encode a file, whatever follows them, are read as that file
 abbrev pub EncodedIsRead : Type 0
-EncodedIsRead = (bytes rest : List ℕ) (c : Contents) → IsSound c → Spells bytes c → front (bytes ++ rest) ≡ Ok c
+EncodedIsRead = (bytes rest : List ℕ) (c : Contents) → IsSound c → Encodes bytes c → decode (bytes ++ rest) ≡ Ok c

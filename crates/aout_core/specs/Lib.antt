@@ -3,12 +3,12 @@ pub mod Words
 pub mod Names
 pub mod Contents
 pub mod Parts
-pub mod Spelling
-pub mod Spells
-pub mod Front
+pub mod Encoding
+pub mod Encodes
+pub mod Decoding
 pub mod Reading
 pub mod WellFormed
 pub mod Strip
 pub mod Laws
 pub mod Devices
-pub mod steps
+pub mod internal

@@ -7,8 +7,8 @@ use Rattle.aout_core.specs.declared.header.Header.{Header}
 use Rattle.aout_core.specs.declared.file.ReadFault.{ReadFault}
 use Rattle.aout_core.specs.declared.file.ReadFault.TheVariants.{ShortHeader, Memory, Truncated, Device}
 use Rattle.aout_core.specs.Contents.{Contents, is_magic, has_whole_sizes}
-use Rattle.aout_core.specs.Spelling.{file_length}
-use Rattle.aout_core.specs.Front.{header_in, front}
+use Rattle.aout_core.specs.Encoding.{file_length}
+use Rattle.aout_core.specs.Decoding.{header_in, decode}
 
 -- nothing is wrong with the magic and the sizes
 pub record IsFileHeader (h : Header) : Type 0 where
@@ -23,10 +23,10 @@ pub record HasHeader (bytes : List ℕ) : Type 0 where
 -- the result is the file that the bytes begin with, or the refusal, unless the device failed, or memory ran out for what the
 -- header announces behind its 16 bytes
 abbrev pub IsReadOf : Result Contents ReadFault → List ℕ → Type 0
-IsReadOf (Ok c) bytes = front bytes ≡ Ok c
+IsReadOf (Ok c) bytes = decode bytes ≡ Ok c
 IsReadOf (Err Memory) bytes = HasHeader bytes × (16 < file_length (header_in bytes))
 IsReadOf (Err Device) bytes = Unit {0}
-IsReadOf (Err fault) bytes = front bytes ≡ Err fault
+IsReadOf (Err fault) bytes = decode bytes ≡ Err fault
 
 -- a file was taken whole and nothing more; of too few bytes none is left; after a refused header, or where memory ran out, the
 -- header alone was taken; and of a device that failed nothing is said

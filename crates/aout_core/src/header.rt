@@ -1,8 +1,8 @@
 //! The header of a file.
 ghost use Rattle.std.specs.Prelude.{◌≡◌, ◌+◌, ◌≤◌};
 ghost use Rattle.aout_core.specs.Contents.{with_relocation};
-ghost use Rattle.aout_core.specs.Spelling.{file_length, header_spelling};
-ghost use Rattle.aout_core.specs.Front.{header_in};
+ghost use Rattle.aout_core.specs.Encoding.{file_length, header_encoding};
+ghost use Rattle.aout_core.specs.Decoding.{header_in};
 
 use crate::word::{put_words, take_words};
 
@@ -76,7 +76,7 @@ impl Header {
 
     /// The 16 bytes that encode the header. (a.out(5))
     pub fn to_bytes(&self) -> [u8; 16]
-        ensures { result ≡ header_spelling self.now }
+        ensures { result ≡ header_encoding self.now }
     {
         let words = [
             self.magic,

@@ -16,7 +16,7 @@ pub(crate) struct Incoming {
 }
 
 impl Model for Incoming {
-    ghost use Rattle.aout_core.specs.steps.Blocks.{Awaited};
+    ghost use Rattle.aout_core.specs.internal.Blocks.{Awaited};
 
     ghost Value = { Awaited };
 
@@ -27,7 +27,7 @@ impl Incoming {
     ghost use Rattle.std.specs.Prelude.{◌≡◌, ◌↔◌, ◌≤◌, [], false, drop, length, IfOk, IfErr, IsTrue, Err};
     ghost use Rattle.std.specs.Io.KnownBytes.{prepend_known};
     ghost use Rattle.aout_core.specs.declared.block.TheConstants.{BLOCK_SIZE};
-    ghost use Rattle.aout_core.specs.steps.Blocks.{awaited, EndsBefore, Refills, Takes};
+    ghost use Rattle.aout_core.specs.internal.Blocks.{awaited, EndsBefore, Refills, Takes};
 
     /// Nothing was read yet.
     pub(crate) fn new(missing: usize) -> Incoming

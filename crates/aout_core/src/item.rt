@@ -5,10 +5,10 @@ ghost use Rattle.std.specs.Io.KnownBytes.{prepend_known};
 ghost use Rattle.std.proofs.Common.{rules};
 ghost use Rattle.aout_core.specs.declared.block.TheConstants.{BLOCK_SIZE};
 ghost use Rattle.aout_core.specs.Words.{word_bytes};
-ghost use Rattle.aout_core.specs.Front.{symbol_in};
-ghost use Rattle.aout_core.specs.Spelling.{symbol_spelling};
-ghost use Rattle.aout_core.specs.steps.Blocks.{awaited, EndsBefore, PutsBut};
-ghost use Rattle.aout_core.specs.steps.Rows.{row_in, word_in, reloc_in, TakesItem, TakesRow};
+ghost use Rattle.aout_core.specs.Decoding.{symbol_in};
+ghost use Rattle.aout_core.specs.Encoding.{symbol_encoding};
+ghost use Rattle.aout_core.specs.internal.Blocks.{awaited, EndsBefore, PutsBut};
+ghost use Rattle.aout_core.specs.internal.Rows.{row_in, word_in, reloc_in, TakesItem, TakesRow};
 
 use crate::block::BLOCK_SIZE;
 use crate::file::ReadFault;
@@ -35,7 +35,7 @@ pub(crate) trait Item: Copy {
 
     ghost item_in: { List ℕ → Self };
 
-    ghost spelling: { Self → List ℕ };
+    ghost encoding: { Self → List ℕ };
 
     /// The item that these bytes encode.
     fn from_slice(bytes: &[u8]) -> Self
@@ -43,9 +43,9 @@ pub(crate) trait Item: Copy {
         ensures { result ≡ item_in bytes.now };
 
     /// Writes the bytes that encode the item.
-    fn spell(&self, bytes: &mut [u8])
+    fn encode(&self, bytes: &mut [u8])
         requires { length bytes.old ≡ WIDTH }
-        ensures { bytes.new ≡ spelling self.now };
+        ensures { bytes.new ≡ encoding self.now };
 
     ghost has_bytes: { 0 < WIDTH };
 
@@ -59,7 +59,7 @@ impl Item for u16 {
 
     ghost item_in = { word_in };
 
-    ghost spelling = { word_bytes };
+    ghost encoding = { word_bytes };
 
     ghost has_bytes = { Prim.search rules };
 
@@ -69,7 +69,7 @@ impl Item for u16 {
         LittleEndian::read_u16(bytes)
     }
 
-    fn spell(&self, bytes: &mut [u8]) {
+    fn encode(&self, bytes: &mut [u8]) {
         LittleEndian::write_u16(bytes, *self);
     }
 }
@@ -81,7 +81,7 @@ impl Item for Reloc {
 
     ghost item_in = { reloc_in };
 
-    ghost spelling = { λ r. word_bytes r.0 };
+    ghost encoding = { λ r. word_bytes r.0 };
 
     ghost has_bytes = { Prim.search rules };
 
@@ -91,8 +91,8 @@ impl Item for Reloc {
         Reloc(u16::from_slice(bytes))
     }
 
-    fn spell(&self, bytes: &mut [u8]) {
-        self.0.spell(bytes);
+    fn encode(&self, bytes: &mut [u8]) {
+        self.0.encode(bytes);
     }
 }
 
@@ -103,7 +103,7 @@ impl Item for Symbol {
 
     ghost item_in = { symbol_in };
 
-    ghost spelling = { symbol_spelling };
+    ghost encoding = { symbol_encoding };
 
     ghost has_bytes = { Prim.search rules };
 
@@ -119,10 +119,10 @@ impl Item for Symbol {
     }
 
     /// The name is padded with NULs.
-    fn spell(&self, bytes: &mut [u8]) {
+    fn encode(&self, bytes: &mut [u8]) {
         bytes[..8].copy_from_slice(&self.name.to_padded());
-        self.type_bits.spell(&mut bytes[8..10]);
-        self.value.spell(&mut bytes[10..12]);
+        self.type_bits.encode(&mut bytes[8..10]);
+        self.value.encode(&mut bytes[10..12]);
     }
 }
 
@@ -192,14 +192,14 @@ pub(crate) fn take_items<T: Item, R: Read>(
 }
 
 /// Encodes the items, one after another.
-fn spell_items<T: Item>(items: &[T], bytes: &mut [u8])
+fn encode_items<T: Item>(items: &[T], bytes: &mut [u8])
     requires { length bytes.old ≡ T.WIDTH * length items.now }
-    ensures { bytes.new ≡ flat_map T.spelling items.now }
+    ensures { bytes.new ≡ flat_map T.encoding items.now }
 {
     let mut at = 0;
     for item in items {
         let end = at + T::WIDTH;
-        item.spell(&mut bytes[at..end]);
+        item.encode(&mut bytes[at..end]);
         at = end;
     }
 }
@@ -213,11 +213,11 @@ fn put_few<T: Item, W: Write>(
     requires works { wire.old.has_failed ≡ false }
     requires few { T.WIDTH * length items.now ≤ BLOCK_SIZE }
     ensures fault { IsErr result ↔ IsTrue wire.new.has_failed }
-    ensures bytes { PutsBut result (W.contents wire.old.device) (W.contents wire.new.device) outgoing.new (outgoing.old ++ flat_map T.spelling items.now) }
+    ensures bytes { PutsBut result (W.contents wire.old.device) (W.contents wire.new.device) outgoing.new (outgoing.old ++ flat_map T.encoding items.now) }
 {
     let mut block = [0; BLOCK_SIZE];
     let bytes = &mut block[..T::WIDTH * items.len()];
-    spell_items(items, bytes);
+    encode_items(items, bytes);
     outgoing.put(bytes, wire)
 }
 
@@ -229,7 +229,7 @@ pub(crate) fn put_items<T: Item, W: Write>(
 ) -> Result<(), DeviceFault>
     requires { wire.old.has_failed ≡ false }
     ensures fault { IsErr result ↔ IsTrue wire.new.has_failed }
-    ensures bytes { PutsBut result (W.contents wire.old.device) (W.contents wire.new.device) outgoing.new (outgoing.old ++ flat_map T.spelling items.now) }
+    ensures bytes { PutsBut result (W.contents wire.old.device) (W.contents wire.new.device) outgoing.new (outgoing.old ++ flat_map T.encoding items.now) }
 {
     for few in items.chunks(BLOCK_SIZE / T::WIDTH) {
         put_few(few, outgoing, wire)?;
@@ -246,7 +246,7 @@ pub(crate) fn put_both<T: Item, W: Write>(
 ) -> Result<(), DeviceFault>
     requires { wire.old.has_failed ≡ false }
     ensures fault { IsErr result ↔ IsTrue wire.new.has_failed }
-    ensures bytes { PutsBut result (W.contents wire.old.device) (W.contents wire.new.device) outgoing.new (outgoing.old ++ (flat_map T.spelling first.now ++ flat_map T.spelling second.now)) }
+    ensures bytes { PutsBut result (W.contents wire.old.device) (W.contents wire.new.device) outgoing.new (outgoing.old ++ (flat_map T.encoding first.now ++ flat_map T.encoding second.now)) }
 {
     put_items(first, outgoing, wire)?;
     put_items(second, outgoing, wire)

@@ -3,7 +3,7 @@
 ghost use Rattle.std.specs.List.{AllByRecursion};
 ghost use Rattle.aout_core.specs.Words.{AreBytes};
 ghost use Rattle.aout_core.specs.Contents.{IsWord, AreWords, IsSymbol, IsSound};
-ghost use Rattle.aout_core.specs.Laws.{SpellingLaw, ReadingLaw, OneFile, EncodedIsRead};
+ghost use Rattle.aout_core.specs.Laws.{EncodingLaw, ReadingLaw, OneFile, EncodedIsRead};
 
 use crate::file::File;
 use crate::header::Header;
@@ -12,14 +12,14 @@ use crate::symbol::Symbol;
 
 /// What is written is read: the encoding of a file, whatever follows it, is read as that file. (a.out(5))
 pub fn spelling_law()
-    ensures { SpellingLaw }
+    ensures { EncodingLaw }
 {}
 
 /// What is read is what the bytes encode: where bytes begin with a file, the first of them encode it, as many as its
 /// header says; they differ from what is written for it at most behind the first NUL of a name. And the same bytes
 /// encode one file at most, which is read of them, whatever follows. (a.out(5))
 pub fn reading_law()
-    ensures spells { ReadingLaw }
+    ensures encodes { ReadingLaw }
     ensures one { OneFile }
     ensures read { EncodedIsRead }
 {}

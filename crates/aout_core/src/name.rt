@@ -26,7 +26,7 @@ impl Model for Name {
 
     ghost use Rattle.std.specs.Prelude.{◌≡◌};
     ghost use Rattle.aout_core.specs.Names.{before_nul, padded};
-    ghost use Rattle.aout_core.specs.steps.NameBytes.{from_padded};
+    ghost use Rattle.aout_core.specs.internal.NameBytes.{from_padded};
 
     ghost view = { λ a. before_nul a.padded_bytes };
 

@@ -29,7 +29,7 @@ impl Outgoing {
     ghost use Rattle.std.specs.Prelude.{◌≡◌, ◌↔◌, ◌≤◌, ◌++◌, [], false, length, IsErr, IsTrue, OnOk};
     ghost use Rattle.aout_core.specs.declared.block.TheConstants.{BLOCK_SIZE};
     ghost use Rattle.aout_core.specs.Wires.{Writes};
-    ghost use Rattle.aout_core.specs.steps.Blocks.{PutsBut};
+    ghost use Rattle.aout_core.specs.internal.Blocks.{PutsBut};
 
     /// Nothing waits.
     pub(crate) fn new() -> Outgoing

@@ -2,8 +2,8 @@
 ghost use Rattle.std.specs.Prelude.{◌≡◌, ◌↔◌, ◌<◌, false, IfOk, IfErr, OnErr, IfSome, IsTrue};
 ghost use Rattle.aout_core.specs.Contents.{has_whole_sizes};
 ghost use Rattle.aout_core.specs.Parts.{contents_of};
-ghost use Rattle.aout_core.specs.Spelling.{file_length};
-ghost use Rattle.aout_core.specs.steps.ReadParts.{HasNoItems, HasRoom, IsBodyRead, IsHeaderRead, TakesBody};
+ghost use Rattle.aout_core.specs.Encoding.{file_length};
+ghost use Rattle.aout_core.specs.internal.ReadParts.{HasNoItems, HasRoom, IsBodyRead, IsHeaderRead, TakesBody};
 ghost use Rattle.aout_core.specs.Reading.{IsFileHeader, IsReadOf, LeavesAfter};
 
 use crate::file::{File, Parts, ReadFault, has_whole_sizes, is_magic};
@@ -122,7 +122,7 @@ fn read_body<R: Read>(alloc: Global, header: Header, wire: &mut Wire<R>) -> Resu
 pub fn read_file<R: Read>(alloc: Global, wire: &mut Wire<R>) -> Result<File, ReadFault>
     ensures device { (result ≡ Err ReadFault.Device) ↔ IsTrue wire.new.has_failed }
     ensures latched { IsTrue wire.old.has_failed → (wire.new ≡ wire.old) }
-    ensures front { IfSome (R.remaining wire.old.device) (λ bytes. IsReadOf result bytes × LeavesAfter result bytes (R.remaining wire.new.device)) }
+    ensures decodes { IfSome (R.remaining wire.old.device) (λ bytes. IsReadOf result bytes × LeavesAfter result bytes (R.remaining wire.new.device)) }
 {
     let header = read_header(wire)?;
     read_body(alloc, header, wire)

@@ -1,5 +1,5 @@
 //! Writing a file.
-ghost use Rattle.aout_core.specs.Spelling.{spelling};
+ghost use Rattle.aout_core.specs.Encoding.{encoding};
 ghost use Rattle.aout_core.specs.Wires.{Writes};
 
 use crate::file::File;
@@ -11,7 +11,7 @@ use std::io::Write;
 /// Writes the file: header, text, data, relocation and symbols, in that order, names padded with NULs. On a fault a
 /// prefix of the file went out. (a.out(5))
 pub fn write_file<W: Write>(file: &File, wire: &mut Wire<W>) -> Result<(), DeviceFault>
-    ensures { Writes W.contents result wire.old wire.new (spelling file.now) }
+    ensures { Writes W.contents result wire.old wire.new (encoding file.now) }
 {
     if wire.failed() {
         return Err(DeviceFault);

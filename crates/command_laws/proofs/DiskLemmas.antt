@@ -7,9 +7,9 @@ use Rattle.std.specs.Prelude.{IfSome, bytes_eq, nat_lt}
 use Rattle.std.proofs.lemmas.Bool.{ltb-false}
 use Rattle.aout_core.specs.declared.object.ObjectFault.{ObjectFault}
 use Rattle.aout_core.specs.Contents.{Contents, IsSound}
-use Rattle.aout_core.specs.Front.{front}
-use Rattle.aout_core.specs.Laws.{SpellingLaw}
-use Rattle.aout_core.specs.Spelling.{spelling}
+use Rattle.aout_core.specs.Decoding.{decode}
+use Rattle.aout_core.specs.Laws.{EncodingLaw}
+use Rattle.aout_core.specs.Encoding.{encoding}
 use Rattle.aout_core.specs.WellFormed.{IsWellFormed, first_object_fault}
 use Rattle.aout_core.specs.declared.symbol.Segment.TheVariants.{TextSeg}
 use Rattle.link_session.specs.declared.entry.AddFault.{AddFault}
@@ -17,7 +17,7 @@ use Rattle.link_session.specs.declared.entry.AddFault.TheVariants.{TextFull}
 use Rattle.link_session.specs.Edits.{limit_passed, refusal}
 use Rattle.link_session.specs.Labelled.{Labelled, objects}
 use Rattle.link_session.specs.Starts.{total}
-use Rattle.v7tools.specs.Deeds.{Deed, Opened, opens, paths_of}
+use Rattle.v7tools.specs.Events.{Event, Opened, opens, paths_of}
 use Rattle.v7tools.specs.Inputs.{Cause, added_unless, object_in, object_or}
 use Rattle.v7tools.specs.LinkAnswers.{TakesAll}
 use Rattle.v7tools.specs.LinkRuns.{inputs_opened}
@@ -31,21 +31,21 @@ abbrev pub AreGiven : Disk → List Opened → Type 0
 AreGiven disk found = AllByRecursion (λ (f : Opened). IfSome (disk f.0) (λ bytes. f.1 ≡ Some bytes)) found
 
 -- openings leave the disk as it was
-pub after_opens : (disk : Disk) (found : List Opened) (deeds : List Deed) → disk_after disk (opens found ++ deeds) ≡ disk_after disk deeds
-after_opens disk [] deeds = refl
-after_opens disk (f ∷ fs) deeds = after_opens disk fs deeds
+pub after_opens : (disk : Disk) (found : List Opened) (events : List Event) → disk_after disk (opens found ++ events) ≡ disk_after disk events
+after_opens disk [] events = refl
+after_opens disk (f ∷ fs) events = after_opens disk fs events
 
-pub given : (disk : Disk) (found : List Opened) (deeds : List Deed) → IsOn disk (opens found ++ deeds) → AreGiven disk found
-given disk [] deeds h = tt
-given disk (f ∷ fs) deeds h = (h.0, given disk fs deeds h.1)
+pub given : (disk : Disk) (found : List Opened) (events : List Event) → IsOn disk (opens found ++ events) → AreGiven disk found
+given disk [] events h = tt
+given disk (f ∷ fs) events h = (h.0, given disk fs events h.1)
 
 -- what was stored last is there
 pub stored_there : (disk : Disk) (path bytes : List ℕ) → with_file disk path (Some bytes) path ≡ Some bytes
 stored_there disk path bytes = let same : bytes_eq path path ≡ true = (bytes_eq-Decides path path).1 refl in rw same refl
 
 -- the encoding of a file is read as that file
-pub read_back : SpellingLaw → (file : Contents) → IsSound file → front (spelling file) ≡ Ok file
-read_back law file sound = ap front (sym (append-nil (spelling file))) ∙ law file [] sound
+pub read_back : EncodingLaw → (file : Contents) → IsSound file → decode (encoding file) ≡ Ok file
+read_back law file sound = ap decode (sym (append-nil (encoding file))) ∙ law file [] sound
 
 pub are_at_append : (disk : Disk) (paths more : List (List ℕ)) (os ps : List Contents) → AreAt disk paths os → AreAt disk more ps → AreAt disk (paths ++ more) (os ++ ps)
 are_at_append disk [] more [] ps h k = k
@@ -103,7 +103,7 @@ objects_taken disk forced [] (o ∷ os) kept more gives at same = absurd at
 objects_taken disk forced (f ∷ fs) [] kept more gives at taken = absurd at
 objects_taken disk forced (f ∷ fs) (o ∷ os) kept more gives at (next, takes, rest) =
     let known : f.1 ≡ Some at.0.bytes = known_there f.1 (disk f.0) at.0.bytes at.0.known gives.0 in
-    let is_found = subst (λ (k : Option (List ℕ)). IfSome k (λ bytes. Ok takes.object ≡ object_in (front bytes))) known takes.is_found in
+    let is_found = subst (λ (k : Option (List ℕ)). IfSome k (λ bytes. Ok takes.object ≡ object_in (decode bytes))) known takes.is_found in
     let is : IsFound takes.object o = found_object takes.object o (is_found ∙ ap object_in at.0.read) in
     let e : Labelled = record { label = f.0; object = takes.object } in
     let one : IsAdded (refusal forced (objects kept) takes.object) kept next e = added (refusal forced (objects kept) takes.object) kept next e takes.accepts in

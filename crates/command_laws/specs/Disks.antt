@@ -1,14 +1,14 @@
 -- Runs of the program on a disk that gives at each path the file that was stored there last. (own choice)
 --
--- What a run asks of its office, its deeds, tells what is stored at each path. A disk is what is known of the files before: the
+-- What a run asks of its office, its events, tells what is stored at each path. A disk is what is known of the files before: the
 -- bytes at a path. Where an opening gives these bytes, or those that were stored there last, several runs may be told as one.
 use Rattle.std.specs.Prelude.{◌≡◌, ℕ, ◌≤◌, cond, List, [], ◌∷◌, ◌++◌, Option, Some, None, IfSome, bytes_eq}
 use Rattle.std.specs.Io.KnownBytes.{Appends}
 use Rattle.aout_core.specs.Contents.{Contents}
-use Rattle.aout_core.specs.Spelling.{spelling}
+use Rattle.aout_core.specs.Encoding.{encoding}
 use Rattle.aout_core.specs.Wires.{Latched}
 use Rattle.v7tools.specs.CommandRuns.{Performs}
-use Rattle.v7tools.specs.Deeds.{Deed, opened, stored}
+use Rattle.v7tools.specs.Events.{Event, opened, stored}
 use Rattle.v7tools.specs.declared.office.Stored.{Stored}
 use Rattle.v7tools.specs.declared.office.Stored.TheVariants.{Kept}
 
@@ -21,21 +21,21 @@ with_file disk path bytes at = cond (bytes_eq at path) bytes (disk at)
 
 -- what is known where a file was to be stored: its bytes, if it was stored whole
 abbrev pub bytes_left : Contents → Stored → Option (List ℕ)
-bytes_left file Kept = Some (spelling file)
+bytes_left file Kept = Some (encoding file)
 bytes_left file _ = None
 
--- the disk behind these deeds: at each path is what was stored there last
-abbrev pub disk_after : Disk → List Deed → Disk
+-- the disk behind these events: at each path is what was stored there last
+abbrev pub disk_after : Disk → List Event → Disk
 disk_after disk [] = disk
-disk_after disk (opened path found ∷ deeds) = disk_after disk deeds
-disk_after disk (stored path file what ∷ deeds) = disk_after (with_file disk path (bytes_left file what)) deeds
+disk_after disk (opened path found ∷ events) = disk_after disk events
+disk_after disk (stored path file what ∷ events) = disk_after (with_file disk path (bytes_left file what)) events
 
 -- each file that was opened gave the bytes that are known to be at its path
-abbrev pub IsOn : Disk → List Deed → Type 0
+abbrev pub IsOn : Disk → List Event → Type 0
 IsOn disk [] = Unit {0}
-IsOn disk (opened path None ∷ deeds) = IsOn disk deeds
-IsOn disk (opened path (Some known) ∷ deeds) = IfSome (disk path) (λ bytes. known ≡ Some bytes) × IsOn disk deeds
-IsOn disk (stored path file what ∷ deeds) = IsOn (with_file disk path (bytes_left file what)) deeds
+IsOn disk (opened path None ∷ events) = IsOn disk events
+IsOn disk (opened path (Some known) ∷ events) = IfSome (disk path) (λ bytes. known ≡ Some bytes) × IsOn disk events
+IsOn disk (stored path file what ∷ events) = IsOn (with_file disk path (bytes_left file what)) events
 
 -- a run of the program: its words and its script, the disk before it, what was asked of the office before and by it, standard
 -- output and standard error before and after it, and its status
@@ -43,8 +43,8 @@ pub record Run (W E : Type 0) : Type 0 where
   pub words : List (List ℕ)
   pub script : Option (List ℕ)
   pub disk : Disk
-  pub earlier : List Deed
-  pub deeds : List Deed
+  pub earlier : List Event
+  pub events : List Event
   pub output_before : Latched W
   pub output_after : Latched W
   pub error_before : Latched E
@@ -54,13 +54,13 @@ pub record Run (W E : Type 0) : Type 0 where
 -- it did what the contract of `perform` says, on its disk, and no fault ended it
 pub record EndsWell {W E : Type 0} (out_contents : W → Option (List ℕ)) (error_contents : E → Option (List ℕ)) (r : Run W E) : Type 0 where
   pub performs : Performs out_contents error_contents r.words r.script (record { asked = Some r.earlier; output = r.output_before; error = r.error_before })
-      (record { asked = Some (r.earlier ++ r.deeds); output = r.output_after; error = r.error_after }) r.status
-  pub on_disk : IsOn r.disk r.deeds
+      (record { asked = Some (r.earlier ++ r.events); output = r.output_after; error = r.error_after }) r.status
+  pub on_disk : IsOn r.disk r.events
   pub no_fault : r.status ≤ 1
 
 -- what is at a path behind a run
 abbrev pub file_after : {W E : Type 0} → Run W E → List ℕ → Option (List ℕ)
-file_after r path = disk_after r.disk r.deeds path
+file_after r path = disk_after r.disk r.events path
 
 -- a run wrote this to standard output, behind what was there
 abbrev pub Writes : {W E : Type 0} → (W → Option (List ℕ)) → Run W E → List ℕ → Type 0

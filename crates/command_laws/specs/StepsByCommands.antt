@@ -6,7 +6,7 @@ use Rattle.std.specs.declared.alloc.Global.{Global}
 use Rattle.std.specs.Prelude.{◌≡◌, ℕ, true, false, List, [], ◌∷◌, ◌++◌, map, Option, Some, Ok, String, string_bytes, Vec}
 use Rattle.std.specs.List.{AllByRecursion}
 use Rattle.aout_core.specs.Contents.{Contents, IsSound}
-use Rattle.aout_core.specs.Front.{front}
+use Rattle.aout_core.specs.Decoding.{decode}
 use Rattle.aout_core.specs.Names.{IsName}
 use Rattle.link_out.specs.declared.options.Keep.TheVariants.{Nothing}
 use Rattle.link_out.specs.Choices.{Choices}
@@ -20,7 +20,7 @@ use Rattle.command_laws.specs.Disks.{Disk, Run, EndsWell, file_after, Writes}
 pub record IsAt (disk : Disk) (path : List ℕ) (object : Contents) : Type 0 where
   pub bytes : List ℕ
   pub known : disk path ≡ Some bytes
-  pub read : front bytes ≡ Ok object
+  pub read : decode bytes ≡ Ok object
 
 -- the files at these paths are these
 abbrev pub AreAt : Disk → List (List ℕ) → List Contents → Type 0

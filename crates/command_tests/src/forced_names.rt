@@ -6,7 +6,7 @@ use std::test::Fail;
 static FORCED_UNDEFINED: [Link<'static>; 2] = [
     Link {
         line: "ld -u _z -o out c.o d.o",
-        file: Written::Spelt(
+        file: Written::Encoded(
             [0o407, 8, 0, 0, 36, 0, 0, 1],
             &[0o4767, 0o2, 0o240, 0o207],
             &[("L1", 0o2, 0), ("_z", 0o40, 0), ("_f", 0o42, 6)],
@@ -29,7 +29,7 @@ fn forced_undefined(rt: HostRuntime) -> Result<(), Fail> {
 
 static FORCED_THEN_MENTIONED: [Link<'static>; 1] = [Link {
     line: "ld -u _f -o out c.o",
-    file: Written::Spelt(
+    file: Written::Encoded(
         [0o407, 4, 0, 0, 24, 0, 0, 1],
         &[0o4767, 0o177774],
         &[("L1", 0o2, 0), ("_f", 0o40, 0)],
@@ -45,7 +45,7 @@ fn forced_then_mentioned(rt: HostRuntime) -> Result<(), Fail> {
 
 static FORCED_END: [Link<'static>; 1] = [Link {
     line: "ld -u _end -o out a.o",
-    file: Written::Spelt(
+    file: Written::Encoded(
         [0o407, 4, 2, 0, 12, 0, 0, 1],
         &[0o12700, 0o4, 0o42],
         &[("_end", 0o44, 6)],

@@ -1,6 +1,6 @@
 //! Links without relocation: words, symbols, addresses and the report.
 use crate::outputs::{Link, Written, assert_links, assert_more_links};
-use command_fixtures::{Step, take_all, take_among_objects, take_in_folder};
+use command_fixtures::{Action, take_all, take_among_objects, take_in_folder};
 use fixtures::{CALL, CALL_STRIPPED, COMMONS, ONE_OBJECT, TWO_OBJECTS, UNDEFINED};
 use std::test::Fail;
 
@@ -16,9 +16,9 @@ fn strip_two_objects(rt: HostRuntime) -> Result<(), Fail> {
     assert_links(&rt, "strip_two_objects", &STRIP_TWO_OBJECTS)
 }
 
-static DEFAULT_OUTPUT: [Step<'static>; 2] = [
-    Step::Run("ld -s a.o", "", (0, "", "")),
-    Step::Has("a.out", &ONE_OBJECT),
+static DEFAULT_OUTPUT: [Action<'static>; 2] = [
+    Action::Run("ld -s a.o", "", (0, "", "")),
+    Action::Has("a.out", &ONE_OBJECT),
 ];
 
 #[test]
@@ -26,12 +26,12 @@ fn default_output(rt: HostRuntime) -> Result<(), Fail> {
     take_among_objects(&rt, "default_output", &DEFAULT_OUTPUT)
 }
 
-static WITHOUT_FILES: [Step<'static>; 5] = [
-    Step::Run("ld", "", (2, "", "v7: usage\n")),
-    Step::Run("ld -s", "", (2, "", "v7: usage\n")),
-    Step::Run("ld -s -o out", "", (2, "", "v7: usage\n")),
-    Step::Run("", "", (2, "", "v7: usage\n")),
-    Step::Run("strip", "", (2, "", "v7: usage\n")),
+static WITHOUT_FILES: [Action<'static>; 5] = [
+    Action::Run("ld", "", (2, "", "v7: usage\n")),
+    Action::Run("ld -s", "", (2, "", "v7: usage\n")),
+    Action::Run("ld -s -o out", "", (2, "", "v7: usage\n")),
+    Action::Run("", "", (2, "", "v7: usage\n")),
+    Action::Run("strip", "", (2, "", "v7: usage\n")),
 ];
 
 #[test]
@@ -41,7 +41,7 @@ fn nothing_added_without_files(rt: HostRuntime) -> Result<(), Fail> {
 
 static UNDEFINED_WORD_STRIPPED: [Link<'static>; 1] = [Link {
     line: "ld -s -o out b.o c.o",
-    file: Written::Spelt(
+    file: Written::Encoded(
         [0o407, 6, 0, 0, 0, 0, 0, 1],
         &[0o207, 0o4767, 0o177772],
         &[],
@@ -58,7 +58,7 @@ fn undefined_word_stripped(rt: HostRuntime) -> Result<(), Fail> {
 static CALL_FORWARD: [Link<'static>; 2] = [
     Link {
         line: "ld -o out c.o d.o",
-        file: Written::Spelt(
+        file: Written::Encoded(
             [0o407, 0o10, 0, 0, 0o30, 0, 0, 1],
             &[0o4767, 0o2, 0o240, 0o207],
             &[("L1", 0o2, 0), ("_f", 0o42, 6)],
@@ -81,7 +81,7 @@ fn call_forward_linked(rt: HostRuntime) -> Result<(), Fail> {
 
 static CALL_BACKWARD: [Link<'static>; 1] = [Link {
     line: "ld -o out d.o c.o",
-    file: Written::Spelt(
+    file: Written::Encoded(
         [0o407, 8, 0, 0, 24, 0, 0, 1],
         &[0o240, 0o207, 0o4767, 0o177772],
         &[("L1", 0o2, 4), ("_f", 0o42, 2)],
@@ -98,7 +98,7 @@ fn call_backward(rt: HostRuntime) -> Result<(), Fail> {
 static IN_DATA: [Link<'static>; 2] = [
     Link {
         line: "ld -s -o out p.o q.o r.o",
-        file: Written::Spelt(
+        file: Written::Encoded(
             [0o407, 8, 4, 0, 0, 0, 0, 1],
             &[0o240, 0o207, 0o207, 0o207, 1, 0o177772],
             &[],
@@ -108,7 +108,7 @@ static IN_DATA: [Link<'static>; 2] = [
     },
     Link {
         line: "ld -o out p.o q.o r.o",
-        file: Written::Spelt(
+        file: Written::Encoded(
             [0o407, 8, 4, 0, 12, 0, 0, 1],
             &[0o240, 0o207, 0o207, 0o207, 1, 0o177772],
             &[("_g", 0o42, 6)],
@@ -126,7 +126,7 @@ fn pc_word_in_data(rt: HostRuntime) -> Result<(), Fail> {
 static LAID_OUT: [Link<'static>; 3] = [
     Link {
         line: "ld -i -o out i.o",
-        file: Written::Spelt(
+        file: Written::Encoded(
             [0o411, 6, 4, 6, 0o60, 0, 0, 1],
             &[0, 0, 0, 0, 0],
             &[
@@ -141,7 +141,7 @@ static LAID_OUT: [Link<'static>; 3] = [
     },
     Link {
         line: "ld -o out i.o",
-        file: Written::Spelt(
+        file: Written::Encoded(
             [0o407, 6, 4, 6, 0o60, 0, 0, 1],
             &[0, 0, 0, 0, 0],
             &[
@@ -156,7 +156,7 @@ static LAID_OUT: [Link<'static>; 3] = [
     },
     Link {
         line: "ld -n -o out i.o",
-        file: Written::Spelt(
+        file: Written::Encoded(
             [0o410, 6, 4, 6, 0o60, 0, 0, 1],
             &[0, 0, 0, 0, 0],
             &[
@@ -179,7 +179,7 @@ fn split_layout(rt: HostRuntime) -> Result<(), Fail> {
 static COMMONS_AND_END: [Link<'static>; 2] = [
     Link {
         line: "ld -o out y1.o y2.o",
-        file: Written::Spelt(
+        file: Written::Encoded(
             [0o407, 2, 2, 12, 36, 0, 0, 1],
             &[0o207, 1],
             &[("_x", 0o44, 4), ("_y", 0o44, 0o12), ("_end", 0o44, 0o20)],
@@ -203,7 +203,7 @@ fn commons_and_end(rt: HostRuntime) -> Result<(), Fail> {
 static WITH_A_FILE_NAME: [Link<'static>; 2] = [
     Link {
         line: "ld -o out b.o named.o",
-        file: Written::Spelt(
+        file: Written::Encoded(
             [0o407, 2, 0, 0, 12, 0, 0, 1],
             &[0o207],
             &[("main.o", 0o37, 0)],
@@ -213,7 +213,7 @@ static WITH_A_FILE_NAME: [Link<'static>; 2] = [
     },
     Link {
         line: "ld -x -o out b.o named.o",
-        file: Written::Spelt([0o407, 2, 0, 0, 0, 0, 0, 1], &[0o207], &[]),
+        file: Written::Encoded([0o407, 2, 0, 0, 0, 0, 0, 1], &[0o207], &[]),
         report: "",
         kept: None,
     },
@@ -225,9 +225,9 @@ const NAMED_O: [u8; 28] = [
     0x6d, 0x61, 0x69, 0x6e, 0x2e, 0x6f, 0x00, 0x00, 0x1f, 0x00, 0x00, 0x00,
 ];
 
-static NAMED: [Step<'static>; 2] = [
-    Step::Put("named.o", &NAMED_O),
-    Step::Run("nm named.o", "", (0, "000000 f main.o\n", "")),
+static NAMED: [Action<'static>; 2] = [
+    Action::Put("named.o", &NAMED_O),
+    Action::Run("nm named.o", "", (0, "000000 f main.o\n", "")),
 ];
 
 #[test]
@@ -239,7 +239,7 @@ fn file_name_symbol_linked(rt: HostRuntime) -> Result<(), Fail> {
 static ENTERED: [Link<'static>; 2] = [
     Link {
         line: "ld -e _f -o out c.o d.o",
-        file: Written::Spelt(
+        file: Written::Encoded(
             [0o407, 8, 0, 0, 24, 6, 0, 1],
             &[0o4767, 0o2, 0o240, 0o207],
             &[("L1", 0o2, 0), ("_f", 0o42, 6)],
@@ -249,7 +249,7 @@ static ENTERED: [Link<'static>; 2] = [
     },
     Link {
         line: "ld -e _x -o out k.o",
-        file: Written::Spelt(
+        file: Written::Encoded(
             [0o407, 4, 0, 4, 12, 0, 0, 1],
             &[0o6, 0o177774],
             &[("_x", 0o44, 4)],
@@ -259,9 +259,9 @@ static ENTERED: [Link<'static>; 2] = [
     },
 ];
 
-static NOT_TOGETHER: [Step<'static>; 2] = [
-    Step::Run("ld -r -s c.o", "", (2, "", "v7: usage\n")),
-    Step::Run("ld -n -i c.o", "", (2, "", "v7: usage\n")),
+static NOT_TOGETHER: [Action<'static>; 2] = [
+    Action::Run("ld -r -s c.o", "", (2, "", "v7: usage\n")),
+    Action::Run("ld -n -i c.o", "", (2, "", "v7: usage\n")),
 ];
 
 #[test]
@@ -277,12 +277,12 @@ static LINKED_STRIPPED: [Link<'static>; 1] = [Link {
     kept: None,
 }];
 
-static STRIPPED_TWICE: [Step<'static>; 5] = [
-    Step::Put("out", &CALL),
-    Step::Run("strip out", "", (0, "", "")),
-    Step::Has("out", &CALL_STRIPPED),
-    Step::Run("strip out", "", (0, "", "")),
-    Step::Has("out", &CALL_STRIPPED),
+static STRIPPED_TWICE: [Action<'static>; 5] = [
+    Action::Put("out", &CALL),
+    Action::Run("strip out", "", (0, "", "")),
+    Action::Has("out", &CALL_STRIPPED),
+    Action::Run("strip out", "", (0, "", "")),
+    Action::Has("out", &CALL_STRIPPED),
 ];
 
 #[test]
@@ -305,7 +305,7 @@ fn undefined_report_as_command(rt: HostRuntime) -> Result<(), Fail> {
 
 static DOUBLY_DEFINED: [Link<'static>; 1] = [Link {
     line: "ld -o out d.o d2.o",
-    file: Written::Spelt(
+    file: Written::Encoded(
         [0o407, 6, 0, 0, 12, 0, 0, 1],
         &[0o240, 0o207, 0o207],
         &[("_f", 0o42, 2)],

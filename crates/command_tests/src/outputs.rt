@@ -79,7 +79,7 @@ fn linked_over_memory(rt: &HostRuntime, line: &str) -> Result<Option<Output>, Fa
 #[derive(Clone, Copy)]
 pub enum Written<'a> {
     /// Its header, its words of text, data and relocation, and its symbol table.
-    Spelt([u16; 8], &'a [u16], &'a [Row<'a>]),
+    Encoded([u16; 8], &'a [u16], &'a [Row<'a>]),
     /// Its bytes.
     Bytes(&'a [u8]),
 }
@@ -87,7 +87,7 @@ pub enum Written<'a> {
 impl Written<'_> {
     fn bytes(&self, alloc: Global) -> Result<Vec<u8>, AllocError> {
         match self {
-            Written::Spelt(header, words, rows) => file_of(alloc, *header, words, rows),
+            Written::Encoded(header, words, rows) => file_of(alloc, *header, words, rows),
             Written::Bytes(bytes) => bytes.to_vec(alloc),
         }
     }

@@ -6,7 +6,7 @@ use std::test::Fail;
 static RELOCATABLE_ONE: [Link<'static>; 2] = [
     Link {
         line: "ld -r -o out c.o",
-        file: Written::Spelt(
+        file: Written::Encoded(
             [0o407, 4, 0, 0, 0o30, 0, 0, 0],
             &[0o4767, 0o177774, 0, 0o31],
             &[("L1", 0o2, 0), ("_f", 0o40, 0)],
@@ -16,7 +16,7 @@ static RELOCATABLE_ONE: [Link<'static>; 2] = [
     },
     Link {
         line: "ld -r -x -o out c.o",
-        file: Written::Spelt(
+        file: Written::Encoded(
             [0o407, 4, 0, 0, 12, 0, 0, 0],
             &[0o4767, 0o177774, 0, 0o11],
             &[("_f", 0o40, 0)],
@@ -34,7 +34,7 @@ fn relocatable_one(rt: HostRuntime) -> Result<(), Fail> {
 static RELOCATABLE_PAIR: [Link<'static>; 2] = [
     Link {
         line: "ld -r -o out c.o d.o",
-        file: Written::Spelt(
+        file: Written::Encoded(
             [0o407, 8, 0, 0, 24, 0, 0, 0],
             &[0o4767, 0o2, 0o240, 0o207, 0, 0o3, 0, 0],
             &[("L1", 0o2, 0), ("_f", 0o42, 6)],
@@ -57,7 +57,7 @@ fn relocatable_pair(rt: HostRuntime) -> Result<(), Fail> {
 
 static RELOCATABLE_COMMONS: [Link<'static>; 1] = [Link {
     line: "ld -r -d -o out k.o",
-    file: Written::Spelt(
+    file: Written::Encoded(
         [0o407, 4, 0, 4, 0o14, 0, 0, 0],
         &[0o6, 0o177774, 0o6, 0o7],
         &[("_x", 0o44, 4)],
@@ -74,7 +74,7 @@ fn relocatable_commons(rt: HostRuntime) -> Result<(), Fail> {
 static RELOCATABLE_COMMONS_RESERVED: [Link<'static>; 2] = [
     Link {
         line: "ld -r -d -o out y1.o y2.o",
-        file: Written::Spelt(
+        file: Written::Encoded(
             [0o407, 2, 2, 12, 36, 0, 0, 0],
             &[0o207, 1, 0, 0],
             &[("_x", 0o44, 4), ("_y", 0o44, 0o12), ("_end", 0o40, 0)],
@@ -102,7 +102,7 @@ fn relocatable_commons_reserved(rt: HostRuntime) -> Result<(), Fail> {
 static PARTIAL_COMMONS: [Link<'static>; 3] = [
     Link {
         line: "ld -r -o out y1.o y2.o",
-        file: Written::Spelt(
+        file: Written::Encoded(
             [0o407, 2, 2, 2, 36, 0, 0, 0],
             &[0o207, 1, 0, 0],
             &[("_x", 0o40, 5), ("_y", 0o40, 4), ("_end", 0o40, 0)],
@@ -112,7 +112,7 @@ static PARTIAL_COMMONS: [Link<'static>; 3] = [
     },
     Link {
         line: "ld -r -o out m2.o",
-        file: Written::Spelt(
+        file: Written::Encoded(
             [0o407, 2, 2, 2, 36, 0, 0, 0],
             &[0o207, 1, 0, 0],
             &[("_x", 0o40, 5), ("_y", 0o40, 4), ("_end", 0o40, 0)],
@@ -136,7 +136,7 @@ fn partial_commons(rt: HostRuntime) -> Result<(), Fail> {
 static PARTIAL_MULTIPLES: [Link<'static>; 3] = [
     Link {
         line: "ld -r -o out d.o d2.o",
-        file: Written::Spelt(
+        file: Written::Encoded(
             [0o407, 6, 0, 0, 12, 0, 0, 0],
             &[0o240, 0o207, 0o207, 0, 0, 0],
             &[("_f", 0o42, 2)],
@@ -146,7 +146,7 @@ static PARTIAL_MULTIPLES: [Link<'static>; 3] = [
     },
     Link {
         line: "ld -o out d.o d2.o",
-        file: Written::Spelt(
+        file: Written::Encoded(
             [0o407, 6, 0, 0, 12, 0, 0, 1],
             &[0o240, 0o207, 0o207],
             &[("_f", 0o42, 2)],
@@ -156,7 +156,7 @@ static PARTIAL_MULTIPLES: [Link<'static>; 3] = [
     },
     Link {
         line: "ld -o out m4.o",
-        file: Written::Spelt(
+        file: Written::Encoded(
             [0o407, 6, 0, 0, 12, 0, 0, 1],
             &[0o240, 0o207, 0o207],
             &[("_f", 0o42, 2)],
@@ -174,7 +174,7 @@ fn partial_multiples(rt: HostRuntime) -> Result<(), Fail> {
 static FORCED: [Link<'static>; 3] = [
     Link {
         line: "ld -r -u _z -o out c.o",
-        file: Written::Spelt(
+        file: Written::Encoded(
             [0o407, 4, 0, 0, 36, 0, 0, 0],
             &[0o4767, 0o177774, 0, 0o51],
             &[("L1", 0o2, 0), ("_z", 0o40, 0), ("_f", 0o40, 0)],
@@ -184,7 +184,7 @@ static FORCED: [Link<'static>; 3] = [
     },
     Link {
         line: "ld -u _z -o out m5.o",
-        file: Written::Spelt(
+        file: Written::Encoded(
             [0o407, 4, 0, 0, 36, 0, 0, 1],
             &[0o4767, 0o177774],
             &[("L1", 0o2, 0), ("_z", 0o40, 0), ("_f", 0o40, 0)],
@@ -194,7 +194,7 @@ static FORCED: [Link<'static>; 3] = [
     },
     Link {
         line: "ld -u _z -o out c.o",
-        file: Written::Spelt(
+        file: Written::Encoded(
             [0o407, 4, 0, 0, 36, 0, 0, 1],
             &[0o4767, 0o177774],
             &[("L1", 0o2, 0), ("_z", 0o40, 0), ("_f", 0o40, 0)],
@@ -212,7 +212,7 @@ fn partial_forced(rt: HostRuntime) -> Result<(), Fail> {
 static PARTIAL_AMONG_NEIGHBOURS: [Link<'static>; 2] = [
     Link {
         line: "ld -r -o out q.o r.o",
-        file: Written::Spelt(
+        file: Written::Encoded(
             [0o407, 4, 2, 0, 12, 0, 0, 0],
             &[0o207, 0o207, 0o177774, 0, 0, 0o3],
             &[("_g", 0o42, 2)],
@@ -222,7 +222,7 @@ static PARTIAL_AMONG_NEIGHBOURS: [Link<'static>; 2] = [
     },
     Link {
         line: "ld -s -o out p.o m3.o",
-        file: Written::Spelt(
+        file: Written::Encoded(
             [0o407, 8, 4, 0, 0, 0, 0, 1],
             &[0o240, 0o207, 0o207, 0o207, 1, 0o177772],
             &[],
@@ -240,7 +240,7 @@ fn partial_among_neighbours(rt: HostRuntime) -> Result<(), Fail> {
 static PARTIAL_DROPS_LOCAL: [Link<'static>; 3] = [
     Link {
         line: "ld -r -X -o out c.o",
-        file: Written::Spelt(
+        file: Written::Encoded(
             [0o407, 4, 0, 0, 12, 0, 0, 0],
             &[0o4767, 0o177774, 0, 0o11],
             &[("_f", 0o40, 0)],
@@ -250,7 +250,7 @@ static PARTIAL_DROPS_LOCAL: [Link<'static>; 3] = [
     },
     Link {
         line: "ld -X -o out m6.o d.o",
-        file: Written::Spelt(
+        file: Written::Encoded(
             [0o407, 8, 0, 0, 12, 0, 0, 1],
             &[0o4767, 0o2, 0o240, 0o207],
             &[("_f", 0o42, 6)],
@@ -260,7 +260,7 @@ static PARTIAL_DROPS_LOCAL: [Link<'static>; 3] = [
     },
     Link {
         line: "ld -X -o out c.o d.o",
-        file: Written::Spelt(
+        file: Written::Encoded(
             [0o407, 8, 0, 0, 12, 0, 0, 1],
             &[0o4767, 0o2, 0o240, 0o207],
             &[("_f", 0o42, 6)],

@@ -1,7 +1,7 @@
 //! Commands that are refused: files that do not fit, are damaged, or can't be opened, read, made or written.
 use aout_core::samples::A_O;
 use command_fixtures::{
-    Step, enter_sized, has_bytes, runs, runs_refused, take_all, take_in_folder,
+    Action, enter_sized, has_bytes, runs, runs_refused, take_all, take_in_folder,
 };
 use fixtures::{TWO_OBJECTS, replaced};
 use std::fs;
@@ -9,10 +9,10 @@ use std::test::Fail;
 
 static SIZED: [(&str, u16, u16); 3] = [("l.o", 65_534, 0), ("d.o", 0, 2), ("t.o", 2, 0)];
 
-static NO_ROOM: [Step<'static>; 3] = [
-    Step::Run("ld -s -o out l.o d.o", "", (2, "", "v7: does not fit\n")),
-    Step::Run("ld -s -o out l.o t.o", "", (2, "", "v7: t.o: text full\n")),
-    Step::Lacks("out"),
+static NO_ROOM: [Action<'static>; 3] = [
+    Action::Run("ld -s -o out l.o d.o", "", (2, "", "v7: does not fit\n")),
+    Action::Run("ld -s -o out l.o t.o", "", (2, "", "v7: t.o: text full\n")),
+    Action::Lacks("out"),
 ];
 
 #[test]
@@ -38,21 +38,21 @@ static DAMAGES: [(usize, u8, &str); 5] = [
 ];
 
 /// Commands with a file that can't be opened, read, made or written.
-static BAD_PLACES: [Step<'static>; 6] = [
-    Step::Put("a.o", &A_O),
-    Step::Run(
+static BAD_PLACES: [Action<'static>; 6] = [
+    Action::Put("a.o", &A_O),
+    Action::Run(
         "ld -s -o out none.o",
         "",
         (2, "", "v7: none.o: cannot open\n"),
     ),
-    Step::Run("ld -s -o out .", "", (2, "", "v7: .: read error\n")),
-    Step::Run(
+    Action::Run("ld -s -o out .", "", (2, "", "v7: .: read error\n")),
+    Action::Run(
         "ld -s -o none/out a.o",
         "",
         (2, "", "v7: none/out: cannot create\n"),
     ),
-    Step::Run("ld -s -o /dev/full a.o", "", (2, "", "v7: write error\n")),
-    Step::Lacks("out"),
+    Action::Run("ld -s -o /dev/full a.o", "", (2, "", "v7: write error\n")),
+    Action::Lacks("out"),
 ];
 
 static WITH_X_O: &str = "ld -s -o out a.o x.o";
@@ -98,7 +98,7 @@ fn assert_damages_refused(rt: &HostRuntime) -> Result<(), Fail> {
     Ok(())
 }
 
-static WITH_A_O: [Step<'static>; 1] = [Step::Put("a.o", &A_O)];
+static WITH_A_O: [Action<'static>; 1] = [Action::Put("a.o", &A_O)];
 
 #[test]
 fn damaged_inputs(rt: HostRuntime) -> Result<(), Fail> {

@@ -1,6 +1,6 @@
 //! Sessions as commands: their answers, what they ask for, and their status.
 use command_fixtures::{
-    Case, Step, assert_cases, enter_objects, enter_sized, runs, take_all, take_among_objects,
+    Action, Case, assert_cases, enter_objects, enter_sized, runs, take_all, take_among_objects,
 };
 use fixtures::{ANSWERS, CALL_STRIPPED, SCRIPT};
 use std::alloc::{AllocError, Global};
@@ -13,10 +13,10 @@ const WITH_SYMBOLS: [u8; 44] = [
     0x5f, 0x66, 0x00, 0x00, 0x00, 0x00, 0x00, 0x00, 0x20, 0x00, 0x00, 0x00,
 ];
 
-static SCRIPTED: [Step<'static>; 3] = [
-    Step::Run("session", SCRIPT, (1, ANSWERS, "")),
-    Step::Has("out", &WITH_SYMBOLS),
-    Step::Run("session", "", (0, "", "")),
+static SCRIPTED: [Action<'static>; 3] = [
+    Action::Run("session", SCRIPT, (1, ANSWERS, "")),
+    Action::Has("out", &WITH_SYMBOLS),
+    Action::Run("session", "", (0, "", "")),
 ];
 
 #[test]
@@ -191,13 +191,13 @@ fn session_takes_paths_as_they_stand(rt: HostRuntime) -> Result<(), Fail> {
 
 static SIZED: [(&str, u16, u16); 2] = [("l.o", 65_534, 0), ("e.o", 0, 2)];
 
-static NOT_LINKED: [Step<'static>; 2] = [
-    Step::Run(
+static NOT_LINKED: [Action<'static>; 2] = [
+    Action::Run(
         "session",
         "add l.o\nadd e.o\nlink out\nwithdraw\n",
         (1, "added l.o\nadded e.o\ndoes not fit\nwithdrew e.o\n", ""),
     ),
-    Step::Lacks("out"),
+    Action::Lacks("out"),
 ];
 
 #[test]

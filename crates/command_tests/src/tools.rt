@@ -1,6 +1,6 @@
 //! nm, size and strip on files.
 use aout_core::samples::{A_O, B_O, E_O, S_O};
-use command_fixtures::{Step, take_in_folder};
+use command_fixtures::{Action, take_in_folder};
 use fixtures::{CALL, ONE_OBJECT};
 use std::test::Fail;
 
@@ -15,13 +15,13 @@ const OVERLAY_STRIPPED: [u8; 18] = [
     0x07, 0x00,
 ];
 
-static STRIPPED: [Step<'static>; 6] = [
-    Step::Put("a.o", &A_O),
-    Step::Run("strip a.o", "", (0, "", "")),
-    Step::Has("a.o", &ONE_OBJECT),
-    Step::Put("a.o", &A_O),
-    Step::Run("strip a.o a.o", "", (0, "", "")),
-    Step::Has("a.o", &ONE_OBJECT),
+static STRIPPED: [Action<'static>; 6] = [
+    Action::Put("a.o", &A_O),
+    Action::Run("strip a.o", "", (0, "", "")),
+    Action::Has("a.o", &ONE_OBJECT),
+    Action::Put("a.o", &A_O),
+    Action::Run("strip a.o a.o", "", (0, "", "")),
+    Action::Has("a.o", &ONE_OBJECT),
 ];
 
 #[test]
@@ -29,11 +29,11 @@ fn strip_an_object(rt: HostRuntime) -> Result<(), Fail> {
     take_in_folder(&rt, "strip_an_object", &STRIPPED)
 }
 
-static NOT_STRIPPED: [Step<'static>; 4] = [
-    Step::Put("b.o", &B_O),
-    Step::Run("strip b.o none.o", "", (2, "", "v7: none.o: cannot open\n")),
-    Step::Has("b.o", &B_O),
-    Step::Run(
+static NOT_STRIPPED: [Action<'static>; 4] = [
+    Action::Put("b.o", &B_O),
+    Action::Run("strip b.o none.o", "", (2, "", "v7: none.o: cannot open\n")),
+    Action::Has("b.o", &B_O),
+    Action::Run(
         "strip /dev/null",
         "",
         (2, "", "v7: /dev/null: short header\n"),
@@ -45,10 +45,10 @@ fn strip_missing_file(rt: HostRuntime) -> Result<(), Fail> {
     take_in_folder(&rt, "strip_missing_file", &NOT_STRIPPED)
 }
 
-static OVERLAID: [Step<'static>; 3] = [
-    Step::Put("overlay", &OVERLAY),
-    Step::Run("strip overlay", "", (0, "", "")),
-    Step::Has("overlay", &OVERLAY_STRIPPED),
+static OVERLAID: [Action<'static>; 3] = [
+    Action::Put("overlay", &OVERLAY),
+    Action::Run("strip overlay", "", (0, "", "")),
+    Action::Has("overlay", &OVERLAY_STRIPPED),
 ];
 
 #[test]
@@ -56,26 +56,26 @@ fn strip_overlay(rt: HostRuntime) -> Result<(), Fail> {
     take_in_folder(&rt, "strip_overlay", &OVERLAID)
 }
 
-static LISTED: [Step<'static>; 15] = [
-    Step::Put("s.o", &S_O),
-    Step::Run("nm", "", (2, "", "v7: a.out: cannot open\n")),
-    Step::Run("nm s.o none.o", "", (2, "", "v7: none.o: cannot open\n")),
-    Step::Run("nm s.o .", "", (2, "", "v7: .: read error\n")),
-    Step::Run("nm /dev/null", "", (2, "", "v7: /dev/null: short header\n")),
-    Step::Run("nm -z s.o", "", (2, "", "v7: usage\n")),
-    Step::Run("size", "", (2, "", "v7: a.out: cannot open\n")),
-    Step::Run("size s.o none.o", "", (2, "", "v7: none.o: cannot open\n")),
-    Step::Run("size s.o .", "", (2, "", "v7: .: read error\n")),
-    Step::Run(
+static LISTED: [Action<'static>; 15] = [
+    Action::Put("s.o", &S_O),
+    Action::Run("nm", "", (2, "", "v7: a.out: cannot open\n")),
+    Action::Run("nm s.o none.o", "", (2, "", "v7: none.o: cannot open\n")),
+    Action::Run("nm s.o .", "", (2, "", "v7: .: read error\n")),
+    Action::Run("nm /dev/null", "", (2, "", "v7: /dev/null: short header\n")),
+    Action::Run("nm -z s.o", "", (2, "", "v7: usage\n")),
+    Action::Run("size", "", (2, "", "v7: a.out: cannot open\n")),
+    Action::Run("size s.o none.o", "", (2, "", "v7: none.o: cannot open\n")),
+    Action::Run("size s.o .", "", (2, "", "v7: .: read error\n")),
+    Action::Run(
         "size /dev/null",
         "",
         (2, "", "v7: /dev/null: short header\n"),
     ),
-    Step::Run("size -z s.o", "", (2, "", "v7: usage\n")),
-    Step::Put("a.out", &CALL),
-    Step::Run("nm", "", (0, "000000 t L1\n000006 T _f\n", "")),
-    Step::Run("size", "", (0, "8+0+0 = 8b = 010b\n", "")),
-    Step::Run(
+    Action::Run("size -z s.o", "", (2, "", "v7: usage\n")),
+    Action::Put("a.out", &CALL),
+    Action::Run("nm", "", (0, "000000 t L1\n000006 T _f\n", "")),
+    Action::Run("size", "", (0, "8+0+0 = 8b = 010b\n", "")),
+    Action::Run(
         "nm -gn -o s.o -r",
         "",
         (0, "s.o:000004 C _x\ns.o:000000 T _m\ns.o:       U _f\n", ""),
@@ -133,38 +133,38 @@ const RISING: &str = "000000 t L1\n000002 t L1\n";
 /// The sizes of `a.o` and `b.o`.
 const TWO_SIZES: &str = "a.o: 4+2+0 = 6b = 06b\nb.o: 2+0+0 = 2b = 02b\n";
 
-static FLAGGED: [Step<'static>; 27] = [
-    Step::Put("a.o", &A_O),
-    Step::Put("b.o", &B_O),
-    Step::Put("e.o", &E_O),
-    Step::Put("s.o", &S_O),
-    Step::Put("l.o", &EQUAL_NAMES),
-    Step::Put("n.o", &LONG_NAME),
-    Step::Put("z.o", &SIZES),
-    Step::Run("nm s.o", "", (0, BY_NAME, "")),
-    Step::Run("nm -g s.o", "", (0, EXTERNAL, "")),
-    Step::Run("nm -n s.o", "", (0, BY_VALUE, "")),
-    Step::Run("nm -r s.o", "", (0, REVERSED, "")),
-    Step::Run("nm -p s.o", "", (0, IN_TABLE_ORDER, "")),
-    Step::Run("nm -u s.o", "", (0, "       U _f\n", "")),
-    Step::Run("nm -o s.o", "", (0, BEHIND_PATHS, "")),
-    Step::Run("nm -o b.o s.o", "", (0, BEHIND_PATHS, "")),
-    Step::Run("nm b.o e.o", "", (0, "b.o:\ne.o:\n", "")),
-    Step::Run("nm n.o", "", (0, "000000 T _longnam\n", "")),
-    Step::Run("nm -p -n -r s.o", "", (0, IN_TABLE_ORDER, "")),
-    Step::Run("nm -g -u s.o", "", (0, "       U _f\n", "")),
-    Step::Run(
+static FLAGGED: [Action<'static>; 27] = [
+    Action::Put("a.o", &A_O),
+    Action::Put("b.o", &B_O),
+    Action::Put("e.o", &E_O),
+    Action::Put("s.o", &S_O),
+    Action::Put("l.o", &EQUAL_NAMES),
+    Action::Put("n.o", &LONG_NAME),
+    Action::Put("z.o", &SIZES),
+    Action::Run("nm s.o", "", (0, BY_NAME, "")),
+    Action::Run("nm -g s.o", "", (0, EXTERNAL, "")),
+    Action::Run("nm -n s.o", "", (0, BY_VALUE, "")),
+    Action::Run("nm -r s.o", "", (0, REVERSED, "")),
+    Action::Run("nm -p s.o", "", (0, IN_TABLE_ORDER, "")),
+    Action::Run("nm -u s.o", "", (0, "       U _f\n", "")),
+    Action::Run("nm -o s.o", "", (0, BEHIND_PATHS, "")),
+    Action::Run("nm -o b.o s.o", "", (0, BEHIND_PATHS, "")),
+    Action::Run("nm b.o e.o", "", (0, "b.o:\ne.o:\n", "")),
+    Action::Run("nm n.o", "", (0, "000000 T _longnam\n", "")),
+    Action::Run("nm -p -n -r s.o", "", (0, IN_TABLE_ORDER, "")),
+    Action::Run("nm -g -u s.o", "", (0, "       U _f\n", "")),
+    Action::Run(
         "nm -g -n -r s.o",
         "",
         (0, "000004 C _x\n000000 T _m\n       U _f\n", ""),
     ),
-    Step::Run("nm l.o", "", (0, FALLING, "")),
-    Step::Run("nm -r l.o", "", (0, RISING, "")),
-    Step::Run("nm -n l.o", "", (0, RISING, "")),
-    Step::Run("nm -n -r l.o", "", (0, FALLING, "")),
-    Step::Run("size z.o", "", (0, "4+2+2 = 8b = 010b\n", "")),
-    Step::Run("size a.o b.o", "", (0, TWO_SIZES, "")),
-    Step::Run("size e.o", "", (0, "0+0+0 = 0b = 00b\n", "")),
+    Action::Run("nm l.o", "", (0, FALLING, "")),
+    Action::Run("nm -r l.o", "", (0, RISING, "")),
+    Action::Run("nm -n l.o", "", (0, RISING, "")),
+    Action::Run("nm -n -r l.o", "", (0, FALLING, "")),
+    Action::Run("size z.o", "", (0, "4+2+2 = 8b = 010b\n", "")),
+    Action::Run("size a.o b.o", "", (0, TWO_SIZES, "")),
+    Action::Run("size e.o", "", (0, "0+0+0 = 0b = 00b\n", "")),
 ];
 
 #[test]

@@ -25,9 +25,9 @@ use Rattle.command_words.specs.declared.fault.WordsFault.TheVariants.{Memory}
 use Rattle.command_words.specs.declared.words.Call.{Call}
 use Rattle.command_words.specs.declared.words.TheConstants.{FILE}
 use Rattle.command_words.specs.Calls.{Asks, AsksForNone, IsAsked, fault_of_words, name_of}
-use Rattle.command_words.specs.steps.ToolCalls.{HasNoCall}
+use Rattle.command_words.specs.internal.ToolCalls.{HasNoCall}
 use Rattle.command_words.specs.LinkWords.{values_of}
-use Rattle.command_words.specs.steps.ToolApps.{tool_app, tools_added}
+use Rattle.command_words.specs.internal.ToolApps.{tool_app, tools_added}
 use Rattle.command_words.specs.Tools.{bare, files_rule, ld_app, nm_app, session_app, v7_app}
 use Rattle.command_words.proofs.WordsLemmas.{dashes-asked, dashes-bytes, is_dash}
 

@@ -1,4 +1,4 @@
 pub mod LinkWords
 pub mod Tools
 pub mod Calls
-pub mod steps
+pub mod internal

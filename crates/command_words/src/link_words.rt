@@ -5,7 +5,7 @@ ghost use Rattle.clap.specs.Matches.{found_of};
 ghost use Rattle.clap.specs.Simple.{app_of};
 ghost use Rattle.clap.specs.declared.builder.action.ArgAction.TheVariants.{Count};
 ghost use Rattle.command_words.specs.Tools.{letter_rule, link_rules, with_rules};
-ghost use Rattle.command_words.specs.steps.FlagRules.{flag_rule};
+ghost use Rattle.command_words.specs.internal.FlagRules.{flag_rule};
 ghost use Rattle.command_words.specs.LinkWords.{forced_asked, is_given, keep_asked, layout_asked, name_in, options_asked};
 
 use crate::fault::WordsFault;

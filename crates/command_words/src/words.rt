@@ -5,8 +5,8 @@ ghost use Rattle.clap.specs.Simple.{app_of};
 ghost use Rattle.clap.specs.Walk.{first_of, rows_of, rule_of};
 ghost use Rattle.command_words.specs.declared.fault.WordsFault.TheVariants.{Memory};
 ghost use Rattle.command_words.specs.Calls.{Asks, AsksForNone, IsAsked, IsWhole, dashes_in, files_of, name_of, or_program, program};
-ghost use Rattle.command_words.specs.steps.ToolApps.{tool_app, tools_added};
-ghost use Rattle.command_words.specs.steps.ToolCalls.{HasNoCall};
+ghost use Rattle.command_words.specs.internal.ToolApps.{tool_app, tools_added};
+ghost use Rattle.command_words.specs.internal.ToolCalls.{HasNoCall};
 ghost use Rattle.command_words.specs.LinkWords.{values_of};
 ghost use Rattle.command_words.specs.Tools.{bare, files_rule, ld_app, nm_app, v7_alone, v7_app};
 

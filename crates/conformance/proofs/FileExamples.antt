@@ -5,107 +5,107 @@ use Rattle.aout_core.specs.declared.file.ReadFault.TheVariants.{ShortHeader, Bad
 use Rattle.aout_core.specs.declared.object.ObjectFault.TheVariants.{NotAnObject, NoRelocation, BadRelocation, BadSymbolNumber}
 use Rattle.aout_core.specs.Contents.{Contents}
 use Rattle.aout_core.specs.Words.{word_bytes}
-use Rattle.aout_core.specs.Spelling.{spelling, header_spelling, symbol_spelling, file_length}
-use Rattle.aout_core.specs.Front.{front, symbol_in}
+use Rattle.aout_core.specs.Encoding.{encoding, header_encoding, symbol_encoding, file_length}
+use Rattle.aout_core.specs.Decoding.{decode, symbol_in}
 use Rattle.aout_core.specs.WellFormed.{first_object_fault}
 use Rattle.aout_core.specs.Strip.{stripped}
 use Rattle.conformance.specs.Samples.{relocs, sym, header, _f, a_o, b_o, c_o, d_o, i_o, k_o, l_o, q_o, s_o}
 
-abbrev front_ok : Result Contents ReadFault → Option ReadFault
-front_ok (Ok c) = None
-front_ok (Err e) = Some e
+abbrev decode_ok : Result Contents ReadFault → Option ReadFault
+decode_ok (Ok c) = None
+decode_ok (Err e) = Some e
 
-damaged_files_none : front [] ≡ Err ShortHeader
+damaged_files_none : decode [] ≡ Err ShortHeader
 damaged_files_none = refl
 
-damaged_files_15 : front (take 15 (spelling a_o)) ≡ Err ShortHeader
+damaged_files_15 : decode (take 15 (encoding a_o)) ≡ Err ShortHeader
 damaged_files_15 = refl
 
-damaged_files_17 : front (take 17 (spelling a_o)) ≡ Err Truncated
+damaged_files_17 : decode (take 17 (encoding a_o)) ≡ Err Truncated
 damaged_files_17 = refl
 
-damaged_files_more : front ((spelling a_o) ++ 1 ∷ 2 ∷ 3 ∷ []) ≡ Ok a_o
+damaged_files_more : decode ((encoding a_o) ++ 1 ∷ 2 ∷ 3 ∷ []) ≡ Ok a_o
 damaged_files_more = refl
 
-damaged_files_magic : front (spelling (record a_o { header = record a_o.header { magic = 0o404 } })) ≡ Err BadMagic
+damaged_files_magic : decode (encoding (record a_o { header = record a_o.header { magic = 0o404 } })) ≡ Err BadMagic
 damaged_files_magic = refl
 
-damaged_files_text : front (spelling (record a_o { header = record a_o.header { text_size = 3 } })) ≡ Err OddSize
+damaged_files_text : decode (encoding (record a_o { header = record a_o.header { text_size = 3 } })) ≡ Err OddSize
 damaged_files_text = refl
 
-damaged_files_symbols : front (spelling (record a_o { header = record a_o.header { symbol_size = 13 } })) ≡ Err OddSize
+damaged_files_symbols : decode (encoding (record a_o { header = record a_o.header { symbol_size = 13 } })) ≡ Err OddSize
 damaged_files_symbols = refl
 
-first_refusal : front (header_spelling (header 0o404 3 0 0 0 0 0)) ≡ Err BadMagic
+first_refusal : decode (header_encoding (header 0o404 3 0 0 0 0 0)) ≡ Err BadMagic
 first_refusal = refl
 
-first_refusal_odd : front (header_spelling (header 0o407 3 0 0 0 0 0)) ≡ Err OddSize
+first_refusal_odd : decode (header_encoding (header 0o407 3 0 0 0 0 0)) ≡ Err OddSize
 first_refusal_odd = refl
 
-longest_header : front (header_spelling (header 0o407 65534 65534 0 65532 0 0)) ≡ Err Truncated
+longest_header : decode (header_encoding (header 0o407 65534 65534 0 65532 0 0)) ≡ Err Truncated
 longest_header = refl
 
 longest_header_length : file_length (header 0o407 65534 65534 0 65532 0 0) ≡ 327684
 longest_header_length = refl
 
-front_a : front (spelling a_o) ≡ Ok a_o
-front_a = refl
+decode_a : decode (encoding a_o) ≡ Ok a_o
+decode_a = refl
 
 well_a : first_object_fault a_o ≡ None
 well_a = refl
 
-front_c : front (spelling c_o) ≡ Ok c_o
-front_c = refl
+decode_c : decode (encoding c_o) ≡ Ok c_o
+decode_c = refl
 
 well_c : first_object_fault c_o ≡ None
 well_c = refl
 
-front_d : front (spelling d_o) ≡ Ok d_o
-front_d = refl
+decode_d : decode (encoding d_o) ≡ Ok d_o
+decode_d = refl
 
 well_d : first_object_fault d_o ≡ None
 well_d = refl
 
-front_i : front (spelling i_o) ≡ Ok i_o
-front_i = refl
+decode_i : decode (encoding i_o) ≡ Ok i_o
+decode_i = refl
 
 well_i : first_object_fault i_o ≡ None
 well_i = refl
 
-front_k : front (spelling k_o) ≡ Ok k_o
-front_k = refl
+decode_k : decode (encoding k_o) ≡ Ok k_o
+decode_k = refl
 
 well_k : first_object_fault k_o ≡ None
 well_k = refl
 
-front_l : front (spelling l_o) ≡ Ok l_o
-front_l = refl
+decode_l : decode (encoding l_o) ≡ Ok l_o
+decode_l = refl
 
 well_l : first_object_fault l_o ≡ None
 well_l = refl
 
-front_q : front (spelling q_o) ≡ Ok q_o
-front_q = refl
+decode_q : decode (encoding q_o) ≡ Ok q_o
+decode_q = refl
 
 well_q : first_object_fault q_o ≡ None
 well_q = refl
 
-front_s : front (spelling s_o) ≡ Ok s_o
-front_s = refl
+decode_s : decode (encoding s_o) ≡ Ok s_o
+decode_s = refl
 
 well_s : first_object_fault s_o ≡ None
 well_s = refl
 
-cut_short : map (λ n. front_ok (front (take n (spelling c_o)))) (15 ∷ 16 ∷ 47 ∷ 48 ∷ []) ≡ Some ShortHeader ∷ Some Truncated ∷ Some Truncated ∷ None ∷ []
+cut_short : map (λ n. decode_ok (decode (take n (encoding c_o)))) (15 ∷ 16 ∷ 47 ∷ 48 ∷ []) ≡ Some ShortHeader ∷ Some Truncated ∷ Some Truncated ∷ None ∷ []
 cut_short = refl
 
-odd_flag : front (header_spelling (record b_o.header { flag = 2 }) ++ (word_bytes 0o207 ++ word_bytes 0)) ≡ Ok (record b_o { header = record b_o.header { flag = 2 }; text_reloc = [] })
+odd_flag : decode (header_encoding (record b_o.header { flag = 2 }) ++ (word_bytes 0o207 ++ word_bytes 0)) ≡ Ok (record b_o { header = record b_o.header { flag = 2 }; text_reloc = [] })
 odd_flag = refl
 
 name_junk : symbol_in (0x5f ∷ 0x66 ∷ 0 ∷ 0x41 ∷ 0 ∷ 0 ∷ 0 ∷ 0 ∷ 0x22 ∷ 0 ∷ 6 ∷ 0 ∷ []) ≡ sym _f 0o42 6
 name_junk = refl
 
-name_junk_written : symbol_spelling (sym _f 0o42 6) ≡ 0x5f ∷ 0x66 ∷ 0 ∷ 0 ∷ 0 ∷ 0 ∷ 0 ∷ 0 ∷ 0x22 ∷ 0 ∷ 6 ∷ 0 ∷ []
+name_junk_written : symbol_encoding (sym _f 0o42 6) ≡ 0x5f ∷ 0x66 ∷ 0 ∷ 0 ∷ 0 ∷ 0 ∷ 0 ∷ 0 ∷ 0x22 ∷ 0 ∷ 6 ∷ 0 ∷ []
 name_junk_written = refl
 
 damaged_objects_magic : first_object_fault (record b_o { header = record b_o.header { magic = 0o410; flag = 1 } }) ≡ Some NotAnObject
@@ -129,8 +129,8 @@ damaged_objects_local = refl
 damaged_objects_defined : first_object_fault (record d_o { text_reloc = relocs (0 ∷ 0o10 ∷ []) }) ≡ Some (BadSymbolNumber 1)
 damaged_objects_defined = refl
 
-strip_an_object : spelling (stripped a_o) ≡ 7 ∷ 1 ∷ 4 ∷ 0 ∷ 2 ∷ 0 ∷ 0 ∷ 0 ∷ 0 ∷ 0 ∷ 0 ∷ 0 ∷ 0 ∷ 0 ∷ 1 ∷ 0 ∷ 192 ∷ 21 ∷ 4 ∷ 0 ∷ 34 ∷ 0 ∷ []
+strip_an_object : encoding (stripped a_o) ≡ 7 ∷ 1 ∷ 4 ∷ 0 ∷ 2 ∷ 0 ∷ 0 ∷ 0 ∷ 0 ∷ 0 ∷ 0 ∷ 0 ∷ 0 ∷ 0 ∷ 1 ∷ 0 ∷ 192 ∷ 21 ∷ 4 ∷ 0 ∷ 34 ∷ 0 ∷ []
 strip_an_object = refl
 
-strip_overlay : spelling (stripped (record { header = header 0o405 2 0 0 12 4 0; text_words = 7 ∷ []; data_words = []; text_reloc = relocs (0 ∷ []); data_reloc = []; symbols = sym _f 0o42 0 ∷ [] })) ≡ 5 ∷ 1 ∷ 2 ∷ 0 ∷ 0 ∷ 0 ∷ 0 ∷ 0 ∷ 0 ∷ 0 ∷ 4 ∷ 0 ∷ 0 ∷ 0 ∷ 1 ∷ 0 ∷ 7 ∷ 0 ∷ []
+strip_overlay : encoding (stripped (record { header = header 0o405 2 0 0 12 4 0; text_words = 7 ∷ []; data_words = []; text_reloc = relocs (0 ∷ []); data_reloc = []; symbols = sym _f 0o42 0 ∷ [] })) ≡ 5 ∷ 1 ∷ 2 ∷ 0 ∷ 0 ∷ 0 ∷ 0 ∷ 0 ∷ 0 ∷ 0 ∷ 4 ∷ 0 ∷ 0 ∷ 0 ∷ 1 ∷ 0 ∷ 7 ∷ 0 ∷ []
 strip_overlay = refl

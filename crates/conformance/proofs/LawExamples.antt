@@ -3,10 +3,10 @@ use Rattle.std.specs.Prelude.{◌≡◌, ℕ, ◌<◌, true, false, List, [], �
 use Rattle.std.proofs.lemmas.Bool.{and_parts, ltb-true}
 use Rattle.std.specs.List.{AllByRecursion, list_all}
 use Rattle.aout_core.specs.Contents.{Contents}
-use Rattle.aout_core.specs.Spelling.{spelling}
-use Rattle.aout_core.specs.Spells.{Spells}
-use Rattle.aout_core.specs.Front.{front}
-use Rattle.aout_core.proofs.SpellsLemmas.{front_spells}
+use Rattle.aout_core.specs.Encoding.{encoding}
+use Rattle.aout_core.specs.Encodes.{Encodes}
+use Rattle.aout_core.specs.Decoding.{decode}
+use Rattle.aout_core.proofs.EncodesLemmas.{decoded_is_encoded}
 use Rattle.link_session.specs.Mentions.{mentions}
 use Rattle.link_session.specs.States.{multiple_names}
 use Rattle.link_out.specs.declared.options.Keep.TheVariants.{NotL}
@@ -58,9 +58,9 @@ abbrev one_name : Contents
 one_name = object [] [] [] [] 0 (sym _f 32 0 ∷ [])
 
 abbrev odd_bytes : List ℕ
-odd_bytes = take 18 (spelling one_name) ++ (0 ∷ 7 ∷ 1 ∷ 0 ∷ 0 ∷ 9 ∷ []) ++ drop 24 (spelling one_name)
+odd_bytes = take 18 (encoding one_name) ++ (0 ∷ 7 ∷ 1 ∷ 0 ∷ 0 ∷ 9 ∷ []) ++ drop 24 (encoding one_name)
 
-odd_bytes_read : front odd_bytes ≡ Ok one_name
+odd_bytes_read : decode odd_bytes ≡ Ok one_name
 odd_bytes_read = refl
 
 pub below : (bytes : List ℕ) → list_all (λ (b : ℕ). nat_lt b 256) bytes ≡ true → AllByRecursion (λ (b : ℕ). b < 256) bytes
@@ -69,5 +69,5 @@ below (b ∷ bs) h =
     let parts = and_parts (nat_lt b 256) (list_all (λ (x : ℕ). nat_lt x 256) bs) h in
     (ltb-true b 256 parts.0, below bs parts.1)
 
-odd_bytes_spell : Spells odd_bytes one_name
-odd_bytes_spell = front_spells odd_bytes one_name (below odd_bytes refl) refl
+odd_bytes_encode : Encodes odd_bytes one_name
+odd_bytes_encode = decoded_is_encoded odd_bytes one_name (below odd_bytes refl) refl

@@ -1,7 +1,7 @@
 -- Links computed in full.
 use Rattle.std.specs.Prelude.{◌≡◌, ℕ, true, List, [], ◌∷◌, Some, None, Result, Ok, Err, codes, refl}
 use Rattle.aout_core.specs.Contents.{Contents}
-use Rattle.aout_core.specs.Spelling.{spelling}
+use Rattle.aout_core.specs.Encoding.{encoding}
 use Rattle.link_out.specs.declared.linked.LinkFault.{LinkFault}
 use Rattle.link_out.specs.declared.linked.LinkFault.TheVariants.{DoesNotFit, TooManySymbols, SymbolNumber}
 use Rattle.link_out.specs.declared.options.Layout.TheVariants.{Pure, Split}
@@ -25,7 +25,7 @@ Shown = Result (List ℕ × (List ℕ × ℕ)) LinkFault
 
 abbrev pub shown : Result Outcome LinkFault → Shown
 shown (Err e) = Err e
-shown (Ok x) = Ok (spelling x.file, (report_text x.report, status_of x.report))
+shown (Ok x) = Ok (encoding x.file, (report_text x.report, status_of x.report))
 
 abbrev pub ld : List Contents → Choices → Shown
 ld os o = shown (link [] os o)
@@ -118,7 +118,7 @@ strip_a_link_s = refl
 relocatable_pair_s : ld (file_of (link [] (c_o ∷ d_o ∷ []) relocatable) ∷ []) plain_s ≡ Ok (7 ∷ 1 ∷ 8 ∷ 0 ∷ 0 ∷ 0 ∷ 0 ∷ 0 ∷ 0 ∷ 0 ∷ 0 ∷ 0 ∷ 0 ∷ 0 ∷ 1 ∷ 0 ∷ 247 ∷ 9 ∷ 2 ∷ 0 ∷ 160 ∷ 0 ∷ 135 ∷ 0 ∷ [], ([], 0))
 relocatable_pair_s = refl
 
-strip_a_link : spelling (stripped (file_of (link [] (c_o ∷ d_o ∷ []) plain))) ≡ 7 ∷ 1 ∷ 8 ∷ 0 ∷ 0 ∷ 0 ∷ 0 ∷ 0 ∷ 0 ∷ 0 ∷ 0 ∷ 0 ∷ 0 ∷ 0 ∷ 1 ∷ 0 ∷ 247 ∷ 9 ∷ 2 ∷ 0 ∷ 160 ∷ 0 ∷ 135 ∷ 0 ∷ []
+strip_a_link : encoding (stripped (file_of (link [] (c_o ∷ d_o ∷ []) plain))) ≡ 7 ∷ 1 ∷ 8 ∷ 0 ∷ 0 ∷ 0 ∷ 0 ∷ 0 ∷ 0 ∷ 0 ∷ 0 ∷ 0 ∷ 0 ∷ 0 ∷ 1 ∷ 0 ∷ 247 ∷ 9 ∷ 2 ∷ 0 ∷ 160 ∷ 0 ∷ 135 ∷ 0 ∷ []
 strip_a_link = refl
 
 file_name_symbol : ld (b_o ∷ object [] [] [] [] 0 (sym (codes "main.o") 0o37 0 ∷ []) ∷ []) plain ≡ Ok (7 ∷ 1 ∷ 2 ∷ 0 ∷ 0 ∷ 0 ∷ 0 ∷ 0 ∷ 12 ∷ 0 ∷ 0 ∷ 0 ∷ 0 ∷ 0 ∷ 1 ∷ 0 ∷ 135 ∷ 0 ∷ 109 ∷ 97 ∷ 105 ∷ 110 ∷ 46 ∷ 111 ∷ 0 ∷ 0 ∷ 31 ∷ 0 ∷ 0 ∷ 0 ∷ [], ([], 0))

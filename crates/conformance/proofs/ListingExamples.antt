@@ -18,7 +18,7 @@ use Rattle.link_out.specs.Results.{Outcome}
 use Rattle.link_out.specs.function.Link.{link}
 use Rattle.link_out.specs.relation.NameStates.{HasState, IsWanted}
 use Rattle.link_out.specs.relation.Relocated.{entry_of}
-use Rattle.link_out.specs.relation.LinkedFrom.{IsLinkedFrom, carried_locals}
+use Rattle.link_out.specs.relation.LinkedFrom.{IsLinkedFrom, moved_locals_in}
 use Rattle.link_out.proofs.LinkedTheorem.{linked_exactly}
 use Rattle.symtools.specs.declared.options.NmOptions.{NmOptions}
 use Rattle.symtools.specs.SymbolLines.{letter, symbol_line, value_column}
@@ -164,7 +164,7 @@ lines_with_relocation law = other_text (codes "       U _f\n") [] refl (law [] (
 -- what nm writes of a link where this is so: the lines of symbols taken of the locals that these options keep, and of the rows
 abbrev RowsWritten : (Choices → NmOptions → Type 0) → (Choices → Choices) → (NmOptions → List Symbol → List Symbol → List Symbol) → Type 0
 RowsWritten IsSo keeping listed = (forced : List (List ℕ)) (os : List Contents) (o : Choices) (x : Outcome) (l : IsLinkedFrom forced os o x) (n : NmOptions) → IsSo o n → (path : List ℕ) →
-    nm_text n ((path, x.file) ∷ []) ≡ lines n path (listed n (carried_locals x.file.header os (keeping o)) l.rows)
+    nm_text n ((path, x.file) ∷ []) ≡ lines n path (listed n (moved_locals_in x.file.header os (keeping o)) l.rows)
 
 abbrev KeepsAndLists : Choices → NmOptions → Type 0
 KeepsAndLists o n = (o.keep ≢ Nothing) × (n.undefined ≡ false)

@@ -19,7 +19,7 @@ use Rattle.link_out.specs.declared.options.Keep.TheVariants.{Nothing}
 use Rattle.link_out.specs.Choices.{Choices, lays_commons}
 use Rattle.link_out.specs.Results.{Outcome}
 use Rattle.link_out.specs.function.Link.{link}
-use Rattle.link_out.specs.relation.Relocated.{begins, entry_of, segment_words, segment_relocs}
+use Rattle.link_out.specs.relation.Relocated.{base_in, entry_of, segment_words, segment_relocs}
 use Rattle.link_out.specs.laws.CommonsAndLayouts.{IsCommon}
 use Rattle.link_laws.specs.Core.{Space, of_instructions, of_data, has_segment, first_address, bytes_of, is_in, core}
 use Rattle.link_laws.specs.CoreLaws.{IsLoaded, IsZero, IsOfWord, NothingElse}
@@ -75,7 +75,7 @@ fit_with_long_text law =
     let bad : 65536 < 65535 = law [] (long_text ∷ []) split (outcome (long_text ∷ []) split) refl of_instructions 65536 0 refl in
     absurd (omega arith)
 
--- words: without a table, with the high byte first, in the other space, without the objects before, and not carried
+-- words: without a table, with the high byte first, in the other space, without the objects before, and not moved
 
 loaded_without_table : ((forced : List (List ℕ)) (before : List Contents) (k : Contents) (after : List Contents) (o : Choices) (x : Outcome) →
     AllByRecursion IsObject (before ++ k ∷ after) → link forced (before ++ k ∷ after) o ≡ Ok x →
@@ -102,11 +102,11 @@ text_at_own_place : TextIsLoaded (λ word. word % 256) of_instructions (λ start
 text_at_own_place law =
     other_byte 10 135 refl (law [] (main_o ∷ []) twice_o [] plain (outcome (main_o ∷ twice_o ∷ []) plain) (main_good, (twice_good, tt)) all_kept refl 1 135 135 refl refl)
 
-not_carried : ((forced : List (List ℕ)) (before : List Contents) (k : Contents) (after : List Contents) (o : Choices) (x : Outcome) →
+not_moved : ((forced : List (List ℕ)) (before : List Contents) (k : Contents) (after : List Contents) (o : Choices) (x : Outcome) →
     AllByRecursion IsObject (before ++ k ∷ after) → o.keep ≢ Nothing → link forced (before ++ k ∷ after) o ≡ Ok x →
     (segment : Segment) (i w : ℕ) (r : Reloc) → slice_get (segment_words segment k) i ≡ Some w → slice_get (segment_relocs segment k) i ≡ Some r →
     (l : IsLoaded x.file x.file.symbols (before ++ k ∷ after) before k segment i w r) → own k segment + 2 * i ≡ l.address) → ⊥
-not_carried law =
+not_moved law =
     let l : IsLoaded (file_of (main_o ∷ twice_o ∷ []) plain) (file_of (main_o ∷ twice_o ∷ []) plain).symbols (main_o ∷ twice_o ∷ []) (main_o ∷ []) twice_o TextSeg 0 3264 (record { 0 = 0 }) =
     words_loaded [] (main_o ∷ []) twice_o [] plain (outcome (main_o ∷ twice_o ∷ []) plain) (main_good, (twice_good, tt)) all_kept refl TextSeg 0 3264 (record { 0 = 0 }) refl refl in
     different 0 10 refl (law [] (main_o ∷ []) twice_o [] plain (outcome (main_o ∷ twice_o ∷ []) plain) (main_good, (twice_good, tt)) all_kept refl TextSeg 0 3264 (record { 0 = 0 }) refl refl l ∙ l.place.behind)
@@ -169,7 +169,7 @@ record IsBeside (Lies : ℕ → ℕ → Type 0) (h : Header) (os : List Contents
   i : ℕ
   w : ℕ
   word : slice_get (segment_words segment k) i ≡ Some w
-  at : Lies address (begins h (total BssSeg os) segment + total segment before + 2 * i)
+  at : Lies address (base_in h (total BssSeg os) segment + total segment before + 2 * i)
 
 -- each byte of the core is such a one, or a zero of bss, where the objects are so
 abbrev NothingBut : (List Contents → Type 0) → (ℕ → ℕ → Type 0) → Type 0
@@ -197,7 +197,7 @@ b_file = file_of (b_o ∷ []) plain
 of_b : (Lies : ℕ → ℕ → Type 0) (address byte : ℕ) → NothingBut (AllByRecursion IsObject) Lies → core b_file of_instructions address ≡ Some byte → is_in b_file.header of_instructions BssSeg address ≡ false → (i : ℕ) × Lies address (2 * i)
 of_b Lies address byte law e apart = by_either (law [] (b_o ∷ []) plain (outcome (b_o ∷ []) plain) (b_good, tt) refl of_instructions address byte e)
   where
-    by_segment : (segment : Segment) (i w : ℕ) → slice_get (segment_words segment b_o) i ≡ Some w → Lies address (begins b_file.header (total BssSeg (b_o ∷ [])) segment + total segment [] + 2 * i) → (i : ℕ) × Lies address (2 * i)
+    by_segment : (segment : Segment) (i w : ℕ) → slice_get (segment_words segment b_o) i ≡ Some w → Lies address (base_in b_file.header (total BssSeg (b_o ∷ [])) segment + total segment [] + 2 * i) → (i : ℕ) × Lies address (2 * i)
     by_segment TextSeg i w e at = (i, let same : 0 + 0 + 2 * i ≡ 2 * i = omega arith in subst (λ (start : ℕ). Lies address start) same at)
     by_segment DataSeg i w e at = absurd (cc)
     by_segment BssSeg i w e at = absurd (cc)
@@ -207,7 +207,7 @@ of_b Lies address byte law e apart = by_either (law [] (b_o ∷ []) plain (outco
 
     by_either : IsBeside Lies b_file.header (b_o ∷ []) of_instructions address ⊎ ((is_in b_file.header of_instructions BssSeg address ≡ true) × (byte ≡ 0)) → (i : ℕ) × Lies address (2 * i)
     by_either (inl h) =
-        only_object (λ before k. (segment : Segment) (i w : ℕ) → slice_get (segment_words segment k) i ≡ Some w → Lies address (begins b_file.header (total BssSeg (b_o ∷ [])) segment + total segment before + 2 * i) → (i : ℕ) × Lies address (2 * i))
+        only_object (λ before k. (segment : Segment) (i w : ℕ) → slice_get (segment_words segment k) i ≡ Some w → Lies address (base_in b_file.header (total BssSeg (b_o ∷ [])) segment + total segment before + 2 * i) → (i : ℕ) × Lies address (2 * i))
         b_o by_segment h.before h.k h.after h.all h.segment h.i h.w h.word h.at
     by_either (inr h) = let bad : true ≡ false = sym h.0 ∙ apart in absurd (cc)
 
@@ -231,7 +231,7 @@ nothing_beside_others law = by_either 160 (law [] (no_object ∷ d_o ∷ []) pla
     h = (file_of (no_object ∷ d_o ∷ []) plain).header
 
     Lies : List Contents → Contents → Type 0
-    Lies before k = (segment : Segment) (i w : ℕ) → slice_get (segment_words segment k) i ≡ Some w → LiesInWord 0 (begins h (total BssSeg (no_object ∷ d_o ∷ [])) segment + total segment before + 2 * i) → ⊥
+    Lies before k = (segment : Segment) (i w : ℕ) → slice_get (segment_words segment k) i ≡ Some w → LiesInWord 0 (base_in h (total BssSeg (no_object ∷ d_o ∷ [])) segment + total segment before + 2 * i) → ⊥
 
     in_first : Lies [] no_object
     in_first TextSeg i w e at = cc
@@ -295,7 +295,7 @@ pc_forgotten : ((forced : List (List ℕ)) (before : List Contents) (k : Content
 pc_forgotten law =
     different 65524 65528 refl (law [] (twice_o ∷ []) main_o [] plain (outcome (twice_o ∷ main_o ∷ []) plain) (twice_good, (main_good, tt)) all_kept refl refl 3 65528 65524 (record { 0 = 25 }) (entry _twice 32 0) (entry _twice 34 0) refl refl refl refl refl refl)
 
--- segments: not carried
+-- segments: not moved
 
 a_good : IsObject a_o
 a_good = as_object a_o refl refl refl refl refl refl refl refl

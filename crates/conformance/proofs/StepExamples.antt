@@ -8,9 +8,9 @@ use Rattle.clap.proofs.OnLiterals.{clap_on_literals}
 use Rattle.clap.specs.Simple.{subcommand_of}
 use Rattle.clap.specs.Walk.{Row}
 use Rattle.aout_core.specs.Contents.{Contents, IsSound}
-use Rattle.aout_core.specs.Front.{front}
+use Rattle.aout_core.specs.Decoding.{decode}
 use Rattle.aout_core.specs.Names.{IsName}
-use Rattle.aout_core.specs.Spelling.{spelling}
+use Rattle.aout_core.specs.Encoding.{encoding}
 use Rattle.link_session.specs.Labelled.{Labelled}
 use Rattle.link_session.specs.Mentions.{mentions, is_among}
 use Rattle.link_session.specs.States.{multiple_names}
@@ -24,7 +24,7 @@ use Rattle.link_out.specs.laws.PartialLinksAmongOthers.{IsPart, DefinesNoMultipl
 use Rattle.command_words.specs.declared.words.Call.TheVariants.{Ld}
 use Rattle.command_words.specs.Tools.{v7_app}
 use Rattle.v7tools.specs.CommandRuns.{AsksFor}
-use Rattle.v7tools.specs.Deeds.{Opened}
+use Rattle.v7tools.specs.Events.{Opened}
 use Rattle.v7tools.specs.Inputs.{kept_with, linked, object_in}
 use Rattle.v7tools.specs.LinkAnswers.{TakesAll}
 use Rattle.v7tools.specs.LinkRuns.{inputs_opened}
@@ -162,11 +162,11 @@ link_file file o = (outcome_of (link [] (file ∷ []) o)).file
 
 -- a disk with one file
 abbrev pub one_file : List ℕ → Contents → Disk
-one_file path file at = cond (bytes_eq at path) (Some (spelling file)) None
+one_file path file at = cond (bytes_eq at path) (Some (encoding file)) None
 
 -- a run of the words that link one file, of which nothing is reported
 abbrev pub run_on : List (List ℕ) → List ℕ → Contents → String Global → Choices → Run (List ℕ) (List ℕ)
-run_on words path file out o = run_of words (one_file path file) ((path, Some (spelling file)) ∷ []) out (made_of (file ∷ []) o [] (omega arith))
+run_on words path file out o = run_of words (one_file path file) ((path, Some (encoding file)) ∷ []) out (made_of (file ∷ []) o [] (omega arith))
 
 module _ (path : String Global) (file : Contents) (out : String Global) (o : Choices) where
   abbrev name : List ℕ
@@ -175,17 +175,17 @@ module _ (path : String Global) (file : Contents) (out : String Global) (o : Cho
   abbrev made : Linked
   made = made_of (file ∷ []) o [] (omega arith)
 
-  pub run_links : (words : List (List ℕ)) → AsksFor words (Ld o [] out (one path)) → Ok file ≡ object_in (front (spelling file)) → kept_with [] [] name (Ok file) ≡ Ok (entry name file ∷ []) → link [] (file ∷ []) o ≡ Ok (result_of made) →
-      linked [] ((name, spelling file) ∷ []) o ≡ Ok (result_of made) → Links contents contents [] o (string_bytes out) (name ∷ []) (run_on words name file out o)
+  pub run_links : (words : List (List ℕ)) → AsksFor words (Ld o [] out (one path)) → Ok file ≡ object_in (decode (encoding file)) → kept_with [] [] name (Ok file) ≡ Ok (entry name file ∷ []) → link [] (file ∷ []) o ≡ Ok (result_of made) →
+      linked [] ((name, encoding file) ∷ []) o ≡ Ok (result_of made) → Links contents contents [] o (string_bytes out) (name ∷ []) (run_on words name file out o)
   run_links words asks found accepts is by_bytes =
-      links words (one_file name file) ((name, Some (spelling file)) ∷ []) out made [] o (one path) asks (entry name file ∷ []) refl
+      links words (one_file name file) ((name, Some (encoding file)) ∷ []) out made [] o (one path) asks (entry name file ∷ []) refl
       (entry name file ∷ [], record { works = refl; object = file; is_found = found; accepts = accepts }, refl) is by_bytes (there, tt)
     where
-      there : IfSome (one_file name file name) (λ known. Some (spelling file) ≡ Some known)
+      there : IfSome (one_file name file name) (λ known. Some (encoding file) ≡ Some known)
       there = let same : bytes_eq name name ≡ true = (bytes_eq-Decides name name).1 refl in rw same refl
 
-pub file_there : (path : List ℕ) (file : Contents) → front (spelling file) ≡ Ok file → one_file path file path ≡ Some (spelling file) → IsAt (one_file path file) path file
-file_there path file read known = record { bytes = spelling file; known = known; read = read }
+pub file_there : (path : List ℕ) (file : Contents) → decode (encoding file) ≡ Ok file → one_file path file path ≡ Some (encoding file) → IsAt (one_file path file) path file
+file_there path file read known = record { bytes = encoding file; known = known; read = read }
 
 -- the sum of what is known to be in a file
 abbrev pub bytes_in : Option (List ℕ) → ℕ
@@ -275,10 +275,10 @@ unfolding clap_on_literals
 whole_two_asks = record { whole = (omega arith, refl, (omega arith, refl)); asked = (refl, rows_read whole_two_words, refl, (refl, refl, refl, refl)); dashes = refl }
 
 abbrev two_files : Disk
-two_files at = cond (bytes_eq at a) (Some (spelling d_o)) (cond (bytes_eq at b) (Some (spelling d2_o)) None)
+two_files at = cond (bytes_eq at a) (Some (encoding d_o)) (cond (bytes_eq at b) (Some (encoding d2_o)) None)
 
 abbrev found_two : List Opened
-found_two = (a, Some (spelling d_o)) ∷ (b, Some (spelling d2_o)) ∷ []
+found_two = (a, Some (encoding d_o)) ∷ (b, Some (encoding d2_o)) ∷ []
 
 abbrev made_two : Choices → Linked
 made_two o = made_of both o (_f ∷ []) (omega arith)
@@ -309,7 +309,7 @@ last_two_links : Links contents contents [] plain p (m ∷ []) last_two_run
 last_two_links = run_links m_path (made_two relocatable).file p_path plain last_words last_asks refl refl refl refl
 
 are_two : AreAt two_files (a ∷ b ∷ []) both
-are_two = (record { bytes = spelling d_o; known = refl; read = refl }, (record { bytes = spelling d2_o; known = refl; read = refl }, tt))
+are_two = (record { bytes = encoding d_o; known = refl; read = refl }, (record { bytes = encoding d2_o; known = refl; read = refl }, tt))
 
 names_defined_twice : StepsGive IsIntact IsPartial (λ own forced bs os cs. IsPart own forced) → ⊥
 names_defined_twice law =
@@ -362,11 +362,11 @@ abbrev forced_made : Linked
 forced_made = record (made_of (b_o ∷ []) relocatable [] (omega arith)) { file = (outcome_of (link (_g ∷ []) (b_o ∷ []) relocatable)).file }
 
 abbrev forcing_run : Run (List ℕ) (List ℕ)
-forcing_run = run_of forcing_words (one_file a b_o) ((a, Some (spelling b_o)) ∷ []) m_path forced_made
+forcing_run = run_of forcing_words (one_file a b_o) ((a, Some (encoding b_o)) ∷ []) m_path forced_made
 
 forcing_links : Links contents contents (_g ∷ []) relocatable m (a ∷ []) forcing_run
 forcing_links =
-    links forcing_words (one_file a b_o) ((a, Some (spelling b_o)) ∷ []) m_path forced_made (_g ∷ []) relocatable (one a_path) forcing_asks (entry a b_o ∷ []) refl
+    links forcing_words (one_file a b_o) ((a, Some (encoding b_o)) ∷ []) m_path forced_made (_g ∷ []) relocatable (one a_path) forcing_asks (entry a b_o ∷ []) refl
     (entry a b_o ∷ [], record { works = refl; object = b_o; is_found = refl; accepts = refl }, refl) refl refl (refl, tt)
 
 abbrev with_name : Run (List ℕ) (List ℕ)

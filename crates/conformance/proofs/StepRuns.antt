@@ -6,10 +6,10 @@ use denote.RawPtr.{null_ptr}
 use Rattle.std.proofs.lemmas.Str.{encode_ascii}
 use Rattle.std.specs.List.{list_all}
 use Rattle.aout_core.specs.Contents.{Contents, IsSound}
-use Rattle.aout_core.specs.Front.{front}
-use Rattle.aout_core.specs.Spelling.{spelling}
+use Rattle.aout_core.specs.Decoding.{decode}
+use Rattle.aout_core.specs.Encoding.{encoding}
 use Rattle.aout_core.specs.Wires.{Latched}
-use Rattle.aout_core.proofs.SpellsLemmas.{front_sound}
+use Rattle.aout_core.proofs.EncodesLemmas.{decoded_sound}
 use Rattle.link_session.specs.Labelled.{Labelled, objects}
 use Rattle.link_out.specs.declared.linked.Linked.{Linked}
 use Rattle.link_out.specs.Choices.{Choices}
@@ -19,7 +19,7 @@ use Rattle.link_out.specs.function.Link.{link}
 use Rattle.link_out.specs.function.Reports.{report_text, status_of}
 use Rattle.command_words.specs.declared.words.Call.TheVariants.{Ld}
 use Rattle.v7tools.specs.CommandRuns.{AsksFor}
-use Rattle.v7tools.specs.Deeds.{Deed, Opened, opens, paths_of, stored}
+use Rattle.v7tools.specs.Events.{Event, Opened, opens, paths_of, stored}
 use Rattle.v7tools.specs.Inputs.{linked}
 use Rattle.v7tools.specs.LinkAnswers.{TakesAll, told}
 use Rattle.v7tools.specs.LinkRuns.{inputs_opened}
@@ -48,7 +48,7 @@ contents bytes = Some bytes
 
 module _ (words : List (List ℕ)) (disk : Disk) (found : List Opened) (out : String Global) (made : Linked) where
   -- what was asked of the office
-  abbrev pub asked : List Deed
+  abbrev pub asked : List Event
   asked = opens found ++ stored (string_bytes out) made.file Kept ∷ []
 
   abbrev pub text : List ℕ
@@ -60,7 +60,7 @@ module _ (words : List (List ℕ)) (disk : Disk) (found : List Opened) (out : St
     script = None;
     disk = disk;
     earlier = [];
-    deeds = asked;
+    events = asked;
     output_before = holding [];
     output_after = holding text;
     error_before = holding [];
@@ -105,5 +105,5 @@ module _ (words : List (List ℕ)) (disk : Disk) (found : List Opened) (out : St
     }
 
 -- a file that is read back from its encoding is sound
-pub sound_file : (file : Contents) → list_all (λ (b : ℕ). nat_lt b 256) (spelling file) ≡ true → front (spelling file) ≡ Ok file → IsSound file
-sound_file file bytes read = front_sound (spelling file) file (below (spelling file) bytes) read
+pub sound_file : (file : Contents) → list_all (λ (b : ℕ). nat_lt b 256) (encoding file) ≡ true → decode (encoding file) ≡ Ok file → IsSound file
+sound_file file bytes read = decoded_sound (encoding file) file (below (encoding file) bytes) read

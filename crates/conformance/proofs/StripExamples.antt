@@ -4,15 +4,15 @@ use Rattle.std.specs.List.{AllByRecursion}
 use Rattle.std.specs.Prelude.{codes}
 use Rattle.clap.proofs.OnLiterals.{clap_on_literals}
 use Rattle.aout_core.specs.Contents.{Contents, IsSound}
-use Rattle.aout_core.specs.Front.{front}
+use Rattle.aout_core.specs.Decoding.{decode}
 use Rattle.aout_core.specs.Names.{IsName}
-use Rattle.aout_core.specs.Spelling.{spelling}
+use Rattle.aout_core.specs.Encoding.{encoding}
 use Rattle.aout_core.specs.Strip.{stripped}
 use Rattle.link_out.specs.declared.options.Keep.TheVariants.{Nothing}
 use Rattle.link_out.specs.Choices.{Choices}
 use Rattle.command_words.specs.declared.words.Call.TheVariants.{Ld, Strip}
 use Rattle.v7tools.specs.CommandRuns.{AsksFor}
-use Rattle.v7tools.specs.Deeds.{opened, stored}
+use Rattle.v7tools.specs.Events.{opened, stored}
 use Rattle.v7tools.specs.declared.office.Stored.TheVariants.{Kept}
 use Rattle.command_laws.specs.Disks.{Run, file_after}
 use Rattle.command_laws.specs.StepsByCommands.{AreAt, LeaveTheSame, Links, ReportTheSame, StripStepsLaw, Strips}
@@ -67,7 +67,7 @@ strip_on file = record {
   script = None;
   disk = one_file p file;
   earlier = [];
-  deeds = opened p (Some (Some (spelling file))) ∷ stored p (stripped file) Kept ∷ [];
+  events = opened p (Some (Some (encoding file))) ∷ stored p (stripped file) Kept ∷ [];
   output_before = holding [];
   output_after = holding [];
   error_before = holding [];
@@ -75,7 +75,7 @@ strip_on file = record {
   status = 0;
 }
 
-strips : (file : Contents) → front (spelling file) ≡ Ok file → Strips contents contents p (strip_on file)
+strips : (file : Contents) → decode (encoding file) ≡ Ok file → Strips contents contents p (strip_on file)
 strips file read = record {
   asks = record { files = one p_path; asks = strip_asks; file_paths = refl };
   ends = record {
@@ -85,7 +85,7 @@ strips file read = record {
         call = Strip (one p_path);
         asks = strip_asks;
         run = (
-          inr ((p_path, file) ∷ [], Some (opened p (Some (Some (spelling file))) ∷ []), (refl, record { found = (p, Some (spelling file)) ∷ []; read = ((refl, read), tt); asked = refl }), (refl, refl)),
+          inr ((p_path, file) ∷ [], Some (opened p (Some (Some (encoding file))) ∷ []), (refl, record { found = (p, Some (encoding file)) ∷ []; read = ((refl, read), tt); asked = refl }), (refl, refl)),
           refl,
         );
       }),

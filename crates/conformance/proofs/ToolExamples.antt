@@ -3,7 +3,7 @@ use Rattle.std.specs.Prelude.{◌≡◌, true, false, [], ◌∷◌, take, Err, 
 use Rattle.std.specs.Fmt.{digits}
 use Rattle.aout_core.specs.declared.file.ReadFault.TheVariants.{Truncated}
 use Rattle.aout_core.specs.declared.object.ObjectFault.TheVariants.{NoRelocation}
-use Rattle.aout_core.specs.Spelling.{spelling}
+use Rattle.aout_core.specs.Encoding.{encoding}
 use Rattle.aout_core.specs.Strip.{stripped}
 use Rattle.link_out.specs.function.Link.{link}
 use Rattle.symtools.specs.NmLists.{nm_text}
@@ -84,11 +84,11 @@ size_lines_e : size_text ((codes "e.o", e_o) ∷ []) ≡ 48 ∷ 43 ∷ 48 ∷ 43
 unfolding digits
 size_lines_e = refl
 
-linked_1 : linked [] ((codes "a.o", spelling a_o) ∷ (codes "b.o", spelling b_o) ∷ []) plain_s ≡ link_or_refusal (link [] (a_o ∷ b_o ∷ []) plain_s)
+linked_1 : linked [] ((codes "a.o", encoding a_o) ∷ (codes "b.o", encoding b_o) ∷ []) plain_s ≡ link_or_refusal (link [] (a_o ∷ b_o ∷ []) plain_s)
 linked_1 = refl
 
-linked_short : linked [] ((codes "b.o", spelling b_o) ∷ (codes "a.o", take 17 (spelling a_o)) ∷ []) plain_s ≡ Err (of_input (codes "a.o") (bad_file Truncated))
+linked_short : linked [] ((codes "b.o", encoding b_o) ∷ (codes "a.o", take 17 (encoding a_o)) ∷ []) plain_s ≡ Err (of_input (codes "a.o") (bad_file Truncated))
 linked_short = refl
 
-linked_bad : linked [] ((codes "b.o", spelling (stripped b_o)) ∷ (codes "a.o", take 17 (spelling a_o)) ∷ []) plain_s ≡ Err (of_input (codes "b.o") (bad_object NoRelocation))
+linked_bad : linked [] ((codes "b.o", encoding (stripped b_o)) ∷ (codes "a.o", take 17 (encoding a_o)) ∷ []) plain_s ≡ Err (of_input (codes "b.o") (bad_object NoRelocation))
 linked_bad = refl

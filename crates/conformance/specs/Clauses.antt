@@ -14,8 +14,8 @@ use Rattle.link_out.specs.KeptSymbols.{rows_kept}
 use Rattle.link_out.specs.ReservedNames.{reserved_names}
 use Rattle.link_out.specs.Results.{Outcome}
 use Rattle.link_out.specs.function.Link.{link}
-use Rattle.link_out.specs.relation.Relocated.{data_begins, begins, IsEntry}
-use Rattle.link_out.specs.relation.LinkedTable.{AreRows, carried_locals}
+use Rattle.link_out.specs.relation.Relocated.{data_base_in, base_in, IsEntry}
+use Rattle.link_out.specs.relation.LinkedTable.{AreRows, moved_locals_in}
 use Rattle.link_out.specs.relation.LinkedWords.{AreRelocated, AreKept}
 use Rattle.link_out.specs.relation.Reported.{ArePicked, IsOther}
 use Rattle.link_out.specs.relation.LinkedFrom.{IsLinkedFrom}
@@ -59,18 +59,18 @@ Says magic forced os o x rows = x.file.header.magic ≡ magic_of o.layout
 Says symbol_size forced os o x rows = x.file.header.symbol_size ≡ 12 * length x.file.symbols
 Says unused forced os o x rows = x.file.header.unused ≡ 0
 Says flag forced os o x rows = x.file.header.flag ≡ cond o.relocatable 0 1
-Says short forced os o x rows = data_begins x.file.header + x.file.header.data_size + x.file.header.bss_size ≤ 65535
+Says short forced os o x rows = data_base_in x.file.header + x.file.header.data_size + x.file.header.bss_size ≤ 65535
 Says few forced os o x rows = length x.file.symbols ≤ 5461
 Says names forced os o x rows = map (λ s. s.name) rows ≡ externals forced os
 Says are_rows forced os o x rows =
-    AreRows x.file.header (total BssSeg os) o (mentions forced os) (data_begins x.file.header + x.file.header.data_size) rows (begins x.file.header (total BssSeg os) BssSeg)
-Says table forced os o x rows = x.file.symbols ≡ rows_kept o.keep (carried_locals x.file.header os o ++ rows)
+    AreRows x.file.header (total BssSeg os) o (mentions forced os) (data_base_in x.file.header + x.file.header.data_size) rows (base_in x.file.header (total BssSeg os) BssSeg)
+Says table forced os o x rows = x.file.symbols ≡ rows_kept o.keep (moved_locals_in x.file.header os o ++ rows)
 Says text forced os o x rows = AreRelocated x.file rows os TextSeg
 Says «data» forced os o x rows = AreRelocated x.file rows os DataSeg
 Says text_relocs forced os o x rows = 2 * length x.file.text_reloc ≡ cond o.relocatable (total TextSeg os) 0
 Says data_relocs forced os o x rows = 2 * length x.file.data_reloc ≡ cond o.relocatable (total DataSeg os) 0
-Says text_kept forced os o x rows = o.relocatable ≡ true → AreKept x.file rows (length (carried_locals x.file.header os o)) os TextSeg
-Says data_kept forced os o x rows = o.relocatable ≡ true → AreKept x.file rows (length (carried_locals x.file.header os o)) os DataSeg
+Says text_kept forced os o x rows = o.relocatable ≡ true → AreKept x.file rows (length (moved_locals_in x.file.header os o)) os TextSeg
+Says data_kept forced os o x rows = o.relocatable ≡ true → AreKept x.file rows (length (moved_locals_in x.file.header os o)) os DataSeg
 Says entry forced os o x rows = IsEntry rows o.entry x.file.header.entry_point x.report.entry_bad
 Says multiples forced os o x rows = (others : List Mention) × ArePicked (IsOther (mentions forced os)) (mentions forced os) others × (x.report.multiples ≡ map (λ m. m.name) others)
 Says reserved forced os o x rows = ArePicked (λ name. IsWanted (mentions forced os) name 0 → ⊥) reserved_names x.report.reserved

@@ -4,11 +4,11 @@ use Rattle.std.proofs.lemmas.List.{length-map, length-take, length-drop, length-
 use Rattle.std.proofs.lemmas.List.FromFn.{length-map-range_with_len}
 use Rattle.aout_core.specs.declared.header.Header.{Header}
 use Rattle.aout_core.specs.Contents.{Fits, is_magic}
-use Rattle.aout_core.specs.Spelling.{relocation_at}
+use Rattle.aout_core.specs.Encoding.{relocation_at}
 use Rattle.gnu_objects.specs.declared.symbols.GnuSymbol.{GnuSymbol}
 use Rattle.gnu_objects.specs.GnuForm.{word_at, symbol_at, words_from, symbols_from, relocation_of, kept}
 use Rattle.gnu_objects.specs.Converted.{contents_with, renumbered, converted_symbol}
-use Rattle.gnu_objects.specs.steps.Sizes.{IsObjectHeader}
+use Rattle.gnu_objects.specs.internal.Sizes.{IsObjectHeader}
 
 pub length-words_from : (bytes : List ℕ) (at count : ℕ) → length (words_from bytes at count) ≡ count
 length-words_from bytes at count = length-map-range_with_len (λ n. word_at bytes (at + 2 * n)) 0 count

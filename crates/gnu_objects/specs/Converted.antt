@@ -8,7 +8,7 @@ use Rattle.aout_core.specs.declared.reloc.Reloc.{Reloc}
 use Rattle.aout_core.specs.declared.symbol.Symbol.{Symbol}
 use Rattle.aout_core.specs.declared.object.ObjectFault.{ObjectFault}
 use Rattle.aout_core.specs.Contents.{Contents}
-use Rattle.aout_core.specs.Front.{header_in}
+use Rattle.aout_core.specs.Decoding.{header_in}
 use Rattle.aout_core.specs.WellFormed.{first_object_fault}
 use Rattle.gnu_objects.specs.declared.refusal.Refusal.{Refusal}
 use Rattle.gnu_objects.specs.declared.refusal.Refusal.TheVariants.{BadWord}

@@ -6,7 +6,7 @@ use Rattle.std.specs.Prelude.{ℕ, ◌+◌, ◌*◌, ◌/◌, Bool, ◌&&◌, �
 use Rattle.std.specs.List.{list_any, range_with_len}
 use Rattle.aout_core.specs.declared.header.Header.{Header}
 use Rattle.aout_core.specs.Names.{before_nul}
-use Rattle.aout_core.specs.Spelling.{relocation_at, symbols_at, file_length}
+use Rattle.aout_core.specs.Encoding.{relocation_at, symbols_at, file_length}
 use Rattle.gnu_objects.specs.declared.symbols.GnuSymbol.{GnuSymbol}
 
 -- a word has its low byte first, and a number of two words its high word first

@@ -2,4 +2,4 @@ pub mod GnuForm
 pub mod GnuRefusals
 pub mod Converted
 pub mod Places
-pub mod steps
+pub mod internal

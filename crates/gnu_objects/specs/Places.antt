@@ -3,8 +3,8 @@ use Rattle.std.specs.Prelude.{◌≡◌, ℕ, ◌+◌, ◌*◌, ◌/◌, ◌<◌
 use Rattle.aout_core.specs.declared.header.Header.{Header}
 use Rattle.aout_core.specs.declared.object.ObjectFault.{ObjectFault}
 use Rattle.aout_core.specs.declared.object.ObjectFault.TheVariants.{NotAnObject, NoRelocation, BadRelocation, BadSymbolNumber}
-use Rattle.aout_core.specs.Front.{header_in}
-use Rattle.aout_core.specs.Spelling.{relocation_at, symbols_at, file_length}
+use Rattle.aout_core.specs.Decoding.{header_in}
+use Rattle.aout_core.specs.Encoding.{relocation_at, symbols_at, file_length}
 use Rattle.gnu_objects.specs.declared.refusal.Refusal.{Refusal}
 use Rattle.gnu_objects.specs.declared.refusal.Refusal.TheVariants.{ShortHeader, BadMagic, OddSize, Truncated, BadStrings, Overlay, BadPlace, Stab, TooManySymbols, AlikeNames, StabWord, BadWord, Memory}
 use Rattle.gnu_objects.specs.declared.refusal.Size.{Size}

@@ -1,8 +1,8 @@
 //! What is wrong with an object in GNU's form.
 ghost use Rattle.std.specs.Prelude.{◌≡◌, ◌+◌, ◌≤◌, ◌<◌, ◌^◌, length};
-ghost use Rattle.aout_core.specs.Spelling.{symbols_at, file_length};
+ghost use Rattle.aout_core.specs.Encoding.{symbols_at, file_length};
 ghost use Rattle.gnu_objects.specs.GnuRefusals.{size_refusal, header_refusal, strings_refusal, symbol_refusal, first_bad_symbol, count_refusal};
-ghost use Rattle.gnu_objects.specs.steps.Sizes.{HasWholeSizes, IsObjectHeader};
+ghost use Rattle.gnu_objects.specs.internal.Sizes.{HasWholeSizes, IsObjectHeader};
 ghost use Rattle.gnu_objects.specs.GnuRefusals.{alike_with, first_alike, refers_to_stab, first_stab_word, table_refusal};
 
 use crate::bytes::long_at;

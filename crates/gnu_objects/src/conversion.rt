@@ -1,12 +1,12 @@
 //! The object of the Seventh Edition that an object in GNU's form is.
 ghost use Rattle.std.specs.Prelude.{◌≡◌, ◌≢◌, ◌+◌, ◌*◌, ◌/◌, ◌%◌, ◌≤◌, ◌<◌, ◌^◌, IfOk, Some, None, length, map, replicate, take};
-ghost use Rattle.aout_core.specs.Front.{header_in};
+ghost use Rattle.aout_core.specs.Decoding.{header_in};
 ghost use Rattle.aout_core.specs.Contents.{Fits};
 ghost use Rattle.aout_core.specs.Parts.{contents_of};
-ghost use Rattle.aout_core.specs.Spelling.{relocation_at, symbols_at, file_length};
+ghost use Rattle.aout_core.specs.Encoding.{relocation_at, symbols_at, file_length};
 ghost use Rattle.gnu_objects.specs.GnuForm.{strings_of, symbols_of, relocation_of, kept};
 ghost use Rattle.gnu_objects.specs.GnuRefusals.{header_refusal, strings_refusal, table_refusal};
-ghost use Rattle.gnu_objects.specs.steps.Sizes.{IsObjectHeader};
+ghost use Rattle.gnu_objects.specs.internal.Sizes.{IsObjectHeader};
 ghost use Rattle.gnu_objects.specs.Converted.{converted, converted_header, converted_symbol, converted_with, contents_with, object_of};
 
 use crate::bytes::long_at;

@@ -17,8 +17,8 @@ use Rattle.library_calls.specs.declared.cause.Refusal.{Refusal}
 use Rattle.library_calls.specs.Causes.{and_then, at, number_of}
 use Rattle.library_calls.specs.LinkWanted.{forced_in}
 use Rattle.library_calls.specs.SessionAnswers.{changes_in, reply_number, session_status}
-use Rattle.library_calls.specs.StateAnswers.{Asked, IsShown, Shows, Told, asked_in, form_in, spelt_in}
-use Rattle.library_calls.specs.steps.Edited.{AreEdited, IsEdited, ShowsFrom}
+use Rattle.library_calls.specs.StateAnswers.{Asked, IsShown, Shows, Told, asked_in, form_in, encoded_in}
+use Rattle.library_calls.specs.internal.Edited.{AreEdited, IsEdited, ShowsFrom}
 
 module _ (old new : Kept) where
   pub added_edit : (e : Labelled) → refusal old.forced (objects old.entries) e.object ≡ None → Adds old new e → IsEdited old new (addition e) 0
@@ -80,7 +80,7 @@ shown_behind form old new changes numbers state status none edited shows is =
       status = is;
       journal = new.journal;
       undoes = subst (λ (k : List (List ℕ) × List Labelled). IsJournal k.0 (objects k.1) new.journal) (λ i. (edited.forced i, kept i)) shows.undoes;
-      state = shows.spelt ∙ (λ i. spelt_in form (record { forced = edited.forced i; entries = kept i; journal = new.journal }));
+      state = shows.encoded ∙ (λ i. encoded_in form (record { forced = edited.forced i; entries = kept i; journal = new.journal }));
     }
 
 abbrev pub asked : Form → List (List ℕ) → List Change → Asked

@@ -5,8 +5,8 @@ use Rattle.std.specs.Prelude.{ℕ, ◌%◌, ◌/◌, Bool, false, eqb, nat_lt, i
 use Rattle.aout_core.specs.declared.file.ReadFault.{ReadFault}
 use Rattle.aout_core.specs.declared.object.ObjectFault.{ObjectFault}
 use Rattle.aout_core.specs.Contents.{Contents}
-use Rattle.aout_core.specs.Front.{header_in, front}
-use Rattle.aout_core.specs.Spelling.{file_length, spelling}
+use Rattle.aout_core.specs.Decoding.{header_in, decode}
+use Rattle.aout_core.specs.Encoding.{file_length, encoding}
 use Rattle.aout_core.specs.Strip.{stripped}
 use Rattle.aout_core.specs.WellFormed.{first_object_fault}
 use Rattle.symtools.specs.declared.options.NmOptions.{NmOptions}
@@ -22,7 +22,7 @@ file_of (Err fault) = Err (BadFile fault)
 
 -- the file that the bytes begin with
 abbrev pub file_in : List ℕ → Result Contents Cause
-file_in bytes = file_of (front bytes)
+file_in bytes = file_of (decode bytes)
 
 -- the bytes behind the file that they begin with
 abbrev pub behind_file : List ℕ → List ℕ
@@ -44,7 +44,7 @@ abbrev pub checked_in : List ℕ → Result ℕ Cause
 checked_in bytes = and_then (object_in bytes) (λ c. Ok (file_length c.header))
 
 abbrev pub stripped_in : List ℕ → Result (List ℕ) Cause
-stripped_in bytes = and_then (file_in bytes) (λ c. Ok (spelling (stripped c)))
+stripped_in bytes = and_then (file_in bytes) (λ c. Ok (encoding (stripped c)))
 
 -- the line of size, without a path
 abbrev pub sizes_in : List ℕ → Result (List ℕ) Cause

@@ -5,4 +5,4 @@ pub mod LinkAnswers
 pub mod ObjectParts
 pub mod SessionAnswers
 pub mod StateAnswers
-pub mod steps
+pub mod internal

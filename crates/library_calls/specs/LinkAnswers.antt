@@ -4,7 +4,7 @@
 -- The first that is not taken is the refusal. Then all are linked.
 use Rattle.std.specs.Prelude.{ℕ, zero, suc, List, [], ◌∷◌, ◌++◌, length, Option, Some, None, Result, Ok, Err}
 use Rattle.aout_core.specs.Contents.{Contents}
-use Rattle.aout_core.specs.Spelling.{spelling}
+use Rattle.aout_core.specs.Encoding.{encoding}
 use Rattle.link_session.specs.declared.entry.AddFault.{AddFault}
 use Rattle.link_session.specs.Edits.{refusal}
 use Rattle.link_out.specs.declared.linked.LinkFault.{LinkFault}
@@ -57,7 +57,7 @@ pub record Output : Type 0 where
   pub report : List ℕ
 
 abbrev pub output_of : Outcome → Output
-output_of x = record { status = status_of x.report; file = spelling x.file; report = report_text x.report }
+output_of x = record { status = status_of x.report; file = encoding x.file; report = report_text x.report }
 
 abbrev pub outputs_of : Program → Output
 outputs_of p = record { status = p.status; file = p.file.items; report = p.report.items }

@@ -10,7 +10,7 @@ use Rattle.aout_core.specs.declared.symbol.Symbol.{Symbol}
 use Rattle.aout_core.specs.declared.file.ReadFault.TheVariants.{OddSize}
 use Rattle.aout_core.specs.Names.{padded}
 use Rattle.aout_core.specs.Contents.{Contents}
-use Rattle.aout_core.specs.Spelling.{spelling}
+use Rattle.aout_core.specs.Encoding.{encoding}
 use Rattle.library_calls.specs.declared.parts.ObjectWord.{ObjectWord}
 use Rattle.library_calls.specs.declared.parts.SymbolRow.{SymbolRow}
 use Rattle.library_calls.specs.declared.parts.PartLists.{PartLists}
@@ -74,7 +74,7 @@ file_for p = and_then (header_for p) (λ h. Ok (contents_for p h))
 
 -- the bytes of the object of these parts, or why they make none
 abbrev pub made_of : Pieces → Result (List ℕ) Cause
-made_of p = and_then (file_for p) (λ c. and_then (object_of c) (λ o. Ok (spelling o)))
+made_of p = and_then (file_for p) (λ c. and_then (object_of c) (λ o. Ok (encoding o)))
 
 -- ---- an object taken apart
 

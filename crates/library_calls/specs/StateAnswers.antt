@@ -25,9 +25,9 @@ form_in zero = Ok Lines
 form_in (suc zero) = Ok Json
 form_in (suc (suc n)) = Err NoOption
 
-abbrev pub spelt_in : Form → Kept → List ℕ
-spelt_in Lines s = state_lines s
-spelt_in Json s = state_json s
+abbrev pub encoded_in : Form → Kept → List ℕ
+encoded_in Lines s = state_lines s
+encoded_in Json s = state_json s
 
 -- what is asked for: the form, the forced names, and the edits
 pub record Asked : Type 0 where
@@ -55,7 +55,7 @@ pub record Shows (x : Asked) (told : Told) : Type 0 where
   pub status : told.status ≡ session_status told.replies 0
   pub journal : List (List Mark)
   pub undoes : IsJournal x.forced (objects (survivors x.forced x.changes)) journal
-  pub state : told.state ≡ spelt_in x.form (record { forced = x.forced; entries = survivors x.forced x.changes; journal = journal })
+  pub state : told.state ≡ encoded_in x.form (record { forced = x.forced; entries = survivors x.forced x.changes; journal = journal })
 
 -- what is shown for what is asked, or its refusal
 abbrev pub IsShown : Result Asked Refusal → Result Told Refusal → Type 0

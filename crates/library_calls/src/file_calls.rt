@@ -1,6 +1,6 @@
 //! What is said of one file that comes as bytes.
 ghost use Rattle.std.specs.Prelude.{◌≡◌, ◌≢◌, [], ◌∷◌, Ok, Err, IfOk, IfErr};
-ghost use Rattle.aout_core.specs.Spelling.{file_length, spelling};
+ghost use Rattle.aout_core.specs.Encoding.{file_length, encoding};
 ghost use Rattle.symtools.specs.NmLists.{nm_text};
 ghost use Rattle.symtools.specs.SizeLines.{size_text};
 ghost use Rattle.library_calls.specs.FileAnswers.{checked_in, names_in, sizes_in, stripped_in};
@@ -37,7 +37,7 @@ pub fn check(alloc: Global, bytes: &[u8]) -> Result<usize, Cause>
 
 /// The bytes of a file.
 pub(crate) fn bytes_of(alloc: Global, file: &File) -> Result<Vec<u8>, Cause>
-    ensures ok { IfOk result (λ written. written.items ≡ spelling file.now) }
+    ensures ok { IfOk result (λ written. written.items ≡ encoding file.now) }
     ensures err { IfErr result (λ cause. cause ≡ Memory) }
 {
     let mut out = Wire::new(Vec::new(alloc));

@@ -1,6 +1,6 @@
 //! The file and the object that bytes begin with.
 ghost use Rattle.std.specs.Prelude.{◌≡◌, ◌≢◌, Ok, Err, IfOk, IfErr};
-ghost use Rattle.aout_core.specs.Front.{front};
+ghost use Rattle.aout_core.specs.Decoding.{decode};
 ghost use Rattle.library_calls.specs.FileAnswers.{behind_file, file_in, object_in, object_of};
 ghost use Rattle.library_calls.specs.declared.cause.Cause.TheVariants.{Memory};
 
@@ -10,7 +10,7 @@ use std::alloc::Global;
 
 /// The file that the bytes begin with, and the bytes behind it.
 pub(crate) fn first_file(alloc: Global, bytes: &[u8]) -> Result<(File, &[u8]), Cause>
-    ensures file { IfOk result (λ read. front bytes.now ≡ Ok read.0) }
+    ensures file { IfOk result (λ read. decode bytes.now ≡ Ok read.0) }
     ensures behind { IfOk result (λ read. read.1.now ≡ behind_file bytes.now) }
     ensures err { IfErr result (λ cause. cause ≢ Memory → file_in bytes.now ≡ Err cause) }
 {

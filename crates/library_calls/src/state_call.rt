@@ -4,7 +4,7 @@ ghost use Rattle.link_session.specs.Edits.{addition, withdrawal};
 ghost use Rattle.link_session.specs.Sessions.{labelled};
 ghost use Rattle.link_out.specs.Runs.{change_of};
 ghost use Rattle.library_calls.specs.StateAnswers.{asked_in, form_in, told_of, IsShown, Shows};
-ghost use Rattle.library_calls.specs.steps.Edited.{AreEdited, IsEdited, ShowsFrom};
+ghost use Rattle.library_calls.specs.internal.Edited.{AreEdited, IsEdited, ShowsFrom};
 ghost use Rattle.library_calls.specs.declared.cause.Cause.TheVariants.{Memory};
 
 use crate::cause::{Cause, Refusal, addition_number};
@@ -16,7 +16,7 @@ use link_session::{AddFault, Session};
 use session_text::{state_json, state_lines};
 use std::alloc::Global;
 
-/// How a state is spelt. (own choice)
+/// How a state is encoded. (own choice)
 #[derive(Clone, Copy, Debug, PartialEq, Eq)]
 pub enum Form {
     /// 0: as lines.
@@ -99,7 +99,7 @@ fn make_edits(alloc: Global, session: &mut Session, edits: Vec<Edit>) -> Result<
 }
 
 /// The state of a session, in this form.
-fn spelt(alloc: Global, session: &Session, form: Form) -> Result<Vec<u8>, Cause>
+fn encoded(alloc: Global, session: &Session, form: Form) -> Result<Vec<u8>, Cause>
     ensures ok { IfOk result (λ state. ShowsFrom form session.now state.items) }
     ensures err { IfErr result (λ cause. cause ≡ Memory) }
 {
@@ -121,7 +121,7 @@ fn edit_and_show(
     ensures err { IfErr result (λ cause. cause ≡ Memory) }
 {
     let replies = make_edits(alloc, session, edits)?;
-    let state = spelt(alloc, session, form)?;
+    let state = encoded(alloc, session, form)?;
     Ok(Shown {
         status: session_status(&replies, 0),
         replies,

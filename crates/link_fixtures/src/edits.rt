@@ -4,7 +4,7 @@ use fixtures::object;
 use link_out::Edit;
 use std::alloc::Global;
 
-/// The addition of the object that the bytes spell, where there is memory for it.
+/// The addition of the object that the bytes encode, where there is memory for it.
 pub fn adding(alloc: Global, label: &str, bytes: &[u8]) -> Option<Edit> {
     let label = String::from_str(alloc, label).ok()?;
     Some(Edit::Add(label, object(alloc, bytes)?))

@@ -1,6 +1,6 @@
 //! What a link writes.
 ghost use Rattle.std.specs.Prelude.{◌≡◌, IfOk};
-ghost use Rattle.aout_core.specs.Spelling.{spelling};
+ghost use Rattle.aout_core.specs.Encoding.{encoding};
 
 use aout_core::samples::TestWriter;
 use aout_core::{DeviceFault, Wire};
@@ -19,7 +19,7 @@ pub struct Output {
 
 /// What is written of a link. It fails only where there is no memory.
 pub fn output_of(alloc: Global, linked: &Linked) -> Result<Output, DeviceFault>
-    ensures file { IfOk result (λ o. o.file.items ≡ spelling linked.now.file) }
+    ensures file { IfOk result (λ o. o.file.items ≡ encoding linked.now.file) }
 {
     let mut report = Wire::new(TestWriter::whole(Vec::new(alloc)));
     linked.report.write(&mut report)?;

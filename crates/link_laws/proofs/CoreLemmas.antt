@@ -7,7 +7,7 @@ use Rattle.aout_core.specs.declared.symbol.Segment.{Segment}
 use Rattle.aout_core.specs.declared.symbol.Segment.TheVariants.{Undefined, Absolute, TextSeg, DataSeg, BssSeg, Other}
 use Rattle.aout_core.specs.Contents.{Contents}
 use Rattle.aout_core.specs.WellFormed.{first_of}
-use Rattle.link_out.specs.relation.Relocated.{data_begins}
+use Rattle.link_out.specs.relation.Relocated.{data_base_in}
 use Rattle.link_laws.specs.Core.{Space, of_instructions, of_data, has_one_space, has_segment, first_address, bytes_of, segment_byte, is_in, loaded_byte, core}
 
 -- what it is to be in a segment
@@ -29,7 +29,7 @@ module _ (h : Header) (space : Space) (segment : Segment) (address : ℕ) where
       (and_from (nat_le (first_address h segment) address) (nat_lt address (first_address h segment + bytes_of h segment)) (le-leb (first_address h segment) address w.from) (lt-ltb address (first_address h segment + bytes_of h segment) w.before))
 
 -- text ends before data where they share a space
-pub text_before : (h : Header) → has_one_space h.magic ≡ true → h.text_size ≤ data_begins h
+pub text_before : (h : Header) → has_one_space h.magic ≡ true → h.text_size ≤ data_base_in h
 text_before h e = by_tests (eqb h.magic 263) (eqb h.magic 264) e
   where
     rounded : (t : ℕ) → t ≤ (t + 8191) / 8192 * 8192
@@ -56,7 +56,7 @@ module _ (h : Header) (space : Space) (address : ℕ) where
   text_or_data p q =
       let t = within h space TextSeg address p in
       let d = within h space DataSeg address q in
-      clash address h.text_size (data_begins h) t.before d.from (text_before h (shared space t.has d.has))
+      clash address h.text_size (data_base_in h) t.before d.from (text_before h (shared space t.has d.has))
     where
       clash : (a t d : ℕ) → a < 0 + t → d ≤ a → t ≤ d → ⊥
       clash a t d f g h = omega arith
@@ -65,13 +65,13 @@ module _ (h : Header) (space : Space) (address : ℕ) where
   text_or_bss p q =
       let t = within h space TextSeg address p in
       let b = within h space BssSeg address q in
-      below_text address h.text_size (data_begins h) h.data_size t.before b.from (text_before h (shared_bss space t.has b.has))
+      below_text address h.text_size (data_base_in h) h.data_size t.before b.from (text_before h (shared_bss space t.has b.has))
 
   data_or_bss : is_in h space DataSeg address ≡ true → is_in h space BssSeg address ≡ true → ⊥
   data_or_bss p q =
       let d = within h space DataSeg address p in
       let b = within h space BssSeg address q in
-      clash address (data_begins h + h.data_size) d.before b.from
+      clash address (data_base_in h + h.data_size) d.before b.from
     where
       clash : (a e : ℕ) → a < e → e ≤ a → ⊥
       clash a e f g = omega arith

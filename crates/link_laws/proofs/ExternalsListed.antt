@@ -22,8 +22,8 @@ use Rattle.link_out.specs.KeptSymbols.{is_kept_local}
 use Rattle.link_out.specs.ReservedNames.{etext, edata, end_name}
 use Rattle.link_out.specs.Results.{Outcome}
 use Rattle.link_out.specs.relation.NameStates.{HasState}
-use Rattle.link_out.specs.relation.Relocated.{data_begins, begins, entry_of}
-use Rattle.link_out.specs.relation.LinkedTable.{shown as row_of_name, row_for, room_for, AreRows, carried_local, carried_locals}
+use Rattle.link_out.specs.relation.Relocated.{data_base_in, base_in, entry_of}
+use Rattle.link_out.specs.relation.LinkedTable.{shown as row_of_name, row_for, room_for, AreRows, moved_local_in, moved_locals_in}
 use Rattle.link_out.specs.relation.LinkedFrom.{IsLinkedFrom}
 use Rattle.link_out.proofs.RowLemmas.{rows_kept-others}
 use Rattle.symtools.specs.declared.options.NmOptions.{NmOptions}
@@ -36,20 +36,20 @@ use Rattle.link_laws.proofs.ShownLemmas.{no_local, all_apart, one_file}
 -- kept locals are no externals
 
 module _ (h : Header) (os : List Contents) (o : Choices) where
-  kept_inner : (earlier : List Contents) (k : Contents) (ss : List Symbol) → filter is_external (map (carried_local h os earlier k) (filter (is_kept_local o.keep) ss)) ≡ []
+  kept_inner : (earlier : List Contents) (k : Contents) (ss : List Symbol) → filter is_external (map (moved_local_in h os earlier k) (filter (is_kept_local o.keep) ss)) ≡ []
   kept_inner earlier k [] = refl
   kept_inner earlier k (s ∷ ss) = by_tests (is_external s) refl (is_kept_local o.keep s) refl (kept_inner earlier k ss)
     where
-      by_tests : (e : Bool) → is_external s ≡ e → (t : Bool) → is_kept_local o.keep s ≡ t → filter is_external (map (carried_local h os earlier k) (filter (is_kept_local o.keep) ss)) ≡ [] →
-          filter is_external (map (carried_local h os earlier k) (cond t (s ∷ filter (is_kept_local o.keep) ss) (filter (is_kept_local o.keep) ss))) ≡ []
+      by_tests : (e : Bool) → is_external s ≡ e → (t : Bool) → is_kept_local o.keep s ≡ t → filter is_external (map (moved_local_in h os earlier k) (filter (is_kept_local o.keep) ss)) ≡ [] →
+          filter is_external (map (moved_local_in h os earlier k) (cond t (s ∷ filter (is_kept_local o.keep) ss) (filter (is_kept_local o.keep) ss))) ≡ []
       by_tests e se false kt rest = rest
       by_tests false se true kt rest = rw se rest
       by_tests true se true kt rest = let no : not (is_external s) ≡ true = (and_parts _ _ kt).0 in absurd (let bad : not true ≡ true = (rw se at no) in cc)
 
-  locals_inner : (earlier rest : List Contents) → filter is_external (flat_map (λ q. map (carried_local h os q.0 q.1) (filter (is_kept_local o.keep) q.1.symbols)) (with_earlier earlier rest)) ≡ []
+  locals_inner : (earlier rest : List Contents) → filter is_external (flat_map (λ q. map (moved_local_in h os q.0 q.1) (filter (is_kept_local o.keep) q.1.symbols)) (with_earlier earlier rest)) ≡ []
   locals_inner earlier [] = refl
   locals_inner earlier (k ∷ ks) =
-      filter-append is_external (map (carried_local h os earlier k) (filter (is_kept_local o.keep) k.symbols)) (flat_map (λ q. map (carried_local h os q.0 q.1) (filter (is_kept_local o.keep) q.1.symbols)) (with_earlier (earlier ++ k ∷ []) ks))
+      filter-append is_external (map (moved_local_in h os earlier k) (filter (is_kept_local o.keep) k.symbols)) (flat_map (λ q. map (moved_local_in h os q.0 q.1) (filter (is_kept_local o.keep) q.1.symbols)) (with_earlier (earlier ++ k ∷ []) ks))
       ∙ (λ i. kept_inner earlier k k.symbols i ++ locals_inner (earlier ++ k ∷ []) ks i)
 
 -- the row of a state
@@ -58,7 +58,7 @@ module _ (h : Header) (bss : ℕ) (o : Choices) (at : ℕ) (name : List ℕ) whe
   -- each part of the row of a wanted name
   abbrev wanted_row : ℕ → Bool → Bool → Bool → Bool → Bool → Bool → Symbol
   wanted_row size z r c t d e =
-      cond z (cond r (row_of_name name 32 0) (cond t (row_of_name name 34 h.text_size) (cond d (row_of_name name 35 (data_begins h + h.data_size)) (cond e (row_of_name name 36 (data_begins h + h.data_size + h.bss_size)) (row_of_name name 32 0)))))
+      cond z (cond r (row_of_name name 32 0) (cond t (row_of_name name 34 h.text_size) (cond d (row_of_name name 35 (data_base_in h + h.data_size)) (cond e (row_of_name name 36 (data_base_in h + h.data_size + h.bss_size)) (row_of_name name 32 0)))))
       (cond (not r || c) (row_of_name name 36 at) (row_of_name name 32 size))
 
   row_outer : (st : State) → is_external (row_for h bss o at name st) ≡ true
@@ -200,16 +200,16 @@ module _ (h : Header) (bss : ℕ) (o : Choices) (ms : List Mention) where
 
 module _ (forced : List (List ℕ)) (os : List Contents) (o : Choices) (x : Outcome) (others : o.keep ≢ Nothing) (l : IsLinkedFrom forced os o x) where
   abbrev locals : List Symbol
-  locals = carried_locals x.file.header os o
+  locals = moved_locals_in x.file.header os o
 
   abbrev bss : ℕ
   bss = total BssSeg os
 
   abbrev at : ℕ
-  at = data_begins x.file.header + x.file.header.data_size
+  at = data_base_in x.file.header + x.file.header.data_size
 
   abbrev end : ℕ
-  end = begins x.file.header bss BssSeg
+  end = base_in x.file.header bss BssSeg
 
   inner : filter is_external locals ≡ []
   inner = locals_inner x.file.header os o [] os
@@ -250,5 +250,5 @@ pub externals_are_listed : (forced : List (List ℕ)) (os : List Contents) (o : 
 externals_are_listed forced os o x others l n u name known = listed_once forced os o x others l n u name known
 
 pub row_lines : (forced : List (List ℕ)) (os : List Contents) (o : Choices) (x : Outcome) → o.keep ≢ Nothing → (l : IsLinkedFrom forced os o x) →
-    (n : NmOptions) (path : List ℕ) → n.undefined ≡ false → nm_text n ((path, x.file) ∷ []) ≡ lines n path (arranged n (listed_locals n (carried_locals x.file.header os o) ++ l.rows))
+    (n : NmOptions) (path : List ℕ) → n.undefined ≡ false → nm_text n ((path, x.file) ∷ []) ≡ lines n path (arranged n (listed_locals n (moved_locals_in x.file.header os o) ++ l.rows))
 row_lines forced os o x others l n path u = one_file n path x.file ∙ ap (λ (ss : List Symbol). lines n path (arranged n ss)) (passed forced os o x others l n u)

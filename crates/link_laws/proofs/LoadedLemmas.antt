@@ -25,12 +25,12 @@ use Rattle.link_out.specs.Layouts.{magic_of, data_base}
 use Rattle.link_out.specs.Results.{Outcome}
 use Rattle.link_out.specs.function.Plans.{plan, commons_laid}
 use Rattle.link_out.specs.function.Link.{link, linked_file}
-use Rattle.link_out.specs.relation.Relocated.{data_begins, begins, carried, entry_of, segment_words, segment_relocs, IsRelocated, HoldsObjects}
+use Rattle.link_out.specs.relation.Relocated.{data_base_in, base_in, move_in, entry_of, segment_words, segment_relocs, IsRelocated, HoldsObjects}
 use Rattle.link_out.specs.laws.CommonsAndLayouts.{IsCommon, HasRoom}
 use Rattle.link_out.proofs.OutcomeLemmas.{made_file, made_fits}
 use Rattle.link_out.proofs.SegmentLemmas.{HasWords, made_length}
 use Rattle.link_out.proofs.RelocatedLemmas.{words_relocated, objects_fill}
-use Rattle.link_out.proofs.CarriedLemmas.{data_begun}
+use Rattle.link_out.proofs.MoveLemmas.{data_begun}
 use Rattle.link_out.proofs.CommonLemmas.{commons_have_room}
 use Rattle.link_laws.specs.Core.{Space, of_instructions, of_data, has_one_space, has_segment, first_address, bytes_of, segment_byte, is_in, core, IsWordAt}
 use Rattle.link_laws.specs.CoreLaws.{space_of, IsPlace, IsLoaded, IsZero, IsOfWord}
@@ -52,12 +52,12 @@ HasPlace _ = ⊥
 module _ (h : Header) (os before : List Contents) (k : Contents) where
   -- the address of byte n of a segment
   abbrev pub address_of : Segment → ℕ → ℕ
-  address_of segment n = begins h (total BssSeg os) segment + total segment before + n
+  address_of segment n = base_in h (total BssSeg os) segment + total segment before + n
 
   pub place_at : (segment : Segment) → HasPlace segment → (n : ℕ) → IsPlace h os before k segment n (address_of segment n)
-  place_at TextSeg has n = record { behind = refl; symbol = place_sum (own k TextSeg) n (begins h (total BssSeg os) TextSeg + total TextSeg before) }
-  place_at DataSeg has n = record { behind = refl; symbol = place_sum (own k DataSeg) n (begins h (total BssSeg os) DataSeg + total DataSeg before) }
-  place_at BssSeg has n = record { behind = refl; symbol = place_sum (own k BssSeg) n (begins h (total BssSeg os) BssSeg + total BssSeg before) }
+  place_at TextSeg has n = record { behind = refl; symbol = place_sum (own k TextSeg) n (base_in h (total BssSeg os) TextSeg + total TextSeg before) }
+  place_at DataSeg has n = record { behind = refl; symbol = place_sum (own k DataSeg) n (base_in h (total BssSeg os) DataSeg + total DataSeg before) }
+  place_at BssSeg has n = record { behind = refl; symbol = place_sum (own k BssSeg) n (base_in h (total BssSeg os) BssSeg + total BssSeg before) }
   place_at Undefined has n = absurd has
   place_at Absolute has n = absurd has
   place_at Other has n = absurd has
@@ -161,7 +161,7 @@ module _ (forced : List (List ℕ)) (os : List Contents) (o : Choices) (x : Outc
   segment_filled BssSeg has = absurd has
   segment_filled Other has = absurd has
 
-  start : (segment : Segment) → HasWords segment → begins x.file.header (total BssSeg os) segment ≡ first_address x.file.header segment
+  start : (segment : Segment) → HasWords segment → base_in x.file.header (total BssSeg os) segment ≡ first_address x.file.header segment
   start TextSeg has = refl
   start DataSeg has = refl
   start Undefined has = absurd has
@@ -175,14 +175,14 @@ module _ (forced : List (List ℕ)) (os : List Contents) (o : Choices) (x : Outc
 
     pub loaded_word : (rows : List Symbol) (segment : Segment) → HasWords segment → (i w : ℕ) (r : Reloc) → IsRelocated x.file rows os before k segment i w r → IsLoaded x.file rows os before k segment i w r
     loaded_word rows segment has i w r is =
-        let word : ℕ = minus (plus w is.added) (cond (is_pc_relative r) (carried x.file.header os before k segment) 0) in
+        let word : ℕ = minus (plus w is.added) (cond (is_pc_relative r) (move_in x.file.header os before k segment) 0) in
         record {
           address = address_of x.file.header os before k segment (2 * i);
           place = place_at x.file.header os before k segment (words_have_place segment has) (2 * i);
           added = is.added;
           is = is.is;
           word = subst (λ (a : ℕ). IsWordAt x.file (space_of segment) a word)
-              (sums (first_address x.file.header segment) (begins x.file.header (total BssSeg os) segment) (total segment before) i (start segment has) (whole_words segment has before front))
+              (sums (first_address x.file.header segment) (base_in x.file.header (total BssSeg os) segment) (total segment before) i (start segment has) (whole_words segment has before front))
               (word_there x.file (space_of segment) segment has (found_in forced os o x linked segment (words_have_place segment has)) (segment_filled segment has) (total segment before / 2 + i) word is.word);
         }
       where
@@ -199,8 +199,8 @@ module _ (forced : List (List ℕ)) (os : List Contents) (o : Choices) (x : Outc
       record {
         address = address;
         place = place_at x.file.header os before k BssSeg tt n;
-        zero = zero_at x.file (found_in forced os o x linked BssSeg tt) address (over (data_begins x.file.header + x.file.header.data_size) (x.file.header.bss_size - total BssSeg os) (total BssSeg before) n)
-            (under (data_begins x.file.header + x.file.header.data_size) x.file.header.bss_size (total BssSeg os) (total BssSeg before) k.header.bss_size (total BssSeg after) n sum full.bss h);
+        zero = zero_at x.file (found_in forced os o x linked BssSeg tt) address (over (data_base_in x.file.header + x.file.header.data_size) (x.file.header.bss_size - total BssSeg os) (total BssSeg before) n)
+            (under (data_base_in x.file.header + x.file.header.data_size) x.file.header.bss_size (total BssSeg os) (total BssSeg before) k.header.bss_size (total BssSeg after) n sum full.bss h);
       }
     where
       over : (e c t n : ℕ) → e ≤ e + c + t + n
@@ -216,8 +216,8 @@ common_zero forced os o x others lays linked name size common row found n h =
     let room : HasRoom x.file os name size = commons_have_room forced os o x others lays linked name size common in
     let same : room.row ≡ row = same_Some room.row row (sym room.found ∙ found) in
     subst (λ (s : Symbol). core x.file of_data (s.value + n) ≡ Some 0) same
-    (zero_at x.file (found_in forced os o x linked BssSeg tt) (room.row.value + n) (over (data_begins x.file.header + x.file.header.data_size) room.row.value n room.after)
-    (under (data_begins x.file.header + x.file.header.data_size) x.file.header.bss_size (total BssSeg os) room.row.value size n room.before h))
+    (zero_at x.file (found_in forced os o x linked BssSeg tt) (room.row.value + n) (over (data_base_in x.file.header + x.file.header.data_size) room.row.value n room.after)
+    (under (data_base_in x.file.header + x.file.header.data_size) x.file.header.bss_size (total BssSeg os) room.row.value size n room.before h))
   where
     over : (e v n : ℕ) → e ≤ v → e ≤ v + n
     over e v n f = omega arith
@@ -279,7 +279,7 @@ object_long BssSeg has k h = absurd has
 object_long Other has k h = absurd has
 
 -- a byte of text or data is of a word of an object
-of_word : (h : Header) (os : List Contents) (space : Space) (segment : Segment) → HasWords segment → AllByRecursion IsObject os → begins h (total BssSeg os) segment ≡ first_address h segment → bytes_of h segment ≡ total segment os →
+of_word : (h : Header) (os : List Contents) (space : Space) (segment : Segment) → HasWords segment → AllByRecursion IsObject os → base_in h (total BssSeg os) segment ≡ first_address h segment → bytes_of h segment ≡ total segment os →
     (address : ℕ) → IsWithin h space segment address → IsOfWord h os space address
 of_word h os space segment has good start size address inside =
     let p = part_at segment os (address - first_address h segment) (below address (first_address h segment) (bytes_of h segment) (total segment os) inside.from inside.before size) in
@@ -295,7 +295,7 @@ of_word h os space segment has good start size address inside =
       i = p.j / 2;
       w = found.0;
       word = found.1;
-      at = either address (first_address h segment) (begins h (total BssSeg os) segment) (total segment p.before) p.j inside.from start p.place;
+      at = either address (first_address h segment) (base_in h (total BssSeg os) segment) (total segment p.before) p.j inside.from start p.place;
     }
   where
     below : (a f s t : ℕ) → f ≤ a → a < f + s → s ≡ t → a - f < t
@@ -337,10 +337,10 @@ nothing_else forced os o x good linked space address byte e = by_case (core_back
 
 -- no address is behind the last
 
-file_short : (forced : List (List ℕ)) (os : List Contents) (o : Choices) (x : Outcome) → link forced os o ≡ Ok x → data_begins x.file.header + x.file.header.data_size + x.file.header.bss_size ≤ 65535
+file_short : (forced : List (List ℕ)) (os : List Contents) (o : Choices) (x : Outcome) → link forced os o ≡ Ok x → data_base_in x.file.header + x.file.header.data_size + x.file.header.bss_size ≤ 65535
 file_short forced os o x linked =
-    subst (λ (f : Contents). data_begins f.header + f.header.data_size + f.header.bss_size ≤ 65535) (made_file (plan forced os o) os x linked)
-    (sums (data_base o.layout (total TextSeg os)) (data_begins (linked_file (plan forced os o) os).header) (total DataSeg os) (commons_laid o (mentions forced os)) (total BssSeg os) (data_begun o.layout (total TextSeg os)) (made_fits (plan forced os o) os x linked))
+    subst (λ (f : Contents). data_base_in f.header + f.header.data_size + f.header.bss_size ≤ 65535) (made_file (plan forced os o) os x linked)
+    (sums (data_base o.layout (total TextSeg os)) (data_base_in (linked_file (plan forced os o) os).header) (total DataSeg os) (commons_laid o (mentions forced os)) (total BssSeg os) (data_begun o.layout (total TextSeg os)) (made_fits (plan forced os o) os x linked))
   where
     sums : (a b d c n : ℕ) → a ≡ b → a + d + c + n ≤ 65535 → b + d + (c + n) ≤ 65535
     sums a b d c n e h = omega arith
@@ -360,8 +360,8 @@ addresses_fit forced os o x linked short space address byte e = by_case (core_ba
 
     by_case : IsByteOf x.file space address byte TextSeg ⊎ (IsByteOf x.file space address byte DataSeg ⊎ IsByteOf x.file space address byte BssSeg) → address < 65535
     by_case (inl b) = in_text address x.file.header.text_size (within x.file.header space TextSeg address b.in).before short
-    by_case (inr (inl b)) = in_data address (data_begins x.file.header) x.file.header.data_size x.file.header.bss_size (within x.file.header space DataSeg address b.in).before (file_short forced os o x linked)
-    by_case (inr (inr b)) = in_bss address (data_begins x.file.header) x.file.header.data_size x.file.header.bss_size (within x.file.header space BssSeg address b.in).before (file_short forced os o x linked)
+    by_case (inr (inl b)) = in_data address (data_base_in x.file.header) x.file.header.data_size x.file.header.bss_size (within x.file.header space DataSeg address b.in).before (file_short forced os o x linked)
+    by_case (inr (inr b)) = in_bss address (data_base_in x.file.header) x.file.header.data_size x.file.header.bss_size (within x.file.header space BssSeg address b.in).before (file_short forced os o x linked)
 
 -- each word of a link that keeps symbols is loaded
 

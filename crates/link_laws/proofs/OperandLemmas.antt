@@ -28,7 +28,7 @@ use Rattle.link_out.specs.function.Plans.{Plan, plan, common_offset}
 use Rattle.link_out.specs.function.Finals.{Final, final_by, bound_at, waiting, reserved_or_waiting, etext, edata, end_name}
 use Rattle.link_out.specs.function.Tables.{external_row}
 use Rattle.link_out.specs.function.Link.{link}
-use Rattle.link_out.specs.relation.Relocated.{carried, entry_of, address_in, IsAddressOf, IsAdded, begins, external_type, segment_words, segment_relocs, IsRelocated}
+use Rattle.link_out.specs.relation.Relocated.{move_in, entry_of, address_in, IsAddressOf, IsAdded, base_in, external_type, segment_words, segment_relocs, IsRelocated}
 use Rattle.link_out.specs.relation.LinkedFrom.{IsLinkedFrom}
 use Rattle.link_out.specs.laws.WordsAndNames.{IsDefined}
 use Rattle.link_out.proofs.OutcomeLemmas.{made_file}
@@ -58,18 +58,18 @@ module _ (file : Contents) (rows : List Symbol) (os before : List Contents) (k :
   loaded_finds TextSeg has i w r l = record {
     address = l.address;
     place = l.place;
-    word = minus (plus w l.added) (cond (is_pc_relative r) (carried file.header os before k TextSeg) 0);
+    word = minus (plus w l.added) (cond (is_pc_relative r) (move_in file.header os before k TextSeg) 0);
     stands = l.word;
-    finds = ap (λ (a : ℕ). operand (is_pc_relative r) a (minus (plus w l.added) (cond (is_pc_relative r) (carried file.header os before k TextSeg) 0))) l.place.behind
-        ∙ by_pc (is_pc_relative r) (begins file.header (total BssSeg os) TextSeg + total TextSeg before) (own k TextSeg) (2 * i) w l.added;
+    finds = ap (λ (a : ℕ). operand (is_pc_relative r) a (minus (plus w l.added) (cond (is_pc_relative r) (move_in file.header os before k TextSeg) 0))) l.place.behind
+        ∙ by_pc (is_pc_relative r) (base_in file.header (total BssSeg os) TextSeg + total TextSeg before) (own k TextSeg) (2 * i) w l.added;
   }
   loaded_finds DataSeg has i w r l = record {
     address = l.address;
     place = l.place;
-    word = minus (plus w l.added) (cond (is_pc_relative r) (carried file.header os before k DataSeg) 0);
+    word = minus (plus w l.added) (cond (is_pc_relative r) (move_in file.header os before k DataSeg) 0);
     stands = l.word;
-    finds = ap (λ (a : ℕ). operand (is_pc_relative r) a (minus (plus w l.added) (cond (is_pc_relative r) (carried file.header os before k DataSeg) 0))) l.place.behind
-        ∙ by_pc (is_pc_relative r) (begins file.header (total BssSeg os) DataSeg + total DataSeg before) (own k DataSeg) (2 * i) w l.added;
+    finds = ap (λ (a : ℕ). operand (is_pc_relative r) a (minus (plus w l.added) (cond (is_pc_relative r) (move_in file.header os before k DataSeg) 0))) l.place.behind
+        ∙ by_pc (is_pc_relative r) (base_in file.header (total BssSeg os) DataSeg + total DataSeg before) (own k DataSeg) (2 * i) w l.added;
   }
   loaded_finds Undefined has i w r l = absurd has
   loaded_finds Absolute has i w r l = absurd has
@@ -168,11 +168,11 @@ names_found forced before k after o x good others unkept linked segment i w r ew
 
 -- segments
 
-meant_added : (h : Header) (rows : List Symbol) (os before : List Contents) (k : Contents) (kind : Kind) (meant : Segment) (number a : ℕ) → segment_meant kind ≡ Some meant → IsAdded h rows os before k (Some kind) number a → a ≡ carried h os before k meant
-meant_added h rows os before k kinds.Absolute meant number a e is = is ∙ ap (λ (s : Segment). carried h os before k s) (same_Some Absolute meant e)
-meant_added h rows os before k kinds.TextSeg meant number a e is = is ∙ ap (λ (s : Segment). carried h os before k s) (same_Some TextSeg meant e)
-meant_added h rows os before k kinds.DataSeg meant number a e is = is ∙ ap (λ (s : Segment). carried h os before k s) (same_Some DataSeg meant e)
-meant_added h rows os before k kinds.BssSeg meant number a e is = is ∙ ap (λ (s : Segment). carried h os before k s) (same_Some BssSeg meant e)
+meant_added : (h : Header) (rows : List Symbol) (os before : List Contents) (k : Contents) (kind : Kind) (meant : Segment) (number a : ℕ) → segment_meant kind ≡ Some meant → IsAdded h rows os before k (Some kind) number a → a ≡ move_in h os before k meant
+meant_added h rows os before k kinds.Absolute meant number a e is = is ∙ ap (λ (s : Segment). move_in h os before k s) (same_Some Absolute meant e)
+meant_added h rows os before k kinds.TextSeg meant number a e is = is ∙ ap (λ (s : Segment). move_in h os before k s) (same_Some TextSeg meant e)
+meant_added h rows os before k kinds.DataSeg meant number a e is = is ∙ ap (λ (s : Segment). move_in h os before k s) (same_Some DataSeg meant e)
+meant_added h rows os before k kinds.BssSeg meant number a e is = is ∙ ap (λ (s : Segment). move_in h os before k s) (same_Some BssSeg meant e)
 meant_added h rows os before k kinds.External meant number a e is = absurd (cc)
 
 -- each word of a link stands relocated by the rows of its relation
@@ -189,7 +189,7 @@ pub segments_found : (forced : List (List ℕ)) (before : List Contents) (k : Co
     AllByRecursion IsObject (before ++ k ∷ after) → link forced (before ++ k ∷ after) o ≡ Ok x →
     (segment : Segment) (i w : ℕ) (r : Reloc) → slice_get (segment_words segment k) i ≡ Some w → slice_get (segment_relocs segment k) i ≡ Some r →
     (kind : Kind) (meant : Segment) → kind_of r ≡ Some kind → segment_meant kind ≡ Some meant →
-    FindsMore x.file (before ++ k ∷ after) before k segment i w r (carried x.file.header (before ++ k ∷ after) before k meant)
+    FindsMore x.file (before ++ k ∷ after) before k segment i w r (move_in x.file.header (before ++ k ∷ after) before k meant)
 segments_found forced before k after o x good linked segment i w r ew er kind meant e m =
     let os = before ++ k ∷ after in
     let from = (linked_exactly forced os o x good).0 linked in
@@ -249,7 +249,7 @@ calls_arrive forced os o x good others linked once before k after all front c ba
     let same : finds.symbol ≡ call.symbol = same_Some finds.symbol call.symbol (sym finds.named ∙ call.named) in
     let row : finds.row ≡ is.row = same_Some finds.row is.row (sym finds.found ∙ ap (λ (m : List ℕ). entry_of x.file.symbols m) (ap (λ (s : Symbol). s.name) same ∙ call.names ∙ sym d.names) ∙ is.found) in
     let value : is.row.value ≡ address_of x.file.header os front c to n % 65536 =
-    is.value ∙ (λ j. plus (d.value j) (carried x.file.header os front c (d.is j))) ∙ there.symbol in
+    is.value ∙ (λ j. plus (d.value j) (move_in x.file.header os front c (d.is j))) ∙ there.symbol in
     record {
       address = finds.more.address;
       place = finds.more.place;

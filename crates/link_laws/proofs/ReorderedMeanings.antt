@@ -30,7 +30,7 @@ use Rattle.link_out.specs.Choices.{Choices, lays_commons}
 use Rattle.link_out.specs.Layouts.{Bases, base}
 use Rattle.link_out.specs.Results.{Findings}
 use Rattle.link_out.specs.relation.NameStates.{HasState, IsWanted}
-use Rattle.link_out.specs.relation.Relocated.{data_begins, entry_of, external_type, segment_words, segment_relocs, IsRelocated}
+use Rattle.link_out.specs.relation.Relocated.{data_base_in, entry_of, external_type, segment_words, segment_relocs, IsRelocated}
 use Rattle.link_out.specs.relation.LinkedTable.{shown, undefined_row}
 use Rattle.link_out.specs.laws.WordsAndNames.{IsDefined, IsSaid}
 use Rattle.link_out.specs.laws.CommonsAndLayouts.{IsCommon}
@@ -41,7 +41,7 @@ use Rattle.link_out.specs.function.Tables.{external_row}
 use Rattle.link_out.specs.function.Link.{Outcome, linked_header, linked_file, link}
 use Rattle.link_out.proofs.HasStateLemmas.{has_state, state_is}
 use Rattle.link_out.proofs.OutcomeLemmas.{made_file, made_report}
-use Rattle.link_out.proofs.CarriedLemmas.{data_begun, move_carried}
+use Rattle.link_out.proofs.MoveLemmas.{data_begun, move_by_header}
 use Rattle.link_out.proofs.ExternalLemmas.{row_at, entry_there}
 use Rattle.link_out.proofs.CommonLemmas.{commons_have_room}
 use Rattle.link_out.proofs.SegmentLemmas.{word_at}
@@ -58,11 +58,11 @@ module _ (forced : List (List ℕ)) (os : List Contents) (o : Choices) where
   abbrev h : Header
   h = linked_header (plan forced os o) os
 
-  data_ends : p.at.data_end ≡ data_begins h + h.data_size
+  data_ends : p.at.data_end ≡ data_base_in h + h.data_size
   data_ends = ap (λ (n : ℕ). n + total DataSeg os) (data_begun o.layout (total TextSeg os))
 
-  bss_ends : p.at.bss_end ≡ data_begins h + h.data_size + h.bss_size
-  bss_ends = sums p.at.data_end (data_begins h + h.data_size) (commons_laid o (mentions forced os)) (total BssSeg os) data_ends
+  bss_ends : p.at.bss_end ≡ data_base_in h + h.data_size + h.bss_size
+  bss_ends = sums p.at.data_end (data_base_in h + h.data_size) (commons_laid o (mentions forced os)) (total BssSeg os) data_ends
     where
       sums : (a b c n : ℕ) → a ≡ b → a + c + n ≡ b + (c + n)
       sums a b c n e = omega arith
@@ -72,7 +72,7 @@ module _ (forced : List (List ℕ)) (os : List Contents) (o : Choices) where
     where
       by_tests : (r t d e : Bool) →
           row_at name (cond r (waiting 0) (cond t (bound_at TextSeg p.at.text_end) (cond d (bound_at DataSeg p.at.data_end) (cond e (bound_at BssSeg p.at.bss_end) (waiting 0)))))
-          ≡ cond r (shown name 0o40 0) (cond t (shown name 0o42 h.text_size) (cond d (shown name 0o43 (data_begins h + h.data_size)) (cond e (shown name 0o44 (data_begins h + h.data_size + h.bss_size)) (shown name 0o40 0))))
+          ≡ cond r (shown name 0o40 0) (cond t (shown name 0o42 h.text_size) (cond d (shown name 0o43 (data_base_in h + h.data_size)) (cond e (shown name 0o44 (data_base_in h + h.data_size + h.bss_size)) (shown name 0o40 0))))
       by_tests true t d e = refl
       by_tests false true d e = refl
       by_tests false false true e = ap (λ (n : ℕ). shown name 0o43 n) data_ends
@@ -82,7 +82,7 @@ module _ (forced : List (List ℕ)) (os : List Contents) (o : Choices) where
   undefined_shown : (name : List ℕ) → state (mentions forced os) name ≡ Wanted 0 → external_row p name ≡ undefined_row h o name
   undefined_shown name e = ap (λ (s : State). row_at name (final_by p name s)) e ∙ undefined_same name
 
--- the address of what a symbol says, carried with its segment
+-- the address of what a symbol says, moved with its segment
 record HasPlace (b : Bases) (before : List Contents) (k : Contents) (segment : Segment) (own : ℕ) (g : Segment) (n : ℕ) : Type 0 where
   type_bits : type_of (Some g) ≡ external_type segment
   value : plus (base b g) n ≡ plus own (move b before k segment)
@@ -159,7 +159,7 @@ module _ (forced : List (List ℕ)) (os : List Contents) (o : Choices) (x : Outc
         row = external_row p d.symbol.name;
         found = entry_there p os d.symbol.name others known;
         type_bits = ap (λ (f : Final). type_of f.bound) final_is ∙ place.type_bits;
-        value = ap (λ (f : Final). f.written) final_is ∙ place.value ∙ ap (λ (m : ℕ). plus d.symbol.value m) (move_carried forced os o d.before d.k (segment_of d.symbol));
+        value = ap (λ (f : Final). f.written) final_is ∙ place.value ∙ ap (λ (m : ℕ). plus d.symbol.value m) (move_by_header forced os o d.before d.k (segment_of d.symbol));
       }
 
 laid : (o : Choices) → o.relocatable ≡ false → lays_commons o ≡ true

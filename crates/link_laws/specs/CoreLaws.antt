@@ -20,7 +20,7 @@ use Rattle.link_out.specs.declared.options.Layout.TheVariants.{Split}
 use Rattle.link_out.specs.Choices.{Choices, lays_commons}
 use Rattle.link_out.specs.Results.{Outcome}
 use Rattle.link_out.specs.function.Link.{link}
-use Rattle.link_out.specs.relation.Relocated.{begins, carried, entry_of, IsAdded, segment_words, segment_relocs}
+use Rattle.link_out.specs.relation.Relocated.{base_in, move_in, entry_of, IsAdded, segment_words, segment_relocs}
 use Rattle.link_out.specs.laws.CommonsAndLayouts.{IsCommon}
 use Rattle.link_laws.specs.Core.{Space, of_instructions, of_data, has_segment, is_in, core, IsWordAt}
 
@@ -44,10 +44,10 @@ space_of TextSeg = of_instructions
 space_of _ = of_data
 
 -- byte n of a segment of k stands behind that segment of the objects before k; there, modulo 65,536, is what a symbol of k at
--- that byte is: its value in k, carried
+-- that byte is: its value in k, moved
 pub record IsPlace (h : Header) (os before : List Contents) (k : Contents) (segment : Segment) (n address : ℕ) : Type 0 where
-  pub behind : address ≡ begins h (total BssSeg os) segment + total segment before + n
-  pub symbol : plus (own k segment + n) (carried h os before k segment) ≡ address % 65536
+  pub behind : address ≡ base_in h (total BssSeg os) segment + total segment before + n
+  pub symbol : plus (own k segment + n) (move_in h os before k segment) ≡ address % 65536
 
 -- word i of a segment of k, which is w with relocation word r, is loaded at its place, relocated
 pub record IsLoaded (file : Contents) (rows : List Symbol) (os before : List Contents) (k : Contents) (segment : Segment) (i w : ℕ) (r : Reloc) : Type 0 where
@@ -55,7 +55,7 @@ pub record IsLoaded (file : Contents) (rows : List Symbol) (os before : List Con
   pub place : IsPlace file.header os before k segment (2 * i) address
   pub added : ℕ
   pub is : IsAdded file.header rows os before k (kind_of r) (symbol_number r) added
-  pub word : IsWordAt file (space_of segment) address (minus (plus w added) (cond (is_pc_relative r) (carried file.header os before k segment) 0))
+  pub word : IsWordAt file (space_of segment) address (minus (plus w added) (cond (is_pc_relative r) (move_in file.header os before k segment) 0))
 
 abbrev pub WordsAreLoaded : Type 0
 WordsAreLoaded = (forced : List (List ℕ)) (before : List Contents) (k : Contents) (after : List Contents) (o : Choices) (x : Outcome) →
@@ -93,7 +93,7 @@ pub record IsOfWord (h : Header) (os : List Contents) (space : Space) (address :
   pub i : ℕ
   pub w : ℕ
   pub word : slice_get (segment_words segment k) i ≡ Some w
-  pub at : (address ≡ begins h (total BssSeg os) segment + total segment before + 2 * i) ⊎ (address ≡ begins h (total BssSeg os) segment + total segment before + 2 * i + 1)
+  pub at : (address ≡ base_in h (total BssSeg os) segment + total segment before + 2 * i) ⊎ (address ≡ base_in h (total BssSeg os) segment + total segment before + 2 * i + 1)
 
 -- each byte of the core is of a word of an object, or a zero of bss
 abbrev pub NothingElse : Type 0

@@ -20,7 +20,7 @@ use Rattle.link_out.specs.ReservedNames.{etext, edata, end_name}
 use Rattle.link_out.specs.function.Link.{Outcome, link}
 use Rattle.link_out.specs.relation.NameStates.{HasState}
 use Rattle.link_out.specs.relation.Relocated.{entry_of}
-use Rattle.link_out.specs.relation.LinkedTable.{row_for, carried_locals}
+use Rattle.link_out.specs.relation.LinkedTable.{row_for, moved_locals_in}
 use Rattle.link_out.specs.relation.Refusals.{CommonsTake, kept_locals}
 use Rattle.link_out.specs.relation.LinkedFrom.{IsLinkedFrom}
 use Rattle.symtools.specs.declared.options.NmOptions.{NmOptions}
@@ -60,7 +60,7 @@ UndefinedLines = (forced : List (List ℕ)) (os : List Contents) (o : Choices) (
 abbrev pub RowLines : Type 0
 RowLines = (forced : List (List ℕ)) (os : List Contents) (o : Choices) (x : Outcome) → o.keep ≢ Nothing → (l : IsLinkedFrom forced os o x) →
     (n : NmOptions) (path : List ℕ) → n.undefined ≡ false →
-    nm_text n ((path, x.file) ∷ []) ≡ lines n path (arranged n (listed_locals n (carried_locals x.file.header os o) ++ l.rows))
+    nm_text n ((path, x.file) ∷ []) ≡ lines n path (arranged n (listed_locals n (moved_locals_in x.file.header os o) ++ l.rows))
 
 -- the letter of a definition
 abbrev pub segment_letter : Segment → ℕ

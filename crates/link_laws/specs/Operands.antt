@@ -20,7 +20,7 @@ use Rattle.link_out.specs.declared.options.Keep.TheVariants.{Nothing}
 use Rattle.link_out.specs.Choices.{Choices}
 use Rattle.link_out.specs.Results.{Outcome}
 use Rattle.link_out.specs.function.Link.{link}
-use Rattle.link_out.specs.relation.Relocated.{carried, entry_of, segment_words, segment_relocs}
+use Rattle.link_out.specs.relation.Relocated.{move_in, entry_of, segment_words, segment_relocs}
 use Rattle.link_laws.specs.Core.{IsWordAt}
 use Rattle.link_laws.specs.CoreLaws.{space_of, IsPlace}
 
@@ -50,7 +50,7 @@ NamesAreFound = (forced : List (List ℕ)) (before : List Contents) (k : Content
     (segment : Segment) (i w : ℕ) (r : Reloc) → slice_get (segment_words segment k) i ≡ Some w → slice_get (segment_relocs segment k) i ≡ Some r →
     kind_of r ≡ Some kinds.External → FindsName x.file (before ++ k ∷ after) before k segment i w r
 
--- the segment that a word refers to, if it refers to no name; an absolute word refers to none that is carried
+-- the segment that a word refers to, if it refers to no name; an absolute word refers to none that is moved
 abbrev pub segment_meant : Kind → Option Segment
 segment_meant kinds.Absolute = Some segments.Absolute
 segment_meant kinds.TextSeg = Some segments.TextSeg
@@ -58,13 +58,13 @@ segment_meant kinds.DataSeg = Some segments.DataSeg
 segment_meant kinds.BssSeg = Some segments.BssSeg
 segment_meant kinds.External = None
 
--- a word that refers to a segment of its object finds more by how far that segment was carried, with relocation too
+-- a word that refers to a segment of its object finds more by how far that segment was moved, with relocation too
 abbrev pub SegmentsAreFound : Type 0
 SegmentsAreFound = (forced : List (List ℕ)) (before : List Contents) (k : Contents) (after : List Contents) (o : Choices) (x : Outcome) →
     AllByRecursion IsObject (before ++ k ∷ after) → link forced (before ++ k ∷ after) o ≡ Ok x →
     (segment : Segment) (i w : ℕ) (r : Reloc) → slice_get (segment_words segment k) i ≡ Some w → slice_get (segment_relocs segment k) i ≡ Some r →
     (kind : Kind) (meant : Segment) → kind_of r ≡ Some kind → segment_meant kind ≡ Some meant →
-    FindsMore x.file (before ++ k ∷ after) before k segment i w r (carried x.file.header (before ++ k ∷ after) before k meant)
+    FindsMore x.file (before ++ k ∷ after) before k segment i w r (move_in x.file.header (before ++ k ∷ after) before k meant)
 
 -- a word of k that is relative to the pc, refers to a name, and in k finds no byte beyond it: the operand of a call
 pub record Calls (k : Contents) (segment : Segment) (i : ℕ) (name : List ℕ) : Type 0 where

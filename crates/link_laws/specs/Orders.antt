@@ -69,7 +69,7 @@ pub data Meaning : Type 0 where
   common : ℕ → Meaning
   missing : Meaning
 
--- a symbol of one of the objects defines this name, and the file has its address, carried with that object
+-- a symbol of one of the objects defines this name, and the file has its address, moved with that object
 pub record IsDefinedBy (file : Contents) (os : List Contents) (name : List ℕ) (k : Contents) (s : Symbol) : Type 0 where
   pub before : List Contents
   pub after : List Contents

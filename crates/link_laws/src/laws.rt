@@ -32,7 +32,7 @@ pub fn core_law()
 ///
 /// - `names`: a word that refers to a name finds in the program so many bytes beyond the name's value as it does beyond the
 ///   name in its object. Of links that keep symbols, without relocation.
-/// - `segments`: a word that refers to a segment of its object finds what it does there, carried with that segment; an
+/// - `segments`: a word that refers to a segment of its object finds what it does there, moved with that segment; an
 ///   absolute one the same as there.
 /// - `calls`: so where no name is multiply defined, a call finds the definition of its name, in whatever object it stands.
 ///   Of links that keep symbols.

@@ -22,10 +22,10 @@ use Rattle.link_out.specs.function.Tables.{external_row}
 use Rattle.link_out.specs.function.Reports.{Findings}
 use Rattle.link_out.specs.function.Link.{Outcome, linked_file, link}
 use Rattle.link_out.specs.laws.WordsAndNames.{IsDefined}
-use Rattle.link_out.specs.relation.Relocated.{carried, external_type}
+use Rattle.link_out.specs.relation.Relocated.{move_in, external_type}
 use Rattle.link_out.proofs.SaidLemmas.{of_entry}
 use Rattle.link_out.proofs.OutcomeLemmas.{made_file, made_report}
-use Rattle.link_out.proofs.CarriedLemmas.{move_carried}
+use Rattle.link_out.proofs.MoveLemmas.{move_by_header}
 use Rattle.link_out.proofs.ExternalLemmas.{entry_there}
 use Rattle.link_out.proofs.MultipleLemmas.{AgreesIn, none_differ, agrees_with}
 
@@ -54,7 +54,7 @@ module _ (forced : List (List ℕ)) (os : List Contents) (o : Choices) (others :
   defined_row segment offset e = ap (λ (d : Option Definition). final_by q s.name (state_by d (wanted_size (mentions forced os) s.name))) e
 
   -- the entry of a name with this first definition
-  defined_at : (segment : Segment) (offset : ℕ) → external_type (segment_of s) ≡ type_of (Some segment) → plus (base q.at segment) offset ≡ plus s.value (carried (linked_file q os).header os before k (segment_of s)) →
+  defined_at : (segment : Segment) (offset : ℕ) → external_type (segment_of s) ≡ type_of (Some segment) → plus (base q.at segment) offset ≡ plus s.value (move_in (linked_file q os).header os before k (segment_of s)) →
       first_definition (mentions forced os) s.name ≡ Some (segment, offset) → IsDefined (linked_file q os) os before k s
   defined_at segment offset t v e = record {
     row = external_row q s.name;
@@ -63,14 +63,14 @@ module _ (forced : List (List ℕ)) (os : List Contents) (o : Choices) (others :
     value = ap (λ (f : Final). f.written) (defined_row segment offset e) ∙ v;
   }
 
-  carried_at : (segment : Segment) {n : ℕ} → segment_of s ≡ segment → n ≡ plus s.value (carried (linked_file q os).header os before k segment) → n ≡ plus s.value (carried (linked_file q os).header os before k (segment_of s))
-  carried_at segment same e = e ∙ ap (λ (g : Segment). plus s.value (carried (linked_file q os).header os before k g)) (sym same)
+  move_at : (segment : Segment) {n : ℕ} → segment_of s ≡ segment → n ≡ plus s.value (move_in (linked_file q os).header os before k segment) → n ≡ plus s.value (move_in (linked_file q os).header os before k (segment_of s))
+  move_at segment same e = e ∙ ap (λ (g : Segment). plus s.value (move_in (linked_file q os).header os before k g)) (sym same)
 
   sum_placed : (v b h c : ℕ) → plus b h ≡ c → plus b (plus v h) ≡ plus v c
   sum_placed v b h c e = omega arith
 
-  placed : (segment : Segment) → plus (base q.at segment) (plus s.value (shift before k segment)) ≡ plus s.value (carried (linked_file q os).header os before k segment)
-  placed segment = sum_placed s.value (base q.at segment) (shift before k segment) (carried (linked_file q os).header os before k segment) (move_carried forced os o before k segment)
+  placed : (segment : Segment) → plus (base q.at segment) (plus s.value (shift before k segment)) ≡ plus s.value (move_in (linked_file q os).header os before k segment)
+  placed segment = sum_placed s.value (base q.at segment) (shift before k segment) (move_in (linked_file q os).header os before k segment) (move_by_header forced os o before k segment)
 
   defined_by : (segment : Segment) → eqb (masked_type s) 0 ≡ false → segment_of s ≡ segment → differs (first_definition (mentions forced os) s.name) (statement before k segment s.value) ≡ false → IsDefined (linked_file q os) os before k s
   defined_by Undefined inner same h = absurd (undefined_type (masked_type s) inner same)
@@ -85,11 +85,11 @@ module _ (forced : List (List ℕ)) (os : List Contents) (o : Choices) (others :
           by_tests false false false true f z e = absurd (cc)
           by_tests false false false false true z e = absurd (cc)
           by_tests false false false false false z e = absurd (cc)
-  defined_by Absolute inner same h = defined_at Absolute (plus s.value (shift before k Absolute)) (ap external_type same) (carried_at Absolute same (sum_placed s.value 0 0 0 refl)) (agrees_with (first_definition (mentions forced os) s.name) Absolute (plus s.value (shift before k Absolute)) h)
-  defined_by Other inner same h = defined_at Absolute (plus s.value (shift before k Absolute)) (ap external_type same) (carried_at Other same (sum_placed s.value 0 0 0 refl)) (agrees_with (first_definition (mentions forced os) s.name) Absolute (plus s.value (shift before k Absolute)) h)
-  defined_by TextSeg inner same h = defined_at TextSeg (plus s.value (shift before k TextSeg)) (ap external_type same) (carried_at TextSeg same (placed TextSeg)) (agrees_with (first_definition (mentions forced os) s.name) TextSeg (plus s.value (shift before k TextSeg)) h)
-  defined_by DataSeg inner same h = defined_at DataSeg (plus s.value (shift before k DataSeg)) (ap external_type same) (carried_at DataSeg same (placed DataSeg)) (agrees_with (first_definition (mentions forced os) s.name) DataSeg (plus s.value (shift before k DataSeg)) h)
-  defined_by BssSeg inner same h = defined_at BssSeg (plus s.value (shift before k BssSeg)) (ap external_type same) (carried_at BssSeg same (placed BssSeg)) (agrees_with (first_definition (mentions forced os) s.name) BssSeg (plus s.value (shift before k BssSeg)) h)
+  defined_by Absolute inner same h = defined_at Absolute (plus s.value (shift before k Absolute)) (ap external_type same) (move_at Absolute same (sum_placed s.value 0 0 0 refl)) (agrees_with (first_definition (mentions forced os) s.name) Absolute (plus s.value (shift before k Absolute)) h)
+  defined_by Other inner same h = defined_at Absolute (plus s.value (shift before k Absolute)) (ap external_type same) (move_at Other same (sum_placed s.value 0 0 0 refl)) (agrees_with (first_definition (mentions forced os) s.name) Absolute (plus s.value (shift before k Absolute)) h)
+  defined_by TextSeg inner same h = defined_at TextSeg (plus s.value (shift before k TextSeg)) (ap external_type same) (move_at TextSeg same (placed TextSeg)) (agrees_with (first_definition (mentions forced os) s.name) TextSeg (plus s.value (shift before k TextSeg)) h)
+  defined_by DataSeg inner same h = defined_at DataSeg (plus s.value (shift before k DataSeg)) (ap external_type same) (move_at DataSeg same (placed DataSeg)) (agrees_with (first_definition (mentions forced os) s.name) DataSeg (plus s.value (shift before k DataSeg)) h)
+  defined_by BssSeg inner same h = defined_at BssSeg (plus s.value (shift before k BssSeg)) (ap external_type same) (move_at BssSeg same (placed BssSeg)) (agrees_with (first_definition (mentions forced os) s.name) BssSeg (plus s.value (shift before k BssSeg)) h)
 
 -- where no name is multiply defined, each definition holds
 pub definitions_hold : (forced : List (List ℕ)) (before : List Contents) (k : Contents) (after : List Contents) (o : Choices) (x : Outcome) →

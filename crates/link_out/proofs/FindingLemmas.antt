@@ -14,9 +14,9 @@ use Rattle.link_session.proofs.PlaceLemmas.{found_place, missing_state}
 use Rattle.link_session.proofs.MentionedLemmas.{keys-named_states, state_for-named_states}
 use Rattle.link_out.specs.function.Plans.{Plan}
 use Rattle.link_out.specs.function.Finals.{Final, final, type_of}
-use Rattle.link_out.specs.steps.FromCells.{finals}
+use Rattle.link_out.specs.internal.FromCells.{finals}
 use Rattle.link_out.specs.function.Reports.{is_missing, undefined_names, is_in_text, entry_word, entry_found_bad}
-use Rattle.link_out.specs.steps.Entries.{text_address, text_address_at}
+use Rattle.link_out.specs.internal.Entries.{text_address, text_address_at}
 use Rattle.link_out.proofs.CellWordLemmas.{mapped_at_place}
 use Rattle.link_out.proofs.InOrderLemmas.{drop_next, named_by}
 

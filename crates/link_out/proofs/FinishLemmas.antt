@@ -17,11 +17,11 @@ use Rattle.link_out.specs.Layouts.{Bases}
 use Rattle.link_out.specs.function.Plans.{Plan, plan}
 use Rattle.link_out.specs.function.Words.{final_words}
 use Rattle.link_out.specs.function.Finals.{Final}
-use Rattle.link_out.specs.steps.FromCells.{finals, word_of_cell, reloc_of_cell, is_far}
-use Rattle.link_out.specs.steps.InOrder.{finals_from}
+use Rattle.link_out.specs.internal.FromCells.{finals, word_of_cell, reloc_of_cell, is_far}
+use Rattle.link_out.specs.internal.InOrder.{finals_from}
 use Rattle.link_out.specs.function.Tables.{table, final_relocs, has_far_in}
 use Rattle.link_out.specs.function.Link.{linked_header, linked_file}
-use Rattle.link_out.specs.steps.Passes.{IsPassed}
+use Rattle.link_out.specs.internal.Passes.{IsPassed}
 use Rattle.link_out.proofs.InOrderLemmas.{finals-in_order}
 use Rattle.link_out.proofs.CellWordLemmas.{final_words-cells}
 use Rattle.link_out.proofs.CellRelocLemmas.{final_relocs-cells, has_far_in-cells}

@@ -15,9 +15,9 @@ use Rattle.link_out.specs.Choices.{Choices}
 use Rattle.link_out.specs.Layouts.{Bases}
 use Rattle.link_out.specs.function.Plans.{Plan, common_size, room_of, commons_total, common_offset}
 use Rattle.link_out.specs.function.Finals.{Final, final}
-use Rattle.link_out.specs.steps.FromCells.{finals}
+use Rattle.link_out.specs.internal.FromCells.{finals}
 use Rattle.link_out.specs.function.Finals.{final_at}
-use Rattle.link_out.specs.steps.InOrder.{finals_from, room_in}
+use Rattle.link_out.specs.internal.InOrder.{finals_from, room_in}
 
 -- names with their states
 abbrev pub named_by : List Mention → List (List ℕ) → Named

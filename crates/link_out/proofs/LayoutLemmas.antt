@@ -29,10 +29,10 @@ use Rattle.link_out.specs.function.Tables.{moved_value, moved_local, local_rows,
 use Rattle.link_out.specs.function.Reports.{entry_word, entry_found_bad, findings}
 use Rattle.link_out.specs.Results.{Outcome}
 use Rattle.link_out.specs.function.Link.{linked_header, linked_file, link}
-use Rattle.link_out.specs.relation.Relocated.{data_begins, begins}
+use Rattle.link_out.specs.relation.Relocated.{data_base_in, base_in}
 use Rattle.link_out.specs.laws.CommonsAndLayouts.{IsShifted, AreShifted, DifferInPlace}
 use Rattle.link_out.proofs.PartialLemmas.{IsProper, state_is_proper}
-use Rattle.link_out.proofs.CarriedLemmas.{data_begun, rest_back}
+use Rattle.link_out.proofs.MoveLemmas.{data_begun, rest_back}
 use Rattle.link_out.proofs.OutcomeLemmas.{made}
 use Rattle.link_out.proofs.RefusalLemmas.{table_long, locals_long}
 
@@ -88,31 +88,31 @@ module _ (forced : List (List ℕ)) (os : List Contents) (o : Choices) (layout :
   ms = mentions forced os
 
   -- where data and bss begin
-  data_p : data_begins g ≡ p.at.data_start
+  data_p : data_base_in g ≡ p.at.data_start
   data_p = sym (data_begun o.layout (total TextSeg os))
 
-  data_q : data_begins h ≡ q.at.data_start
+  data_q : data_base_in h ≡ q.at.data_start
   data_q = sym (data_begun layout (total TextSeg os))
 
-  bss_p : begins g bss BssSeg ≡ p.at.data_end + commons_laid o ms
+  bss_p : base_in g bss BssSeg ≡ p.at.data_end + commons_laid o ms
   bss_p = λ i. data_p i + total DataSeg os + rest_back (commons_laid o ms) bss i
 
-  bss_q : begins h bss BssSeg ≡ q.at.data_end + commons_laid o ms
+  bss_q : base_in h bss BssSeg ≡ q.at.data_end + commons_laid o ms
   bss_q = λ i. data_q i + total DataSeg os + rest_back (commons_laid o ms) bss i
 
-  at_data : (n : ℕ) → minus (plus p.at.data_start n) (begins g bss DataSeg) ≡ minus (plus q.at.data_start n) (begins h bss DataSeg)
+  at_data : (n : ℕ) → minus (plus p.at.data_start n) (base_in g bss DataSeg) ≡ minus (plus q.at.data_start n) (base_in h bss DataSeg)
   at_data n = ap (λ (b : ℕ). minus (plus p.at.data_start n) b) data_p ∙ less_base p.at.data_start n ∙ sym (ap (λ (b : ℕ). minus (plus q.at.data_start n) b) data_q ∙ less_base q.at.data_start n)
 
-  at_bss : (n : ℕ) → minus (plus p.at.bss_start n) (begins g bss BssSeg) ≡ minus (plus q.at.bss_start n) (begins h bss BssSeg)
+  at_bss : (n : ℕ) → minus (plus p.at.bss_start n) (base_in g bss BssSeg) ≡ minus (plus q.at.bss_start n) (base_in h bss BssSeg)
   at_bss n = ap (λ (b : ℕ). minus (plus p.at.bss_start n) b) bss_p ∙ less_base p.at.bss_start n ∙ sym (ap (λ (b : ℕ). minus (plus q.at.bss_start n) b) bss_q ∙ less_base q.at.bss_start n)
 
-  at_edata : minus p.at.data_end (begins g bss DataSeg) ≡ minus q.at.data_end (begins h bss DataSeg)
+  at_edata : minus p.at.data_end (base_in g bss DataSeg) ≡ minus q.at.data_end (base_in h bss DataSeg)
   at_edata = ap (λ (b : ℕ). minus p.at.data_end b) data_p ∙ less_start p.at.data_start (total DataSeg os) ∙ sym (ap (λ (b : ℕ). minus q.at.data_end b) data_q ∙ less_start q.at.data_start (total DataSeg os))
 
-  at_end : minus p.at.bss_end (begins g bss BssSeg) ≡ minus q.at.bss_end (begins h bss BssSeg)
+  at_end : minus p.at.bss_end (base_in g bss BssSeg) ≡ minus q.at.bss_end (base_in h bss BssSeg)
   at_end = ap (λ (b : ℕ). minus p.at.bss_end b) bss_p ∙ less_start p.at.bss_start bss ∙ sym (ap (λ (b : ℕ). minus q.at.bss_end b) bss_q ∙ less_start q.at.bss_start bss)
 
-  at_common : (n : ℕ) → minus (plus p.at.data_end n) (begins g bss BssSeg) ≡ minus (plus q.at.data_end n) (begins h bss BssSeg)
+  at_common : (n : ℕ) → minus (plus p.at.data_end n) (base_in g bss BssSeg) ≡ minus (plus q.at.data_end n) (base_in h bss BssSeg)
   at_common n =
       ap (λ (b : ℕ). minus (plus p.at.data_end n) b) bss_p ∙ less_room p.at.data_end n (commons_laid o ms)
       ∙ sym (ap (λ (b : ℕ). minus (plus q.at.data_end n) b) bss_q ∙ less_room q.at.data_end n (commons_laid o ms))
@@ -148,7 +148,7 @@ module _ (forced : List (List ℕ)) (os : List Contents) (o : Choices) (layout :
   local_shifted : (earlier : List Contents) (k : Contents) (s : Symbol) → IsShifted g h bss (moved_local p.at earlier k s) (moved_local q.at earlier k s)
   local_shifted earlier k s = record { name = refl; type_bits = refl; value = by_segment (segment_of s) }
     where
-      by_segment : (segment : Segment) → minus (moved_value p.at earlier k segment s.value) (begins g bss segment) ≡ minus (moved_value q.at earlier k segment s.value) (begins h bss segment)
+      by_segment : (segment : Segment) → minus (moved_value p.at earlier k segment s.value) (base_in g bss segment) ≡ minus (moved_value q.at earlier k segment s.value) (base_in h bss segment)
       by_segment Undefined = refl
       by_segment Absolute = refl
       by_segment Other = refl

@@ -18,7 +18,7 @@ pub mod GroupingLemmas
 pub mod OutcomeLemmas
 pub mod IndexLemmas
 pub mod SaidLemmas
-pub mod CarriedLemmas
+pub mod MoveLemmas
 pub mod ExternalLemmas
 pub mod SegmentLemmas
 pub mod RelocatedLemmas

@@ -30,10 +30,10 @@ use Rattle.link_out.specs.function.Finals.{final, final_by, type_of, bound_at, w
 use Rattle.link_out.specs.function.Tables.{is_kept_local, moved_value, moved_local, local_rows, external_row, external_rows, row_of, name_bits, referent_bits, final_reloc, final_relocs, waits_far, is_out_of_reach, has_far_in}
 use Rattle.link_out.specs.function.Link.{linked_header}
 use Rattle.link_out.specs.relation.Relocated.{entry_of, segment_relocs}
-use Rattle.link_out.specs.relation.LinkedTable.{carried_value, carried_local, carried_locals}
+use Rattle.link_out.specs.relation.LinkedTable.{moved_value_in, moved_local_in, moved_locals_in}
 use Rattle.link_out.specs.relation.LinkedWords.{row_bits, IsNamedBy, AreBits, AreKept}
 use Rattle.link_out.proofs.PartialLemmas.{IsProper, state_is_proper}
-use Rattle.link_out.proofs.CarriedLemmas.{move_carried}
+use Rattle.link_out.proofs.MoveLemmas.{move_by_header}
 use Rattle.link_out.proofs.ExternalLemmas.{names_of_rows, entry_among}
 use Rattle.link_out.proofs.SegmentLemmas.{HasWords, made_found, made_whole, words_back, front_objects, word_at}
 use Rattle.link_out.proofs.NeighbourMentions.{blocks}
@@ -42,18 +42,18 @@ use Rattle.link_out.proofs.NeighbourMentions.{blocks}
 
 module _ (forced : List (List ℕ)) (os : List Contents) (o : Choices) where
   value_same : (earlier : List Contents) (k : Contents) (segment : Segment) (value : ℕ) →
-      carried_value (linked_header (plan forced os o) os) os earlier k segment value ≡ moved_value (plan forced os o).at earlier k segment value
+      moved_value_in (linked_header (plan forced os o) os) os earlier k segment value ≡ moved_value (plan forced os o).at earlier k segment value
   value_same earlier k Undefined value = refl
   value_same earlier k Absolute value = refl
   value_same earlier k Other value = refl
-  value_same earlier k TextSeg value = ap (λ (n : ℕ). plus value n) (sym (move_carried forced os o earlier k TextSeg))
-  value_same earlier k DataSeg value = ap (λ (n : ℕ). plus value n) (sym (move_carried forced os o earlier k DataSeg))
-  value_same earlier k BssSeg value = ap (λ (n : ℕ). plus value n) (sym (move_carried forced os o earlier k BssSeg))
+  value_same earlier k TextSeg value = ap (λ (n : ℕ). plus value n) (sym (move_by_header forced os o earlier k TextSeg))
+  value_same earlier k DataSeg value = ap (λ (n : ℕ). plus value n) (sym (move_by_header forced os o earlier k DataSeg))
+  value_same earlier k BssSeg value = ap (λ (n : ℕ). plus value n) (sym (move_by_header forced os o earlier k BssSeg))
 
-  local_same : (earlier : List Contents) (k : Contents) (s : Symbol) → carried_local (linked_header (plan forced os o) os) os earlier k s ≡ moved_local (plan forced os o).at earlier k s
+  local_same : (earlier : List Contents) (k : Contents) (s : Symbol) → moved_local_in (linked_header (plan forced os o) os) os earlier k s ≡ moved_local (plan forced os o).at earlier k s
   local_same earlier k s = ap (λ (v : ℕ). let t : Symbol = record s { value = v } in t) (value_same earlier k (segment_of s) s.value)
 
-  pub locals_same : carried_locals (linked_header (plan forced os o) os) os o ≡ local_rows (plan forced os o) os
+  pub locals_same : moved_locals_in (linked_header (plan forced os o) os) os o ≡ local_rows (plan forced os o) os
   locals_same = λ i. flat_map (λ q. map (λ s. local_same q.0 q.1 s i) (filter (is_kept_local o.keep) q.1.symbols)) (with_earlier [] os)
 
 -- where a name is bound, if it is

@@ -19,17 +19,17 @@ use Rattle.link_out.specs.function.Plans.{Plan, plan, commons_laid}
 use Rattle.link_out.specs.function.Tables.{local_rows, external_row, external_rows, rows_kept, table, final_reloc, final_relocs, has_far_in, has_far_word}
 use Rattle.link_out.specs.function.Words.{final_words}
 use Rattle.link_out.specs.function.Reports.{findings, reserved_names, undefined_names, entry_word, entry_found_bad}
-use Rattle.link_out.specs.steps.InOrder.{finals_from, room_in}
+use Rattle.link_out.specs.internal.InOrder.{finals_from, room_in}
 use Rattle.link_out.specs.function.Link.{Outcome, linked_header, linked_file, link}
-use Rattle.link_out.specs.relation.Relocated.{data_begins, begins, IsEntry}
-use Rattle.link_out.specs.relation.LinkedTable.{AreRows, carried_locals}
+use Rattle.link_out.specs.relation.Relocated.{data_base_in, base_in, IsEntry}
+use Rattle.link_out.specs.relation.LinkedTable.{AreRows, moved_locals_in}
 use Rattle.link_out.specs.relation.LinkedWords.{AreRelocated, AreKept}
 use Rattle.link_out.specs.relation.Reported.{ArePicked, IsReported}
 use Rattle.link_out.specs.relation.LinkedFrom.{IsLinkedFrom}
 use Rattle.link_out.specs.relation.NameStates.{IsWanted}
 use Rattle.link_out.proofs.PartialLemmas.{IsProper, state_is_proper}
 use Rattle.link_out.proofs.OutcomeLemmas.{IsMade, made, is_made}
-use Rattle.link_out.proofs.CarriedLemmas.{data_begun, rest_back}
+use Rattle.link_out.proofs.MoveLemmas.{data_begun, rest_back}
 use Rattle.link_out.proofs.ExternalLemmas.{names_of_rows, entry_among}
 use Rattle.link_out.proofs.InOrderLemmas.{named_by, finals-in_order, room-commons}
 use Rattle.link_out.proofs.EntryPointLemmas.{entry_made, entry_once}
@@ -58,13 +58,13 @@ module _ (forced : List (List ℕ)) (os : List Contents) (o : Choices) where
 
   tells : (s e : ℕ) → Tells (header_with s e) bss p.at
   tells s e =
-      let start : data_begins (header_with s e) ≡ data_base o.layout (total TextSeg os) = sym (data_begun o.layout (total TextSeg os)) in
+      let start : data_base_in (header_with s e) ≡ data_base o.layout (total TextSeg os) = sym (data_begun o.layout (total TextSeg os)) in
       record {
         text_end = refl;
         data_start = start;
         data_end = ap (λ (n : ℕ). n + total DataSeg os) start;
         bss_start = λ i. start i + total DataSeg os + rest_back (commons_laid o ms) bss i;
-        bss_end = sums (data_begins (header_with s e)) (data_base o.layout (total TextSeg os)) (total DataSeg os) (commons_laid o ms) bss start;
+        bss_end = sums (data_base_in (header_with s e)) (data_base o.layout (total TextSeg os)) (total DataSeg os) (commons_laid o ms) bss start;
       }
     where
       sums : (a b d c n : ℕ) → a ≡ b → a + d + (c + n) ≡ b + d + c + n
@@ -90,10 +90,10 @@ module _ (forced : List (List ℕ)) (os : List Contents) (o : Choices) where
     h = linked_header p os
 
     abbrev at : ℕ
-    at = data_begins h + h.data_size
+    at = data_base_in h + h.data_size
 
     abbrev end : ℕ
-    end = begins h bss BssSeg
+    end = base_in h bss BssSeg
 
     told : Tells h bss p.at
     told = tells (12 * length (table p os)) (entry_word p o.entry)
@@ -102,7 +102,7 @@ module _ (forced : List (List ℕ)) (os : List Contents) (o : Choices) where
     fits = ltb-false 65535 p.at.bss_end m.short
 
     short : end ≤ 65535
-    short = less (data_begins h + h.data_size) h.bss_size bss p.at.bss_end told.bss_end fits
+    short = less (data_base_in h + h.data_size) h.bss_size bss p.at.bss_end told.bss_end fits
       where
         less : (a b n e : ℕ) → a + b ≡ e → e ≤ 65535 → a + (b - n) ≤ 65535
         less a b n e f g = omega arith
@@ -170,9 +170,9 @@ module _ (forced : List (List ℕ)) (os : List Contents) (o : Choices) where
     -- the rows' commons and the objects' bytes are bss
     bss_same : g.bss_size ≡ commons_laid o ms + bss
     bss_same =
-        let room : (data_begins g + g.data_size) + cond (lays_commons o) (room_in (named_by ms (map (λ s. s.name) l.rows))) 0 ≡ begins g bss BssSeg = rows_end g bss o ms l.rows (data_begins g + g.data_size) (begins g bss BssSeg) l.are_rows in
+        let room : (data_base_in g + g.data_size) + cond (lays_commons o) (room_in (named_by ms (map (λ s. s.name) l.rows))) 0 ≡ base_in g bss BssSeg = rows_end g bss o ms l.rows (data_base_in g + g.data_size) (base_in g bss BssSeg) l.are_rows in
         let laid : cond (lays_commons o) (room_in (named_by ms (map (λ s. s.name) l.rows))) 0 ≡ commons_laid o ms = ap (λ (ns : List (List ℕ)). cond (lays_commons o) (room_in (named_by ms ns)) 0) l.names ∙ ap (λ (n : ℕ). cond (lays_commons o) n 0) (room-commons ms) in
-        sums (data_begins g + g.data_size) (cond (lays_commons o) (room_in (named_by ms (map (λ s. s.name) l.rows))) 0) (commons_laid o ms) g.bss_size bss room laid l.holds.bss
+        sums (data_base_in g + g.data_size) (cond (lays_commons o) (room_in (named_by ms (map (λ s. s.name) l.rows))) 0) (commons_laid o ms) g.bss_size bss room laid l.holds.bss
       where
         sums : (a r c b n : ℕ) → a + r ≡ a + (b - n) → r ≡ c → n ≤ b → b ≡ c + n
         sums a r c b n e f k = omega arith
@@ -194,16 +194,16 @@ module _ (forced : List (List ℕ)) (os : List Contents) (o : Choices) where
 
     rows_same : l.rows ≡ external_rows p
     rows_same =
-        rows_are g bss o p.at told_back ms proper (begins g bss BssSeg) (less (data_begins g + g.data_size) g.bss_size bss l.header.short) l.rows (data_begins g + g.data_size) 0
-        (record { here = λ lays. told_back.data_end ∙ omega arith; ends = rows_end g bss o ms l.rows (data_begins g + g.data_size) (begins g bss BssSeg) l.are_rows }) l.are_rows
+        rows_are g bss o p.at told_back ms proper (base_in g bss BssSeg) (less (data_base_in g + g.data_size) g.bss_size bss l.header.short) l.rows (data_base_in g + g.data_size) 0
+        (record { here = λ lays. told_back.data_end ∙ omega arith; ends = rows_end g bss o ms l.rows (data_base_in g + g.data_size) (base_in g bss BssSeg) l.are_rows }) l.are_rows
         ∙ ap (λ (ns : List (List ℕ)). rows_at ns (finals_from o p.at 0 (named_by ms ns))) l.names
         ∙ rows_finals
       where
         less : (a b n : ℕ) → a + b ≤ 65535 → a + (b - n) ≤ 65535
         less a b n e = omega arith
 
-    locals_back : carried_locals g os o ≡ local_rows p os
-    locals_back = ap (λ (k : Header). carried_locals k os o) sizes ∙ locals_same forced os o
+    locals_back : moved_locals_in g os o ≡ local_rows p os
+    locals_back = ap (λ (k : Header). moved_locals_in k os o) sizes ∙ locals_same forced os o
 
     symbols_same : x.file.symbols ≡ table p os
     symbols_same = l.table ∙ (λ i. rows_kept o.keep (locals_back i ++ rows_same i))
@@ -240,7 +240,7 @@ module _ (forced : List (List ℕ)) (os : List Contents) (o : Choices) where
           near = ap (λ (t : Bool). t && has_far_word p os) e;
         }
         by_test true e =
-            let count : length (carried_locals g os o) ≡ length (local_rows p os) = ap (λ (ls : List Symbol). length ls) locals_back in
+            let count : length (moved_locals_in g os o) ≡ length (local_rows p os) = ap (λ (ls : List Symbol). length ls) locals_back in
             let text = kept_whole forced os o x.file TextSeg tt good (l.text_relocs ∙ ap (λ (t : Bool). cond t (total TextSeg os) 0) e) (subst (λ (rs : List Symbol). AreKept x.file rs (length (local_rows p os)) os TextSeg) rows_same (subst (λ (n : ℕ). AreKept x.file l.rows n os TextSeg) count (l.text_kept e))) in
             let datas = kept_whole forced os o x.file DataSeg tt good (l.data_relocs ∙ ap (λ (t : Bool). cond t (total DataSeg os) 0) e) (subst (λ (rs : List Symbol). AreKept x.file rs (length (local_rows p os)) os DataSeg) rows_same (subst (λ (n : ℕ). AreKept x.file l.rows n os DataSeg) count (l.data_kept e))) in
             record {

@@ -23,10 +23,10 @@ use Rattle.link_session.proofs.AdditionLemmas.{well_formed}
 use Rattle.link_session.proofs.WellFormedLemmas.{objects_refer}
 use Rattle.link_out.specs.Choices.{Choices, lays_commons}
 use Rattle.link_out.specs.function.Finals.{bound_at, waiting, reserved_or_waiting, final, final_by}
-use Rattle.link_out.specs.steps.FromCells.{bound_of, finals, is_far}
+use Rattle.link_out.specs.internal.FromCells.{bound_of, finals, is_far}
 use Rattle.link_out.specs.function.Plans.{Plan, plan, common_offset}
 use Rattle.link_out.specs.function.Tables.{waits_far, local_rows, has_far_in, has_far_word}
-use Rattle.link_out.specs.steps.Reach.{kept_bound, kept_bound_of, is_out}
+use Rattle.link_out.specs.internal.Reach.{kept_bound, kept_bound_of, is_out}
 use Rattle.link_out.proofs.CellRelocLemmas.{has_far_in-cells}
 
 module _ (p : Plan) (kept : p.choices.relocatable ≡ true) where

@@ -33,7 +33,7 @@ use Rattle.link_out.specs.function.Plans.{Plan, plan, common_size, common_offset
 use Rattle.link_out.specs.function.Finals.{final, final_by, bound_at, waiting, reserved_or_waiting}
 use Rattle.link_out.specs.function.Tables.{is_kept_local, rows_kept, moved_local, local_rows, external_row, external_rows, table, row_of, waits_far, is_out_of_reach, has_far_in, has_far_word}
 use Rattle.link_out.specs.function.Reports.{findings}
-use Rattle.link_out.specs.steps.InOrder.{room_in}
+use Rattle.link_out.specs.internal.InOrder.{room_in}
 use Rattle.link_out.specs.relation.NameStates.{HasState, IsWanted}
 use Rattle.link_out.specs.relation.Relocated.{segment_words, segment_relocs}
 use Rattle.link_out.specs.relation.LinkedTable.{room_for}

@@ -25,9 +25,9 @@ use Rattle.link_out.specs.function.Finals.{final}
 use Rattle.link_out.specs.function.Words.{referent_move, final_word, final_words}
 use Rattle.link_out.specs.function.Tables.{external_row, table}
 use Rattle.link_out.specs.function.Link.{Outcome, linked_file, link, linked_header}
-use Rattle.link_out.specs.relation.Relocated.{carried, IsAddressOf, IsAdded, segment_words, segment_relocs, IsRelocated, HoldsObjects, entry_of, address_in}
+use Rattle.link_out.specs.relation.Relocated.{move_in, IsAddressOf, IsAdded, segment_words, segment_relocs, IsRelocated, HoldsObjects, entry_of, address_in}
 use Rattle.link_out.proofs.OutcomeLemmas.{made_file}
-use Rattle.link_out.proofs.CarriedLemmas.{move_carried}
+use Rattle.link_out.proofs.MoveLemmas.{move_by_header}
 use Rattle.link_out.proofs.ExternalLemmas.{entry_there, row_address}
 use Rattle.link_out.proofs.SegmentLemmas.{HasWords, made_length, made_found, made_whole, IsWord, words_back, front_objects, word_at}
 use Rattle.aout_core.specs.declared.reloc.Kind.TheVariants as kinds
@@ -48,9 +48,9 @@ module _ (forced : List (List ℕ)) (os : List Contents) (o : Choices) where
         IsAdded h rows os before k kind number (referent_move p before k (referent_by k number kind))
     added_by None number n h known = absurd (cc)
     added_by (Some kinds.Absolute) number n h known = refl
-    added_by (Some kinds.TextSeg) number n h known = move_carried forced os o before k TextSeg
-    added_by (Some kinds.DataSeg) number n h known = move_carried forced os o before k DataSeg
-    added_by (Some kinds.BssSeg) number n h known = move_carried forced os o before k BssSeg
+    added_by (Some kinds.TextSeg) number n h known = move_by_header forced os o before k TextSeg
+    added_by (Some kinds.DataSeg) number n h known = move_by_header forced os o before k DataSeg
+    added_by (Some kinds.BssSeg) number n h known = move_by_header forced os o before k BssSeg
     added_by (Some kinds.External) number n h known = by_slot (slice_get k.symbols number) refl h known
       where
         by_slot : (slot : Option Symbol) → slice_get k.symbols number ≡ slot → cond (is_wanted slot) None (Some (ObjectFault.BadSymbolNumber n)) ≡ None → is_among (names_of (mentions forced os)) (name_in slot) ≡ true →
@@ -68,9 +68,9 @@ module _ (forced : List (List ℕ)) (os : List Contents) (o : Choices) where
     added_is : (kind : Option Kind) (number a : ℕ) → RefersAmong (names_of (mentions forced os)) (referent_by k number kind) → IsAdded h rows os before k kind number a → a ≡ referent_move p before k (referent_by k number kind)
     added_is None number a known is = absurd is
     added_is (Some kinds.Absolute) number a known is = is
-    added_is (Some kinds.TextSeg) number a known is = is ∙ sym (move_carried forced os o before k TextSeg)
-    added_is (Some kinds.DataSeg) number a known is = is ∙ sym (move_carried forced os o before k DataSeg)
-    added_is (Some kinds.BssSeg) number a known is = is ∙ sym (move_carried forced os o before k BssSeg)
+    added_is (Some kinds.TextSeg) number a known is = is ∙ sym (move_by_header forced os o before k TextSeg)
+    added_is (Some kinds.DataSeg) number a known is = is ∙ sym (move_by_header forced os o before k DataSeg)
+    added_is (Some kinds.BssSeg) number a known is = is ∙ sym (move_by_header forced os o before k BssSeg)
     added_is (Some kinds.External) number a known is =
         let slot : is_among (names_of (mentions forced os)) is.symbol.name ≡ true = ap (λ (s : Option Symbol). is_among (names_of (mentions forced os)) (name_in s)) (sym is.named) ∙ known in
         let same : is.row ≡ external_row p is.symbol.name = inside is.row (external_row p is.symbol.name) (sym is.found ∙ there is.symbol.name (is_among-externals (mentions forced os) is.symbol.name ∙ slot)) in
@@ -81,8 +81,8 @@ module _ (forced : List (List ℕ)) (os : List Contents) (o : Choices) where
         inside a b e = cc
 
     word_same : (segment : Segment) (w : ℕ) (r : Reloc) →
-        minus (plus w (referent_move p before k (referent k r))) (cond (is_pc_relative r) (carried h os before k segment) 0) ≡ final_word p before k segment w r
-    word_same segment w r = ap (λ (n : ℕ). minus (plus w (referent_move p before k (referent k r))) (cond (is_pc_relative r) n 0)) (sym (move_carried forced os o before k segment))
+        minus (plus w (referent_move p before k (referent k r))) (cond (is_pc_relative r) (move_in h os before k segment) 0) ≡ final_word p before k segment w r
+    word_same segment w r = ap (λ (n : ℕ). minus (plus w (referent_move p before k (referent k r))) (cond (is_pc_relative r) n 0)) (sym (move_by_header forced os o before k segment))
 
     -- a word of the linked file is relocated
     relocated : (file : Contents) → file.header ≡ h → (after : List Contents) → os ≡ before ++ k ∷ after → AllByRecursion IsObject os → (segment : Segment) → HasWords segment → segment_words segment file ≡ final_words p segment os →
@@ -94,7 +94,7 @@ module _ (forced : List (List ℕ)) (os : List Contents) (o : Choices) where
           ap (λ (ws : List ℕ). slice_get ws (total segment before / 2 + i)) (words ∙ ap (λ (xs : List Contents). final_words p segment xs) all)
           ∙ made_found (λ earlier o w r. final_word p earlier o segment w r) segment has before k after (front_objects forced os before k after all good) i w r is.stands
           ∙ ap (λ (n : ℕ). let f : Option ℕ = Some n in f) (sym (word_same segment w r))
-          ∙ ap (λ (g : Header). let f : Option ℕ = Some (minus (plus w (referent_move p before k (referent k r))) (cond (is_pc_relative r) (carried g os before k segment) 0)) in f) (sym same);
+          ∙ ap (λ (g : Header). let f : Option ℕ = Some (minus (plus w (referent_move p before k (referent k r))) (cond (is_pc_relative r) (move_in g os before k segment) 0)) in f) (sym same);
     }
 
     -- and a relocated word is that of the link
@@ -104,7 +104,7 @@ module _ (forced : List (List ℕ)) (os : List Contents) (o : Choices) where
         let added : found.added ≡ referent_move p before k (referent k r) =
         added_is (kind_of r) (symbol_number r) found.added is.known (subst (λ (g : Header). IsAdded g rows os before k (kind_of r) (symbol_number r) found.added) same found.is) in
         found.word
-        ∙ (λ i. let f : Option ℕ = Some (minus (plus w (added i)) (cond (is_pc_relative r) (carried (same i) os before k segment) 0)) in f)
+        ∙ (λ i. let f : Option ℕ = Some (minus (plus w (added i)) (cond (is_pc_relative r) (move_in (same i) os before k segment) 0)) in f)
         ∙ ap (λ (n : ℕ). let f : Option ℕ = Some n in f) (word_same segment w r)
 
   -- each word of each object stands in the linked file, relocated

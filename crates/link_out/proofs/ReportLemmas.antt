@@ -4,7 +4,7 @@ use Rattle.std.specs.Prelude.{codes, ◌==◌, ◌&&◌, is_none}
 use Rattle.std.specs.List.{flat_map}
 use Rattle.std.proofs.lemmas.List.Concat.{flat_map-append}
 use Rattle.link_out.specs.function.Reports.{Findings, line, entry_lines, undefined_lines, report_text, status_of}
-use Rattle.link_out.specs.steps.ReportParts.{is_silent, multiple_lines}
+use Rattle.link_out.specs.internal.ReportParts.{is_silent, multiple_lines}
 
 abbrev pub status : Bool → ℕ
 status b = cond b 0 1

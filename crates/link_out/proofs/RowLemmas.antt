@@ -22,10 +22,10 @@ use Rattle.link_out.specs.declared.options.Keep.TheVariants as keeps
 use Rattle.link_out.specs.declared.table.Moves.{Moves}
 use Rattle.link_out.specs.Layouts.{Bases}
 use Rattle.link_out.specs.function.Finals.{Final, final, type_of}
-use Rattle.link_out.specs.steps.FromCells.{finals}
+use Rattle.link_out.specs.internal.FromCells.{finals}
 use Rattle.link_out.specs.function.Plans.{Plan}
 use Rattle.link_out.specs.function.Tables.{is_kept_local, moved_value, moved_local, local_rows, external_row, external_rows, rows_kept, table}
-use Rattle.link_out.specs.steps.Rows.{moves_by, value_moved, symbol_moved, rows_in, rows_from, kept_count}
+use Rattle.link_out.specs.internal.Rows.{moves_by, value_moved, symbol_moved, rows_in, rows_from, kept_count}
 use Rattle.link_session.proofs.StartLemmas.{next_starts-behind}
 use Rattle.link_out.proofs.InOrderLemmas.{drop_next}
 use Rattle.link_out.proofs.FindingLemmas.{name_read}

@@ -17,7 +17,7 @@ use Rattle.link_out.specs.declared.edit.Edit.{Edit}
 use Rattle.link_out.specs.declared.edit.Reply.{Reply}
 use Rattle.link_out.specs.declared.edit.Reply.TheVariants as replies
 use Rattle.link_out.specs.Runs.{change_of, answer_of, HasAdded}
-use Rattle.link_out.specs.steps.Replies.{IsDone, IsReplied, AreDone}
+use Rattle.link_out.specs.internal.Replies.{IsDone, IsReplied, AreDone}
 
 -- an accepted addition
 pub added_done : (old new : Kept) (e : Labelled) → refusal old.forced (objects old.entries) e.object ≡ None → Adds old new e →

@@ -9,4 +9,4 @@ pub mod Runs
 pub mod relation
 pub mod function
 pub mod laws
-pub mod steps
+pub mod internal

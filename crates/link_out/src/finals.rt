@@ -2,9 +2,9 @@
 ghost use Rattle.std.specs.Prelude.{◌≡◌, ◌≤◌, ◌+◌, ◌*◌, ◌%◌, IfOk};
 ghost use Rattle.link_session.specs.Undo.{image_of};
 ghost use Rattle.link_out.specs.function.Finals.{bound_at, waiting};
-ghost use Rattle.link_out.specs.steps.FromCells.{finals};
+ghost use Rattle.link_out.specs.internal.FromCells.{finals};
 ghost use Rattle.link_out.specs.function.Finals.{final_at};
-ghost use Rattle.link_out.specs.steps.InOrder.{finals_from, plan_of};
+ghost use Rattle.link_out.specs.internal.InOrder.{finals_from, plan_of};
 
 use crate::layout::{Bases, common_size};
 use crate::options::Options;

@@ -5,10 +5,10 @@ ghost use Rattle.link_session.specs.Labelled.{objects};
 ghost use Rattle.link_session.specs.Mentions.{mentions, externals, is_among};
 ghost use Rattle.link_session.specs.States.{state};
 ghost use Rattle.link_session.specs.Undo.{image_of};
-ghost use Rattle.link_out.specs.steps.FromCells as from_cells;
-ghost use Rattle.link_out.specs.steps.Entries.{text_address, text_address_at};
+ghost use Rattle.link_out.specs.internal.FromCells as from_cells;
+ghost use Rattle.link_out.specs.internal.Entries.{text_address, text_address_at};
 ghost use Rattle.link_out.specs.function.Reports.{is_undefined, is_missing, reserved_names, reserved_taken, undefined_names, entry_word, entry_found_bad, findings};
-ghost use Rattle.link_out.specs.steps.InOrder.{plan_of};
+ghost use Rattle.link_out.specs.internal.InOrder.{plan_of};
 ghost use Rattle.link_out.specs.Outcomes.{findings_of};
 
 use crate::finals::Final;

@@ -5,7 +5,7 @@ ghost use Rattle.link_session.specs.Mentions.{mentions};
 ghost use Rattle.link_out.specs.KeptSymbols.{begins_with_l, keeps, is_kept_local};
 ghost use Rattle.link_out.specs.function.Plans.{Plan};
 ghost use Rattle.link_out.specs.function.Tables.{local_rows, table};
-ghost use Rattle.link_out.specs.steps.Rows.{count_in, kept_count};
+ghost use Rattle.link_out.specs.internal.Rows.{count_in, kept_count};
 
 use crate::options::Keep;
 use aout_core::{Name, Symbol};

@@ -28,10 +28,10 @@ pub fn partial_law()
 /// look something up in the table are of links that keep symbols. (a.out(5), ld(1))
 ///
 /// - `words`: each word of each object stands behind those of the objects before it, with the address added of what
-///   its relocation word names: how far that segment was carried, or what the table gives for the name; less how far
-///   its own segment was carried, where it is relative to the pc.
+///   its relocation word names: how far that segment was moved, or what the table gives for the name; less how far
+///   its own segment was moved, where it is relative to the pc.
 /// - `fill`: text and data hold the objects' bytes and no others, and bss at least the objects' bss.
-/// - `definitions`: where no name is multiply defined, each definition of each object is in the table, carried.
+/// - `definitions`: where no name is multiply defined, each definition of each object is in the table, moved.
 /// - `multiples`: a name is reported so exactly where the objects have two definitions of it that differ.
 /// - `names`: without relocation, and where no name is reported undefined, each external symbol gives an address.
 /// - `once`: each external of the objects, and each forced name, has one external symbol, in order of first mention.

@@ -9,7 +9,7 @@ ghost use Rattle.link_session.specs.Undo.{image_of};
 ghost use Rattle.aout_core.specs.declared.symbol.Segment.TheVariants.{TextSeg, DataSeg};
 ghost use Rattle.link_out.specs.Layouts.{bases, data_base};
 ghost use Rattle.link_out.specs.function.Plans.{common_size, commons_laid, plan};
-ghost use Rattle.link_out.specs.steps.InOrder.{room_in};
+ghost use Rattle.link_out.specs.internal.InOrder.{room_in};
 
 use crate::options::{Layout, Options};
 use link_session::{Session, State};

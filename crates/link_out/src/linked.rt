@@ -4,7 +4,7 @@ ghost use Rattle.std.specs.List.{flat_map};
 ghost use Rattle.aout_core.specs.Wires.{Writes};
 ghost use Rattle.link_out.specs.function.Reports.{report_text, status_of, entry_lines, undefined_lines};
 ghost use Rattle.link_out.specs.Outcomes.{findings_of};
-ghost use Rattle.link_out.specs.steps.ReportParts.{is_silent, multiple_lines};
+ghost use Rattle.link_out.specs.internal.ReportParts.{is_silent, multiple_lines};
 ghost use Rattle.link_out.specs.declared.linked.LinkFault.TheVariants.{Memory};
 
 use aout_core::{DeviceFault, File, Name, Wire};

@@ -6,13 +6,13 @@ ghost use Rattle.aout_core.specs.WellFormed.{IsWellFormed};
 ghost use Rattle.aout_core.specs.Parts.{contents_of};
 ghost use Rattle.link_session.specs.Labelled.{objects};
 ghost use Rattle.link_out.specs.Layouts.{magic_of};
-ghost use Rattle.link_out.specs.steps.FromCells as from_cells;
+ghost use Rattle.link_out.specs.internal.FromCells as from_cells;
 ghost use Rattle.link_out.specs.function.Reports.{entry_word};
 ghost use Rattle.link_out.specs.function.Plans.{plan};
 ghost use Rattle.link_out.specs.function.Tables.{table};
 ghost use Rattle.link_out.specs.function.Link.{link, link_by, linked_header, linked_file};
-ghost use Rattle.link_out.specs.steps.InOrder.{plan_of};
-ghost use Rattle.link_out.specs.steps.Passes.{IsPassed};
+ghost use Rattle.link_out.specs.internal.InOrder.{plan_of};
+ghost use Rattle.link_out.specs.internal.Passes.{IsPassed};
 ghost use Rattle.link_out.specs.Outcomes.{IsLinkOf, outcome_of};
 
 use crate::finals::{Final, finals_of};

@@ -3,9 +3,9 @@ ghost use Rattle.std.specs.Prelude.{◌≡◌, true, length, slice_get};
 ghost use Rattle.std.specs.List.{list_any};
 ghost use Rattle.link_session.specs.Labelled.{objects};
 ghost use Rattle.link_session.specs.Undo.{image_of};
-ghost use Rattle.link_out.specs.steps.InOrder.{plan_of};
+ghost use Rattle.link_out.specs.internal.InOrder.{plan_of};
 ghost use Rattle.link_out.specs.function.Tables.{local_rows, has_far_word};
-ghost use Rattle.link_out.specs.steps.Reach.{kept_bound, kept_bound_of, is_out};
+ghost use Rattle.link_out.specs.internal.Reach.{kept_bound, kept_bound_of, is_out};
 
 use crate::options::Options;
 use crate::relocs::waits_far;

@@ -2,7 +2,7 @@
 ghost use Rattle.std.specs.Prelude.{◌≡◌, ◌≤◌, map, slice_get, IfOk, false};
 ghost use Rattle.std.specs.List.{list_any};
 ghost use Rattle.link_out.specs.function.Tables.{name_bits, segment_bits, waits_far};
-ghost use Rattle.link_out.specs.steps.FromCells.{bound_of, is_far, reloc_of_cell, target_bits};
+ghost use Rattle.link_out.specs.internal.FromCells.{bound_of, is_far, reloc_of_cell, target_bits};
 
 use crate::finals::Final;
 use aout_core::{Reloc, Segment};

@@ -6,7 +6,7 @@ ghost use Rattle.link_session.specs.Labelled.{objects};
 ghost use Rattle.link_session.specs.Sessions.{labelled};
 ghost use Rattle.link_out.specs.function.Link.{link};
 ghost use Rattle.link_out.specs.Runs.{change_of, link_after, HasAdded, IsRunOf};
-ghost use Rattle.link_out.specs.steps.Replies.{IsDone, HasRoom, IsReplied, AreDone};
+ghost use Rattle.link_out.specs.internal.Replies.{IsDone, HasRoom, IsReplied, AreDone};
 
 use crate::edit::{Edit, Reply, RunFault};
 use crate::linked::Linked;

@@ -4,10 +4,10 @@ ghost use Rattle.link_session.specs.Labelled.{objects};
 ghost use Rattle.link_session.specs.Mentions.{mentions};
 ghost use Rattle.link_session.specs.Undo.{image_of};
 ghost use Rattle.link_out.specs.function.Finals.{type_of};
-ghost use Rattle.link_out.specs.steps.FromCells as from_cells;
+ghost use Rattle.link_out.specs.internal.FromCells as from_cells;
 ghost use Rattle.link_out.specs.function.Plans.{Plan};
 ghost use Rattle.link_out.specs.function.Tables.{local_rows, external_rows, table};
-ghost use Rattle.link_out.specs.steps.Rows.{moves_by, value_moved, symbol_moved, rows_in};
+ghost use Rattle.link_out.specs.internal.Rows.{moves_by, value_moved, symbol_moved, rows_in};
 
 use crate::finals::Final;
 use crate::kept_symbols::is_kept_local;

@@ -1,7 +1,7 @@
 //! The words of a linked file, from the cells of the merged image.
 ghost use Rattle.std.specs.Prelude.{◌≡◌, ◌%◌, map, slice_get, IfOk};
 ghost use Rattle.link_out.specs.Layouts.{base};
-ghost use Rattle.link_out.specs.steps.FromCells.{address_of, target_base, word_of_cell};
+ghost use Rattle.link_out.specs.internal.FromCells.{address_of, target_base, word_of_cell};
 
 use crate::finals::Final;
 use crate::layout::Bases;

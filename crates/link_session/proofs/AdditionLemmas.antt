@@ -23,7 +23,7 @@ use Rattle.link_session.specs.Cells.{Referent, to_segment, to_name, referent, re
 use Rattle.link_session.specs.Image.{named_states, image}
 use Rattle.link_session.specs.Sessions.{IsObject}
 use Rattle.link_session.specs.Image.{state_in, state_at}
-use Rattle.link_session.specs.steps.Additions.{state_for, place_in, all_mentioned, all_clashes, bound_by, binding_at, binding, bound_or, settled, mention_by, mentions_by, referred, own_cell, own_cells, next_shifts, next_mentions, next_named, joined_image}
+use Rattle.link_session.specs.internal.Additions.{state_for, place_in, all_mentioned, all_clashes, bound_by, binding_at, binding, bound_or, settled, mention_by, mentions_by, referred, own_cell, own_cells, next_shifts, next_mentions, next_named, joined_image}
 use Rattle.link_session.proofs.StateLemmas.{first_definition-append}
 use Rattle.link_session.proofs.MentionLemmas.{names_by_first_mention-append, is_among-externals, get_place}
 use Rattle.link_session.proofs.CellLemmas.{rebound, bound, RefersAmong, AllReferAmong, cells_more, all_made}

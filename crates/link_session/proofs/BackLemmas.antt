@@ -9,9 +9,9 @@ use Rattle.link_session.specs.declared.mark.Mark.TheVariants.{StateWas}
 use Rattle.link_session.specs.Mentions.{Mention, is_among}
 use Rattle.link_session.specs.Image.{Image}
 use Rattle.link_session.specs.Undo.{with_state, put_all_back, IsInside}
-use Rattle.link_session.specs.steps.Updates.{updated}
+use Rattle.link_session.specs.internal.Updates.{updated}
 use Rattle.link_session.specs.Image.{Named, state_at}
-use Rattle.link_session.specs.steps.Additions.{state_for, place_in, mentioned, all_mentioned, changes, state_mark, state_marks}
+use Rattle.link_session.specs.internal.Additions.{state_for, place_in, mentioned, all_mentioned, changes, state_mark, state_marks}
 use Rattle.link_session.proofs.MarkLemmas.{put_all_back-append, take_grown, take_with_state}
 use Rattle.link_session.proofs.MentionedLemmas.{mentioned-is, next_state}
 use Rattle.link_session.proofs.ListLemmas.{all_append}

@@ -11,7 +11,7 @@ use Rattle.link_session.specs.declared.mark.Place.{Place}
 use Rattle.link_session.specs.declared.mark.Place.TheVariants.{InText, InData}
 use Rattle.link_session.specs.Image.{Image}
 use Rattle.link_session.specs.Undo.{put_all_back, IsInside}
-use Rattle.link_session.specs.steps.Chains.{Link, is_on, IsWithin, bound_to, bound_where, nowhere, marks_of, heads_back}
+use Rattle.link_session.specs.internal.Chains.{Link, is_on, IsWithin, bound_to, bound_where, nowhere, marks_of, heads_back}
 use Rattle.link_session.proofs.UndoLemmas.{put_back_all, put_back-old, AreOf, IsMarked, text_writes, data_writes}
 use Rattle.link_session.proofs.ChainLemmas.{other_number}
 

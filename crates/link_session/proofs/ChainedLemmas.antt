@@ -12,10 +12,10 @@ use Rattle.link_session.specs.declared.state.State.TheVariants.{Defined}
 use Rattle.link_session.specs.declared.mark.Place.{Place}
 use Rattle.link_session.specs.declared.mark.Place.TheVariants.{InText, InData}
 use Rattle.link_session.specs.Image.{Named, state_at}
-use Rattle.link_session.specs.steps.Additions.{bound_by, bound_or}
-use Rattle.link_session.specs.steps.Chains.{Link, bound_if, waits_at, Waits, head_for, with_head, threaded, AreChained}
+use Rattle.link_session.specs.internal.Additions.{bound_by, bound_or}
+use Rattle.link_session.specs.internal.Chains.{Link, bound_if, waits_at, Waits, head_for, with_head, threaded, AreChained}
 use Rattle.link_session.proofs.ChainLemmas.{own_number}
-use Rattle.link_session.specs.steps.Settled.{settled_at}
+use Rattle.link_session.specs.internal.Settled.{settled_at}
 use Rattle.link_session.proofs.WaitLemmas.{cut_chain, other_chain}
 use Rattle.link_session.proofs.PushLemmas.{push_text, pass_text, push_data, pass_data}
 use Rattle.link_session.proofs.CountLemmas.{waits_is}

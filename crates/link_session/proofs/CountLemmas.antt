@@ -13,11 +13,11 @@ use Rattle.link_session.specs.declared.mark.Place.{Place}
 use Rattle.link_session.specs.declared.mark.Place.TheVariants.{InText, InData}
 use Rattle.link_session.specs.Cells.{segment_target}
 use Rattle.link_session.specs.Image.{Named, state_at}
-use Rattle.link_session.specs.steps.Additions.{bound_by, binding_at, binding, bound_or}
-use Rattle.link_session.specs.steps.Chains.{Link, is_on, AreApart, IsWithin, waits_at, Tells, Waits, bound_to}
-use Rattle.link_session.specs.steps.Counts.{waiting_for, to_bind}
+use Rattle.link_session.specs.internal.Additions.{bound_by, binding_at, binding, bound_or}
+use Rattle.link_session.specs.internal.Chains.{Link, is_on, AreApart, IsWithin, waits_at, Tells, Waits, bound_to}
+use Rattle.link_session.specs.internal.Counts.{waiting_for, to_bind}
 use Rattle.link_session.proofs.ChainLemmas.{own_number, other_number}
-use Rattle.link_session.specs.steps.Settled.{settled_at}
+use Rattle.link_session.specs.internal.Settled.{settled_at}
 
 -- how many indices of cells pass the test
 abbrev pub count_where : (ℕ → Bool) → List Cell → ℕ

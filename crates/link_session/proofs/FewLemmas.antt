@@ -19,11 +19,11 @@ use Rattle.link_session.specs.Cells.{cells}
 use Rattle.link_session.specs.Bounds.{is_defined_by, waiting_in, most_marks}
 use Rattle.link_session.specs.Sessions.{IsObject}
 use Rattle.link_session.specs.Image.{Named, state_at}
-use Rattle.link_session.specs.steps.Additions.{bound_by, bound_or, next_named}
-use Rattle.link_session.specs.steps.Chains.{Link, Waits, waits_at, bound_if, cell_at, marks_of}
-use Rattle.link_session.specs.steps.Settled.{settled_at}
-use Rattle.link_session.specs.steps.Counts.{to_bind, NotesWaiting, NotesBound}
-use Rattle.link_session.specs.steps.Restores.{TakesBack}
+use Rattle.link_session.specs.internal.Additions.{bound_by, bound_or, next_named}
+use Rattle.link_session.specs.internal.Chains.{Link, Waits, waits_at, bound_if, cell_at, marks_of}
+use Rattle.link_session.specs.internal.Settled.{settled_at}
+use Rattle.link_session.specs.internal.Counts.{to_bind, NotesWaiting, NotesBound}
+use Rattle.link_session.specs.internal.Restores.{TakesBack}
 use Rattle.link_session.proofs.WellFormedLemmas.{objects_refer}
 use Rattle.link_session.proofs.BoundLemmas.{is_defined_by-awaited}
 use Rattle.link_session.proofs.MarkLemmas.{awaited}

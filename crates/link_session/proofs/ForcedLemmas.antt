@@ -4,7 +4,7 @@ use Rattle.std.specs.Prelude.{slice_set, nat_lt}
 use Rattle.std.proofs.lemmas.Bool.{lt-ltb}
 use Rattle.std.proofs.lemmas.List.{length-replicate}
 use Rattle.link_session.specs.Mentions.{is_among}
-use Rattle.link_session.specs.steps.ForcedSlots.{filled, IsForced}
+use Rattle.link_session.specs.internal.ForcedSlots.{filled, IsForced}
 use Rattle.link_session.specs.ForcedNames.{AreDifferent, takes, with_name}
 use Rattle.link_session.specs.declared.forced.Forced.TheInside.{Inside}
 use Rattle.link_session.proofs.MentionLemmas.{new_names-append}

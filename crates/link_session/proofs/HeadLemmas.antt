@@ -8,9 +8,9 @@ use Rattle.link_session.specs.declared.mark.Mark.{Mark}
 use Rattle.link_session.specs.declared.mark.Mark.TheVariants.{CellWas, StateWas}
 use Rattle.link_session.specs.declared.mark.Place.{Place}
 use Rattle.link_session.specs.Image.{Named, state_at}
-use Rattle.link_session.specs.steps.Chains.{Link, with_head, threaded, heads_back, AreChained}
-use Rattle.link_session.specs.steps.Settled.{settled_at, settled_over}
-use Rattle.link_session.specs.steps.Threads.{cut_by_state, cut_heads, grown_heads}
+use Rattle.link_session.specs.internal.Chains.{Link, with_head, threaded, heads_back, AreChained}
+use Rattle.link_session.specs.internal.Settled.{settled_at, settled_over}
+use Rattle.link_session.specs.internal.Threads.{cut_by_state, cut_heads, grown_heads}
 use Rattle.link_session.proofs.ChainedLemmas.{cut_named, one_more_head, length-with_head}
 use Rattle.link_session.proofs.NamesLemmas.{unsettled, all_one, none_left}
 

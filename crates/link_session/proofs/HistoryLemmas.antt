@@ -18,10 +18,10 @@ use Rattle.link_session.specs.Cells.{cells}
 use Rattle.link_session.specs.Image.{Image, named_states, image}
 use Rattle.link_session.specs.Sessions.{IsObject}
 use Rattle.link_session.specs.Image.{Named}
-use Rattle.link_session.specs.steps.Additions.{place_in, settled, external_names, next_mentions, next_named, joined_image}
-use Rattle.link_session.specs.steps.Chains.{Link, threaded, AreChained}
-use Rattle.link_session.specs.steps.Settled.{settled_over, places_of, IsCovered}
-use Rattle.link_session.specs.steps.Threads.{Threads, with_texts, with_datas, next_texts, next_datas, bound_heads, next_heads, next_threads, threads_from, forced_threads, threads_of, IsThreaded}
+use Rattle.link_session.specs.internal.Additions.{place_in, settled, external_names, next_mentions, next_named, joined_image}
+use Rattle.link_session.specs.internal.Chains.{Link, threaded, AreChained}
+use Rattle.link_session.specs.internal.Settled.{settled_over, places_of, IsCovered}
+use Rattle.link_session.specs.internal.Threads.{Threads, with_texts, with_datas, next_texts, next_datas, bound_heads, next_heads, next_threads, threads_from, forced_threads, threads_of, IsThreaded}
 use Rattle.link_session.proofs.EarlierLemmas.{with_earlier-append}
 use Rattle.link_session.proofs.MentionLemmas.{names_of-map}
 use Rattle.link_session.proofs.MentionedLemmas.{length-all_mentioned}

@@ -10,15 +10,15 @@ use Rattle.link_session.specs.Mentions.{new_names}
 use Rattle.link_session.specs.Image.{Image}
 use Rattle.link_session.specs.declared.cell.Cell.{Cell}
 use Rattle.link_session.specs.declared.mark.Mark.{Mark}
-use Rattle.link_session.specs.steps.Chains.{Link}
-use Rattle.link_session.specs.steps.Settled.{settled_over, places_of, IsCovered}
-use Rattle.link_session.specs.steps.Threads.{Threads, IsThreaded, cut_heads, bound_heads, next_threads, undo_threads}
-use Rattle.link_session.specs.steps.Restores.{Restores, LeavesMarks, TakesBack}
-use Rattle.link_session.specs.steps.Counts.{NotesBound}
+use Rattle.link_session.specs.internal.Chains.{Link}
+use Rattle.link_session.specs.internal.Settled.{settled_over, places_of, IsCovered}
+use Rattle.link_session.specs.internal.Threads.{Threads, IsThreaded, cut_heads, bound_heads, next_threads, undo_threads}
+use Rattle.link_session.specs.internal.Restores.{Restores, LeavesMarks, TakesBack}
+use Rattle.link_session.specs.internal.Counts.{NotesBound}
 use Rattle.link_session.specs.Undo.{undo}
-use Rattle.link_session.specs.steps.Fields.{sizes_of, with_cells, with_heads, with_own_cells, with_own_threads, threads_by, with_heads_back}
+use Rattle.link_session.specs.internal.Fields.{sizes_of, with_cells, with_heads, with_own_cells, with_own_threads, threads_by, with_heads_back}
 use Rattle.link_session.specs.Image.{Named}
-use Rattle.link_session.specs.steps.Additions.{all_mentioned, all_clashes, mention_by, mentions_by, state_marks, settled, new_count, next_limit, next_shifts, next_mentions, next_named, entered, joined_image}
+use Rattle.link_session.specs.internal.Additions.{all_mentioned, all_clashes, mention_by, mentions_by, state_marks, settled, new_count, next_limit, next_shifts, next_mentions, next_named, entered, joined_image}
 use Rattle.link_session.proofs.MentionedLemmas.{length-all_mentioned}
 use Rattle.link_session.proofs.LimitLemmas.{new_count-le}
 use Rattle.link_session.proofs.TotalLemmas.{within_limit}

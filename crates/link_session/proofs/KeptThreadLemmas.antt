@@ -5,8 +5,8 @@ use Rattle.aout_core.specs.Contents.{Contents}
 use Rattle.link_session.specs.declared.mark.Mark.{Mark}
 use Rattle.link_session.specs.Image.{image}
 use Rattle.link_session.specs.Sessions.{IsObject}
-use Rattle.link_session.specs.steps.Chains.{heads_back}
-use Rattle.link_session.specs.steps.Threads.{Threads, bound_heads, next_threads, forced_threads, threads_of, undo_threads, UndoesThreads, IsThreaded, KeepsThreads}
+use Rattle.link_session.specs.internal.Chains.{heads_back}
+use Rattle.link_session.specs.internal.Threads.{Threads, bound_heads, next_threads, forced_threads, threads_of, undo_threads, UndoesThreads, IsThreaded, KeepsThreads}
 use Rattle.link_session.proofs.AdditionLemmas.{joined_image-is}
 use Rattle.link_session.proofs.JournalLemmas.{journal_empty, journal_push, journal_pop}
 use Rattle.link_session.proofs.HistoryLemmas.{threads_push, threaded_of}

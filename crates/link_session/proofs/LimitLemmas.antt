@@ -8,7 +8,7 @@ use Rattle.aout_core.specs.declared.symbol.Symbol.{Symbol}
 use Rattle.aout_core.specs.WellFormed.{is_external}
 use Rattle.link_session.specs.Mentions.{is_among, new_names}
 use Rattle.link_session.specs.Image.{Named}
-use Rattle.link_session.specs.steps.Additions.{external_names, new_count}
+use Rattle.link_session.specs.internal.Additions.{external_names, new_count}
 use Rattle.link_session.proofs.MentionLemmas.{is_among-append}
 
 -- a key is found where it is one of the keys

@@ -10,9 +10,9 @@ use Rattle.link_session.specs.Mentions.{Mention, is_among, new_names, names_of, 
 use Rattle.link_session.specs.States.{state, multiple_names}
 use Rattle.link_session.specs.Image.{named_states}
 use Rattle.link_session.specs.Undo.{with_state}
-use Rattle.link_session.specs.steps.Updates.{updated, clashes}
+use Rattle.link_session.specs.internal.Updates.{updated, clashes}
 use Rattle.link_session.specs.Image.{Named, state_at, state_in}
-use Rattle.link_session.specs.steps.Additions.{state_for, place_in, mentioned, all_mentioned, all_clashes}
+use Rattle.link_session.specs.internal.Additions.{state_for, place_in, mentioned, all_mentioned, all_clashes}
 use Rattle.link_session.proofs.MentionLemmas.{is_among-externals, seen_again, new_names-seen, get_place}
 use Rattle.link_session.proofs.UpdateLemmas.{unmentioned, externals_mention, multiples_mention, says_alone}
 use Rattle.link_session.proofs.ListLemmas.{get_mapped}

@@ -6,7 +6,7 @@ use Rattle.link_session.specs.declared.cell.Cell.{Cell}
 use Rattle.link_session.specs.declared.mark.Mark.{Mark}
 use Rattle.link_session.specs.declared.mark.Mark.TheVariants.{CellWas}
 use Rattle.link_session.specs.declared.mark.Place.{Place}
-use Rattle.link_session.specs.steps.Chains.{Link, link_at, IsChain, AreApart, IsWithin, walk, cell_at, marks_of}
+use Rattle.link_session.specs.internal.Chains.{Link, link_at, IsChain, AreApart, IsWithin, walk, cell_at, marks_of}
 use Rattle.link_session.proofs.ListLemmas.{all_split}
 use Rattle.link_session.proofs.ChainLemmas.{next_ahead, none_ahead, chain-unique, walk-is, few_places}
 

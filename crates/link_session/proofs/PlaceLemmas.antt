@@ -11,7 +11,7 @@ use Rattle.link_session.specs.declared.state.State.TheVariants.{Wanted}
 use Rattle.link_session.specs.Mentions.{place_of}
 use Rattle.link_session.specs.Undo.{with_state}
 use Rattle.link_session.specs.Image.{Named, state_in, state_at}
-use Rattle.link_session.specs.steps.Additions.{state_for, place_in}
+use Rattle.link_session.specs.internal.Additions.{state_for, place_in}
 
 pub place_is : (name : List ℕ) (names : List (List ℕ)) → position_or_len (bytes_eq name) names ≡ place_of name names
 place_is name [] = refl

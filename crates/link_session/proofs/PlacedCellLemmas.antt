@@ -15,7 +15,7 @@ use Rattle.link_session.specs.declared.cell.Target.{Target}
 use Rattle.link_session.specs.declared.relocate.Shifts.{Shifts}
 use Rattle.link_session.specs.Cells.{name_target, offset_in, name_in, if_pc}
 use Rattle.link_session.specs.Image.{Named, state_at}
-use Rattle.link_session.specs.steps.Additions.{place_in, referred, own_cell, own_cells, no_place, all_places, placed, placed_cell, placed_cells}
+use Rattle.link_session.specs.internal.Additions.{place_in, referred, own_cell, own_cells, no_place, all_places, placed, placed_cell, placed_cells}
 use Rattle.link_session.proofs.ListLemmas.{all_split}
 use Rattle.link_session.proofs.PlacedLemmas.{wanted_place}
 use Rattle.link_session.proofs.WellFormedLemmas.{first_of_none, well_formed_parts}
@@ -53,23 +53,23 @@ module _ (es : Named) (symbols : List Symbol) (shifts : Shifts) where
   placed-is number (Some kinds.External) h =
       ap (λ (k : ℕ). let r : ℕ × Target = (offset_in (state_at es k), name_target (state_at es k) k) in r) (wanted_place es symbols number h)
 
-  cell-is : (moved w : ℕ) (r : Reloc) → IsFit symbols (symbol_number r) (kind_of r) → placed_cell es (all_places es symbols) shifts moved w r ≡ own_cell es symbols shifts moved w r
-  cell-is moved w r h =
-      ap (λ (p : ℕ × Target). let c : Cell = record { value = minus (plus w p.0) (if_pc r moved); target = p.1; pc = is_pc_relative r } in c) (placed-is (symbol_number r) (kind_of r) h)
+  cell-is : (own_shift w : ℕ) (r : Reloc) → IsFit symbols (symbol_number r) (kind_of r) → placed_cell es (all_places es symbols) shifts own_shift w r ≡ own_cell es symbols shifts own_shift w r
+  cell-is own_shift w r h =
+      ap (λ (p : ℕ × Target). let c : Cell = record { value = minus (plus w p.0) (if_pc r own_shift); target = p.1; pc = is_pc_relative r } in c) (placed-is (symbol_number r) (kind_of r) h)
 
-  cells-are : (moved : ℕ) (ws : List ℕ) (rs : List Reloc) → AllByRecursion (λ r. IsFit symbols (symbol_number r) (kind_of r)) rs →
-      placed_cells es (all_places es symbols) shifts moved ws rs ≡ own_cells es symbols shifts moved ws rs
-  cells-are moved [] rs h = refl
-  cells-are moved (w ∷ ws) [] h = refl
-  cells-are moved (w ∷ ws) (r ∷ rs) h = let here = cell-is moved w r h.0 in let rest = cells-are moved ws rs h.1 in λ i. here i ∷ rest i
+  cells-are : (own_shift : ℕ) (ws : List ℕ) (rs : List Reloc) → AllByRecursion (λ r. IsFit symbols (symbol_number r) (kind_of r)) rs →
+      placed_cells es (all_places es symbols) shifts own_shift ws rs ≡ own_cells es symbols shifts own_shift ws rs
+  cells-are own_shift [] rs h = refl
+  cells-are own_shift (w ∷ ws) [] h = refl
+  cells-are own_shift (w ∷ ws) (r ∷ rs) h = let here = cell-is own_shift w r h.0 in let rest = cells-are own_shift ws rs h.1 in λ i. here i ∷ rest i
 
 -- the cells of an object's words
-module _ (es : Named) (o : Contents) (shifts : Shifts) (moved : ℕ) (well : IsWellFormed o) (places : List ℕ) (same : places ≡ all_places es o.symbols) where
+module _ (es : Named) (o : Contents) (shifts : Shifts) (own_shift : ℕ) (well : IsWellFormed o) (places : List ℕ) (same : places ≡ all_places es o.symbols) where
   both : AllByRecursion (λ r. IsFit o.symbols (symbol_number r) (kind_of r)) o.text_reloc × AllByRecursion (λ r. IsFit o.symbols (symbol_number r) (kind_of r)) o.data_reloc
   both = all_split (λ r. IsFit o.symbols (symbol_number r) (kind_of r)) o.text_reloc o.data_reloc (all_fit o.symbols 0 (o.text_reloc ++ o.data_reloc) (well_formed_parts o well).1)
 
-  pub placed_texts : placed_cells es places shifts moved o.text_words o.text_reloc ≡ own_cells es o.symbols shifts moved o.text_words o.text_reloc
-  placed_texts = ap (λ (ps : List ℕ). placed_cells es ps shifts moved o.text_words o.text_reloc) same ∙ cells-are es o.symbols shifts moved o.text_words o.text_reloc both.0
+  pub placed_texts : placed_cells es places shifts own_shift o.text_words o.text_reloc ≡ own_cells es o.symbols shifts own_shift o.text_words o.text_reloc
+  placed_texts = ap (λ (ps : List ℕ). placed_cells es ps shifts own_shift o.text_words o.text_reloc) same ∙ cells-are es o.symbols shifts own_shift o.text_words o.text_reloc both.0
 
-  pub placed_datas : placed_cells es places shifts moved o.data_words o.data_reloc ≡ own_cells es o.symbols shifts moved o.data_words o.data_reloc
-  placed_datas = ap (λ (ps : List ℕ). placed_cells es ps shifts moved o.data_words o.data_reloc) same ∙ cells-are es o.symbols shifts moved o.data_words o.data_reloc both.1
+  pub placed_datas : placed_cells es places shifts own_shift o.data_words o.data_reloc ≡ own_cells es o.symbols shifts own_shift o.data_words o.data_reloc
+  placed_datas = ap (λ (ps : List ℕ). placed_cells es ps shifts own_shift o.data_words o.data_reloc) same ∙ cells-are es o.symbols shifts own_shift o.data_words o.data_reloc both.1

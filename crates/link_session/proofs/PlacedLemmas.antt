@@ -12,10 +12,10 @@ use Rattle.link_session.specs.declared.state.State.TheVariants.{Wanted}
 use Rattle.link_session.specs.Mentions.{Mention, is_among, place_of}
 use Rattle.link_session.specs.Cells.{name_in}
 use Rattle.link_session.specs.Image.{Named, state_at}
-use Rattle.link_session.specs.steps.Additions.{place_in, mentioned, all_mentioned, mention_by, mentions_by, no_place, place_by, all_places}
-use Rattle.link_session.specs.steps.Chains.{Link}
-use Rattle.link_session.specs.steps.Settled.{settled_at, settled_over, places_of}
-use Rattle.link_session.specs.steps.Threads.{cut_by_state, cut_heads}
+use Rattle.link_session.specs.internal.Additions.{place_in, mentioned, all_mentioned, mention_by, mentions_by, no_place, place_by, all_places}
+use Rattle.link_session.specs.internal.Chains.{Link}
+use Rattle.link_session.specs.internal.Settled.{settled_at, settled_over, places_of}
+use Rattle.link_session.specs.internal.Threads.{cut_by_state, cut_heads}
 use Rattle.link_session.proofs.MentionLemmas.{is_among-append, place_of-append}
 use Rattle.link_session.proofs.MentionedLemmas.{keys-mentioned}
 use Rattle.link_session.proofs.NamesLemmas.{unsettled, all_one}

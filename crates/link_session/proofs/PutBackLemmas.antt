@@ -3,9 +3,9 @@ use Rattle.std.proofs.Common.{◌≡◌, ℕ, zero, suc, ◌+◌, ◌-◌, ◌<�
 use Rattle.link_session.specs.declared.mark.Mark.{Mark}
 use Rattle.link_session.specs.Image.{Image}
 use Rattle.link_session.specs.Undo.{put_back, put_all_back}
-use Rattle.link_session.specs.steps.Chains.{Link}
-use Rattle.link_session.specs.steps.Threads.{Threads}
-use Rattle.link_session.specs.steps.Fields.{with_heads_back}
+use Rattle.link_session.specs.internal.Chains.{Link}
+use Rattle.link_session.specs.internal.Threads.{Threads}
+use Rattle.link_session.specs.internal.Fields.{with_heads_back}
 use Rattle.link_session.proofs.ChainBackLemmas.{heads_back-append}
 
 put_front : (ks : List Mark) (n : ℕ) (d : Mark) (m : Image) → n < length ks → put_all_back (take (n + 1) ks) m ≡ put_all_back (take n ks) (put_back (get_or ks n d) m)

@@ -8,8 +8,8 @@ use Rattle.link_session.specs.declared.mark.Mark.{Mark}
 use Rattle.link_session.specs.declared.mark.Place.{Place}
 use Rattle.link_session.specs.declared.mark.Place.TheVariants.{InText, InData}
 use Rattle.link_session.specs.Undo.{put_all_back, IsInside}
-use Rattle.link_session.specs.steps.Chains.{Link, is_on, same_place, IsWithin, Tells, bound_if, bound_where, cell_at, nowhere, marks_of, heads_back, AreChained}
-use Rattle.link_session.specs.steps.Restores.{Restores}
+use Rattle.link_session.specs.internal.Chains.{Link, is_on, same_place, IsWithin, Tells, bound_if, bound_where, cell_at, nowhere, marks_of, heads_back, AreChained}
+use Rattle.link_session.specs.internal.Restores.{Restores}
 use Rattle.link_session.proofs.ListLemmas.{all_append}
 use Rattle.link_session.proofs.MarkLemmas.{put_all_back-append}
 use Rattle.link_session.proofs.WaitLemmas.{bound_on_chain, heads_back-chain}

@@ -7,7 +7,7 @@ use Rattle.std.proofs.lemmas.List.{map-append, length-map, same_from_push}
 use Rattle.aout_core.specs.Contents.{Contents}
 use Rattle.link_session.specs.declared.state.State.{State}
 use Rattle.link_session.specs.declared.merged.Sizes.{Sizes}
-use Rattle.link_session.specs.declared.session.Step.{Step}
+use Rattle.link_session.specs.declared.session.UndoRecord.{UndoRecord}
 use Rattle.link_session.specs.Earlier.{with_earlier}
 use Rattle.link_session.specs.Labelled.{Labelled, objects}
 use Rattle.link_session.specs.Mentions.{Mention, forced_mention, mentions, externals, names_of}
@@ -16,13 +16,13 @@ use Rattle.link_session.specs.Image.{Image, image, named_states}
 use Rattle.link_session.specs.Edits.{limit_passed, refusal}
 use Rattle.link_session.specs.Undo.{undo, UndoesImage, IsJournal}
 use Rattle.link_session.specs.Sessions.{newest, Adds, IsObject}
-use Rattle.link_session.specs.steps.Fields.{sizes_of, sizes_in, sizes_before, threads_by, with_heads_back, IsBehind, IsSmall, IsSession}
+use Rattle.link_session.specs.internal.Fields.{sizes_of, sizes_in, sizes_before, threads_by, with_heads_back, IsBehind, IsSmall, IsSession}
 use Rattle.link_session.specs.Undo.{marks_in}
-use Rattle.link_session.specs.steps.Additions.{all_mentioned, settled, next_limit, next_named, joined_image}
-use Rattle.link_session.specs.steps.Settled.{IsCovered}
-use Rattle.link_session.specs.steps.Chains.{Link}
-use Rattle.link_session.specs.steps.Threads.{Threads, IsThreaded, KeepsThreads, next_threads, next_texts, next_datas}
-use Rattle.link_session.specs.steps.Restores.{TakesBack}
+use Rattle.link_session.specs.internal.Additions.{all_mentioned, settled, next_limit, next_named, joined_image}
+use Rattle.link_session.specs.internal.Settled.{IsCovered}
+use Rattle.link_session.specs.internal.Chains.{Link}
+use Rattle.link_session.specs.internal.Threads.{Threads, IsThreaded, KeepsThreads, next_threads, next_texts, next_datas}
+use Rattle.link_session.specs.internal.Restores.{TakesBack}
 use Rattle.link_session.proofs.EarlierLemmas.{with_earlier-append}
 use Rattle.link_session.proofs.JournalLemmas.{journal_push, journal_pop, journal_empty}
 use Rattle.link_session.proofs.MentionedLemmas.{keys-named_states, all_mentioned-named_states}
@@ -34,16 +34,16 @@ use Rattle.link_session.proofs.FewLemmas.{taken_few}
 use Rattle.link_session.proofs.KeptThreadLemmas.{kept_threaded, forced_kept, kept_push, kept_pop}
 use Rattle.link_session.proofs.ListLemmas.{all_append, all_split}
 
-pub small : (forced : List (List ℕ)) (es : List Labelled) (steps : List Step) (m : Image) (t : Threads) → IsSession forced es steps m t → IsSmall m
-small forced es steps m t s = subst IsSmall (sym s.image) (image_small forced (objects es) s.good s.within)
+pub small : (forced : List (List ℕ)) (es : List Labelled) (undo_records : List UndoRecord) (m : Image) (t : Threads) → IsSession forced es undo_records m t → IsSmall m
+small forced es undo_records m t s = subst IsSmall (sym s.image) (image_small forced (objects es) s.good s.within)
 
 -- to bind the names that an object mentions is to settle all cells
-pub session_covered : (forced : List (List ℕ)) (es : List Labelled) (steps : List Step) (m : Image) (t : Threads) (o : Contents) → IsSession forced es steps m t → IsCovered m o
-session_covered forced es steps m t o s = subst (λ (n : Image). IsCovered n o) (sym s.image) (image_covered forced (objects es) o s.good)
+pub session_covered : (forced : List (List ℕ)) (es : List Labelled) (undo_records : List UndoRecord) (m : Image) (t : Threads) (o : Contents) → IsSession forced es undo_records m t → IsCovered m o
+session_covered forced es undo_records m t o s = subst (λ (n : Image). IsCovered n o) (sym s.image) (image_covered forced (objects es) o s.good)
 
 -- why an object is refused, read off the fields
-pub refusal-fields : (forced : List (List ℕ)) (es : List Labelled) (steps : List Step) (m : Image) (t : Threads) (o : Contents) → IsSession forced es steps m t → refusal forced (objects es) o ≡ next_limit m o
-refusal-fields forced es steps m t o s = refusal-next_limit forced (objects es) o s.good ∙ ap (λ (n : Image). next_limit n o) (sym s.image)
+pub refusal-fields : (forced : List (List ℕ)) (es : List Labelled) (undo_records : List UndoRecord) (m : Image) (t : Threads) (o : Contents) → IsSession forced es undo_records m t → refusal forced (objects es) o ≡ next_limit m o
+refusal-fields forced es undo_records m t o s = refusal-next_limit forced (objects es) o s.good ∙ ap (λ (n : Image). next_limit n o) (sym s.image)
 
 -- the kept sizes of one more object
 sizes_push : (forced : List (List ℕ)) (os : List Contents) (o : Contents) → sizes_before forced (os ++ o ∷ []) ≡ sizes_before forced os ++ sizes_of (image forced os) ∷ []
@@ -51,34 +51,34 @@ sizes_push forced os o =
     ap (λ (ps : List (List Contents × Contents)). map (λ p. sizes_of (image forced p.0)) ps) (with_earlier-append [] os (o ∷ []))
     ∙ map-append (λ (p : List Contents × Contents). sizes_of (image forced p.0)) (with_earlier [] os) ((os, o) ∷ [])
 
-module _ (forced : List (List ℕ)) (es : List Labelled) (steps : List Step) (m : Image) (t : Threads) (e : Labelled) (step : Step) (s : IsSession forced es steps m t) (b : TakesBack m e.object t.heads step.marks.items) where
+module _ (forced : List (List ℕ)) (es : List Labelled) (undo_records : List UndoRecord) (m : Image) (t : Threads) (e : Labelled) (undo_record : UndoRecord) (s : IsSession forced es undo_records m t) (b : TakesBack m e.object t.heads undo_record.marks.items) where
   abbrev one_more : objects (es ++ e ∷ []) ≡ objects es ++ e.object ∷ []
   one_more = map-append (λ (x : Labelled). x.object) es (e ∷ [])
 
   -- the marks, as those of the objects' image
-  of_image : TakesBack (image forced (objects es)) e.object t.heads step.marks.items
-  of_image = subst (λ (n : Image). TakesBack n e.object t.heads step.marks.items) s.image b
+  of_image : TakesBack (image forced (objects es)) e.object t.heads undo_record.marks.items
+  of_image = subst (λ (n : Image). TakesBack n e.object t.heads undo_record.marks.items) s.image b
 
-  undoes_last : UndoesImage forced step.marks.items (objects es ++ e.object ∷ []) (objects es)
-  undoes_last = subst (λ (n : Image). undo step.marks.items n (image forced (objects es)) ≡ image forced (objects es)) (joined_image-is forced (objects es) e.object s.good) of_image.undoes
+  undoes_last : UndoesImage forced undo_record.marks.items (objects es ++ e.object ∷ []) (objects es)
+  undoes_last = subst (λ (n : Image). undo undo_record.marks.items n (image forced (objects es)) ≡ image forced (objects es)) (joined_image-is forced (objects es) e.object s.good) of_image.undoes
 
   -- the fields after an addition
-  pub added_session : (n : Image) (u : Threads) → IsObject e.object → next_limit m e.object ≡ None → step.sizes ≡ sizes_of m → n ≡ joined_image m e.object → u ≡ next_threads m e.object t →
-      IsSession forced (es ++ e ∷ []) (steps ++ step ∷ []) n u
+  pub added_session : (n : Image) (u : Threads) → IsObject e.object → next_limit m e.object ≡ None → undo_record.sizes ≡ sizes_of m → n ≡ joined_image m e.object → u ≡ next_threads m e.object t →
+      IsSession forced (es ++ e ∷ []) (undo_records ++ undo_record ∷ []) n u
   added_session n u good fits sizes joined threaded = record {
     image = longer;
     threads = kept;
-    chained = subst (λ (x : Image). IsThreaded x u) (sym longer) (kept_threaded forced (objects (es ++ e ∷ [])) (map marks_in (steps ++ step ∷ [])) u all_good kept);
+    chained = subst (λ (x : Image). IsThreaded x u) (sym longer) (kept_threaded forced (objects (es ++ e ∷ [])) (map marks_in (undo_records ++ undo_record ∷ [])) u all_good kept);
     journal =
-        subst (λ (P : Type 0). P) (λ i. IsJournal forced (sym one_more i) (sym (map-append marks_in steps (step ∷ [])) i))
-        (journal_push (UndoesImage forced) (objects es) e.object (map marks_in steps) step.marks.items s.journal undoes_last);
+        subst (λ (P : Type 0). P) (λ i. IsJournal forced (sym one_more i) (sym (map-append marks_in undo_records (undo_record ∷ [])) i))
+        (journal_push (UndoesImage forced) (objects es) e.object (map marks_in undo_records) undo_record.marks.items s.journal undoes_last);
     sizes =
-        map-append sizes_in steps (step ∷ [])
+        map-append sizes_in undo_records (undo_record ∷ [])
         ∙ (λ i. s.sizes i ++ (sizes ∙ ap sizes_of s.image) i ∷ [])
         ∙ sym (sizes_push forced (objects es) e.object)
         ∙ ap (λ (xs : List Contents). sizes_before forced xs) (sym one_more);
     good = all_good;
-    within = ap (λ (xs : List Contents). limit_passed forced xs) one_more ∙ refusal-fields forced es steps m t e.object s ∙ fits;
+    within = ap (λ (xs : List Contents). limit_passed forced xs) one_more ∙ refusal-fields forced es undo_records m t e.object s ∙ fits;
   }
     where
       longer : n ≡ image forced (objects (es ++ e ∷ []))
@@ -87,40 +87,40 @@ module _ (forced : List (List ℕ)) (es : List Labelled) (steps : List Step) (m 
       all_good : AllByRecursion IsObject (objects (es ++ e ∷ []))
       all_good = subst (λ (xs : List Contents). AllByRecursion IsObject xs) (sym one_more) (all_append IsObject (objects es) (e.object ∷ []) s.good (good, tt))
 
-      kept : KeepsThreads forced (objects (es ++ e ∷ [])) (map marks_in (steps ++ step ∷ [])) u
+      kept : KeepsThreads forced (objects (es ++ e ∷ [])) (map marks_in (undo_records ++ undo_record ∷ [])) u
       kept =
-          subst (λ (P : Type 0). P) (λ i. KeepsThreads forced (sym one_more i) (sym (map-append marks_in steps (step ∷ [])) i) (sym (threaded ∙ ap (λ (x : Image). next_threads x e.object t) s.image) i))
-          (kept_push forced (objects es) e.object (map marks_in steps) step.marks.items t s.good s.threads of_image.heads_are)
+          subst (λ (P : Type 0). P) (λ i. KeepsThreads forced (sym one_more i) (sym (map-append marks_in undo_records (undo_record ∷ [])) i) (sym (threaded ∙ ap (λ (x : Image). next_threads x e.object t) s.image) i))
+          (kept_push forced (objects es) e.object (map marks_in undo_records) undo_record.marks.items t s.good s.threads of_image.heads_are)
 
   -- what the addition says of the state
-  pub adds : Adds (record { forced = forced; entries = es; journal = map marks_in steps }) (record { forced = forced; entries = es ++ e ∷ []; journal = map marks_in (steps ++ step ∷ []) }) e
+  pub adds : Adds (record { forced = forced; entries = es; journal = map marks_in undo_records }) (record { forced = forced; entries = es ++ e ∷ []; journal = map marks_in (undo_records ++ undo_record ∷ []) }) e
   adds = record {
     forced = refl;
     entries = refl;
-    marks = step.marks.items;
-    journal = map-append marks_in steps (step ∷ []);
-    undoes = (λ i. undo step.marks.items (image forced (one_more i)) (image forced (objects es))) ∙ undoes_last;
+    marks = undo_record.marks.items;
+    journal = map-append marks_in undo_records (undo_record ∷ []);
+    undoes = (λ i. undo undo_record.marks.items (image forced (one_more i)) (image forced (objects es))) ∙ undoes_last;
     inside = of_image.inside;
-    few = taken_few forced (objects es) e.object t.heads step.marks.items s.good of_image;
+    few = taken_few forced (objects es) e.object t.heads undo_record.marks.items s.good of_image;
   }
 
-module _ (forced : List (List ℕ)) (es : List Labelled) (steps : List Step) (m : Image) (t : Threads) (e : Labelled) (step : Step) (s : IsSession forced (es ++ e ∷ []) (steps ++ step ∷ []) m t) where
+module _ (forced : List (List ℕ)) (es : List Labelled) (undo_records : List UndoRecord) (m : Image) (t : Threads) (e : Labelled) (undo_record : UndoRecord) (s : IsSession forced (es ++ e ∷ []) (undo_records ++ undo_record ∷ []) m t) where
   abbrev one_less : objects (es ++ e ∷ []) ≡ objects es ++ e.object ∷ []
   one_less = map-append (λ (x : Labelled). x.object) es (e ∷ [])
 
   earlier_good : AllByRecursion IsObject (objects es)
   earlier_good = (all_split IsObject (objects es) (e.object ∷ []) (subst (λ (xs : List Contents). AllByRecursion IsObject xs) one_less s.good)).0
 
-  pub kept_sizes : (map sizes_in steps ≡ sizes_before forced (objects es)) × (step.sizes ≡ sizes_of (image forced (objects es)))
+  pub kept_sizes : (map sizes_in undo_records ≡ sizes_before forced (objects es)) × (undo_record.sizes ≡ sizes_of (image forced (objects es)))
   kept_sizes =
-      same_from_push (map sizes_in steps) (sizes_before forced (objects es)) step.sizes (sizes_of (image forced (objects es)))
-      (sym (map-append sizes_in steps (step ∷ [])) ∙ s.sizes ∙ ap (λ (xs : List Contents). sizes_before forced xs) one_less ∙ sizes_push forced (objects es) e.object)
+      same_from_push (map sizes_in undo_records) (sizes_before forced (objects es)) undo_record.sizes (sizes_of (image forced (objects es)))
+      (sym (map-append sizes_in undo_records (undo_record ∷ [])) ∙ s.sizes ∙ ap (λ (xs : List Contents). sizes_before forced xs) one_less ∙ sizes_push forced (objects es) e.object)
 
   now : m ≡ image forced (objects es ++ e.object ∷ [])
   now = s.image ∙ ap (λ (xs : List Contents). image forced xs) one_less
 
   -- the cells of the last object stand behind the sizes that were kept
-  pub behind : IsBehind step.sizes m t
+  pub behind : IsBehind undo_record.sizes m t
   behind = record {
     text = subst (λ (n : ℕ). n ≤ length m.text_cells) (ap (λ (z : Sizes). z.text_cells) (sym kept_sizes.1)) (subst (λ (n : Image). length old.text_cells ≤ length n.text_cells) (sym joined)
         (omega (arith, length-append (map (settled (next_named old e.object)) old.text_cells) (next_texts old e.object), length-map old.text_cells (settled (next_named old e.object)))));
@@ -137,32 +137,32 @@ module _ (forced : List (List ℕ)) (es : List Labelled) (steps : List Step) (m 
       joined = now ∙ sym (joined_image-is forced (objects es) e.object earlier_good)
 
   -- the fields after a withdrawal
-  pub withdrawn_session : IsSession forced es steps (undo step.marks.items m (image forced (objects es))) (with_heads_back step.marks.items (threads_by step.sizes m t))
+  pub withdrawn_session : IsSession forced es undo_records (undo undo_record.marks.items m (image forced (objects es))) (with_heads_back undo_record.marks.items (threads_by undo_record.sizes m t))
   withdrawn_session = record {
     image = before;
     threads = kept;
     chained =
-        subst (λ (x : Image). IsThreaded x (with_heads_back step.marks.items (threads_by step.sizes m t))) (sym before)
-        (kept_threaded forced (objects es) (map marks_in steps) (with_heads_back step.marks.items (threads_by step.sizes m t)) earlier_good kept);
+        subst (λ (x : Image). IsThreaded x (with_heads_back undo_record.marks.items (threads_by undo_record.sizes m t))) (sym before)
+        (kept_threaded forced (objects es) (map marks_in undo_records) (with_heads_back undo_record.marks.items (threads_by undo_record.sizes m t)) earlier_good kept);
     journal = pop.0;
     sizes = kept_sizes.0;
     good = earlier_good;
     within = within_before forced (objects es) e.object (ap (λ (xs : List Contents). limit_passed forced xs) (sym one_less) ∙ s.within);
   }
     where
-      pop : IsJournal forced (objects es) (map marks_in steps) × UndoesImage forced step.marks.items (objects es ++ e.object ∷ []) (objects es)
+      pop : IsJournal forced (objects es) (map marks_in undo_records) × UndoesImage forced undo_record.marks.items (objects es ++ e.object ∷ []) (objects es)
       pop =
-          journal_pop (UndoesImage forced) (objects es) e.object (map marks_in steps) step.marks.items
-          (subst (λ (P : Type 0). P) (λ i. IsJournal forced (one_less i) (map-append marks_in steps (step ∷ []) i)) s.journal)
+          journal_pop (UndoesImage forced) (objects es) e.object (map marks_in undo_records) undo_record.marks.items
+          (subst (λ (P : Type 0). P) (λ i. IsJournal forced (one_less i) (map-append marks_in undo_records (undo_record ∷ []) i)) s.journal)
 
-      before : undo step.marks.items m (image forced (objects es)) ≡ image forced (objects es)
-      before = ap (λ (n : Image). undo step.marks.items n (image forced (objects es))) now ∙ pop.1
+      before : undo undo_record.marks.items m (image forced (objects es)) ≡ image forced (objects es)
+      before = ap (λ (n : Image). undo undo_record.marks.items n (image forced (objects es))) now ∙ pop.1
 
-      kept : KeepsThreads forced (objects es) (map marks_in steps) (with_heads_back step.marks.items (threads_by step.sizes m t))
+      kept : KeepsThreads forced (objects es) (map marks_in undo_records) (with_heads_back undo_record.marks.items (threads_by undo_record.sizes m t))
       kept =
-          subst (λ (P : Type 0). P) (λ i. KeepsThreads forced (objects es) (map marks_in steps) (with_heads_back step.marks.items (threads_by (sym kept_sizes.1 i) (sym now i) t)))
-          (kept_pop forced (objects es) e.object (map marks_in steps) step.marks.items t
-          (subst (λ (P : Type 0). P) (λ i. KeepsThreads forced (one_less i) (map-append marks_in steps (step ∷ []) i) t) s.threads))
+          subst (λ (P : Type 0). P) (λ i. KeepsThreads forced (objects es) (map marks_in undo_records) (with_heads_back undo_record.marks.items (threads_by (sym kept_sizes.1 i) (sym now i) t)))
+          (kept_pop forced (objects es) e.object (map marks_in undo_records) undo_record.marks.items t
+          (subst (λ (P : Type 0). P) (λ i. KeepsThreads forced (one_less i) (map-append marks_in undo_records (undo_record ∷ []) i) t) s.threads))
 
 -- forced names alone
 none_twice : (names : List (List ℕ)) (ms : List Mention) → map (λ (k : Mention). k.name) (filter (λ k. differs (first_definition ms k.name) k.says) (map forced_mention names)) ≡ []
@@ -205,11 +205,11 @@ forced_session forced few m t text datas bss names multiples text_links data_lin
         (forced_kept forced)
 
 -- the name's index is its place among the externals
-pub externals-fields : (forced : List (List ℕ)) (es : List Labelled) (steps : List Step) (m : Image) (t : Threads) → IsSession forced es steps m t → keys_of m.externals ≡ externals forced (objects es)
-externals-fields forced es steps m t s = ap (λ (n : Image). keys_of n.externals) s.image ∙ keys-named_states (mentions forced (objects es))
+pub externals-fields : (forced : List (List ℕ)) (es : List Labelled) (undo_records : List UndoRecord) (m : Image) (t : Threads) → IsSession forced es undo_records m t → keys_of m.externals ≡ externals forced (objects es)
+externals-fields forced es undo_records m t s = ap (λ (n : Image). keys_of n.externals) s.image ∙ keys-named_states (mentions forced (objects es))
 
--- the marks of the last step
-pub newest_step : (steps : List Step) (step : Step) → Some step ≡ slice_get steps (length steps - 1) → step.marks.items ≡ newest (map marks_in steps)
-newest_step [] step e = absurd (cc)
-newest_step (x ∷ []) step e = let same : step ≡ x = cc in ap marks_in same
-newest_step (x ∷ (y ∷ more)) step e = newest_step (y ∷ more) step (e ∙ ap (λ (n : ℕ). slice_get (x ∷ (y ∷ more)) n) (let n : length (x ∷ (y ∷ more)) - 1 ≡ suc (length (y ∷ more) - 1) = omega arith in n))
+-- the marks of the last undo record
+pub newest_record : (undo_records : List UndoRecord) (undo_record : UndoRecord) → Some undo_record ≡ slice_get undo_records (length undo_records - 1) → undo_record.marks.items ≡ newest (map marks_in undo_records)
+newest_record [] undo_record e = absurd (cc)
+newest_record (x ∷ []) undo_record e = let same : undo_record ≡ x = cc in ap marks_in same
+newest_record (x ∷ (y ∷ more)) undo_record e = newest_record (y ∷ more) undo_record (e ∙ ap (λ (n : ℕ). slice_get (x ∷ (y ∷ more)) n) (let n : length (x ∷ (y ∷ more)) - 1 ≡ suc (length (y ∷ more) - 1) = omega arith in n))

@@ -10,11 +10,11 @@ use Rattle.link_session.specs.Mentions.{externals_in}
 use Rattle.link_session.specs.Image.{Image}
 use Rattle.link_session.specs.Undo.{put_all_back, cut_to, undo, IsInside}
 use Rattle.link_session.specs.Image.{Named}
-use Rattle.link_session.specs.steps.Additions.{state_marks, settled, all_clashes, mention_by, next_shifts, next_mentions, next_named, joined_image, entered}
-use Rattle.link_session.specs.steps.Chains.{Link, heads_back}
-use Rattle.link_session.specs.steps.Counts.{NotesBound}
-use Rattle.link_session.specs.steps.Threads.{bound_heads, next_texts, next_datas}
-use Rattle.link_session.specs.steps.Restores.{Restores, TakesBack}
+use Rattle.link_session.specs.internal.Additions.{state_marks, settled, all_clashes, mention_by, next_shifts, next_mentions, next_named, joined_image, entered}
+use Rattle.link_session.specs.internal.Chains.{Link, heads_back}
+use Rattle.link_session.specs.internal.Counts.{NotesBound}
+use Rattle.link_session.specs.internal.Threads.{bound_heads, next_texts, next_datas}
+use Rattle.link_session.specs.internal.Restores.{Restores, TakesBack}
 use Rattle.link_session.proofs.ListLemmas.{all_append}
 use Rattle.link_session.proofs.MarkLemmas.{put_all_back-append, cut_front}
 use Rattle.link_session.proofs.BackLemmas.{mentions_back, states_inside, states_few}

@@ -23,8 +23,8 @@ use Rattle.link_session.specs.Cells.{cells, cells_in, cell, words_of}
 use Rattle.link_session.specs.Image.{image}
 use Rattle.link_session.specs.Edits.{limit_passed, refusal}
 use Rattle.link_session.specs.Sessions.{IsObject}
-use Rattle.link_session.specs.steps.Fields.{IsSmall}
-use Rattle.link_session.specs.steps.Additions.{external_names, next_limit}
+use Rattle.link_session.specs.internal.Fields.{IsSmall}
+use Rattle.link_session.specs.internal.Additions.{external_names, next_limit}
 use Rattle.link_session.proofs.MentionLemmas.{externals_push, is_among-externals, new_names-seen, names_of-map}
 use Rattle.link_session.proofs.MentionedLemmas.{keys-named_states}
 use Rattle.link_session.proofs.WellFormedLemmas.{well_formed_parts}

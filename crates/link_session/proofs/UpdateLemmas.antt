@@ -17,7 +17,7 @@ use Rattle.link_session.specs.States.{Definition, definition_by, size_wanted_by,
 use Rattle.link_session.specs.Cells.{cells_in}
 use Rattle.link_session.specs.Image.{named_states, image_by, image}
 use Rattle.link_session.specs.Undo.{with_state}
-use Rattle.link_session.specs.steps.Updates.{updated, clashes}
+use Rattle.link_session.specs.internal.Updates.{updated, clashes}
 use Rattle.link_session.proofs.MentionLemmas.{mentions_push, names_by_first_mention-append, is_among-append}
 use Rattle.link_session.proofs.StateLemmas.{first_definition-append, wanted_size-append}
 use Rattle.link_session.proofs.CellLemmas.{cells_push}

@@ -8,10 +8,10 @@ use Rattle.link_session.specs.declared.mark.Place.TheVariants.{InText, InData}
 use Rattle.link_session.specs.Mentions.{Mention}
 use Rattle.link_session.specs.Image.{Image}
 use Rattle.link_session.specs.Image.{Named}
-use Rattle.link_session.specs.steps.Additions.{place_in, state_for, mentioned, changes, state_mark, state_marks, settled, next_named, joined_image}
-use Rattle.link_session.specs.steps.Chains.{Link, threaded, unthreaded, heads_back}
-use Rattle.link_session.specs.steps.Settled.{places_of}
-use Rattle.link_session.specs.steps.Threads.{Threads, with_texts, next_texts, next_datas, bound_heads, next_heads, next_threads, cut_threads, undo_threads, IsThreaded}
+use Rattle.link_session.specs.internal.Additions.{place_in, state_for, mentioned, changes, state_mark, state_marks, settled, next_named, joined_image}
+use Rattle.link_session.specs.internal.Chains.{Link, threaded, unthreaded, heads_back}
+use Rattle.link_session.specs.internal.Settled.{places_of}
+use Rattle.link_session.specs.internal.Threads.{Threads, with_texts, next_texts, next_datas, bound_heads, next_heads, next_threads, cut_threads, undo_threads, IsThreaded}
 use Rattle.link_session.proofs.WaitLemmas.{unthreaded-threaded}
 use Rattle.link_session.proofs.ChainBackLemmas.{heads_back-append}
 use Rattle.link_session.proofs.HeadLemmas.{length-cut_heads, cut_grown, length-heads_back}

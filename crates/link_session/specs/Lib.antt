@@ -11,4 +11,4 @@ pub mod Undo
 pub mod Bounds
 pub mod Sessions
 pub mod Laws
-pub mod steps
+pub mod internal

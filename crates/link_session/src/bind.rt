@@ -1,11 +1,11 @@
 //! The cells that wait for names, bound once the names are defined.
 ghost use Rattle.std.specs.Prelude.{◌≡◌, ◌*◌, ◌≤◌, ◌++◌, length, slice_set, map, None, OnOk, OnErr, take};
-ghost use Rattle.link_session.specs.steps.Chains.{bound_one, cell_at, EndsWithin, IsWithin, BindsText, BindsData, NotesChain, AreChained, bound_if};
-ghost use Rattle.link_session.specs.steps.Restores.{LeavesMarks};
+ghost use Rattle.link_session.specs.internal.Chains.{bound_one, cell_at, EndsWithin, IsWithin, BindsText, BindsData, NotesChain, AreChained, bound_if};
+ghost use Rattle.link_session.specs.internal.Restores.{LeavesMarks};
 ghost use Rattle.link_session.specs.Image.{state_at};
-ghost use Rattle.link_session.specs.steps.Settled.{settled_at, settled_over};
-ghost use Rattle.link_session.specs.steps.Counts.{NotesWaiting, NotesBound};
-ghost use Rattle.link_session.specs.steps.Threads.{cut_by_state, cut_heads};
+ghost use Rattle.link_session.specs.internal.Settled.{settled_at, settled_over};
+ghost use Rattle.link_session.specs.internal.Counts.{NotesWaiting, NotesBound};
+ghost use Rattle.link_session.specs.internal.Threads.{cut_by_state, cut_heads};
 
 use crate::cell::Cell;
 use crate::chain::{Link, Links, cut_chain, link_at, link_in};
@@ -110,7 +110,7 @@ fn note_chain(
 ) -> Result<(), AllocError>
     requires { EndsWithin links.now.text.now links.now.«data».now head (length text_cells.now) (length data_cells.now) }
     ensures ok { OnOk result (NotesChain links.now.text.now links.now.«data».now head text_cells.now data_cells.now marks.old.items marks.new.items) }
-    ensures front { take (length marks.old.items) marks.new.items ≡ marks.old.items }
+    ensures prefix { take (length marks.old.items) marks.new.items ≡ marks.old.items }
 {
     let mut next = head;
     while let Some(place) = next {

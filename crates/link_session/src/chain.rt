@@ -1,7 +1,7 @@
 //! Chains of the cells that wait for one name: a head names the first, and beside each cell a link names the next.
 ghost use Rattle.std.specs.Prelude.{◌≡◌, ◌+◌, ◌<◌, ◌≤◌, ◌++◌, ◌∷◌, [], length, slice_index_or, slice_set, None, Some, vec_len, vec_capacity};
-ghost use Rattle.link_session.specs.steps.Chains.{link_at, head_for, with_head, unthreaded};
-ghost use Rattle.link_session.specs.steps.Threads.{grown_heads};
+ghost use Rattle.link_session.specs.internal.Chains.{link_at, head_for, with_head, unthreaded};
+ghost use Rattle.link_session.specs.internal.Threads.{grown_heads};
 
 use crate::cell::{Cell, Target};
 use crate::mark::Place;

@@ -23,7 +23,7 @@ impl Model for Forced {
     ghost Value = { List (List ℕ) };
 
     ghost use Rattle.link_session.specs.ForcedNames.{forced_of};
-    ghost use Rattle.link_session.specs.steps.ForcedSlots.{IsForced, slots_of, slots_back};
+    ghost use Rattle.link_session.specs.internal.ForcedSlots.{IsForced, slots_of, slots_back};
 
     ghost view = { forced_of };
 

@@ -4,13 +4,13 @@ ghost use Rattle.indexmap.specs.IndexMap.{spare};
 ghost use Rattle.aout_core.specs.declared.symbol.Segment.TheVariants as segments;
 ghost use Rattle.aout_core.specs.Contents.{Fits};
 ghost use Rattle.aout_core.specs.WellFormed.{is_external, IsWellFormed};
-ghost use Rattle.link_session.specs.steps.Fields.{image_in, threads_in, with_cells, with_heads, with_own_cells, with_own_threads, KeepsRoom, IsSmall};
-ghost use Rattle.link_session.specs.steps.Chains.{AreChained};
-ghost use Rattle.link_session.specs.steps.Restores.{LeavesMarks, TakesBack};
-ghost use Rattle.link_session.specs.steps.Settled.{settled_over, IsCovered};
-ghost use Rattle.link_session.specs.steps.Threads.{cut_heads, next_threads, IsThreaded};
-ghost use Rattle.link_session.specs.steps.Counts.{NotesBound};
-ghost use Rattle.link_session.specs.steps.Additions.{all_places, joined_image, next_limit};
+ghost use Rattle.link_session.specs.internal.Fields.{image_in, threads_in, with_cells, with_heads, with_own_cells, with_own_threads, KeepsRoom, IsSmall};
+ghost use Rattle.link_session.specs.internal.Chains.{AreChained};
+ghost use Rattle.link_session.specs.internal.Restores.{LeavesMarks, TakesBack};
+ghost use Rattle.link_session.specs.internal.Settled.{settled_over, IsCovered};
+ghost use Rattle.link_session.specs.internal.Threads.{cut_heads, next_threads, IsThreaded};
+ghost use Rattle.link_session.specs.internal.Counts.{NotesBound};
+ghost use Rattle.link_session.specs.internal.Additions.{all_places, joined_image, next_limit};
 
 use crate::bind::{Mentioned, bind_names};
 use crate::cell::Cell;
@@ -125,7 +125,7 @@ fn make_room(
 }
 
 /// Appends heads for the object's new names, and then its own cells and its bss. There is room for them.
-fn settle(image: &mut Merged, file: &File, shifts: &Shifts, places: &[u16])
+fn append_object(image: &mut Merged, file: &File, shifts: &Shifts, places: &[u16])
     requires bss { image.old.bss_total + file.now.header.bss_size ≤ 65534 }
     requires well { IsWellFormed file.now }
     requires places { places.now ≡ all_places image.old.externals.entries file.now.symbols }
@@ -230,6 +230,6 @@ pub(crate) fn join(
         undo(image, &marks, &sizes);
         return Err(refused);
     }
-    settle(image, file, &shifts, &places);
+    append_object(image, file, &shifts, &places);
     Ok(marks)
 }

@@ -5,8 +5,8 @@ ghost use Rattle.std.specs.Map.{keys_of};
 ghost use Rattle.aout_core.specs.WellFormed.{is_external};
 ghost use Rattle.link_session.specs.Mentions.{is_among};
 ghost use Rattle.link_session.specs.Sessions.{IsObject};
-ghost use Rattle.link_session.specs.steps.Fields.{image_in, IsSmall};
-ghost use Rattle.link_session.specs.steps.Additions.{external_names, new_count, next_limit};
+ghost use Rattle.link_session.specs.internal.Fields.{image_in, IsSmall};
+ghost use Rattle.link_session.specs.internal.Additions.{external_names, new_count, next_limit};
 
 use crate::entry::AddFault;
 use crate::mention::count_external;

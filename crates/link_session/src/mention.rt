@@ -6,8 +6,8 @@ ghost use Rattle.aout_core.specs.WellFormed.{is_external, segment_of};
 ghost use Rattle.link_session.specs.Starts.{shift_by};
 ghost use Rattle.link_session.specs.Image.{state_at};
 ghost use Rattle.link_session.specs.Mentions.{is_among, statement_by};
-ghost use Rattle.link_session.specs.steps.Updates.{updated, clashes};
-ghost use Rattle.link_session.specs.steps.Additions.{mentioned, said, clash, state_mark, place_in, state_for, changes, mentions_by, all_mentioned, state_marks, all_clashes, all_places};
+ghost use Rattle.link_session.specs.internal.Updates.{updated, clashes};
+ghost use Rattle.link_session.specs.internal.Additions.{mentioned, said, clash, state_mark, place_in, state_for, changes, mentions_by, all_mentioned, state_marks, all_clashes, all_places};
 
 use crate::mark::Mark;
 use crate::merged::Externals;

@@ -1,7 +1,7 @@
 //! The merged image, and how an addition is taken back.
 ghost use Rattle.std.specs.Prelude.{◌≡◌, ◌*◌, ◌+◌, ◌-◌, ◌<◌, ◌≤◌, ◌∷◌, ◌++◌, [], length, slice_set};
 ghost use Rattle.link_session.specs.Image.{Image};
-ghost use Rattle.link_session.specs.steps.Fields.{image_in, threads_in, no_threads, sizes_of, IsBehind, unthreaded_behind, threads_by, with_heads_back};
+ghost use Rattle.link_session.specs.internal.Fields.{image_in, threads_in, no_threads, sizes_of, IsBehind, unthreaded_behind, threads_by, with_heads_back};
 ghost use Rattle.link_session.specs.Undo.{put_back, with_state, cut_to, undo};
 
 use crate::cell::Cell;

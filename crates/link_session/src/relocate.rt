@@ -4,10 +4,10 @@ ghost use Rattle.aout_core.specs.WellFormed.{kind_of, symbol_number};
 ghost use Rattle.link_session.specs.Starts.{no_starts, next_starts, shifts_at};
 ghost use Rattle.link_session.specs.Image.{state_at};
 ghost use Rattle.link_session.specs.Cells.{name_target, offset_in, segment_target};
-ghost use Rattle.link_session.specs.steps.Fields.{image_in};
-ghost use Rattle.link_session.specs.steps.Additions.{next_shifts, no_place, placed, placed_cell, placed_cells, place_at};
+ghost use Rattle.link_session.specs.internal.Fields.{image_in};
+ghost use Rattle.link_session.specs.internal.Additions.{next_shifts, no_place, placed, placed_cell, placed_cells, place_at};
 ghost use Rattle.link_session.specs.Starts.{shift_by};
-ghost use Rattle.link_session.specs.steps.Chains.{threaded};
+ghost use Rattle.link_session.specs.internal.Chains.{threaded};
 
 use crate::cell::{Cell, Target};
 use crate::chain::{Link, thread};
@@ -163,12 +163,12 @@ fn reference(scope: &Scope<'_>, reloc: Reloc) -> (u16, Target)
 }
 
 /// The cell of a word in a segment that moves by this shift.
-fn own_cell(scope: &Scope<'_>, moved: u16, word: u16, reloc: Reloc) -> Cell
-    ensures { result ≡ placed_cell scope.now.externals.now.entries scope.now.places.now scope.now.shifts moved word reloc }
+fn own_cell(scope: &Scope<'_>, own_shift: u16, word: u16, reloc: Reloc) -> Cell
+    ensures { result ≡ placed_cell scope.now.externals.now.entries scope.now.places.now scope.now.shifts own_shift word reloc }
 {
     let (offset, target) = reference(scope, reloc);
     let pc = reloc.is_pc();
-    let start = if pc { moved } else { 0 };
+    let start = if pc { own_shift } else { 0 };
     Cell {
         value: word.wrapping_add(offset).wrapping_sub(start),
         target,
@@ -202,9 +202,9 @@ pub(crate) fn append_cells(
     ensures links { links.new.items ≡ links.old.items ++ (threaded (place_at own.now.segment) (length links.old.items) (placed_cells scope.now.externals.now.entries scope.now.places.now scope.now.shifts (shift_by scope.now.shifts own.now.segment) own.now.words.now own.now.relocs.now) heads.old).0 }
     ensures heads { heads.new ≡ (threaded (place_at own.now.segment) (length links.old.items) (placed_cells scope.now.externals.now.entries scope.now.places.now scope.now.shifts (shift_by scope.now.shifts own.now.segment) own.now.words.now own.now.relocs.now) heads.old).1 }
 {
-    let moved = scope.shifts.of(own.segment);
+    let own_shift = scope.shifts.of(own.segment);
     for (i, word) in own.words.iter().enumerate() {
-        let cell = own_cell(scope, moved, *word, own.relocs[i]);
+        let cell = own_cell(scope, own_shift, *word, own.relocs[i]);
         let place = place_at(own.segment, links.len() as u16);
         thread(links, heads, cell.target, place);
         cells.push_reserved(cell);

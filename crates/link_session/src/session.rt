@@ -8,11 +8,11 @@ ghost use Rattle.link_session.specs.Labelled.{objects};
 ghost use Rattle.link_session.specs.Mentions.{externals, forced_mention};
 ghost use Rattle.link_session.specs.Edits.{limit_passed, refusal};
 ghost use Rattle.link_session.specs.Undo.{image_of, IsJournal};
-ghost use Rattle.link_session.specs.steps.Fields.{image_in, threads_in, IsSmall};
-ghost use Rattle.link_session.specs.steps.Threads.{next_threads, IsThreaded};
-ghost use Rattle.link_session.specs.steps.Settled.{IsCovered};
-ghost use Rattle.link_session.specs.steps.Restores.{TakesBack};
-ghost use Rattle.link_session.specs.steps.Additions.{all_mentioned, joined_image, next_limit};
+ghost use Rattle.link_session.specs.internal.Fields.{image_in, threads_in, IsSmall};
+ghost use Rattle.link_session.specs.internal.Threads.{next_threads, IsThreaded};
+ghost use Rattle.link_session.specs.internal.Settled.{IsCovered};
+ghost use Rattle.link_session.specs.internal.Restores.{TakesBack};
+ghost use Rattle.link_session.specs.internal.Additions.{all_mentioned, joined_image, next_limit};
 ghost use Rattle.link_session.specs.Sessions.{nothing_kept, labelled, newest, Adds, Withdraws, IsCause, IsObject};
 
 use crate::cell::Cell;
@@ -43,7 +43,7 @@ impl From<AllocError> for Memory {
 
 /// What the addition of one object overwrote, and the sizes of the image before it.
 #[derive(Drop)]
-pub(crate) struct Step {
+pub(crate) struct UndoRecord {
     pub(crate) marks: Vec<Mark>,
     pub(crate) sizes: Sizes,
 }
@@ -55,7 +55,7 @@ pub(crate) struct Step {
 pub struct Session {
     forced: Forced,
     entries: Vec<Entry>,
-    steps: Vec<Step>,
+    undo_records: Vec<UndoRecord>,
     image: Merged,
     alloc: Global,
 }
@@ -66,12 +66,12 @@ impl Model for Session {
     ghost Value = { Kept };
 
     ghost use Rattle.std.specs.Prelude.{map};
-    ghost use Rattle.link_session.specs.steps.Fields.{image_in, threads_in, IsSession};
+    ghost use Rattle.link_session.specs.internal.Fields.{image_in, threads_in, IsSession};
     ghost use Rattle.link_session.specs.Undo.{marks_in};
 
-    ghost view = { λ s. record { forced = s.forced; entries = s.entries.items; journal = map marks_in s.steps.items } };
+    ghost view = { λ s. record { forced = s.forced; entries = s.entries.items; journal = map marks_in s.undo_records.items } };
 
-    ghost invariant = { λ s. IsSession s.forced s.entries.items s.steps.items (image_in s.image) (threads_in s.image) };
+    ghost invariant = { λ s. IsSession s.forced s.entries.items s.undo_records.items (image_in s.image) (threads_in s.image) };
 }
 
 /// Mentions the forced names. There is room for them.
@@ -111,7 +111,7 @@ impl Session {
         Session {
             forced: Forced::none(),
             entries: Vec::new(alloc),
-            steps: Vec::new(alloc),
+            undo_records: Vec::new(alloc),
             image: Merged::new(alloc),
             alloc,
         }
@@ -130,7 +130,7 @@ impl Session {
         Ok(Session {
             forced: *forced,
             entries: Vec::new(alloc),
-            steps: Vec::new(alloc),
+            undo_records: Vec::new(alloc),
             image,
             alloc,
         })
@@ -168,14 +168,14 @@ impl Session {
         let sizes = self.image.sizes();
         let joined = take_in(
             &mut self.entries,
-            &mut self.steps,
+            &mut self.undo_records,
             &mut self.image,
             &object,
             self.alloc,
         );
         match joined {
             Ok(marks) => {
-                self.steps.push(Step { marks, sizes }).unwrap();
+                self.undo_records.push(UndoRecord { marks, sizes }).unwrap();
                 self.entries.push(Entry::new(label, object)).unwrap();
                 Ok(())
             }
@@ -197,8 +197,8 @@ impl Session {
         ensures last { IfSome result (λ last. Withdraws self.old self.new (labelled last.0 last.1)) }
     {
         let entry = self.entries.pop()?;
-        let step = self.steps.pop().unwrap();
-        undo(&mut self.image, &step.marks, &step.sizes);
+        let undo_record = self.undo_records.pop().unwrap();
+        undo(&mut self.image, &undo_record.marks, &undo_record.sizes);
         Some(entry.into_parts())
     }
 
@@ -277,8 +277,8 @@ impl Session {
         ensures value { result.now ≡ newest self.now.journal }
         ensures journal { IsJournal self.now.forced (objects self.now.entries) self.now.journal }
     {
-        match self.steps.last() {
-            Some(step) => &step.marks,
+        match self.undo_records.last() {
+            Some(undo_record) => &undo_record.marks,
             None => &[],
         }
     }
@@ -287,7 +287,7 @@ impl Session {
 /// Makes room for an object and its marks, and joins it to the image. An error changes nothing but room.
 fn take_in(
     entries: &mut Vec<Entry>,
-    steps: &mut Vec<Step>,
+    undo_records: &mut Vec<UndoRecord>,
     image: &mut Merged,
     object: &Object,
     alloc: Global,
@@ -297,15 +297,15 @@ fn take_in(
     requires covered { IsCovered (image_in image.old) object.now }
     requires fits { next_limit (image_in image.old) object.now ≡ None }
     ensures entries { entries.new.items ≡ entries.old.items }
-    ensures steps { steps.new.items ≡ steps.old.items }
+    ensures undo_records { undo_records.new.items ≡ undo_records.old.items }
     ensures entries_room { OnOk result (vec_len entries.new < vec_capacity entries.new) }
-    ensures steps_room { OnOk result (vec_len steps.new < vec_capacity steps.new) }
+    ensures undo_records_room { OnOk result (vec_len undo_records.new < vec_capacity undo_records.new) }
     ensures image { OnOk result (image_in image.new ≡ joined_image (image_in image.old) object.now) }
     ensures threads { OnOk result (threads_in image.new ≡ next_threads (image_in image.old) object.now (threads_in image.old)) }
     ensures marks { IfOk result (λ marks. TakesBack (image_in image.old) object.now (threads_in image.old).heads marks.items) }
     ensures err { OnErr result ((image_in image.new ≡ image_in image.old) × (threads_in image.new ≡ threads_in image.old)) }
 {
     entries.reserve(1)?;
-    steps.reserve(1)?;
+    undo_records.reserve(1)?;
     join(image, object, alloc)
 }

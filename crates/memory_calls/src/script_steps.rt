@@ -155,7 +155,7 @@ fn stepping(
     }
 }
 
-/// The object that the bytes spell is added at a path by a step.
+/// The object that the bytes encode is added at a path by a step.
 fn adding(alloc: Global, session: &mut Session, path: &str, bytes: &[u8], line: &[u8]) -> Outcome {
     let (Some(ready), Ok(path)) = (Ready::of(alloc, session), String::from_str(alloc, path)) else {
         return Outcome::Unready;

@@ -63,29 +63,29 @@ impl Shown {
     }
 }
 
-/// Whether an object is the one of at most 48 bytes that these spell. No memory is asked for.
-fn is_spelt(object: &Object, bytes: &[u8]) -> bool {
+/// Whether an object is the one of at most 48 bytes that these encode. No memory is asked for.
+fn is_encoded(object: &Object, bytes: &[u8]) -> bool {
     let mut room = [0; 48];
     let mut out = Wire::new(room.as_mut_slice());
     write_file(object.file(), &mut out).is_ok() && room.starts_with(bytes)
 }
 
-/// Whether the last object of a session is taken out: it has this label, and these bytes spell it.
+/// Whether the last object of a session is taken out: it has this label, and these bytes encode it.
 fn is_withdrawn(session: &mut Session, label: &str, bytes: &[u8]) -> bool {
     match session.withdraw() {
-        Some((back, object)) => back.as_str() == label && is_spelt(&object, bytes),
+        Some((back, object)) => back.as_str() == label && is_encoded(&object, bytes),
         None => false,
     }
 }
 
-/// Whether an addition was refused memory, and its label came back and the object that these bytes spell.
+/// Whether an addition was refused memory, and its label came back and the object that these bytes encode.
 fn is_handed_back(refused: &AddRefused, bytes: &[u8]) -> bool {
     refused.cause == AddFault::Memory
         && refused.label.as_str() == "second.o"
-        && is_spelt(&refused.object, bytes)
+        && is_encoded(&refused.object, bytes)
 }
 
-/// Adds an object that the bytes spell; refused memory, it comes back and the session still shows this.
+/// Adds an object that the bytes encode; refused memory, it comes back and the session still shows this.
 fn add_labelled(
     session: &mut Session,
     label: String,
@@ -101,7 +101,7 @@ fn add_labelled(
     }
 }
 
-/// Adds the object that the bytes spell behind another.
+/// Adds the object that the bytes encode behind another.
 fn add_second(alloc: Global, session: &mut Session, bytes: &[u8]) -> Outcome {
     let Some(shown) = Shown::of(alloc, session) else {
         return Outcome::Unready;

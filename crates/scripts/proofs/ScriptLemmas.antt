@@ -9,7 +9,7 @@ use Rattle.scripts.specs.declared.line_reader.Stop.{Stop}
 use Rattle.scripts.specs.declared.line_reader.Stop.TheVariants as stops
 use Rattle.scripts.specs.Scripts.{asked, lines_in, on_first, long_line, many_lines, and_given, ends_with_fault, given_behind}
 use Rattle.scripts.specs.ScriptAnswers.{Answer, asked_by, HasLine, HasNone, NamesPath, behind_line, IfTold, IsNextOf}
-use Rattle.scripts.specs.steps.LineParts.{IsStopOf, IsTakenOf}
+use Rattle.scripts.specs.internal.LineParts.{IsStopOf, IsTakenOf}
 
 pub has_none_push : (line : List ℕ) (b : ℕ) → HasNone line → b ≢ 10 → HasNone (line ++ b ∷ [])
 has_none_push [] b h n = (n, tt)

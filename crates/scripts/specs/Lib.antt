@@ -2,4 +2,4 @@
 pub mod Scripts
 pub mod ScriptAnswers
 pub mod Blocks
-pub mod steps
+pub mod internal

@@ -3,7 +3,7 @@ ghost use Rattle.std.specs.Prelude.{◌≡◌, ◌↔◌, ◌+◌, ◌<◌, ◌�
 ghost use Rattle.aout_core.specs.declared.block.TheConstants.{BLOCK_SIZE};
 ghost use Rattle.scripts.specs.declared.lines.TheConstants.{LINE_LIMIT};
 ghost use Rattle.scripts.specs.ScriptAnswers.{GivesNext, HasLine, IfTold, NeedsNoMore, begun, unread};
-ghost use Rattle.scripts.specs.steps.LineParts.{EndsLine, IsStopOf, IsTakenOf};
+ghost use Rattle.scripts.specs.internal.LineParts.{EndsLine, IsStopOf, IsTakenOf};
 
 use crate::block_reader::BlockReader;
 use crate::lines::{LINE_LIMIT, Line};

@@ -2,8 +2,8 @@
 #![tactic(auto)]
 
 #[cfg(test)]
-mod merged_image;
+mod actions;
 #[cfg(test)]
-mod steps;
+mod merged_image;
 #[cfg(test)]
 mod withdrawals;

@@ -1,9 +1,9 @@
 //! The merged image while objects are added and taken out.
-use crate::steps::Step::{Adds, HasNothing, Shows, Withdraws};
-use crate::steps::View::{
+use crate::actions::Action::{Adds, HasNothing, Shows, Withdraws};
+use crate::actions::View::{
     Data, External, Forced, Marks, MarksUpTo, Multiple, Names, Text, Unmentioned,
 };
-use crate::steps::{Step, Word, assert_steps, is_multiple, wrong_step};
+use crate::actions::{Action, Word, assert_actions, is_multiple, wrong_action};
 use aout_core::samples::{C_O, D_O, D2_O, G_O, I_O, K_O, L_O, X4_O, X10_O};
 use aout_core::{Name, Segment};
 use fixtures::{adds, forced, sized};
@@ -27,10 +27,10 @@ const H_O: [u8; 56] = [
 
 #[test]
 fn add_always_memory(rt: HostRuntime) {
-    assert_steps(&rt, &[Adds("x4.o", &X4_O), Shows(Names(1))]);
+    assert_actions(&rt, &[Adds("x4.o", &X4_O), Shows(Names(1))]);
 }
 
-static COMMON_GROWS: [Step<'static>; 9] = [
+static COMMON_GROWS: [Action<'static>; 9] = [
     Adds("x4.o", &X4_O),
     Shows(Names(1)),
     Shows(External(0, "_x", State::Wanted(4))),
@@ -44,7 +44,7 @@ static COMMON_GROWS: [Step<'static>; 9] = [
 
 #[test]
 fn common_grows_and_shrinks(rt: HostRuntime) {
-    assert_steps(&rt, &COMMON_GROWS);
+    assert_actions(&rt, &COMMON_GROWS);
 }
 
 /// The text of k.o while `_x` is not defined.
@@ -59,7 +59,7 @@ const BOUND: [Word; 2] = [
     (0o177772, Target::DataSeg, true),
 ];
 
-static BOUND_AND_UNBOUND: [Step<'static>; 11] = [
+static BOUND_AND_UNBOUND: [Action<'static>; 11] = [
     Adds("k.o", &K_O),
     Shows(Text(&WAITING)),
     Adds("l.o", &L_O),
@@ -75,7 +75,7 @@ static BOUND_AND_UNBOUND: [Step<'static>; 11] = [
 
 #[test]
 fn bind_and_unbind(rt: HostRuntime) {
-    assert_steps(&rt, &BOUND_AND_UNBOUND);
+    assert_actions(&rt, &BOUND_AND_UNBOUND);
 }
 
 /// The text of c.o and d.o.
@@ -86,7 +86,7 @@ const CALL: [Word; 4] = [
     (0o207, Target::Absolute, false),
 ];
 
-static CALLED_FORWARD: [Step<'static>; 5] = [
+static CALLED_FORWARD: [Action<'static>; 5] = [
     Adds("c.o", &C_O),
     Adds("d.o", &D_O),
     Shows(Text(&CALL)),
@@ -96,7 +96,7 @@ static CALLED_FORWARD: [Step<'static>; 5] = [
 
 #[test]
 fn call_forward(rt: HostRuntime) {
-    assert_steps(&rt, &CALLED_FORWARD);
+    assert_actions(&rt, &CALLED_FORWARD);
 }
 
 /// The text of c.o behind a forced name.
@@ -105,7 +105,7 @@ const BEHIND_FORCED: [Word; 2] = [
     (0o177774, Target::External(1), true),
 ];
 
-static WITH_FORCED: [Step<'static>; 14] = [
+static WITH_FORCED: [Action<'static>; 14] = [
     Shows(Forced(1)),
     Shows(Names(1)),
     Adds("c.o", &C_O),
@@ -122,10 +122,10 @@ static WITH_FORCED: [Step<'static>; 14] = [
     Shows(Names(1)),
 ];
 
-/// Whether the steps come out as they should in a session with these forced names.
-fn are_right_behind(alloc: Global, forced: &link_session::Forced, steps: &[Step<'_>]) -> bool {
+/// Whether the actions come out as they should in a session with these forced names.
+fn are_right_behind(alloc: Global, forced: &link_session::Forced, actions: &[Action<'_>]) -> bool {
     match Session::with_forced(alloc, forced) {
-        Ok(mut session) => wrong_step(alloc, &mut session, steps).is_none(),
+        Ok(mut session) => wrong_action(alloc, &mut session, actions).is_none(),
         Err(_) => false,
     }
 }
@@ -153,7 +153,7 @@ fn forced_repeated(rt: HostRuntime) {
     assert!(rt; forced.names().len() == 64 && forced.names().first() == Some(&first));
 }
 
-static BEHIND_MOST_FORCED: [Step<'static>; 11] = [
+static BEHIND_MOST_FORCED: [Action<'static>; 11] = [
     Shows(Forced(64)),
     Shows(Names(64)),
     Shows(External(0, "_@", State::Wanted(0))),
@@ -174,7 +174,7 @@ fn most_forced_in_session(rt: HostRuntime) {
     assert!(rt; are_right_behind(rt.alloc(), &forced, &BEHIND_MOST_FORCED));
 }
 
-static UNDEFINED: [Step<'static>; 9] = [
+static UNDEFINED: [Action<'static>; 9] = [
     Adds("c.o", &C_O),
     Adds("g.o", &G_O),
     Shows(Names(2)),
@@ -188,10 +188,10 @@ static UNDEFINED: [Step<'static>; 9] = [
 
 #[test]
 fn undefined_report(rt: HostRuntime) {
-    assert_steps(&rt, &UNDEFINED);
+    assert_actions(&rt, &UNDEFINED);
 }
 
-static DOUBLY_DEFINED: [Step<'static>; 7] = [
+static DOUBLY_DEFINED: [Action<'static>; 7] = [
     Adds("d.o", &D_O),
     Adds("d2.o", &D2_O),
     Shows(Multiple(Some("_f"))),
@@ -203,7 +203,7 @@ static DOUBLY_DEFINED: [Step<'static>; 7] = [
 
 #[test]
 fn multiply_defined(rt: HostRuntime) {
-    assert_steps(&rt, &DOUBLY_DEFINED);
+    assert_actions(&rt, &DOUBLY_DEFINED);
 }
 
 /// Whether a name that is defined twice alike is multiply defined by a third definition alone.
@@ -247,7 +247,7 @@ const BOTH_BOUND: [Word; 4] = [
     (5, Target::Absolute, false),
 ];
 
-static CHAIN: [Step<'static>; 6] = [
+static CHAIN: [Action<'static>; 6] = [
     Adds("h.o", &H_O),
     Adds("j.o", &J_O),
     Shows(Text(&ONE_BOUND)),
@@ -258,13 +258,13 @@ static CHAIN: [Step<'static>; 6] = [
 
 #[test]
 fn chain_binds_one_name(rt: HostRuntime) {
-    assert_steps(&rt, &CHAIN);
+    assert_actions(&rt, &CHAIN);
 }
 
 #[test]
 fn chain_after_withdrawal(rt: HostRuntime) -> Result<(), Fail> {
     let both = sized(rt.alloc(), 0, 0, 0, &[("_x", 0o41, 7), ("_y", 0o41, 5)])?;
-    let steps = [
+    let actions = [
         Adds("h.o", &H_O),
         Adds("j.o", &J_O),
         Withdraws("j.o", &J_O),
@@ -274,11 +274,11 @@ fn chain_after_withdrawal(rt: HostRuntime) -> Result<(), Fail> {
         Adds("j.o", &J_O),
         Shows(Text(&ONE_BOUND)),
     ];
-    assert_steps(&rt, &steps);
+    assert_actions(&rt, &actions);
     Ok(())
 }
 
-static TWO_CHAINS: [Step<'static>; 5] = [
+static TWO_CHAINS: [Action<'static>; 5] = [
     Adds("h.o", &H_O),
     Adds("again.o", &H_O),
     Withdraws("again.o", &H_O),
@@ -288,5 +288,5 @@ static TWO_CHAINS: [Step<'static>; 5] = [
 
 #[test]
 fn chain_of_two_objects(rt: HostRuntime) {
-    assert_steps(&rt, &TWO_CHAINS);
+    assert_actions(&rt, &TWO_CHAINS);
 }

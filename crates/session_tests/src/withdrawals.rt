@@ -1,7 +1,7 @@
 //! Objects refused, and taken out again.
-use crate::steps::Step::{Adds, HasNothing, Refuses, Shows, Withdraws};
-use crate::steps::View::{Entries, Marks, Names, Nothing};
-use crate::steps::{Step, assert_steps, is_refused, wrong_step};
+use crate::actions::Action::{Adds, HasNothing, Refuses, Shows, Withdraws};
+use crate::actions::View::{Entries, Marks, Names, Nothing};
+use crate::actions::{Action, assert_actions, is_refused, wrong_action};
 use aout_core::samples::{E_O, K_O, L_O, X10_O};
 use fixtures::{adds, adds_many_names, names_of, sized};
 use link_session::{AddFault, Mark, Session};
@@ -129,26 +129,26 @@ fn most_names(rt: HostRuntime) -> Result<(), Fail> {
     Ok(())
 }
 
-/// Whether the steps come out as they should behind twelve objects of 5,461 names each.
-fn are_right_behind_names(alloc: Global, steps: &[Step<'_>]) -> bool {
+/// Whether the actions come out as they should behind twelve objects of 5,461 names each.
+fn are_right_behind_names(alloc: Global, actions: &[Action<'_>]) -> bool {
     let mut session = Session::new(alloc);
-    adds_many_names(&mut session, alloc) && wrong_step(alloc, &mut session, steps).is_none()
+    adds_many_names(&mut session, alloc) && wrong_action(alloc, &mut session, actions).is_none()
 }
 
 #[test]
 fn withdraw_after_refusal(rt: HostRuntime) -> Result<(), Fail> {
     let four = names_of(rt.alloc(), b'z', 4)?;
-    let steps = [
+    let actions = [
         Adds("k.o", &K_O),
         Refuses(&four, AddFault::NamesFull),
         Withdraws("k.o", &K_O),
         Shows(Names(65_532)),
     ];
-    assert!(rt; are_right_behind_names(rt.alloc(), &steps));
+    assert!(rt; are_right_behind_names(rt.alloc(), &actions));
     Ok(())
 }
 
-static NOTHING_ADDED: [Step<'static>; 5] = [
+static NOTHING_ADDED: [Action<'static>; 5] = [
     HasNothing,
     Adds("e.o", &E_O),
     Shows(Entries(1, "e.o")),
@@ -158,18 +158,18 @@ static NOTHING_ADDED: [Step<'static>; 5] = [
 
 #[test]
 fn nothing_added(rt: HostRuntime) {
-    assert_steps(&rt, &NOTHING_ADDED);
+    assert_actions(&rt, &NOTHING_ADDED);
 }
 
 /// Whether an object without symbols leaves no marks, and these are shown again once it is taken out.
 fn are_shown_again(alloc: Global, session: &mut Session, marks: &[Mark]) -> bool {
-    let steps = [
+    let actions = [
         Adds("e.o", &E_O),
         Shows(Marks(&[])),
         Withdraws("e.o", &E_O),
         Shows(Marks(marks)),
     ];
-    marks.len() <= 3 && wrong_step(alloc, session, &steps).is_none()
+    marks.len() <= 3 && wrong_action(alloc, session, &actions).is_none()
 }
 
 /// Whether the marks of `l.o` behind `k.o` are few, and come back.
@@ -186,7 +186,7 @@ fn marks_bound(rt: HostRuntime) {
     assert!(rt; marks_come_back(rt.alloc(), &mut Session::new(rt.alloc())));
 }
 
-static ALL_WITHDRAWN: [Step<'static>; 8] = [
+static ALL_WITHDRAWN: [Action<'static>; 8] = [
     Adds("k.o", &K_O),
     Adds("l.o", &L_O),
     Adds("x10.o", &X10_O),
@@ -199,5 +199,5 @@ static ALL_WITHDRAWN: [Step<'static>; 8] = [
 
 #[test]
 fn withdraw_all(rt: HostRuntime) {
-    assert_steps(&rt, &ALL_WITHDRAWN);
+    assert_actions(&rt, &ALL_WITHDRAWN);
 }

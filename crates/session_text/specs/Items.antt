@@ -7,11 +7,11 @@ use Rattle.symtools.specs.SymbolLines.{octal_word}
 
 -- each item by its index, the first of which is this
 abbrev pub each_from : {A : Type 0} → (ℕ → A → List ℕ) → ℕ → List A → List ℕ
-each_from spelt i [] = []
-each_from spelt i (x ∷ xs) = spelt i x ++ each_from spelt (i + 1) xs
+each_from encoded i [] = []
+each_from encoded i (x ∷ xs) = encoded i x ++ each_from encoded (i + 1) xs
 
 abbrev pub each : {A : Type 0} → (ℕ → A → List ℕ) → List A → List ℕ
-each spelt xs = each_from spelt 0 xs
+each encoded xs = each_from encoded 0 xs
 
 -- the name of the external at a place; none behind the last one
 abbrev pub name_in : Option (List ℕ × State) → List ℕ

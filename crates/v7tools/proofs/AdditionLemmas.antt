@@ -6,7 +6,7 @@ use Rattle.aout_core.specs.declared.file.ReadFault.{ReadFault}
 use Rattle.aout_core.specs.declared.file.ReadFault.TheVariants as reads
 use Rattle.aout_core.specs.declared.object.ObjectFault.{ObjectFault}
 use Rattle.aout_core.specs.Contents.{Contents}
-use Rattle.aout_core.specs.Front.{front}
+use Rattle.aout_core.specs.Decoding.{decode}
 use Rattle.aout_core.specs.Reading.{IsReadOf, LeavesAfter}
 use Rattle.link_session.specs.declared.entry.AddFault.{AddFault}
 use Rattle.link_session.specs.declared.entry.AddFault.TheVariants as adds
@@ -21,8 +21,8 @@ use Rattle.v7tools.specs.Inputs.{Cause, bad_file, bad_object, not_added, object_
 use Rattle.v7tools.specs.FaultTexts.{fault_of_addition}
 use Rattle.v7tools.specs.Loads.{read_of, IsAtPath}
 use Rattle.v7tools.specs.LinkAnswers.{WantsMemory}
-use Rattle.v7tools.specs.steps.InputParts.{IsCheckOf}
-use Rattle.v7tools.specs.steps.StepParts.{IsFound, IsAddition, IsObjectAddition}
+use Rattle.v7tools.specs.internal.InputParts.{IsCheckOf}
+use Rattle.v7tools.specs.internal.StepParts.{IsFound, IsAddition, IsObjectAddition}
 
 -- ---- what was read
 
@@ -30,11 +30,11 @@ use Rattle.v7tools.specs.steps.StepParts.{IsFound, IsAddition, IsObjectAddition}
 abbrev IsReadWhereKnown : Option (List ℕ) → Option (List ℕ) → Result Contents ReadFault → Type 0
 IsReadWhereKnown known left r = IfSome known (λ bytes. IsReadOf r bytes × LeavesAfter r bytes left)
 
--- what the bytes spell, where they are known
-found_at : (known left : Option (List ℕ)) (r : Result Contents ReadFault) (found : Result Contents Cause) → object_in r ≡ found → ((bytes : List ℕ) → IsReadOf r bytes → front bytes ≡ r) →
-    IsReadWhereKnown known left r → IfSome known (λ bytes. found ≡ object_in (front bytes))
-found_at None left r found is spells h = tt
-found_at (Some bytes) left r found is spells h = sym is ∙ ap object_in (sym (spells bytes h.0))
+-- what the bytes encode, where they are known
+found_at : (known left : Option (List ℕ)) (r : Result Contents ReadFault) (found : Result Contents Cause) → object_in r ≡ found → ((bytes : List ℕ) → IsReadOf r bytes → decode bytes ≡ r) →
+    IsReadWhereKnown known left r → IfSome known (λ bytes. found ≡ object_in (decode bytes))
+found_at None left r found is encodes h = tt
+found_at (Some bytes) left r found is encodes h = sym is ∙ ap object_in (sym (encodes bytes h.0))
 
 -- an object that was found, and is within all limits, may want memory
 wants_room : (known : Option (List ℕ)) (forced : List (List ℕ)) (kept : List Labelled) (path : List ℕ) (o : Contents) → IsFound known (Ok o) → refusal forced (objects kept) o ≡ None → IfSome known (WantsMemory forced kept path)
@@ -53,14 +53,14 @@ header_wants (Some bytes) left forced kept path h = inl h.0
 -- ---- why a file is not added
 
 -- a file that is none
-bad_read : (known left : Option (List ℕ)) (old : Kept) (path at : String Global) (fault : ReadFault) → at ≡ path → ((bytes : List ℕ) → IsReadOf (Err fault) bytes → front bytes ≡ Err fault) →
+bad_read : (known left : Option (List ℕ)) (old : Kept) (path at : String Global) (fault : ReadFault) → at ≡ path → ((bytes : List ℕ) → IsReadOf (Err fault) bytes → decode bytes ≡ Err fault) →
     IsReadWhereKnown known left (Err fault) → IsAddition known old old path (Err (faults.BadFile at fault))
-bad_read known left old path at fault same spells read = (
+bad_read known left old path at fault same encodes read = (
   refl,
   inr (record {
     found = Err (bad_file fault);
     cause = bad_file fault;
-    is_found = inr (found_at known left (Err fault) (Err (bad_file fault)) refl spells read);
+    is_found = inr (found_at known left (Err fault) (Err (bad_file fault)) refl encodes read);
     refuses = refl;
     names = ap (λ (p : String Global). faults.BadFile p fault) same;
   }),
@@ -106,7 +106,7 @@ addition_unchecked known left old path p c fault same read (cause, is, bad) = (
   inr (record {
     found = Err (bad_object cause);
     cause = bad_object cause;
-    is_found = inr (found_at known left (Ok c) (Err (bad_object cause)) (ap (λ (x : Option ObjectFault). object_or x c) bad) (λ bytes spelt. spelt) read);
+    is_found = inr (found_at known left (Ok c) (Err (bad_object cause)) (ap (λ (x : Option ObjectFault). object_or x c) bad) (λ bytes encoded. encoded) read);
     refuses = refl;
     names = is ∙ ap (λ (q : String Global). faults.BadObject q cause) same;
   }),
@@ -115,7 +115,7 @@ addition_unchecked known left old path p c fault same read (cause, is, bad) = (
 -- an object that was read at a path
 pub read_object : (known left : Option (List ℕ)) (p q : String Global) (c o : Contents) → IsReadWhereKnown known left (Ok c) → IsCheckOf p c (Ok (q, o)) → IsFound known (Ok o)
 read_object known left p q c o read checked =
-    inr (found_at known left (Ok c) (Ok o) (ap (λ (x : Option ObjectFault). object_or x c) checked.2 ∙ ap (λ (x : Contents). Ok x) (sym checked.1)) (λ bytes spelt. spelt) read)
+    inr (found_at known left (Ok c) (Ok o) (ap (λ (x : Option ObjectFault). object_or x c) checked.2 ∙ ap (λ (x : Contents). Ok x) (sym checked.1)) (λ bytes encoded. encoded) read)
 
 -- an object that is not added
 not_fit : (known : Option (List ℕ)) (old new : Kept) (path label : String Global) (o : Contents) (cause : AddFault) → IsFound known (Ok o) → label ≡ path → IsCause (refusal old.forced (objects old.entries) o) cause →

@@ -4,7 +4,7 @@ use Rattle.std.proofs.Common.{◌≡◌, ◌≢◌, ℕ, false, List, [], ◌∷
 use Rattle.std.specs.Prelude.{String, string_bytes, IfSome, IsErrAnd}
 use Rattle.aout_core.specs.declared.file.ReadFault.TheVariants as reads
 use Rattle.aout_core.specs.Contents.{Contents}
-use Rattle.aout_core.specs.Front.{front}
+use Rattle.aout_core.specs.Decoding.{decode}
 use Rattle.link_session.specs.declared.entry.AddFault.TheVariants as adds
 use Rattle.link_session.specs.Labelled.{Labelled, objects}
 use Rattle.link_session.specs.Sessions.{nothing_kept}
@@ -21,8 +21,8 @@ use Rattle.v7tools.specs.declared.fault.CliFault.TheVariants as faults
 use Rattle.v7tools.specs.FaultTexts.{fault_at, fault_of_link}
 use Rattle.v7tools.specs.Inputs.{Cause, cannot_open, bad_file, bad_object, not_added, Refusal, of_input, not_linked, object_in, kept_with, with_input, with_inputs, at_path, and_then, link_or_refusal, linked}
 use Rattle.v7tools.specs.LinkAnswers.{Input, Said, said_by, refuses, breaks, runs_out, never, Takes, Rejects, WantsMemory, StopsAt, TakesAll, StopsIn, HasNoLink, IsLinkOver, and_told, told, IsTrueOf, IsLinkOfBytes, IsLinkOf}
-use Rattle.v7tools.specs.steps.InputParts.{AreTaken, IsPossible}
-use Rattle.v7tools.specs.steps.StepParts.{IsAccepted, IsAddition, IsFound}
+use Rattle.v7tools.specs.internal.InputParts.{AreTaken, IsPossible}
+use Rattle.v7tools.specs.internal.StepParts.{IsAccepted, IsAddition, IsFound}
 
 -- ---- one input
 
@@ -35,7 +35,7 @@ takes_accepted i old new o works h = record {
   accepts = h.accepts;
 }
   where
-    by_found : (known : Option (List ℕ)) → IsFound known (Ok o) → IfSome known (λ bytes. Ok o ≡ object_in (front bytes))
+    by_found : (known : Option (List ℕ)) → IsFound known (Ok o) → IfSome known (λ bytes. Ok o ≡ object_in (decode bytes))
     by_found known (inl e) = absurd (cc)
     by_found known (inr e) = e
 
@@ -50,7 +50,7 @@ module _ (i : Input) (path : String Global) (at : string_bytes path ≡ i.path) 
     rejects = ap (λ (p : List ℕ). kept_with old.forced old.entries p found) (sym at) ∙ h;
   }
     where
-      by_found : IsFound i.known found → IfSome i.known (λ bytes. found ≡ object_in (front bytes))
+      by_found : IsFound i.known found → IfSome i.known (λ bytes. found ≡ object_in (decode bytes))
       by_found (inl e) = absurd (other (let r = ap (kept_with old.forced old.entries (string_bytes path)) (sym e) ∙ h in cc))
       by_found (inr e) = e
 
@@ -113,7 +113,7 @@ module _ (forced : List (List ℕ)) where
   behind later kept = with_inputs forced kept later
 
   took : (kept more : List Labelled) (i : Input) (bytes : List ℕ) → i.known ≡ Some bytes → Takes forced kept i more → with_input forced kept i.path bytes ≡ Ok more
-  took kept more i bytes known h = ap (kept_with forced kept i.path) (sym (known_bytes i.known bytes (λ bytes. Ok h.object ≡ object_in (front bytes)) known h.is_found)) ∙ h.accepts
+  took kept more i bytes known h = ap (kept_with forced kept i.path) (sym (known_bytes i.known bytes (λ bytes. Ok h.object ≡ object_in (decode bytes)) known h.is_found)) ∙ h.accepts
 
   took_first : (kept more : List Labelled) (i : Input) (is : List Input) (all : List (List ℕ × List ℕ)) (f : FirstTold i is all) → Takes forced kept i more → with_inputs forced kept all ≡ with_inputs forced more f.later
   took_first kept more i is all f h =
@@ -134,7 +134,7 @@ module _ (forced : List (List ℕ)) where
 
   said_at : (kept : List Labelled) (i : Input) (bytes : List ℕ) (said : Said) → i.known ≡ Some bytes → StopsAt forced kept i said → IsTrueOf said (at_path i.path (with_input forced kept i.path bytes))
   said_at kept i bytes (refuses (of_input path cause)) known (at, h) =
-      ap (at_path i.path) (ap (kept_with forced kept i.path) (sym (known_bytes i.known bytes (λ bytes. h.found ≡ object_in (front bytes)) known h.is_found)) ∙ h.rejects) ∙ ap (λ (p : List ℕ). Err (of_input p cause)) (sym at)
+      ap (at_path i.path) (ap (kept_with forced kept i.path) (sym (known_bytes i.known bytes (λ bytes. h.found ≡ object_in (decode bytes)) known h.is_found)) ∙ h.rejects) ∙ ap (λ (p : List ℕ). Err (of_input p cause)) (sym at)
   said_at kept i bytes (refuses (not_linked fault)) known h = absurd h
   said_at kept i bytes (breaks path) known h = tt
   said_at kept i bytes runs_out known h = tt

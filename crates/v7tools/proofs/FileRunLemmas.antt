@@ -3,17 +3,17 @@ use Rattle.std.specs.declared.alloc.Global.{Global}
 use Rattle.std.proofs.Common.{◌≡◌, ℕ, List, [], ◌∷◌, ◌++◌, map, Option, Some, Ok, Err, refl, sym, ap, ◌∙◌, subst, inr}
 use Rattle.std.specs.Prelude.{String, string_bytes, IfSome}
 use Rattle.aout_core.specs.Contents.{Contents}
-use Rattle.aout_core.specs.Front.{front}
+use Rattle.aout_core.specs.Decoding.{decode}
 use Rattle.aout_core.specs.Strip.{stripped}
 use Rattle.link_out.proofs.RunLemmas.{one_more}
-use Rattle.v7tools.specs.Deeds.{Deed, History, Extends, Opened, opened, stored}
+use Rattle.v7tools.specs.Events.{Event, History, Extends, Opened, opened, stored}
 use Rattle.v7tools.specs.FileRuns.{AreRead, IsStored, IsLoadAt, IsStripping, Loaded, Reads, ReadsNotAll, strips}
 use Rattle.v7tools.specs.declared.fault.CliFault.{CliFault}
 use Rattle.v7tools.specs.declared.office.Stored.{Stored}
 use Rattle.v7tools.specs.declared.office.Stored.TheVariants.{Kept, NotCreated, Failed}
-use Rattle.v7tools.proofs.DeedLemmas.{asked_behind, map-append}
+use Rattle.v7tools.proofs.EventLemmas.{asked_behind, map-append}
 
-read_behind : (found : List Opened) (loaded : List Loaded) (known : Option (List ℕ)) (l : Loaded) → AreRead found loaded → IfSome known (λ bytes. front bytes ≡ Ok l.1) → AreRead (found ++ (string_bytes l.0, known) ∷ []) (loaded ++ l ∷ [])
+read_behind : (found : List Opened) (loaded : List Loaded) (known : Option (List ℕ)) (l : Loaded) → AreRead found loaded → IfSome known (λ bytes. decode bytes ≡ Ok l.1) → AreRead (found ++ (string_bytes l.0, known) ∷ []) (loaded ++ l ∷ [])
 read_behind [] [] known l h k = ((refl, k), tt)
 read_behind [] (m ∷ ms) known l h k = absurd h
 read_behind (f ∷ fs) [] known l h k = absurd h
@@ -48,7 +48,7 @@ stops_reading a b c files left later loaded path fault h order e k = inr (record
 
 -- ---- strip
 
-abbrev pub strips_all : List Loaded → List Deed
+abbrev pub strips_all : List Loaded → List Event
 strips_all loaded = map (λ l. strips l Kept) loaded
 
 -- one more file is stored

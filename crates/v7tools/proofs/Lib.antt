@@ -1,4 +1,4 @@
-pub mod DeedLemmas
+pub mod EventLemmas
 pub mod LinkRunLemmas
 pub mod FileRunLemmas
 pub mod LineRunLemmas

@@ -15,12 +15,12 @@ use Rattle.link_out.specs.function.Link.{Outcome, link}
 use Rattle.link_out.specs.Outcomes.{findings_of, IsLinkOf, outcome_of}
 use Rattle.link_out.specs.function.Reports.{line}
 use Rattle.v7tools.specs.Answers.{absent, Verdict, done, refused, to_store, Stepped, add_step, input_from, failing, giving, withdraw_step, link_answer_text, link_status}
-use Rattle.v7tools.specs.Deeds.{Deed, History, Extends, opened, stored}
+use Rattle.v7tools.specs.Events.{Event, History, Extends, opened, stored}
 use Rattle.v7tools.specs.FaultTexts.{cli_text, fault_of_link}
 use Rattle.v7tools.specs.Inputs.{Cause, kept_with}
 use Rattle.scripts.specs.Scripts.{Asked, to_add, to_withdraw, for_externals, for_undefined, to_link, for_nothing}
 use Rattle.v7tools.specs.LineRuns.{DoesStep, IsAddOf, IsLineOf, LineRun, OnlyTells, TakesLast, status_after}
-use Rattle.v7tools.specs.steps.SessionParts.{AnswersLine, IsNoLink, IsOpenedAt, TakesPlainStep, TellsStep}
+use Rattle.v7tools.specs.internal.SessionParts.{AnswersLine, IsNoLink, IsOpenedAt, TakesPlainStep, TellsStep}
 use Rattle.v7tools.specs.SessionSteps.{AddsIf, Does, GoesOut, IsAddBy, IsAddOn, IsStepOn, verdict_of}
 use Rattle.v7tools.specs.declared.commands.Command.{Command}
 use Rattle.v7tools.specs.declared.commands.Step.{Step}
@@ -28,7 +28,7 @@ use Rattle.v7tools.specs.declared.commands.Command.TheVariants.{Add, Withdraw, E
 use Rattle.v7tools.specs.declared.fault.CliFault.{CliFault}
 use Rattle.v7tools.specs.declared.fault.CliFault.TheVariants as faults
 use Rattle.v7tools.specs.declared.office.Stored.{Stored}
-use Rattle.v7tools.proofs.DeedLemmas.{nothing_asked}
+use Rattle.v7tools.proofs.EventLemmas.{nothing_asked}
 use Rattle.v7tools.proofs.StepLemmas.{link_refused_by, no_value, refused_as}
 use Rattle.aout_core.proofs.PutsLemmas.{put_broke_off}
 
@@ -114,13 +114,13 @@ module _ {W : Type 0} (contents : W → Option (List ℕ)) where
   -- ---- a line
 
   -- a line that a step answers
-  abbrev run_of : Asked → List Deed → Stepped → Kept → LineRun
-  run_of asks deeds did left = record { line = asks; deeds = deeds; answer = did.answer; status = status_after did.verdict; kept = left }
+  abbrev run_of : Asked → List Event → Stepped → Kept → LineRun
+  run_of asks events did left = record { line = asks; events = events; answer = did.answer; status = status_after did.verdict; kept = left }
 
-  answered_by : (o : Choices) (asks : Asked) (deeds : List Deed) (did : Stepped) (kept left : Kept) (old new : History) (result : Result ℕ CliFault) (before after : Latched W) → TellsStep contents did left result before after → Extends old new deeds →
-      IsLineOf o kept (run_of asks deeds did left) asks → AnswersLine contents o asks kept left old new result before after
-  answered_by o asks deeds did kept left old new result before after told asked is = record {
-    run = run_of asks deeds did left;
+  answered_by : (o : Choices) (asks : Asked) (events : List Event) (did : Stepped) (kept left : Kept) (old new : History) (result : Result ℕ CliFault) (before after : Latched W) → TellsStep contents did left result before after → Extends old new events →
+      IsLineOf o kept (run_of asks events did left) asks → AnswersLine contents o asks kept left old new result before after
+  answered_by o asks events did kept left old new result before after told asked is = record {
+    run = run_of asks events did left;
     line = refl;
     leaves = refl;
     is_run = is;
@@ -131,12 +131,12 @@ module _ {W : Type 0} (contents : W → Option (List ℕ)) where
     bytes = told.bytes;
   }
 
-  does_step : (asks : Asked) (deeds : List Deed) (did : Stepped) (left : Kept) → left.entries ≡ did.kept → DoesStep did (run_of asks deeds did left)
-  does_step asks deeds did left e = record { answer = refl; status = refl; entries = e }
+  does_step : (asks : Asked) (events : List Event) (did : Stepped) (left : Kept) → left.entries ≡ did.kept → DoesStep did (run_of asks events did left)
+  does_step asks events did left e = record { answer = refl; status = refl; entries = e }
 
   -- a line that only tells
   tells_line : (asks : Asked) (did by : Stepped) (kept left : Kept) → did ≡ by → left.entries ≡ did.kept → left ≡ kept → OnlyTells by kept (run_of asks [] did left)
-  tells_line asks did by kept left e entries same = subst (λ (d : Stepped). OnlyTells d kept (run_of asks [] did left)) e (record { deeds = refl; does = does_step asks [] did left entries; same = same })
+  tells_line asks did by kept left e entries same = subst (λ (d : Stepped). OnlyTells d kept (run_of asks [] did left)) e (record { events = refl; does = does_step asks [] did left entries; same = same })
 
   module _ {R : Type 0} (remaining : R → Option (List ℕ)) (o : Choices) (kept left : Kept) (result : Result ℕ CliFault) (before after : Latched W) where
     add_of : (wire : Latched R) (path : List ℕ) (did : Stepped) → IsAddBy remaining wire kept.forced kept.entries path did → IsAddOf (remaining wire.device) kept path did
@@ -148,21 +148,21 @@ module _ {W : Type 0} (contents : W → Option (List ℕ)) where
         AnswersLine contents o (to_add (string_bytes path)) kept left old new result before after
     added_line old new path at None is asked (did, e, changes, told) =
         let asks = to_add (string_bytes path) in
-        let deeds = opened (string_bytes path) None ∷ [] in
+        let events = opened (string_bytes path) None ∷ [] in
         let same : left ≡ kept = subst (λ (v : Verdict). AddsIf v kept left) (ap (λ (d : Stepped). d.verdict) e) changes in
-        answered_by o asks deeds did kept left old new result before after told (subst (λ (p : List ℕ). Extends old new (opened p None ∷ [])) is asked)
-        (inl (record { deeds = refl; does = subst (λ (d : Stepped). DoesStep d (run_of asks deeds did left)) e (does_step asks deeds did left told.entries); same = same }))
+        answered_by o asks events did kept left old new result before after told (subst (λ (p : List ℕ). Extends old new (opened p None ∷ [])) is asked)
+        (inl (record { events = refl; does = subst (λ (d : Stepped). DoesStep d (run_of asks events did left)) e (does_step asks events did left told.entries); same = same }))
     added_line old new path at (Some wire) is asked (did, by, changes, told) =
         let asks = to_add (string_bytes path) in
-        let deeds = opened (string_bytes path) (Some (remaining wire.device)) ∷ [] in
-        answered_by o asks deeds did kept left old new result before after told (subst (λ (p : List ℕ). Extends old new (opened p (Some (remaining wire.device)) ∷ [])) is asked.1)
-        (inr (record { known = remaining wire.device; deeds = refl; did = did; is_add = add_of wire (string_bytes path) did by; does = does_step asks deeds did left told.entries; changes = changes }))
+        let events = opened (string_bytes path) (Some (remaining wire.device)) ∷ [] in
+        answered_by o asks events did kept left old new result before after told (subst (λ (p : List ℕ). Extends old new (opened p (Some (remaining wire.device)) ∷ [])) is asked.1)
+        (inr (record { known = remaining wire.device; events = refl; did = did; is_add = add_of wire (string_bytes path) did by; does = does_step asks events did left told.entries; changes = changes }))
 
     module _ (h : History) where
       pub withdraw_line : TakesPlainStep remaining contents o Withdraw kept left result before after → AnswersLine contents o to_withdraw kept left h h result before after
       withdraw_line (did, e, changes, told) =
           answered_by o to_withdraw [] did kept left h h result before after told (nothing_asked h)
-          (subst (λ (d : Stepped). TakesLast d kept (run_of to_withdraw [] did left)) e (record { deeds = refl; does = does_step to_withdraw [] did left told.entries; changes = changes }))
+          (subst (λ (d : Stepped). TakesLast d kept (run_of to_withdraw [] did left)) e (record { events = refl; does = does_step to_withdraw [] did left told.entries; changes = changes }))
 
       pub externals_line : TakesPlainStep remaining contents o Externals kept left result before after → AnswersLine contents o for_externals kept left h h result before after
       externals_line (did, e, changes, told) = answered_by o for_externals [] did kept left h h result before after told (nothing_asked h) (tells_line for_externals did _ kept left e told.entries changes)
@@ -189,10 +189,10 @@ module _ {W : Type 0} (contents : W → Option (List ℕ)) where
         IfOk result (λ status. status ≡ link_status (findings_of made.report) what) → IfErr result (λ e. e ≡ faults.WriteFailed) → (IsErr result ↔ IsTrue after.has_failed) →
         Puts result (contents before.device) (contents after.device) (link_answer_text (findings_of made.report) path what) → AnswersLine contents o (to_link path) kept kept old new result before after
     stored_link old new made what is asked status write_failed failed bytes = record {
-      run = record { line = to_link path; deeds = stored path made.file what ∷ []; answer = link_answer_text (findings_of made.report) path what; status = link_status (findings_of made.report) what; kept = kept };
+      run = record { line = to_link path; events = stored path made.file what ∷ []; answer = link_answer_text (findings_of made.report) path what; status = link_status (findings_of made.report) what; kept = kept };
       line = refl;
       leaves = refl;
-      is_run = inr (record { made = outcome_of made; is_link = is; what = what; deeds = refl; answer = refl; status = refl; same = refl });
+      is_run = inr (record { made = outcome_of made; is_link = is; what = what; events = refl; answer = refl; status = refl; same = refl });
       asked = asked;
       status = status;
       write_failed = write_failed;

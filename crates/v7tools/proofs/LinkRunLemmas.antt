@@ -7,14 +7,14 @@ use Rattle.aout_core.specs.Wires.{Latched}
 use Rattle.link_out.specs.declared.linked.Linked.{Linked}
 use Rattle.link_out.specs.Choices.{Choices}
 use Rattle.link_out.specs.Outcomes.{findings_of}
-use Rattle.v7tools.specs.Deeds.{History, Extends, stored}
+use Rattle.v7tools.specs.Events.{History, Extends, stored}
 use Rattle.v7tools.specs.LinkAnswers.{Input, inputs_of, IsLinkOf}
-use Rattle.v7tools.specs.steps.Openings.{sources, IsOpening, IsWorking, OpensAll}
+use Rattle.v7tools.specs.internal.Openings.{sources, IsOpening, IsWorking, OpensAll}
 use Rattle.v7tools.specs.LinkRuns.{inputs_opened, IsLinkOfFiles, IsLinkRun, ReportsIf}
 use Rattle.v7tools.specs.declared.fault.CliFault.{CliFault}
 use Rattle.v7tools.specs.declared.fault.CliFault.TheVariants as faults
 use Rattle.v7tools.specs.declared.office.Stored.{Stored}
-use Rattle.v7tools.proofs.DeedLemmas.{asked_behind, paths_opened}
+use Rattle.v7tools.proofs.EventLemmas.{asked_behind, paths_opened}
 
 module _ {R : Type 0} (remaining : R → Option (List ℕ)) where
   -- the inputs are the files that were opened

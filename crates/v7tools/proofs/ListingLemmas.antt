@@ -17,30 +17,30 @@ use Rattle.link_out.specs.function.Reports.{is_missing}
 use Rattle.link_out.specs.function.Reports.{line}
 use Rattle.link_out.proofs.InOrderLemmas.{named_by}
 use Rattle.v7tools.specs.Answers.{undefined_text}
-use Rattle.v7tools.specs.steps.StepParts.{missing_line}
+use Rattle.v7tools.specs.internal.StepParts.{missing_line}
 
 is_at : {A : Type 0} (items : List A) (i : ℕ) (item : A) → slice_get items i ≡ Some item → item ≡ slice_index_or items i item
 is_at items i item at = sym (get_or_from_slice_get items i item item at)
 
 -- the next text went out
-pub sent_next : {A : Type 0} (spelling : A → List ℕ) (items : List A) (i : ℕ) (item : A) (a b c : Option (List ℕ)) → slice_get items i ≡ Some item →
-    Appends a b (flat_map spelling (take i items)) → Appends b c (spelling item) → Appends a c (flat_map spelling (take (i + 1) items))
-sent_next spelling items i item a b c at sent next =
+pub sent_next : {A : Type 0} (encoding : A → List ℕ) (items : List A) (i : ℕ) (item : A) (a b c : Option (List ℕ)) → slice_get items i ≡ Some item →
+    Appends a b (flat_map encoding (take i items)) → Appends b c (encoding item) → Appends a c (flat_map encoding (take (i + 1) items))
+sent_next encoding items i item a b c at sent next =
     let more : take (i + 1) items ≡ take i items ++ item ∷ [] = take_more items i item (slice_get_within items i item at) ∙ ap (λ x. take i items ++ x ∷ []) (sym (is_at items i item at)) in
-    let spelt : flat_map spelling (take (i + 1) items) ≡ flat_map spelling (take i items) ++ spelling item =
-    ap (flat_map spelling) more ∙ flat_map-append spelling (take i items) (item ∷ []) ∙ ap (λ l. flat_map spelling (take i items) ++ l) (append-nil (spelling item)) in
-    subst (Appends a c) (sym spelt) (Appends-trans a b c (flat_map spelling (take i items)) (spelling item) sent next)
+    let encoded : flat_map encoding (take (i + 1) items) ≡ flat_map encoding (take i items) ++ encoding item =
+    ap (flat_map encoding) more ∙ flat_map-append encoding (take i items) (item ∷ []) ∙ ap (λ l. flat_map encoding (take i items) ++ l) (append-nil (encoding item)) in
+    subst (Appends a c) (sym encoded) (Appends-trans a b c (flat_map encoding (take i items)) (encoding item) sent next)
 
 -- of the next text a prefix went out
-pub stops_next : {A : Type 0} (spelling : A → List ℕ) (items : List A) (i : ℕ) (item : A) (a b c : Option (List ℕ)) → slice_get items i ≡ Some item →
-    Appends a b (flat_map spelling (take i items)) → AppendsPrefix b c (spelling item) → AppendsPrefix a c (flat_map spelling items)
-stops_next spelling items i item a b c at sent next =
-    front_of_row spelling items i item a b c (slice_get_within items i item at) (is_at items i item at) sent next
+pub stops_next : {A : Type 0} (encoding : A → List ℕ) (items : List A) (i : ℕ) (item : A) (a b c : Option (List ℕ)) → slice_get items i ≡ Some item →
+    Appends a b (flat_map encoding (take i items)) → AppendsPrefix b c (encoding item) → AppendsPrefix a c (flat_map encoding items)
+stops_next encoding items i item a b c at sent next =
+    front_of_row encoding items i item a b c (slice_get_within items i item at) (is_at items i item at) sent next
 
 -- all texts went out
-pub sent_all : {A : Type 0} (spelling : A → List ℕ) (items : List A) (n : ℕ) (a b : Option (List ℕ)) → length items ≤ n →
-    Appends a b (flat_map spelling (take n items)) → Appends a b (flat_map spelling items)
-sent_all spelling items n a b end sent = subst (λ l. Appends a b (flat_map spelling l)) (take_all n items end) sent
+pub sent_all : {A : Type 0} (encoding : A → List ℕ) (items : List A) (n : ℕ) (a b : Option (List ℕ)) → length items ≤ n →
+    Appends a b (flat_map encoding (take n items)) → Appends a b (flat_map encoding items)
+sent_all encoding items n a b end sent = subst (λ l. Appends a b (flat_map encoding l)) (take_all n items end) sent
 
 missing_lines : (ms : List Mention) (names : List (List ℕ)) → flat_map missing_line (named_by ms names) ≡ flat_map line (filter (λ n. is_missing n (state ms n)) names)
 missing_lines ms [] = refl

@@ -9,19 +9,19 @@ use Rattle.aout_core.specs.Wires.{Latched}
 use Rattle.link_session.specs.Sessions.{nothing_kept}
 use Rattle.link_session.specs.Undo.{Kept}
 use Rattle.link_out.specs.Choices.{Choices}
-use Rattle.v7tools.specs.Deeds.{History, Extends}
+use Rattle.v7tools.specs.Events.{History, Extends}
 use Rattle.scripts.specs.Scripts.{Asked, lines_in, Given, ScriptFault, long_line, many_lines, and_given, given_behind}
 use Rattle.scripts.specs.ScriptAnswers.{Answer, IfTold, IsNextOf, NamesPath, Progress, Settles, asked_by, lines_of}
-use Rattle.v7tools.specs.SessionRuns.{AreFirst, AreLines, Chains, IsSessionRun, Ran, StopsBehind, answers_of, deeds_of, given, lines_asked, worst}
+use Rattle.v7tools.specs.SessionRuns.{AreFirst, AreLines, Chains, IsSessionRun, Ran, StopsBehind, answers_of, events_of, given, lines_asked, worst}
 use Rattle.v7tools.specs.LineRuns.{IsLineRun, LineRun}
-use Rattle.v7tools.specs.steps.SessionParts.{AnswersLine}
+use Rattle.v7tools.specs.internal.SessionParts.{AnswersLine}
 use Rattle.v7tools.specs.ScriptCalls.{returned}
 use Rattle.v7tools.specs.declared.fault.CliFault.{CliFault}
 use Rattle.v7tools.specs.declared.fault.CliFault.TheVariants as faults
 use Rattle.scripts.specs.declared.line_reader.Stop.{Stop}
 use Rattle.scripts.specs.declared.line_reader.Stop.TheVariants as stops
 use Rattle.scripts.specs.declared.lines.Line.{Line}
-use Rattle.v7tools.proofs.DeedLemmas.{asked_behind, map-append, nothing_asked}
+use Rattle.v7tools.proofs.EventLemmas.{asked_behind, map-append, nothing_asked}
 use Rattle.scripts.proofs.ScriptLemmas.{behind_last_line}
 
 -- ---- one more line
@@ -225,7 +225,7 @@ module _ {R W : Type 0} (remaining : R → Option (List ℕ)) (contents : W → 
       runs = h.runs ++ line.run ∷ [];
       ran = record {
         chain = chains_more o start mid left h.runs line.run h.ran.chain line.is_run line.leaves;
-        asked = subst (Extends old new) (sym (row_more (λ (r : LineRun). r.deeds) h.runs line.run)) (asked_behind old between new (deeds_of h.runs) line.run.deeds h.ran.asked line.asked);
+        asked = subst (Extends old new) (sym (row_more (λ (r : LineRun). r.events) h.runs line.run)) (asked_behind old between new (events_of h.runs) line.run.events h.ran.asked line.asked);
         answers = subst (Appends (contents before.device) (contents after.device)) (sym (row_more (λ (r : LineRun). r.answer) h.runs line.run))
             (Appends-trans (contents before.device) (contents during.device) (contents after.device) (answers_of h.runs) line.run.answer h.ran.answers line.bytes);
         working = λ t. absurd (let bad = line.fault.1 t in cc);
@@ -276,7 +276,7 @@ module _ {R W : Type 0} (remaining : R → Option (List ℕ)) (contents : W → 
             is_run = line.is_run;
             first = subst (λ (known : Option (List ℕ)). AreFirst known (asked_so_far ++ line.run.line ∷ [])) first_is
                 (subst (λ (a : Asked). AreFirst (left_of remaining begun) (asked_so_far ++ a ∷ [])) (sym line.line) (reads_front (left_of remaining begun) (left_of remaining next) next.line_count next.settled (asked_so_far ++ asked_by it ∷ []) reading));
-            asked = asked_behind old between new (deeds_of h.runs) line.run.deeds h.ran.asked line.asked;
+            asked = asked_behind old between new (events_of h.runs) line.run.events h.ran.asked line.asked;
             part = part;
             rest = rest;
             split = split;

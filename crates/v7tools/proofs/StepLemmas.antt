@@ -5,7 +5,7 @@ use Rattle.std.specs.Prelude.{String, string_bytes, codes, slice_get, IfOk, IfSo
 use Rattle.std.proofs.lemmas.Bool.{false_from_ne_true}
 use Rattle.aout_core.specs.declared.file.ReadFault.TheVariants as reads
 use Rattle.aout_core.specs.Contents.{Contents}
-use Rattle.aout_core.specs.Front.{front}
+use Rattle.aout_core.specs.Decoding.{decode}
 use Rattle.aout_core.specs.Wires.{Latched, Writes}
 use Rattle.link_session.specs.Edits.{last_of, without_last}
 use Rattle.link_session.specs.Labelled.{Labelled}
@@ -25,8 +25,8 @@ use Rattle.v7tools.specs.Inputs.{Cause, cannot_open, bad_file, bad_object, not_a
 use Rattle.v7tools.specs.FaultTexts.{cause_text, cli_text, fault_at, fault_of_link}
 use Rattle.v7tools.specs.Answers.{done, refused, Stepped, add_step, withdraw_step, link_step}
 use Rattle.v7tools.specs.LinkAnswers.{WantsMemory}
-use Rattle.v7tools.specs.steps.InputParts.{IsDeviceFault}
-use Rattle.v7tools.specs.steps.StepParts.{IsRefusal, IsAccepted, IsAddition, IsAddOver, IsAddWorking, TakesWithdrawal, label_of}
+use Rattle.v7tools.specs.internal.InputParts.{IsDeviceFault}
+use Rattle.v7tools.specs.internal.StepParts.{IsRefusal, IsAccepted, IsAddition, IsAddOver, IsAddWorking, TakesWithdrawal, label_of}
 use Rattle.v7tools.specs.SessionSteps.{Does, IsAddOn, IsAddBy, IsLinkBy, WithdrawsIf, verdict_of}
 
 -- ---- the last object
@@ -60,9 +60,9 @@ module _ {W : Type 0} {contents : W → Option (List ℕ)} {result : Result Step
 abbrev pub failed_with : CliFault → Result (Unit {0}) CliFault
 failed_with fault = Err fault
 
--- a step on what was found, where it is what the bytes spell and no device failed
+-- a step on what was found, where it is what the bytes encode and no device failed
 on_bytes : (known : Option (List ℕ)) (forced : List (List ℕ)) (kept : List Labelled) (path : List ℕ) (found : Result Contents Cause) (r : Result (List Labelled) Cause) → (found ≡ Err (bad_file reads.Device) → ⊥) →
-    IfSome known (λ bytes. found ≡ object_in (front bytes)) → kept_with forced kept path found ≡ r → IsAddWorking known forced kept path (add_step kept path r)
+    IfSome known (λ bytes. found ≡ object_in (decode bytes)) → kept_with forced kept path found ≡ r → IsAddWorking known forced kept path (add_step kept path r)
 on_bytes None forced kept path found r sound h e = (found, sound, ap (add_step kept path) (sym e))
 on_bytes (Some bytes) forced kept path found r sound h e = ap (add_step kept path) (sym e ∙ ap (kept_with forced kept path) h)
 
@@ -71,7 +71,7 @@ pub added_by : {R : Type 0} (remaining : R → Option (List ℕ)) (from to : Lat
     IsAccepted (remaining from.device) old new path o → IsAddOver remaining from to old.forced old.entries path (add_step old.entries path (Ok new.entries))
 added_by remaining from to old new path o before after h = by_found h.is_found
   where
-    by_found : (Ok o ≡ Err (bad_file reads.Device)) ⊎ IfSome (remaining from.device) (λ bytes. Ok o ≡ object_in (front bytes)) → IsAddOver remaining from to old.forced old.entries path (add_step old.entries path (Ok new.entries))
+    by_found : (Ok o ≡ Err (bad_file reads.Device)) ⊎ IfSome (remaining from.device) (λ bytes. Ok o ≡ object_in (decode bytes)) → IsAddOver remaining from to old.forced old.entries path (add_step old.entries path (Ok new.entries))
     by_found (inl e) = absurd (cc)
     by_found (inr e) = inr (after, before, inr (on_bytes (remaining from.device) old.forced old.entries path (Ok o) (Ok new.entries) (λ e. absurd (cc)) e h.accepts))
 
@@ -108,7 +108,7 @@ module _ {R : Type 0} (remaining : R → Option (List ℕ)) (from to : Latched R
       says : refused_as old.entries (cli_text fault) ≡ add_step old.entries (string_bytes path) (Err h.cause)
       says = ap (refused_as old.entries) (ap cli_text h.names ∙ text_of_cause path h.cause)
 
-      by_latch : (t : Bool) → to.has_failed ≡ t → (h.found ≡ Err (bad_file reads.Device)) ⊎ IfSome (remaining from.device) (λ bytes. h.found ≡ object_in (front bytes)) → IsRefused
+      by_latch : (t : Bool) → to.has_failed ≡ t → (h.found ≡ Err (bad_file reads.Device)) ⊎ IfSome (remaining from.device) (λ bytes. h.found ≡ object_in (decode bytes)) → IsRefused
       by_latch true latch found = let is : fault ≡ faults.BadFile path reads.Device = (let e = device.1 latch in cc) in inl (latch, ap (λ (f : CliFault). refused_as old.entries (cli_text f)) is)
       by_latch false latch (inl e) = absurd (sound h latch e)
       by_latch false latch (inr e) =

@@ -1,6 +1,6 @@
 -- What the program does with its words: which call it runs, what it tells of a fault, and its status. (own choice)
 --
--- Words either ask for a call, and then it is run, or they are refused and nothing is asked of the office (Deeds). Without a fault
+-- Words either ask for a call, and then it is run, or they are refused and nothing is asked of the office (Events). Without a fault
 -- the status is that of the call, and standard error is left alone; with one it is 2, and the line of the fault goes there.
 use Rattle.std.specs.Prelude.{◌≡◌, ◌⊎◌, ℕ, List, [], map, Option, Result, Ok, Err, string_bytes}
 use Rattle.aout_core.specs.Wires.{Latched}
@@ -10,7 +10,7 @@ use Rattle.command_words.specs.Calls.{IsAsked, IsWhole, dashes_in, files_of}
 use Rattle.command_words.specs.declared.words.Call.{Call}
 use Rattle.command_words.specs.declared.words.Call.TheVariants.{Ld, Nm, Size, Strip, Session}
 use Rattle.v7tools.specs.Calls.{AsksForNone, IsOfWords}
-use Rattle.v7tools.specs.Deeds.{History, Extends}
+use Rattle.v7tools.specs.Events.{History, Extends}
 use Rattle.v7tools.specs.Emits.{PutsUnless}
 use Rattle.v7tools.specs.FaultTexts.{fault_line}
 use Rattle.v7tools.specs.FileRuns.{IsListRun, IsStripRun, OnlyWriteFailed, OrMemory}

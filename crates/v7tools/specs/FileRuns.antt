@@ -6,14 +6,14 @@ use Rattle.std.specs.declared.alloc.Global.{Global}
 use Rattle.std.specs.Prelude.{◌≡◌, ◌≢◌, ◌↔◌, ◌⊎◌, ℕ, List, [], ◌∷◌, ◌++◌, map, Option, Some, None, Result, Ok, Err, IfErr, IfOk, IfSome, IsTrue, String, string_bytes}
 use Rattle.aout_core.specs.declared.file.ReadFault.TheVariants as reads
 use Rattle.aout_core.specs.Contents.{Contents}
-use Rattle.aout_core.specs.Front.{front}
+use Rattle.aout_core.specs.Decoding.{decode}
 use Rattle.aout_core.specs.Reading.{IsReadOf}
 use Rattle.aout_core.specs.Strip.{stripped}
 use Rattle.aout_core.specs.Wires.{Latched, Puts}
 use Rattle.symtools.specs.Files.{by_bytes}
 use Rattle.symtools.specs.NmLists.{ListsUpTo}
 use Rattle.symtools.specs.declared.options.NmOptions.{NmOptions}
-use Rattle.v7tools.specs.Deeds.{Deed, History, Extends, Opened, opened, opens, stored}
+use Rattle.v7tools.specs.Events.{Event, History, Extends, Opened, opened, opens, stored}
 use Rattle.v7tools.specs.LinkRuns.{Refuses}
 use Rattle.v7tools.specs.declared.fault.CliFault.{CliFault}
 use Rattle.v7tools.specs.declared.fault.CliFault.TheVariants as faults
@@ -30,7 +30,7 @@ OpensOn old new path holds = (known : Option (List ℕ)) × Extends old new (ope
 
 -- the file at a path was opened and read, or why it was not; memory runs out only for what its header announces
 abbrev pub IsLoadAt : History → History → String Global → Result Loaded CliFault → Type 0
-IsLoadAt old new path (Ok loaded) = (loaded.0 ≡ path) × OpensOn old new path (λ bytes. front bytes ≡ Ok loaded.1)
+IsLoadAt old new path (Ok loaded) = (loaded.0 ≡ path) × OpensOn old new path (λ bytes. decode bytes ≡ Ok loaded.1)
 IsLoadAt old new path (Err (faults.CannotOpen at)) = (at ≡ path) × Extends old new (opened (string_bytes path) None ∷ [])
 IsLoadAt old new path (Err (faults.BadFile at fault)) = (at ≡ path) × (fault ≢ reads.Memory) × OpensOn old new path (IsReadOf (Err fault))
 IsLoadAt old new path (Err faults.Memory) = OpensOn old new path (IsReadOf (Err reads.Memory))
@@ -39,7 +39,7 @@ IsLoadAt old new path (Err _) = ⊥
 -- what was read at each path is what the bytes of the file that was opened there give, where they are known
 abbrev pub AreRead : List Opened → List Loaded → Type 0
 AreRead [] [] = Unit {0}
-AreRead (f ∷ fs) (l ∷ ls) = ((f.0 ≡ string_bytes l.0) × IfSome f.1 (λ bytes. front bytes ≡ Ok l.1)) × AreRead fs ls
+AreRead (f ∷ fs) (l ∷ ls) = ((f.0 ≡ string_bytes l.0) × IfSome f.1 (λ bytes. decode bytes ≡ Ok l.1)) × AreRead fs ls
 AreRead _ _ = ⊥
 
 -- some files were opened and read in order, each before the next one was opened
@@ -94,7 +94,7 @@ IsStored path NotCreated result = result ≡ Err (faults.CannotCreate path)
 IsStored path Failed result = result ≡ Err faults.WriteFailed
 
 -- a file is to be stored stripped at its own path
-abbrev pub strips : Loaded → Stored → Deed
+abbrev pub strips : Loaded → Stored → Event
 strips l what = stored (string_bytes l.0) (stripped l.1) what
 
 -- the files before one are stored, and that one is not

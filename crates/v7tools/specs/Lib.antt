@@ -7,10 +7,10 @@ pub mod LinkAnswers
 pub mod ScriptCalls
 pub mod Answers
 pub mod SessionSteps
-pub mod Deeds
+pub mod Events
 pub mod LinkRuns
 pub mod FileRuns
 pub mod LineRuns
 pub mod SessionRuns
 pub mod CommandRuns
-pub mod steps
+pub mod internal

@@ -8,7 +8,7 @@ use Rattle.link_session.specs.Undo.{Kept}
 use Rattle.link_out.specs.Choices.{Choices}
 use Rattle.link_out.specs.function.Link.{Outcome, link}
 use Rattle.v7tools.specs.Answers.{absent, failing, adding, withdrawing, listing_externals, listing_undefined, anything_else, Verdict, done, refused, Stepped, add_step, input_from, step, link_answer_text, link_status}
-use Rattle.v7tools.specs.Deeds.{Deed, opened, stored}
+use Rattle.v7tools.specs.Events.{Event, opened, stored}
 use Rattle.v7tools.specs.LinkAnswers.{WantsMemory}
 use Rattle.scripts.specs.Scripts.{Asked, to_add, to_withdraw, for_externals, for_undefined, to_link, for_nothing}
 use Rattle.v7tools.specs.SessionSteps.{AddsIf, IsAddOn, IsLinkBy, WithdrawsIf, without_memory}
@@ -17,7 +17,7 @@ use Rattle.v7tools.specs.declared.office.Stored.{Stored}
 -- a line: what it asked for, what it asked of the office, its answer, its status, and what is kept behind it
 pub record LineRun : Type 0 where
   pub line : Asked
-  pub deeds : List Deed
+  pub events : List Event
   pub answer : List ℕ
   pub status : ℕ
   pub kept : Kept
@@ -43,14 +43,14 @@ IsAddOf known old path did =
 
 -- the file at the path that is named can't be opened
 pub record OpensNone (o : Choices) (old : Kept) (path : List ℕ) (r : LineRun) : Type 0 where
-  pub deeds : r.deeds ≡ opened path None ∷ []
+  pub events : r.events ≡ opened path None ∷ []
   pub does : DoesStep (step old.forced o old.entries (adding path absent)) r
   pub same : r.kept ≡ old
 
 -- the file at the path that is named was opened
 pub record OpensOne (old : Kept) (path : List ℕ) (r : LineRun) : Type 0 where
   pub known : Option (List ℕ)
-  pub deeds : r.deeds ≡ opened path (Some known) ∷ []
+  pub events : r.events ≡ opened path (Some known) ∷ []
   pub did : Stepped
   pub is_add : IsAddOf known old path did
   pub does : DoesStep did r
@@ -58,13 +58,13 @@ pub record OpensOne (old : Kept) (path : List ℕ) (r : LineRun) : Type 0 where
 
 -- nothing was opened or stored, and nothing is changed
 pub record OnlyTells (did : Stepped) (old : Kept) (r : LineRun) : Type 0 where
-  pub deeds : r.deeds ≡ []
+  pub events : r.events ≡ []
   pub does : DoesStep did r
   pub same : r.kept ≡ old
 
 -- the last object is taken away, if there is one
 pub record TakesLast (did : Stepped) (old : Kept) (r : LineRun) : Type 0 where
-  pub deeds : r.deeds ≡ []
+  pub events : r.events ≡ []
   pub does : DoesStep did r
   pub changes : WithdrawsIf did.verdict old r.kept
 
@@ -80,7 +80,7 @@ pub record LinksInto (o : Choices) (old : Kept) (path : List ℕ) (r : LineRun) 
   pub made : Outcome
   pub is_link : link old.forced (objects old.entries) o ≡ Ok made
   pub what : Stored
-  pub deeds : r.deeds ≡ stored path made.file what ∷ []
+  pub events : r.events ≡ stored path made.file what ∷ []
   pub answer : r.answer ≡ link_answer_text made.report path what
   pub status : r.status ≡ link_status made.report what
   pub same : r.kept ≡ old

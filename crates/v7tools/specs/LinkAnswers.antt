@@ -7,7 +7,7 @@ use Rattle.std.specs.declared.alloc.Global.{Global}
 use Rattle.std.specs.Prelude.{◌≡◌, ◌≢◌, ◌⊎◌, ℕ, Bool, false, List, [], ◌∷◌, map, Option, Some, None, Result, Ok, Err, IfSome, IsOk, String, string_bytes}
 use Rattle.aout_core.specs.declared.file.ReadFault.TheVariants as reads
 use Rattle.aout_core.specs.Contents.{Contents}
-use Rattle.aout_core.specs.Front.{front}
+use Rattle.aout_core.specs.Decoding.{decode}
 use Rattle.aout_core.specs.Reading.{IsReadOf}
 use Rattle.aout_core.specs.Wires.{Latched}
 use Rattle.link_session.specs.declared.entry.AddFault.TheVariants as adds
@@ -59,14 +59,14 @@ said_by _ = never
 pub record Takes (forced : List (List ℕ)) (kept : List Labelled) (i : Input) (more : List Labelled) : Type 0 where
   pub works : i.has_failed ≡ false
   pub object : Contents
-  pub is_found : IfSome i.known (λ bytes. Ok object ≡ object_in (front bytes))
+  pub is_found : IfSome i.known (λ bytes. Ok object ≡ object_in (decode bytes))
   pub accepts : kept_with forced kept i.path (Ok object) ≡ Ok more
 
 -- an input is refused, for this cause
 pub record Rejects (forced : List (List ℕ)) (kept : List Labelled) (i : Input) (cause : Cause) : Type 0 where
   pub works : i.has_failed ≡ false
   pub found : Result Contents Cause
-  pub is_found : IfSome i.known (λ bytes. found ≡ object_in (front bytes))
+  pub is_found : IfSome i.known (λ bytes. found ≡ object_in (decode bytes))
   pub rejects : kept_with forced kept i.path found ≡ Err cause
 
 -- memory is wanted for a file of these bytes: for what its header announces, or to add its object, which is within all limits

@@ -8,7 +8,7 @@ use Rattle.link_out.specs.declared.linked.Linked.{Linked}
 use Rattle.link_out.specs.Choices.{Choices}
 use Rattle.link_out.specs.Outcomes.{findings_of}
 use Rattle.link_out.specs.function.Reports.{Findings, report_text, status_of}
-use Rattle.v7tools.specs.Deeds.{History, Extends, Opened, opened, opens, paths_of, stored}
+use Rattle.v7tools.specs.Events.{History, Extends, Opened, opened, opens, paths_of, stored}
 use Rattle.v7tools.specs.LinkAnswers.{Input, IsLinkOf}
 use Rattle.v7tools.specs.declared.fault.CliFault.{CliFault}
 use Rattle.v7tools.specs.declared.fault.CliFault.TheVariants as faults

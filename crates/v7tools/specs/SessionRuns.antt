@@ -10,7 +10,7 @@ use Rattle.aout_core.specs.Wires.{Latched}
 use Rattle.link_session.specs.Sessions.{nothing_kept}
 use Rattle.link_session.specs.Undo.{Kept}
 use Rattle.link_out.specs.Choices.{Choices}
-use Rattle.v7tools.specs.Deeds.{Deed, History, Extends}
+use Rattle.v7tools.specs.Events.{Event, History, Extends}
 use Rattle.v7tools.specs.LinkRuns.{Refuses}
 use Rattle.scripts.specs.Scripts.{Asked, lines_in, Given, ScriptFault, long_line, many_lines, given_behind}
 use Rattle.scripts.specs.ScriptAnswers.{NamesPath}
@@ -26,8 +26,8 @@ Chains o old (r ∷ rs) new = IsLineRun o old r × Chains o r.kept rs new
 abbrev pub lines_asked : List LineRun → List Asked
 lines_asked runs = map (λ r. r.line) runs
 
-abbrev pub deeds_of : List LineRun → List Deed
-deeds_of runs = flat_map (λ r. r.deeds) runs
+abbrev pub events_of : List LineRun → List Event
+events_of runs = flat_map (λ r. r.events) runs
 
 abbrev pub answers_of : List LineRun → List ℕ
 answers_of runs = flat_map (λ r. r.answer) runs
@@ -40,7 +40,7 @@ worst (r ∷ rs) = max r.status (worst rs)
 -- the lines were run on a session, and their answers went out whole; on a wire that had failed before none was
 pub record Ran {W : Type 0} (contents : W → Option (List ℕ)) (o : Choices) (start kept : Kept) (runs : List LineRun) (old new : History) (before after : Latched W) : Type 0 where
   pub chain : Chains o start runs kept
-  pub asked : Extends old new (deeds_of runs)
+  pub asked : Extends old new (events_of runs)
   pub answers : Appends (contents before.device) (contents after.device) (answers_of runs)
   pub working : IsTrue after.has_failed → IsTrue before.has_failed
   pub latched : IsTrue before.has_failed → (runs ≡ []) × (after ≡ before)
@@ -91,7 +91,7 @@ pub record BreaksOff {W : Type 0} (contents : W → Option (List ℕ)) (forced :
   pub last : LineRun
   pub is_run : IsLineRun o kept last
   pub first : AreFirst script (lines_asked runs ++ last.line ∷ [])
-  pub asked : Extends old new (deeds_of runs ++ last.deeds)
+  pub asked : Extends old new (events_of runs ++ last.events)
   pub part : List ℕ
   pub rest : List ℕ
   pub split : last.answer ≡ part ++ rest

@@ -2,9 +2,9 @@
 ghost use Rattle.std.specs.Prelude.{◌≡◌, ◌↔◌, Err, IfErr, IsTrue};
 ghost use Rattle.aout_core.specs.declared.file.ReadFault.TheVariants.{Device};
 ghost use Rattle.v7tools.specs.declared.fault.CliFault.TheVariants.{BadFile};
-ghost use Rattle.v7tools.specs.steps.InputParts.{IsCheckOf, IsPossible};
+ghost use Rattle.v7tools.specs.internal.InputParts.{IsCheckOf, IsPossible};
 ghost use Rattle.v7tools.specs.LinkAnswers.{said_by};
-ghost use Rattle.v7tools.specs.steps.StepParts.{IsAddition, IsObjectAddition};
+ghost use Rattle.v7tools.specs.internal.StepParts.{IsAddition, IsObjectAddition};
 
 use crate::fault::CliFault;
 use crate::loading::load;

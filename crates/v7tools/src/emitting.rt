@@ -1,6 +1,6 @@
 //! Writing what a link gives.
 ghost use Rattle.std.specs.Prelude.{◌≡◌, ◌↔◌, ◌⊎◌, false, IfErr, IfOk, IsErr, IsTrue};
-ghost use Rattle.aout_core.specs.Spelling.{spelling};
+ghost use Rattle.aout_core.specs.Encoding.{encoding};
 ghost use Rattle.link_out.specs.Outcomes.{findings_of};
 ghost use Rattle.link_out.specs.function.Reports.{report_text, status_of};
 ghost use Rattle.v7tools.specs.declared.fault.CliFault.TheVariants.{WriteFailed};
@@ -25,7 +25,7 @@ pub fn emit<W: Write, V: Write>(
     ensures write_failed { IfErr result (λ fault. fault ≡ WriteFailed) }
     ensures status { IfOk result (λ status. status ≡ status_of (findings_of linked.now.report)) }
     ensures file_latched { IsTrue file.old.has_failed → (file.new ≡ file.old) }
-    ensures file_bytes { PutsUnless file.new.has_failed (W.contents file.old.device) (W.contents file.new.device) (spelling linked.now.file) }
+    ensures file_bytes { PutsUnless file.new.has_failed (W.contents file.old.device) (W.contents file.new.device) (encoding linked.now.file) }
     ensures report_untouched { IsTrue file.new.has_failed → (report.new ≡ report.old) }
     ensures report_latched { IsTrue report.old.has_failed → (report.new ≡ report.old) }
     ensures report_bytes { file.new.has_failed ≡ false → PutsUnless report.new.has_failed

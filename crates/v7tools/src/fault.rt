@@ -4,7 +4,7 @@ ghost use Rattle.aout_core.specs.Wires.{Writes};
 ghost use Rattle.v7tools.specs.Calls.{fault_of_words};
 ghost use Rattle.v7tools.specs.declared.fault.CliFault.TheVariants.{Memory, WriteFailed};
 ghost use Rattle.v7tools.specs.FaultTexts.{cli_text, fault_line, fault_of_addition, fault_of_link, fault_of_tool};
-ghost use Rattle.v7tools.specs.steps.FaultParts.{spelt};
+ghost use Rattle.v7tools.specs.internal.FaultParts.{text_of};
 
 use crate::fault_text::{FaultText, add_text, link_text, object_text, read_text, says, says_of};
 use aout_core::{DeviceFault, ObjectFault, ReadFault, Wire};
@@ -154,7 +154,7 @@ impl CliFault {
 
     /// The text of the fault.
     fn text(&self) -> FaultText<'_>
-        ensures { spelt result ≡ cli_text self.now }
+        ensures { text_of result ≡ cli_text self.now }
     {
         match self {
             CliFault::Usage => says("usage"),

@@ -2,7 +2,7 @@
 ghost use Rattle.std.specs.Prelude.{◌≡◌, ◌++◌, decimal};
 ghost use Rattle.aout_core.specs.Wires.{Writes};
 ghost use Rattle.v7tools.specs.FaultTexts.{add_text, at_file, link_text, object_text, read_text};
-ghost use Rattle.v7tools.specs.steps.FaultParts.{spelt, spelt_front, spelt_index};
+ghost use Rattle.v7tools.specs.internal.FaultParts.{text_of, path_text, index_text};
 
 use aout_core::{DeviceFault, ObjectFault, ReadFault, Wire};
 use itoa::Buffer;
@@ -21,7 +21,7 @@ pub(crate) struct FaultText<'a> {
 
 /// A text of words alone.
 pub(crate) fn says<'a>(words: &'a str) -> FaultText<'a>
-    ensures { spelt result ≡ words.now }
+    ensures { text_of result ≡ words.now }
 {
     FaultText {
         path: None,
@@ -32,7 +32,7 @@ pub(crate) fn says<'a>(words: &'a str) -> FaultText<'a>
 
 /// What is said of a path.
 pub(crate) fn says_of<'a>(path: &'a str, words: &'a str) -> FaultText<'a>
-    ensures { spelt result ≡ at_file path.now words.now }
+    ensures { text_of result ≡ at_file path.now words.now }
 {
     FaultText {
         path: Some(path),
@@ -43,7 +43,7 @@ pub(crate) fn says_of<'a>(path: &'a str, words: &'a str) -> FaultText<'a>
 
 /// What is said of a word of the file at a path.
 fn says_of_word<'a>(path: &'a str, words: &'a str, index: u16) -> FaultText<'a>
-    ensures { spelt result ≡ at_file path.now (words.now ++ decimal index) }
+    ensures { text_of result ≡ at_file path.now (words.now ++ decimal index) }
 {
     FaultText {
         path: Some(path),
@@ -54,7 +54,7 @@ fn says_of_word<'a>(path: &'a str, words: &'a str, index: u16) -> FaultText<'a>
 
 /// What is wrong with a file.
 pub(crate) fn read_text<'a>(path: &'a str, fault: ReadFault) -> FaultText<'a>
-    ensures { spelt result ≡ read_text path.now fault }
+    ensures { text_of result ≡ read_text path.now fault }
 {
     match fault {
         ReadFault::ShortHeader => says_of(path, "short header"),
@@ -68,7 +68,7 @@ pub(crate) fn read_text<'a>(path: &'a str, fault: ReadFault) -> FaultText<'a>
 
 /// Why a file is no object.
 pub(crate) fn object_text<'a>(path: &'a str, fault: ObjectFault) -> FaultText<'a>
-    ensures { spelt result ≡ at_file path.now (object_text fault) }
+    ensures { text_of result ≡ at_file path.now (object_text fault) }
 {
     match fault {
         ObjectFault::NotAnObject => says_of(path, "not an object"),
@@ -82,7 +82,7 @@ pub(crate) fn object_text<'a>(path: &'a str, fault: ObjectFault) -> FaultText<'a
 
 /// Why an object was not added.
 pub(crate) fn add_text<'a>(path: &'a str, fault: AddFault) -> FaultText<'a>
-    ensures { spelt result ≡ add_text path.now fault }
+    ensures { text_of result ≡ add_text path.now fault }
 {
     match fault {
         AddFault::TextFull => says_of(path, "text full"),
@@ -95,7 +95,7 @@ pub(crate) fn add_text<'a>(path: &'a str, fault: AddFault) -> FaultText<'a>
 
 /// Why there is no link.
 pub(crate) fn link_text<'a>(fault: LinkFault) -> FaultText<'a>
-    ensures { spelt result ≡ link_text fault }
+    ensures { text_of result ≡ link_text fault }
 {
     says(match fault {
         LinkFault::DoesNotFit => "does not fit",
@@ -107,7 +107,7 @@ pub(crate) fn link_text<'a>(fault: LinkFault) -> FaultText<'a>
 
 /// Writes a path and `: `, if there is a path.
 fn put_front<W: Write>(path: Option<&str>, out: &mut Wire<W>) -> Result<(), DeviceFault>
-    ensures { Writes W.contents result out.old out.new (spelt_front path.entry) }
+    ensures { Writes W.contents result out.old out.new (path_text path.entry) }
 {
     match path {
         Some(path) => out.put_both(path.as_bytes(), b": "),
@@ -117,7 +117,7 @@ fn put_front<W: Write>(path: Option<&str>, out: &mut Wire<W>) -> Result<(), Devi
 
 /// Writes the index of a word in decimal, if there is one.
 fn put_index<W: Write>(index: Option<u16>, out: &mut Wire<W>) -> Result<(), DeviceFault>
-    ensures { Writes W.contents result out.old out.new (spelt_index index) }
+    ensures { Writes W.contents result out.old out.new (index_text index) }
 {
     match index {
         Some(index) => out.put(Buffer::new().format(index).as_bytes()),
@@ -128,7 +128,7 @@ fn put_index<W: Write>(index: Option<u16>, out: &mut Wire<W>) -> Result<(), Devi
 impl<'a> FaultText<'a> {
     /// Writes the parts, one behind the other.
     pub(crate) fn write<W: Write>(&self, out: &mut Wire<W>) -> Result<(), DeviceFault>
-        ensures { Writes W.contents result out.old out.new (spelt self.now) }
+        ensures { Writes W.contents result out.old out.new (text_of self.now) }
     {
         put_front(self.path, out)?;
         out.put(self.words.as_bytes())?;

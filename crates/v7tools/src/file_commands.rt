@@ -5,7 +5,7 @@ ghost use Rattle.symtools.specs.Files.{by_bytes};
 ghost use Rattle.symtools.specs.NmLists.{nm_text};
 ghost use Rattle.symtools.specs.SizeLines.{size_text};
 ghost use Rattle.v7tools.specs.FileRuns.{IsStored, IsListRun, IsLoadAt, IsStripping, IsStripRun, Lists, OnlyWriteFailed, OrMemory};
-ghost use Rattle.v7tools.specs.steps.Openings.{IsLoading};
+ghost use Rattle.v7tools.specs.internal.Openings.{IsLoading};
 
 use crate::fault::CliFault;
 use crate::loading::load;

@@ -1,7 +1,7 @@
 //! The link of files.
 ghost use Rattle.std.specs.Prelude.{◌≡◌, ◌↔◌, true, IfErr, IfOk, IsTrue};
 ghost use Rattle.aout_core.specs.WellFormed.{IsWellFormed};
-ghost use Rattle.v7tools.specs.steps.InputParts.{AreTaken, IsDeviceFault, without_wire};
+ghost use Rattle.v7tools.specs.internal.InputParts.{AreTaken, IsDeviceFault, without_wire};
 ghost use Rattle.v7tools.specs.LinkAnswers.{inputs_of, IsLinkOf};
 
 use crate::additions::add_file;

@@ -3,7 +3,7 @@ ghost use Rattle.std.specs.Prelude.{◌≡◌, ◌≤◌};
 ghost use Rattle.aout_core.specs.Wires.{Writes};
 ghost use Rattle.link_session.specs.States.{segment_number};
 ghost use Rattle.v7tools.specs.Answers.{entry_of, externals_text, undefined_text};
-ghost use Rattle.v7tools.specs.steps.StepParts.{missing_line};
+ghost use Rattle.v7tools.specs.internal.StepParts.{missing_line};
 
 use aout_core::{DeviceFault, Name, Segment, Symbol, Wire};
 use link_out::is_missing;

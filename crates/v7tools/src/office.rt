@@ -1,7 +1,7 @@
 //! The office of a command: what opens and stores its files.
 ghost use Rattle.std.specs.Prelude.{[], ◌∷◌, List, None, Option};
 ghost use Rattle.std.specs.Option.{option_map};
-ghost use Rattle.v7tools.specs.Deeds.{Deed, Extends, opened, stored};
+ghost use Rattle.v7tools.specs.Events.{Event, Extends, opened, stored};
 
 use aout_core::File;
 use std::io::Read;
@@ -22,7 +22,7 @@ pub trait Office {
     /// A file that is open.
     type Source: Read + Drop;
 
-    ghost history: { Self → Option (List Deed) } = { λ _. None };
+    ghost history: { Self → Option (List Event) } = { λ _. None };
 
     /// Opens the file at a path; `None` where it can't be opened. (own choice)
     fn open(&mut self, path: &str) -> Option<Self::Source>

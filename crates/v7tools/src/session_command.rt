@@ -8,7 +8,7 @@ ghost use Rattle.v7tools.specs.FaultTexts.{cli_text};
 ghost use Rattle.scripts.specs.Scripts.{to_add, to_link};
 ghost use Rattle.scripts.specs.ScriptAnswers.{asked_by, begun};
 ghost use Rattle.v7tools.specs.SessionRuns.{IsSessionRun};
-ghost use Rattle.v7tools.specs.steps.SessionParts.{AnswersLine, IsNoLink, IsOpenedAt, TakesPlainStep};
+ghost use Rattle.v7tools.specs.internal.SessionParts.{AnswersLine, IsNoLink, IsOpenedAt, TakesPlainStep};
 
 use crate::commands::{Command, Step};
 use crate::fault::CliFault;

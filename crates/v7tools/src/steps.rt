@@ -8,7 +8,7 @@ ghost use Rattle.link_out.specs.function.Reports.{line};
 ghost use Rattle.v7tools.specs.declared.fault.CliFault.TheVariants.{WriteFailed};
 ghost use Rattle.v7tools.specs.declared.commands.Step.TheVariants.{Refused};
 ghost use Rattle.v7tools.specs.FaultTexts.{cli_text};
-ghost use Rattle.v7tools.specs.steps.StepParts.{label_of, TakesAddStep, TakesLinkStep, TakesWithdrawal};
+ghost use Rattle.v7tools.specs.internal.StepParts.{label_of, TakesAddStep, TakesLinkStep, TakesWithdrawal};
 ghost use Rattle.v7tools.specs.SessionSteps.{StoresObject, TakesStep};
 
 use crate::additions::add_file;

@@ -1,6 +1,6 @@
 -- What becomes of a name: its segment, its address, and the value that is written. (ld(1))
 --
--- A definition is carried with its segment. An undefined name may be one of the three that the linker defines. A common gets an
+-- A definition is moved with its segment. An undefined name may be one of the three that the linker defines. A common gets an
 -- address in bss where commons are laid out. Any other name stays unbound, and its size is written.
 use Rattle.std.specs.Prelude.{ℕ, ◌+◌, eqb, if◌then◌else◌, List, Option, Some, None, bytes_eq}
 use Rattle.aout_core.specs.declared.symbol.Segment.{Segment}

@@ -16,7 +16,7 @@ use Rattle.link_out.specs.declared.options.Layout.{Layout}
 use Rattle.link_out.specs.Choices.{Choices, lays_commons, option_fault}
 use Rattle.link_out.specs.function.Link.{Outcome, link}
 use Rattle.link_out.specs.relation.NameStates.{IsWanted}
-use Rattle.link_out.specs.relation.Relocated.{data_begins, begins, entry_of, IsEntry}
+use Rattle.link_out.specs.relation.Relocated.{data_base_in, base_in, entry_of, IsEntry}
 use Rattle.aout_core.specs.declared.header.Header.{Header}
 
 -- a name that no object defines, and that they want at this size, which is not 0
@@ -29,8 +29,8 @@ pub record HasRoom (file : Contents) (os : List Contents) (name : List ℕ) (siz
   pub row : Symbol
   pub found : entry_of file.symbols name ≡ Some row
   pub type_bits : row.type_bits ≡ 0o44
-  pub after : data_begins file.header + file.header.data_size ≤ row.value
-  pub before : row.value + size ≤ begins file.header (total BssSeg os) BssSeg
+  pub after : data_base_in file.header + file.header.data_size ≤ row.value
+  pub before : row.value + size ≤ base_in file.header (total BssSeg os) BssSeg
 
 -- where commons are laid out, each has room
 abbrev pub CommonsHaveRoom : Type 0
@@ -61,7 +61,7 @@ PartialMayBeAdded = (forced : List (List ℕ)) (os : List Contents) (o : Choices
 pub record IsShifted (g h : Header) (bss : ℕ) (s t : Symbol) : Type 0 where
   pub name : s.name ≡ t.name
   pub type_bits : s.type_bits ≡ t.type_bits
-  pub value : minus s.value (begins g bss (segment_of s)) ≡ minus t.value (begins h bss (segment_of t))
+  pub value : minus s.value (base_in g bss (segment_of s)) ≡ minus t.value (base_in h bss (segment_of t))
 
 abbrev pub AreShifted : Header → Header → ℕ → List Symbol → List Symbol → Type 0
 AreShifted g h bss [] [] = Unit {0}

@@ -17,7 +17,7 @@ use Rattle.link_session.specs.declared.state.State.TheVariants.{Defined}
 use Rattle.link_out.specs.declared.options.Keep.TheVariants.{Nothing}
 use Rattle.link_out.specs.Choices.{Choices}
 use Rattle.link_out.specs.function.Link.{Outcome, link}
-use Rattle.link_out.specs.relation.Relocated.{carried, entry_of, external_type, segment_words, segment_relocs, IsRelocated, HoldsObjects}
+use Rattle.link_out.specs.relation.Relocated.{move_in, entry_of, external_type, segment_words, segment_relocs, IsRelocated, HoldsObjects}
 
 -- each word of each object is found in the linked file, relocated by what that file's own symbol table says
 abbrev pub WordsAreRelocated : Type 0
@@ -30,12 +30,12 @@ WordsAreRelocated = (forced : List (List ℕ)) (before : List Contents) (k : Con
 abbrev pub ObjectsFill : Type 0
 ObjectsFill = (forced : List (List ℕ)) (os : List Contents) (o : Choices) (x : Outcome) → AllByRecursion IsObject os → link forced os o ≡ Ok x → HoldsObjects x.file os
 
--- the name of a definition has an external symbol, of its segment, whose value is the definition's, carried with its segment
+-- the name of a definition has an external symbol, of its segment, whose value is the definition's, moved with its segment
 pub record IsDefined (file : Contents) (os before : List Contents) (k : Contents) (s : Symbol) : Type 0 where
   pub row : Symbol
   pub found : entry_of file.symbols s.name ≡ Some row
   pub type_bits : row.type_bits ≡ external_type (segment_of s)
-  pub value : row.value ≡ plus s.value (carried file.header os before k (segment_of s))
+  pub value : row.value ≡ plus s.value (move_in file.header os before k (segment_of s))
 
 -- where no name is multiply defined, the linked file has each definition of each object
 abbrev pub DefinitionsHold : Type 0

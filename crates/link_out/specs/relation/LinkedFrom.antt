@@ -16,8 +16,8 @@ use Rattle.link_out.specs.Layouts.{magic_of}
 use Rattle.link_out.specs.KeptSymbols.{rows_kept}
 use Rattle.link_out.specs.Results.{Outcome}
 use Rattle.link_out.specs.function.Link.{link}
-use Rattle.link_out.specs.relation.Relocated.{data_begins, begins, HoldsObjects, IsEntry}
-pub use Rattle.link_out.specs.relation.LinkedTable.{shown, undefined_row, row_for, room_for, AreRows, carried_value, carried_local, carried_locals}
+use Rattle.link_out.specs.relation.Relocated.{data_base_in, base_in, HoldsObjects, IsEntry}
+pub use Rattle.link_out.specs.relation.LinkedTable.{shown, undefined_row, row_for, room_for, AreRows, moved_value_in, moved_local_in, moved_locals_in}
 pub use Rattle.link_out.specs.relation.LinkedWords.{AreRelocated, row_bits, IsNamedBy, AreBits, IsKept, AreKept}
 pub use Rattle.link_out.specs.relation.Reported.{ArePicked, IsOther, IsReported}
 
@@ -27,7 +27,7 @@ pub record HasHeader (o : Choices) (file : Contents) : Type 0 where
   pub symbol_size : file.header.symbol_size ≡ 12 * length file.symbols
   pub unused : file.header.unused ≡ 0
   pub flag : file.header.flag ≡ cond o.relocatable 0 1
-  pub short : data_begins file.header + file.header.data_size + file.header.bss_size ≤ 65535
+  pub short : data_base_in file.header + file.header.data_size + file.header.bss_size ≤ 65535
   pub few : length file.symbols ≤ 5461
 
 -- the file and the report are what linking these objects gives; the rows are those of the externals, which the table has
@@ -37,14 +37,14 @@ pub record IsLinkedFrom (forced : List (List ℕ)) (os : List Contents) (o : Cho
   pub holds : HoldsObjects x.file os
   pub header : HasHeader o x.file
   pub names : map (λ s. s.name) rows ≡ externals forced os
-  pub are_rows : AreRows x.file.header (total BssSeg os) o (mentions forced os) (data_begins x.file.header + x.file.header.data_size) rows (begins x.file.header (total BssSeg os) BssSeg)
-  pub table : x.file.symbols ≡ rows_kept o.keep (carried_locals x.file.header os o ++ rows)
+  pub are_rows : AreRows x.file.header (total BssSeg os) o (mentions forced os) (data_base_in x.file.header + x.file.header.data_size) rows (base_in x.file.header (total BssSeg os) BssSeg)
+  pub table : x.file.symbols ≡ rows_kept o.keep (moved_locals_in x.file.header os o ++ rows)
   pub text : AreRelocated x.file rows os TextSeg
   pub «data» : AreRelocated x.file rows os DataSeg
   pub text_relocs : 2 * length x.file.text_reloc ≡ cond o.relocatable (total TextSeg os) 0
   pub data_relocs : 2 * length x.file.data_reloc ≡ cond o.relocatable (total DataSeg os) 0
-  pub text_kept : o.relocatable ≡ true → AreKept x.file rows (length (carried_locals x.file.header os o)) os TextSeg
-  pub data_kept : o.relocatable ≡ true → AreKept x.file rows (length (carried_locals x.file.header os o)) os DataSeg
+  pub text_kept : o.relocatable ≡ true → AreKept x.file rows (length (moved_locals_in x.file.header os o)) os TextSeg
+  pub data_kept : o.relocatable ≡ true → AreKept x.file rows (length (moved_locals_in x.file.header os o)) os DataSeg
   pub entry : IsEntry rows o.entry x.file.header.entry_point x.report.entry_bad
   pub report : IsReported forced os o x
 

@@ -1,8 +1,8 @@
 -- What becomes of the objects' words, and the entry word, by the header and the external symbols of a linked file. (a.out(5), ld(1))
 --
 -- The header of a linked file tells where its segments begin, and its symbols where each name is. A word that refers to a segment
--- of its object is carried as far as that segment was; a word that refers to a name has the address of the name added; and a word
--- relative to the pc is less by how far it was carried itself. Nothing else is needed to say what linking does to words.
+-- of its object is moved as far as that segment was; a word that refers to a name has the address of the name added; and a word
+-- relative to the pc is less by its own segment's move. Nothing else is needed to say what linking does to words.
 use Rattle.std.specs.Prelude.{◌≡◌, ℕ, ◌+◌, ◌-◌, ◌*◌, ◌/◌, ◌≤◌, ◌⊎◌, false, cond, ◌&&◌, eqb, if◌then◌else◌, List, [], ◌∷◌, length, Option, Some, None, slice_get, bytes_eq}
 use Rattle.aout_core.specs.declared.header.Header.{Header}
 use Rattle.aout_core.specs.declared.symbol.Symbol.{Symbol}
@@ -17,24 +17,24 @@ use Rattle.aout_core.specs.WellFormed.{is_external, masked_type, kind_of, is_pc_
 use Rattle.link_session.specs.Starts.{total, own}
 
 -- where data begins in core, as the magic says
-abbrev pub data_begins : Header → ℕ
-data_begins h =
+abbrev pub data_base_in : Header → ℕ
+data_base_in h =
     if eqb h.magic 0o407 then h.text_size
     else (if eqb h.magic 0o410 then (h.text_size + 0o17777) / 0o20000 * 0o20000
     else 0)
 
 -- where a segment begins in core, by the header and the objects' bytes of bss
-abbrev pub begins : Header → ℕ → Segment → ℕ
-begins h bss DataSeg = data_begins h
-begins h bss BssSeg = data_begins h + h.data_size + (h.bss_size - bss)
-begins h bss _ = 0
+abbrev pub base_in : Header → ℕ → Segment → ℕ
+base_in h bss DataSeg = data_base_in h
+base_in h bss BssSeg = data_base_in h + h.data_size + (h.bss_size - bss)
+base_in h bss _ = 0
 
--- how far a segment of an object is carried, that stands behind the same segment of the objects before it
-abbrev pub carried : Header → List Contents → List Contents → Contents → Segment → ℕ
-carried h os before k TextSeg = minus (begins h (total BssSeg os) TextSeg + total TextSeg before) (own k TextSeg)
-carried h os before k DataSeg = minus (begins h (total BssSeg os) DataSeg + total DataSeg before) (own k DataSeg)
-carried h os before k BssSeg = minus (begins h (total BssSeg os) BssSeg + total BssSeg before) (own k BssSeg)
-carried h os before k _ = 0
+-- how far a segment of an object is moved, that stands behind the same segment of the objects before it
+abbrev pub move_in : Header → List Contents → List Contents → Contents → Segment → ℕ
+move_in h os before k TextSeg = minus (base_in h (total BssSeg os) TextSeg + total TextSeg before) (own k TextSeg)
+move_in h os before k DataSeg = minus (base_in h (total BssSeg os) DataSeg + total DataSeg before) (own k DataSeg)
+move_in h os before k BssSeg = minus (base_in h (total BssSeg os) BssSeg + total BssSeg before) (own k BssSeg)
+move_in h os before k _ = 0
 
 -- the external symbol of a name
 abbrev pub entry_of : List Symbol → List ℕ → Option Symbol
@@ -57,9 +57,9 @@ pub record IsAddressOf (rows : List Symbol) (k : Contents) (number address : ℕ
 abbrev pub IsAdded : Header → List Symbol → List Contents → List Contents → Contents → Option Kind → ℕ → ℕ → Type 0
 IsAdded h rows os before k None number a = ⊥
 IsAdded h rows os before k (Some kinds.Absolute) number a = a ≡ 0
-IsAdded h rows os before k (Some kinds.TextSeg) number a = a ≡ carried h os before k TextSeg
-IsAdded h rows os before k (Some kinds.DataSeg) number a = a ≡ carried h os before k DataSeg
-IsAdded h rows os before k (Some kinds.BssSeg) number a = a ≡ carried h os before k BssSeg
+IsAdded h rows os before k (Some kinds.TextSeg) number a = a ≡ move_in h os before k TextSeg
+IsAdded h rows os before k (Some kinds.DataSeg) number a = a ≡ move_in h os before k DataSeg
+IsAdded h rows os before k (Some kinds.BssSeg) number a = a ≡ move_in h os before k BssSeg
 IsAdded h rows os before k (Some kinds.External) number a = IsAddressOf rows k number a
 
 -- the words, and the relocation words, of a segment
@@ -74,11 +74,11 @@ segment_relocs DataSeg c = c.data_reloc
 segment_relocs _ c = []
 
 -- word i of a segment of k, which is w with relocation word r, stands behind that segment of the objects before k: what
--- `IsAdded` has for r is added to it, and if it is relative to the pc, how far its own segment was carried is subtracted
+-- `IsAdded` has for r is added to it, and if it is relative to the pc, how far its own segment was moved is subtracted
 pub record IsRelocated (file : Contents) (rows : List Symbol) (os before : List Contents) (k : Contents) (segment : Segment) (i w : ℕ) (r : Reloc) : Type 0 where
   pub added : ℕ
   pub is : IsAdded file.header rows os before k (kind_of r) (symbol_number r) added
-  pub word : slice_get (segment_words segment file) (total segment before / 2 + i) ≡ Some (minus (plus w added) (cond (is_pc_relative r) (carried file.header os before k segment) 0))
+  pub word : slice_get (segment_words segment file) (total segment before / 2 + i) ≡ Some (minus (plus w added) (cond (is_pc_relative r) (move_in file.header os before k segment) 0))
 
 -- text and data are as long as the objects' together, so they hold nothing else; bss is at least as long as theirs (the commons
 -- in it are told by `AreRows`)

@@ -1,6 +1,6 @@
 use Rattle.std.proofs.Common.{◌≡◌, ◌+◌, ◌*◌, ◌<◌, ◌++◌, ◌∷◌, [], length, take, vec_len, sym, ap, ◌∙◌, subst, arith, rules, length-take-le}
 use Rattle.std.specs.Slice.Iter.{chunks_exact_rest}
-use Rattle.aout_core.specs.steps.Rows.{row_in}
+use Rattle.aout_core.specs.internal.Rows.{row_in}
 use Rattle.aout_core.proofs.ItemLemmas.{all_read, item_read, none_left, row_in-front}
 use Rattle.aout_core.proofs.item.read_items.Goals as goal
 

@@ -1,6 +1,6 @@
 use Rattle.std.proofs.Common.{◌≡◌, ℕ, ◌+◌, ◌*◌, ◌≤◌, ◌++◌, length, vec_len, vec_capacity}
 use Rattle.std.specs.Slice.Iter.{chunks_exact_rest, chunks_exact_size}
-use Rattle.aout_core.specs.steps.Rows.{row_in}
+use Rattle.aout_core.specs.internal.Rows.{row_in}
 use Rattle.aout_core.proofs.item.read_items.Given as goal
 
 -- so many items are left, and with them the list is complete

@@ -1,5 +1,5 @@
 use Rattle.std.proofs.Common.{◌≡◌, ◌+◌, ◌-◌, ◌≤◌, false, vec_len, vec_capacity}
-use Rattle.aout_core.specs.steps.Rows.{TakesRow}
+use Rattle.aout_core.specs.internal.Rows.{TakesRow}
 use Rattle.aout_core.proofs.item.take_items.Given as goal
 
 -- all items but those that are left were taken, and there is room for these

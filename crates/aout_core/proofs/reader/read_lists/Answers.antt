@@ -2,11 +2,11 @@ use Rattle.std.proofs.Common.{◌≡◌, refl, ◌++◌, ◌*◌, ◌/◌, ap, �
 use Rattle.std.specs.Prelude.{Err, IfErr}
 use Rattle.std.proofs.lemmas.Result.{IfErr-weaker, IfOk-weaker}
 use Rattle.aout_core.specs.Contents.{Contents}
-use Rattle.aout_core.specs.steps.ReadParts.{IsBodyRead}
-use Rattle.aout_core.specs.Front.{symbol_in}
+use Rattle.aout_core.specs.internal.ReadParts.{IsBodyRead}
+use Rattle.aout_core.specs.Decoding.{symbol_in}
 use Rattle.aout_core.specs.Parts.{contents_of}
-use Rattle.aout_core.specs.steps.Blocks.{Awaited, Takes}
-use Rattle.aout_core.specs.steps.Rows.{row_in, word_in, reloc_in}
+use Rattle.aout_core.specs.internal.Blocks.{Awaited, Takes}
+use Rattle.aout_core.specs.internal.Rows.{row_in, word_in, reloc_in}
 use Rattle.aout_core.proofs.BodyLemmas.{AreRows, all_rows, rows_are_body}
 use Rattle.aout_core.proofs.IncomingLemmas.{unread, ends_in_body, takes_more, took_body}
 use Rattle.aout_core.proofs.reader.read_lists.Goals as goal
@@ -124,11 +124,11 @@ returns-clause-value g c =
     (λ done row5.
     let rows : AreRows h row1.bytes row2.bytes row3.bytes row4.bytes row5.bytes read = record {
       header = refl;
-      has_text = row1.spelt ∙ ap (λ l. l ++ row_in word_in 2 (h.text_size / 2) row1.bytes) room.no_text;
-      has_words = row2.spelt ∙ ap (λ l. l ++ row_in word_in 2 (h.data_size / 2) row2.bytes) room.no_data;
-      has_first = row3.spelt ∙ ap (λ l. l ++ row_in reloc_in 2 (c.with_relocation-text_reloc.result / 2) row3.bytes) room.no_text_reloc ∙ ap (λ k. row_in reloc_in 2 (k / 2) row3.bytes) first;
-      has_second = row4.spelt ∙ ap (λ l. l ++ row_in reloc_in 2 (c.with_relocation-data_reloc.result / 2) row4.bytes) room.no_data_reloc ∙ ap (λ k. row_in reloc_in 2 (k / 2) row4.bytes) second;
-      has_table = row5.spelt ∙ ap (λ l. l ++ row_in symbol_in 12 (h.symbol_size / 12) row5.bytes) room.no_symbols;
+      has_text = row1.encoded ∙ ap (λ l. l ++ row_in word_in 2 (h.text_size / 2) row1.bytes) room.no_text;
+      has_words = row2.encoded ∙ ap (λ l. l ++ row_in word_in 2 (h.data_size / 2) row2.bytes) room.no_data;
+      has_first = row3.encoded ∙ ap (λ l. l ++ row_in reloc_in 2 (c.with_relocation-text_reloc.result / 2) row3.bytes) room.no_text_reloc ∙ ap (λ k. row_in reloc_in 2 (k / 2) row3.bytes) first;
+      has_second = row4.encoded ∙ ap (λ l. l ++ row_in reloc_in 2 (c.with_relocation-data_reloc.result / 2) row4.bytes) room.no_data_reloc ∙ ap (λ k. row_in reloc_in 2 (k / 2) row4.bytes) second;
+      has_table = row5.encoded ∙ ap (λ l. l ++ row_in symbol_in 12 (h.symbol_size / 12) row5.bytes) room.no_symbols;
       text_size = row1.size;
       data_size = row2.size;
       first_size = row3.size ∙ ap (λ k. 2 * (k / 2)) first;
@@ -140,6 +140,6 @@ returns-clause-value g c =
     let from_words = takes_more w1 w2 w5 a1 a2 a5 row2.bytes (row3.bytes ++ (row4.bytes ++ row5.bytes)) row2.takes from_first in
     let whole = takes_more (unread n) w1 w5 a0 a1 a5 row1.bytes (row2.bytes ++ (row3.bytes ++ (row4.bytes ++ row5.bytes))) t1 from_words in
     let body = all_rows row1.bytes row2.bytes row3.bytes row4.bytes row5.bytes in
-    let (long, spelt) = rows_are_body h row1.bytes row2.bytes row3.bytes row4.bytes row5.bytes read c.requires.sizes rows in
-    record { body = body; long = long; taken = took_body h n w5 a0 a5 body c.body_size.ensures long whole; spelt = spelt })
+    let (long, encoded) = rows_are_body h row1.bytes row2.bytes row3.bytes row4.bytes row5.bytes read c.requires.sizes rows in
+    record { body = body; long = long; taken = took_body h n w5 a0 a5 body c.body_size.ensures long whole; encoded = encoded })
     c.take_items-5.ensures.value

@@ -1,7 +1,7 @@
 use Rattle.std.proofs.Common.{ap, sym, refl, ◌∙◌, map}
 use Rattle.std.proofs.lemmas.List.{drop_all}
 use Rattle.clap.specs.Simple.{app_of}
-use Rattle.command_words.specs.steps.ToolApps.{tools_added}
+use Rattle.command_words.specs.internal.ToolApps.{tools_added}
 use Rattle.command_words.proofs.ToolLemmas.{adds_named}
 use Rattle.command_words.proofs.words.with_tools.Goals as goal
 

@@ -1,6 +1,6 @@
 use Rattle.std.proofs.Common.{◌≡◌, drop, map}
 use Rattle.clap.specs.Simple.{app_of}
-use Rattle.command_words.specs.steps.ToolApps.{tools_added}
+use Rattle.command_words.specs.internal.ToolApps.{tools_added}
 use Rattle.command_words.proofs.words.with_tools.Given as goal
 
 -- the command so far, with the tools that are left, makes the whole

@@ -3,7 +3,7 @@ use Rattle.std.proofs.lemmas.Grind.{common_steps}
 use Rattle.link_session.specs.Undo.{image_of}
 use Rattle.link_out.specs.function.Plans.{common_size}
 use Rattle.link_out.specs.function.Finals.{final_at}
-use Rattle.link_out.specs.steps.InOrder.{finals_from}
+use Rattle.link_out.specs.internal.InOrder.{finals_from}
 use Rattle.link_out.proofs.InOrderLemmas.{finals_next, some_within}
 use Rattle.link_out.proofs.finals.finals_of.Goals as goal
 

@@ -1,6 +1,6 @@
 use Rattle.std.proofs.Common.{◌≡◌, ◌*◌, ◌≤◌, ◌++◌, drop}
 use Rattle.link_session.specs.Undo.{image_of}
-use Rattle.link_out.specs.steps.InOrder.{finals_from}
+use Rattle.link_out.specs.internal.InOrder.{finals_from}
 use Rattle.link_out.proofs.finals.finals_of.Given as goal
 
 -- what becomes of the names so far, and of those that are left

@@ -1,6 +1,6 @@
 use Rattle.std.proofs.Common.{◌∙◌, sym, ap}
 use Rattle.link_out.specs.function.Reports.{entry_word, entry_found_bad}
-use Rattle.link_out.specs.steps.InOrder.{plan_of}
+use Rattle.link_out.specs.internal.InOrder.{plan_of}
 use Rattle.link_out.proofs.FindingLemmas.{entry_at, entry_nowhere}
 use Rattle.link_out.proofs.findings.entry_point.Goals as goal
 

@@ -1,5 +1,5 @@
 use Rattle.std.proofs.Common.{◌≡◌, ◌+◌, drop}
-use Rattle.link_out.specs.steps.Rows.{count_in}
+use Rattle.link_out.specs.internal.Rows.{count_in}
 use Rattle.link_out.proofs.kept_symbols.count_kept.Given as goal
 
 -- the count so far, and those that are left

@@ -1,6 +1,6 @@
 use Rattle.std.proofs.Common.{◌≡◌, ◌+◌, drop}
 use Rattle.link_session.specs.Labelled.{objects}
-use Rattle.link_out.specs.steps.Rows.{kept_count}
+use Rattle.link_out.specs.internal.Rows.{kept_count}
 use Rattle.link_out.proofs.kept_symbols.count_locals.Given as goal
 
 -- the count so far, and those of the objects that are left

@@ -1,6 +1,6 @@
 use Rattle.std.proofs.Common.{◌+◌, ◌∙◌, drop, sym, ap, arith}
 use Rattle.link_session.specs.Undo.{image_of}
-use Rattle.link_out.specs.steps.InOrder.{room_in}
+use Rattle.link_out.specs.internal.InOrder.{room_in}
 use Rattle.link_out.proofs.InOrderLemmas.{room_next, none_behind}
 use Rattle.link_out.proofs.layout.commons_total.Goals.{in-Some, in_default}
 use Rattle.link_out.proofs.layout.commons_total.Goals as goal

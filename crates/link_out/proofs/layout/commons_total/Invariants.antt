@@ -1,6 +1,6 @@
 use Rattle.std.proofs.Common.{◌≡◌, ◌+◌, ◌*◌, ◌≤◌, drop}
 use Rattle.link_session.specs.Undo.{image_of}
-use Rattle.link_out.specs.steps.InOrder.{room_in}
+use Rattle.link_out.specs.internal.InOrder.{room_in}
 use Rattle.link_out.proofs.layout.commons_total.Given as goal
 
 -- the room so far, and that of the names that are left

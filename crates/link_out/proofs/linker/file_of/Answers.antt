@@ -3,7 +3,7 @@ use Rattle.aout_core.specs.Contents.{Fits}
 use Rattle.aout_core.specs.WellFormed.{IsWellFormed}
 use Rattle.link_session.specs.Labelled.{objects}
 use Rattle.link_session.proofs.AdditionLemmas.{well_formed}
-use Rattle.link_out.specs.steps.InOrder.{plan_of}
+use Rattle.link_out.specs.internal.InOrder.{plan_of}
 use Rattle.link_out.proofs.FitLemmas.{linked_fits}
 use Rattle.link_out.proofs.ObjectLemmas.{linked_object}
 use Rattle.link_out.proofs.linker.file_of.Goals as goal

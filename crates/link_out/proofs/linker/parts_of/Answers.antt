@@ -1,7 +1,7 @@
 use Rattle.std.proofs.Common.{◌≡◌, ◌∙◌, length, sym, refl, ap, rules}
 use Rattle.aout_core.specs.declared.symbol.Segment.TheVariants.{TextSeg, DataSeg}
 use Rattle.link_session.specs.Labelled.{objects}
-use Rattle.link_out.specs.steps.InOrder.{plan_of}
+use Rattle.link_out.specs.internal.InOrder.{plan_of}
 use Rattle.link_out.specs.function.Tables.{table}
 use Rattle.link_out.proofs.FinishLemmas.{near_text, near_data, words_planned, relocs_planned, linked_parts}
 use Rattle.link_out.proofs.linker.parts_of.Goals as goal

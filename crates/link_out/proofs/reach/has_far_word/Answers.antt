@@ -1,6 +1,6 @@
 use Rattle.std.proofs.Common.{◌≡◌, ◌∙◌, ◌||◌, Bool, ap, sym}
 use Rattle.link_session.specs.Labelled.{objects}
-use Rattle.link_out.specs.steps.InOrder.{plan_of}
+use Rattle.link_out.specs.internal.InOrder.{plan_of}
 use Rattle.link_out.specs.function.Tables.{has_far_word}
 use Rattle.link_out.proofs.ReachLemmas.{far_word}
 use Rattle.link_out.proofs.reach.has_far_word.Goals as goal

@@ -2,7 +2,7 @@ use Rattle.std.proofs.Common.{◌≡◌, drop}
 use Rattle.std.specs.List.{list_any}
 use Rattle.link_session.specs.declared.cell.Cell.{Cell}
 use Rattle.link_session.specs.Undo.{image_of}
-use Rattle.link_out.specs.steps.Reach.{is_out}
+use Rattle.link_out.specs.internal.Reach.{is_out}
 use Rattle.link_out.proofs.reach.is_any_out.Given as goal
 
 -- none so far

@@ -1,7 +1,7 @@
 use Rattle.std.proofs.Common.{arith}
 use Rattle.std.proofs.lemmas.Grind.{common_steps}
 use Rattle.link_session.specs.declared.cell.Cell.{Cell}
-use Rattle.link_out.specs.steps.FromCells.{is_far}
+use Rattle.link_out.specs.internal.FromCells.{is_far}
 use Rattle.link_out.proofs.CellRelocLemmas.{none_at}
 use Rattle.link_out.proofs.relocs.relocs_of_cells.Goals as goal
 

@@ -1,6 +1,6 @@
 use Rattle.std.proofs.Common.{◌≡◌, ◌++◌, drop}
 use Rattle.std.specs.Prelude.{map}
-use Rattle.link_out.specs.steps.FromCells.{reloc_of_cell}
+use Rattle.link_out.specs.internal.FromCells.{reloc_of_cell}
 use Rattle.link_out.proofs.relocs.relocs_of_cells.Given as goal
 
 -- the words so far, and those of the cells that are left

@@ -1,5 +1,5 @@
 use Rattle.std.proofs.Common.{◌≡◌, ◌+◌, ◌++◌, ◌∷◌, length, arith, ap, subst, ◌∙◌}
-use Rattle.link_out.specs.steps.Replies.{HasRoom}
+use Rattle.link_out.specs.internal.Replies.{HasRoom}
 use Rattle.link_out.proofs.RunLemmas.{accepted_among, if_error, one_more, one_more_done}
 use Rattle.link_out.proofs.runner.replies_to.Goals as goal
 

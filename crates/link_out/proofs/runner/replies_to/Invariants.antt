@@ -1,6 +1,6 @@
 use Rattle.std.proofs.Common.{◌≡◌, ◌++◌, map, length}
 use Rattle.link_out.specs.Runs.{change_of}
-use Rattle.link_out.specs.steps.Replies.{AreDone, HasRoom}
+use Rattle.link_out.specs.internal.Replies.{AreDone, HasRoom}
 use Rattle.link_out.proofs.runner.replies_to.Given as goal
 
 -- the edits so far are done, and there is room for a reply to each of those left

@@ -2,7 +2,7 @@ use Rattle.std.proofs.Common.{◌≡◌, ◌++◌}
 use Rattle.link_session.specs.Labelled.{objects}
 use Rattle.link_session.specs.Mentions.{mentions}
 use Rattle.link_out.specs.function.Plans.{Plan}
-use Rattle.link_out.specs.steps.FromCells.{finals}
+use Rattle.link_out.specs.internal.FromCells.{finals}
 use Rattle.link_out.specs.function.Tables.{external_rows}
 use Rattle.link_out.proofs.RowLemmas.{externals_behind}
 use Rattle.link_out.proofs.table.put_externals.Given as goal

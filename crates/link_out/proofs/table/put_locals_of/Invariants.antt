@@ -1,5 +1,5 @@
 use Rattle.std.proofs.Common.{◌≡◌, ◌++◌, drop}
-use Rattle.link_out.specs.steps.Rows.{rows_in}
+use Rattle.link_out.specs.internal.Rows.{rows_in}
 use Rattle.link_out.proofs.table.put_locals_of.Given as goal
 
 -- the rows so far, and those of the entries that are left

@@ -1,6 +1,6 @@
 use Rattle.std.proofs.Common.{◌≡◌, ◌<◌, ◌+◌, length, Some, sym, ◌∙◌, subst, ap}
 use Rattle.link_session.specs.declared.mark.Place.{Place}
-use Rattle.link_session.specs.steps.Chains.{Link, link_at, walk}
+use Rattle.link_session.specs.internal.Chains.{Link, link_at, walk}
 use Rattle.link_session.proofs.ChainLemmas.{Walked, begun, step_text, step_data, shorter, ended_text, ended_data}
 use Rattle.link_session.proofs.bind.bind.Goals.{in-InText, in-InData}
 use Rattle.link_session.proofs.bind.bind.Goals as goal

@@ -1,5 +1,5 @@
 use Rattle.std.proofs.Common.{length, ◌+◌}
-use Rattle.link_session.specs.steps.Chains.{walk}
+use Rattle.link_session.specs.internal.Chains.{walk}
 use Rattle.link_session.proofs.ChainLemmas.{Walked}
 use Rattle.link_session.proofs.bind.bind.Given as goal
 

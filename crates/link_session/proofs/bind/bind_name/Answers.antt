@@ -1,6 +1,6 @@
 use Rattle.std.proofs.Common.{None, slice_index_or, sym, subst}
-use Rattle.link_session.specs.steps.Chains.{IsChain, AreChained, marks_of}
-use Rattle.link_session.specs.steps.Restores.{Restores}
+use Rattle.link_session.specs.internal.Chains.{IsChain, AreChained, marks_of}
+use Rattle.link_session.specs.internal.Restores.{Restores}
 use Rattle.link_session.proofs.ChainedLemmas.{cut_one}
 use Rattle.link_session.proofs.RestoreLemmas.{bound_texts, bound_datas, restores_chain}
 use Rattle.link_session.proofs.FewLemmas.{chain_noted}

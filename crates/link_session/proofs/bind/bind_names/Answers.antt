@@ -2,9 +2,9 @@ use Rattle.std.proofs.Common.{get_or, ℕ, ◌≡◌, ◌+◌, ◌∷◌, [], Li
 use Rattle.std.proofs.lemmas.List.{drop_more, drop_all}
 use Rattle.link_session.specs.declared.cell.Cell.{Cell}
 use Rattle.link_session.specs.Image.{state_at}
-use Rattle.link_session.specs.steps.Restores.{LeavesMarks}
-use Rattle.link_session.specs.steps.Settled.{settled_at, settled_over}
-use Rattle.link_session.specs.steps.Threads.{cut_by_state, cut_heads}
+use Rattle.link_session.specs.internal.Restores.{LeavesMarks}
+use Rattle.link_session.specs.internal.Settled.{settled_at, settled_over}
+use Rattle.link_session.specs.internal.Threads.{cut_by_state, cut_heads}
 use Rattle.link_session.proofs.FewLemmas.{noted_then}
 use Rattle.link_session.proofs.NamesLemmas.{all_one, none_left, leaves_then}
 use Rattle.link_session.proofs.bind.bind_names.Goals as goal

@@ -1,5 +1,5 @@
 use Rattle.std.proofs.Common.{◌≡◌, ◌++◌, ◌∷◌, [], length, ◌<◌, ◌≤◌, None, sym, ◌∙◌, ap, rules}
-use Rattle.link_session.specs.steps.Threads.{grown_heads}
+use Rattle.link_session.specs.internal.Threads.{grown_heads}
 use Rattle.link_session.proofs.ThreadLemmas.{grown_by_one, grown_enough}
 use Rattle.link_session.proofs.chain.grow_heads.Goals as goal
 

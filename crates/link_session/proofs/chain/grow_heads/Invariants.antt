@@ -1,6 +1,6 @@
 use Rattle.std.proofs.Common.{◌≡◌, ◌-◌, ◌≤◌}
 use Rattle.std.specs.Prelude.{vec_len, vec_capacity}
-use Rattle.link_session.specs.steps.Threads.{grown_heads}
+use Rattle.link_session.specs.internal.Threads.{grown_heads}
 use Rattle.link_session.proofs.chain.grow_heads.Given as goal
 
 -- those that are left make the same whole; there is room for them

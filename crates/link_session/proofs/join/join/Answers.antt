@@ -6,11 +6,11 @@ use Rattle.aout_core.specs.WellFormed.{is_external}
 use Rattle.link_session.specs.declared.merged.Sizes.{Sizes}
 use Rattle.link_session.specs.Undo.{undo}
 use Rattle.link_session.specs.Image.{Image}
-use Rattle.link_session.specs.steps.Threads.{Threads, cut_heads}
-use Rattle.link_session.specs.steps.Chains.{AreChained}
-use Rattle.link_session.specs.steps.Fields.{image_in, threads_in, sizes_of, threads_by, with_heads_back, IsBehind}
-use Rattle.link_session.specs.steps.Additions.{next_mentions, state_marks, all_mentioned, mentions_by, all_places}
-use Rattle.link_session.specs.steps.Settled.{settled_over}
+use Rattle.link_session.specs.internal.Threads.{Threads, cut_heads}
+use Rattle.link_session.specs.internal.Chains.{AreChained}
+use Rattle.link_session.specs.internal.Fields.{image_in, threads_in, sizes_of, threads_by, with_heads_back, IsBehind}
+use Rattle.link_session.specs.internal.Additions.{next_mentions, state_marks, all_mentioned, mentions_by, all_places}
+use Rattle.link_session.specs.internal.Settled.{settled_over}
 use Rattle.link_session.proofs.JoinLemmas.{entered-is, few_named, few_new, bound-is, heads-are, marks-are, undone, joined-is, joined_threads}
 use Rattle.link_session.proofs.PlacedLemmas.{settled_places, cut_places}
 use Rattle.link_session.proofs.join.join.Goals as goal
@@ -63,26 +63,26 @@ returns-in-Err-clause-err c =
       c.undo.ensures.threads ∙ (λ i. with_heads_back (left i) (threads_by (c.sizes-sizes.ensures i) b v)) ∙ back.1,
     )
 
-pub settle-requires-clause-places : goal.settle-requires-clause-places
-settle-requires-clause-places c =
+pub append_object-requires-clause-places : goal.append_object-requires-clause-places
+append_object-requires-clause-places c =
     let same : c.bind_waiting.new.image.externals.entries ≡ c.enter_all.new.externals.entries = search rules in
     let table : c.symbols.result.now ≡ c.file-file.result.now.symbols = c.symbols.ensures.value in
     let noted : c.enter_all.new.places.items ≡ all_places c.enter_all.new.externals.entries c.symbols.result.now = search rules in
     let lent : c.deref-2.result.now ≡ c.enter_all.new.places.items = c.deref-2.ensures.value in
     lent ∙ noted ∙ (λ i. all_places (sym same i) (table i))
 
-pub settle-requires-clause-text_small : goal.settle-requires-clause-text_small
-settle-requires-clause-text_small c =
+pub append_object-requires-clause-text_small : goal.append_object-requires-clause-text_small
+append_object-requires-clause-text_small c =
     let same : length c.bind_waiting.new.image.text_links.items ≡ length c.args.image.now.text_links.items = search rules in
     omega (arith, same, c.requires.threaded.chained.text, c.requires.small.text)
 
-pub settle-requires-clause-data_small : goal.settle-requires-clause-data_small
-settle-requires-clause-data_small c =
+pub append_object-requires-clause-data_small : goal.append_object-requires-clause-data_small
+append_object-requires-clause-data_small c =
     let same : length c.bind_waiting.new.image.data_links.items ≡ length c.args.image.now.data_links.items = search rules in
     omega (arith, same, c.requires.threaded.chained.data, c.requires.small.data)
 
-pub settle-requires-clause-heads_room : goal.settle-requires-clause-heads_room
-settle-requires-clause-heads_room c =
+pub append_object-requires-clause-heads_room : goal.append_object-requires-clause-heads_room
+append_object-requires-clause-heads_room c =
     let m = image_in c.args.image.now in
     let o = c.args.object.now in
     let e = entered-is m (image_in c.make_room.new.image) o c.file-file.result.now c.next_shifts-shifts.result c.symbols.result.now c.enter_all.new.externals.entries c.enter_all.new.multiples.items
@@ -108,7 +108,7 @@ returns-clause-image c =
     let datas = c.in_default.ensures.datas ∙ ap (λ (l : List ℕ). map (settled_over n.externals l) n.data_cells) places ∙ settled_places n.externals few c.symbols.result.now n.data_cells in
     let table : c.symbols.result.now ≡ o.symbols = c.symbols.ensures.value ∙ ap (λ (f : Contents). f.symbols) c.file-file.ensures.value in
     let bound = bound-is m n o c.symbols.result.now e table c.requires.covered b c.bind_waiting.ensures.else_same texts datas in
-    joined-is m b o c.file-file.result.now c.next_shifts-shifts.result bound c.file-file.ensures.value c.next_shifts-shifts.ensures (image_in c.settle.new.image) c.settle.ensures.image
+    joined-is m b o c.file-file.result.now c.next_shifts-shifts.result bound c.file-file.ensures.value c.next_shifts-shifts.ensures (image_in c.append_object.new.image) c.append_object.ensures.image
 
 pub returns-clause-threads : goal.returns-clause-threads
 returns-clause-threads c =
@@ -129,7 +129,7 @@ returns-clause-threads c =
     let table : c.symbols.result.now ≡ o.symbols = c.symbols.ensures.value ∙ ap (λ (f : Contents). f.symbols) c.file-file.ensures.value in
     let bound = bound-is m n o c.symbols.result.now e table c.requires.covered b c.bind_waiting.ensures.else_same texts datas in
     let heads = heads-are m n o c.symbols.result.now e table t u v c.make_room.ensures.threads c.bind_waiting.ensures.links cut in
-    joined_threads m b o c.file-file.result.now c.next_shifts-shifts.result bound c.file-file.ensures.value c.next_shifts-shifts.ensures t v (threads_in c.settle.new.image) heads c.settle.ensures.threads
+    joined_threads m b o c.file-file.result.now c.next_shifts-shifts.result bound c.file-file.ensures.value c.next_shifts-shifts.ensures t v (threads_in c.append_object.new.image) heads c.append_object.ensures.threads
 
 pub returns-clause-marks : goal.returns-clause-marks
 returns-clause-marks c =

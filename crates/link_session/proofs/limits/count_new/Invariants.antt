@@ -1,6 +1,6 @@
 use Rattle.std.proofs.Common.{◌≡◌, ◌+◌, ◌++◌, drop, take}
 use Rattle.std.specs.Map.{keys_of}
-use Rattle.link_session.specs.steps.Additions.{external_names, new_count}
+use Rattle.link_session.specs.internal.Additions.{external_names, new_count}
 use Rattle.link_session.proofs.limits.count_new.Given as goal
 
 -- the count so far, and what is left to count

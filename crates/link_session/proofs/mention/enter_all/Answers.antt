@@ -1,7 +1,7 @@
 use Rattle.std.proofs.Common.{◌≡◌, ℕ, ◌++◌, List, length, drop, ap, sym, ◌∙◌, arith}
 use Rattle.std.proofs.lemmas.Grind.{common_steps}
 use Rattle.link_session.specs.Image.{Named}
-use Rattle.link_session.specs.steps.Additions.{all_mentioned, mentions_by, all_places}
+use Rattle.link_session.specs.internal.Additions.{all_mentioned, mentions_by, all_places}
 use Rattle.link_session.proofs.MentionedLemmas.{length-all_mentioned}
 use Rattle.link_session.proofs.PlacedLemmas.{noted_places, noted-all}
 use Rattle.link_session.proofs.mention.enter_all.Goals as goal

@@ -2,7 +2,7 @@ use Rattle.std.proofs.Common.{◌≡◌, ◌+◌, ◌≤◌, ◌++◌, drop, len
 use Rattle.std.specs.Prelude.{filter, vec_len, vec_capacity}
 use Rattle.indexmap.specs.IndexMap.{spare}
 use Rattle.aout_core.specs.WellFormed.{is_external}
-use Rattle.link_session.specs.steps.Additions.{all_mentioned, all_clashes, state_marks, mentions_by}
+use Rattle.link_session.specs.internal.Additions.{all_mentioned, all_clashes, state_marks, mentions_by}
 use Rattle.link_session.proofs.PlacedLemmas.{noted_places}
 use Rattle.link_session.proofs.mention.enter_all.Given as goal
 

@@ -5,8 +5,8 @@ use Rattle.std.specs.Map.{keys_of, lookup}
 use Rattle.indexmap.specs.IndexMap.{insert_entry, set_value_at}
 use Rattle.link_session.specs.declared.state.State.{State}
 use Rattle.link_session.specs.Image.{Named}
-use Rattle.link_session.specs.steps.Additions.{state_for}
-use Rattle.link_session.specs.steps.Updates.{updated}
+use Rattle.link_session.specs.internal.Additions.{state_for}
+use Rattle.link_session.specs.internal.Updates.{updated}
 use Rattle.link_session.proofs.PlaceLemmas.{place_is, known_state, unknown_state, written_again}
 use Rattle.link_session.proofs.UpdateLemmas.{says_alone}
 use Rattle.link_session.proofs.mention.update.Goals as goal

@@ -1,8 +1,8 @@
 use Rattle.std.proofs.Common.{◌+◌, ◌-◌, take, length, ap, sym, ◌∙◌}
 use Rattle.link_session.specs.Image.{Image}
 use Rattle.link_session.specs.Undo.{put_all_back}
-use Rattle.link_session.specs.steps.Threads.{Threads}
-use Rattle.link_session.specs.steps.Fields.{image_in, threads_in, with_heads_back}
+use Rattle.link_session.specs.internal.Threads.{Threads}
+use Rattle.link_session.specs.internal.Fields.{image_in, threads_in, with_heads_back}
 use Rattle.link_session.proofs.PutBackLemmas.{put_next, head_next}
 use Rattle.link_session.proofs.merged.undo.Goals as goal
 

@@ -3,8 +3,8 @@ use Rattle.std.specs.Prelude.{vec_len, vec_capacity}
 use Rattle.std.proofs.lemmas.List.{length-map}
 use Rattle.link_session.specs.Mentions.{Mention, forced_mention, names_of}
 use Rattle.link_session.specs.Image.{Named}
-use Rattle.link_session.specs.steps.Additions.{all_mentioned}
-use Rattle.link_session.specs.steps.Threads.{grown_heads}
+use Rattle.link_session.specs.internal.Additions.{all_mentioned}
+use Rattle.link_session.specs.internal.Threads.{grown_heads}
 use Rattle.link_session.proofs.LimitLemmas.{length-new_names}
 use Rattle.link_session.proofs.MentionedLemmas.{length-all_mentioned}
 use Rattle.link_session.proofs.HeadLemmas.{grown_none}

@@ -1,7 +1,7 @@
 use Rattle.std.proofs.Common.{◌≡◌, ◌≤◌, drop, length, map}
 use Rattle.indexmap.specs.IndexMap.{spare}
 use Rattle.link_session.specs.Mentions.{forced_mention}
-use Rattle.link_session.specs.steps.Additions.{all_mentioned}
+use Rattle.link_session.specs.internal.Additions.{all_mentioned}
 use Rattle.link_session.proofs.session.force_names.Given as goal
 
 -- the names so far, with those that are left, make the whole

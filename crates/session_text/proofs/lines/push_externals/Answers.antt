@@ -9,6 +9,6 @@ use Rattle.session_text.proofs.lines.push_externals.Goals as goal
 pub loop-index-preserved : goal.loop-index-preserved
 loop-index-preserved c =
     let es = (image_of c.args.session.now).externals in
-    let spelling = λ (_ : ℕ) (e : List ℕ × State). external_line e in
-    one_more_at spelling es c.loop-index.index (c.unwrap-name.result.0, c.unwrap-name.result.1) (c.args.text.now.items ++ each spelling es) c.loop-index.text.items c.push_external.new.text.items
+    let encoding = λ (_ : ℕ) (e : List ℕ × State). external_line e in
+    one_more_at encoding es c.loop-index.index (c.unwrap-name.result.0, c.unwrap-name.result.1) (c.args.text.now.items ++ each encoding es) c.loop-index.text.items c.push_external.new.text.items
     (sym c.external.ensures ∙ c.unwrap-name.ensures) c.loop-index.invariant c.in_ok-push_external.ensures

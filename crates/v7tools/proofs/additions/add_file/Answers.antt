@@ -1,5 +1,5 @@
 use Rattle.std.proofs.Common.{sym, subst, ◌∙◌}
-use Rattle.v7tools.specs.steps.StepParts.{IsAddition}
+use Rattle.v7tools.specs.internal.StepParts.{IsAddition}
 use Rattle.v7tools.proofs.AdditionLemmas.{carried, addition_unread, addition_unchecked, addition_of_object, read_object}
 use Rattle.v7tools.proofs.additions.add_file.Goals as goal
 
@@ -10,7 +10,7 @@ returns-in_err-path-clause-value g c =
     let left = g.R.Read.remaining c.load.new.wire.device in
     let old = c.args.session.now in
     subst (IsAddition known old old c.args.path) (sym (carried c.from_residual.result e c.from_residual.ensures.1))
-    (addition_unread known left old c.args.path e c.in_err-path.ensures.path c.in_err-path.ensures.front)
+    (addition_unread known left old c.args.path e c.in_err-path.ensures.path c.in_err-path.ensures.decodes)
 
 pub returns-in_err-path-2-clause-value : goal.returns-in_err-path-2-clause-value
 returns-in_err-path-2-clause-value g c =
@@ -20,7 +20,7 @@ returns-in_err-path-2-clause-value g c =
     let old = c.args.session.now in
     let read = c.in_ok-path in
     subst (IsAddition known old old c.args.path) (sym (carried c.from_residual-in_err-path-2.result e c.from_residual-in_err-path-2.ensures.1))
-    (addition_unchecked known left old c.args.path read.path read.file e read.ensures.path read.ensures.front c.in_err-path-2.ensures)
+    (addition_unchecked known left old c.args.path read.path read.file e read.ensures.path read.ensures.decodes c.in_err-path-2.ensures)
 
 pub returns-clause-value : goal.returns-clause-value
 returns-clause-value g c =
@@ -28,5 +28,5 @@ returns-clause-value g c =
     let left = g.R.Read.remaining c.load.new.wire.device in
     let read = c.in_ok-path in
     let checked = c.in_ok-path-2 in
-    let found = read_object known left read.path checked.path read.file checked.object read.ensures.front checked.ensures in
+    let found = read_object known left read.path checked.path read.file checked.object read.ensures.decodes checked.ensures in
     addition_of_object known c.args.session.now c.add_object.new.session c.args.path checked.path checked.object c.add_object.result found (checked.ensures.0 ∙ read.ensures.path) c.add_object.ensures

@@ -1,7 +1,7 @@
 use Rattle.std.proofs.Common.{rules, ◌≡◌, [], ◌∷◌, ◌++◌, map, sym, subst}
-use Rattle.v7tools.specs.steps.Openings.{IsLoading}
+use Rattle.v7tools.specs.internal.Openings.{IsLoading}
 use Rattle.v7tools.specs.FileRuns.{Reads}
-use Rattle.v7tools.proofs.DeedLemmas.{passed_on}
+use Rattle.v7tools.proofs.EventLemmas.{passed_on}
 use Rattle.v7tools.proofs.FileRunLemmas.{paths_more, reads_more, stops_reading}
 use Rattle.v7tools.proofs.file_commands.load_all.Goals as goal
 

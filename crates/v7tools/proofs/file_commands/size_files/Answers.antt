@@ -2,7 +2,7 @@ use Rattle.std.proofs.Common.{rules, ◌≡◌, refl, subst, inl, inr}
 use Rattle.symtools.specs.Files.{by_bytes}
 use Rattle.symtools.specs.SizeLines.{size_text}
 use Rattle.v7tools.specs.FileRuns.{Lists, OnlyWriteFailed}
-use Rattle.v7tools.proofs.DeedLemmas.{passed_on}
+use Rattle.v7tools.proofs.EventLemmas.{passed_on}
 use Rattle.v7tools.proofs.file_commands.size_files.Goals as goal
 
 pub returns-in_err-loaded-clause-run : goal.returns-in_err-loaded-clause-run

@@ -1,5 +1,5 @@
 use Rattle.std.proofs.Common.{inl, inr}
-use Rattle.v7tools.proofs.DeedLemmas.{passed_on}
+use Rattle.v7tools.proofs.EventLemmas.{passed_on}
 use Rattle.v7tools.proofs.file_commands.strip_files.Goals as goal
 
 pub returns-in_err-loaded-clause-run : goal.returns-in_err-loaded-clause-run

@@ -1,5 +1,5 @@
 use Rattle.std.proofs.Common.{rules, ◌≡◌, refl, string_bytes}
-use Rattle.v7tools.proofs.DeedLemmas.{passed_on, stored_at}
+use Rattle.v7tools.proofs.EventLemmas.{passed_on, stored_at}
 use Rattle.v7tools.proofs.LinkRunLemmas.{no_link, not_opened, stores_link}
 use Rattle.v7tools.proofs.link_command.link_files.Goals as goal
 

@@ -1,7 +1,7 @@
 use Rattle.std.proofs.Common.{◌≡◌, ◌+◌, ◌≤◌, ◌++◌, map, length, vec_len, vec_capacity}
 use Rattle.std.specs.List.{AllByRecursion}
-use Rattle.v7tools.specs.Deeds.{Extends, opens}
-use Rattle.v7tools.specs.steps.Openings.{sources, IsWorking}
+use Rattle.v7tools.specs.Events.{Extends, opens}
+use Rattle.v7tools.specs.internal.Openings.{sources, IsWorking}
 use Rattle.v7tools.proofs.link_command.open_all.Given as goal
 
 -- the files so far were opened, and there is room for those that are left

@@ -3,7 +3,7 @@ use Rattle.std.specs.Io.KnownBytes.{Appends}
 use Rattle.aout_core.specs.Wires.{AppendsPrefix}
 use Rattle.aout_core.proofs.PutsLemmas.{writes_in_part}
 use Rattle.link_session.specs.Undo.{image_of}
-use Rattle.v7tools.specs.steps.StepParts.{missing_line}
+use Rattle.v7tools.specs.internal.StepParts.{missing_line}
 use Rattle.v7tools.proofs.ListingLemmas.{sent_next, stops_next, sent_all, missing-text}
 use Rattle.v7tools.proofs.listings.put_undefined.Goals as goal
 

@@ -1,5 +1,5 @@
 use Rattle.std.proofs.Common.{rules}
 use Rattle.v7tools.proofs.loading.load.Goals as goal
 
-pub returns-in-Err-Memory-clause-front : goal.returns-in-Err-Memory-clause-front
-returns-in-Err-Memory-clause-front g c = search rules
+pub returns-in-Err-Memory-clause-decodes : goal.returns-in-Err-Memory-clause-decodes
+returns-in-Err-Memory-clause-decodes g c = search rules

@@ -4,7 +4,7 @@ use Rattle.scripts.specs.declared.lines.Line.{Line}
 use Rattle.v7tools.specs.ScriptCalls.{returned}
 use Rattle.v7tools.specs.SessionRuns.{lines_asked}
 use Rattle.v7tools.specs.declared.fault.CliFault.{CliFault}
-use Rattle.v7tools.proofs.DeedLemmas.{passed_on}
+use Rattle.v7tools.proofs.EventLemmas.{passed_on}
 use Rattle.v7tools.proofs.ScriptCallLemmas.{gave_end, gave_line}
 use Rattle.v7tools.proofs.SessionRunLemmas.{all_run, broke_off, larger_small, left_of, reads_ended, reads_fault, reads_given, run_up_to, runs_more, runs_none, stays_alone}
 use Rattle.v7tools.proofs.session_command.answer_lines.Goals as goal

@@ -1,7 +1,7 @@
 use Rattle.std.proofs.Common.{ap, subst, ◌∙◌}
 use Rattle.scripts.specs.ScriptAnswers.{Progress}
 use Rattle.v7tools.specs.SessionRuns.{IsSessionRun}
-use Rattle.v7tools.proofs.DeedLemmas.{passed_on}
+use Rattle.v7tools.proofs.EventLemmas.{passed_on}
 use Rattle.v7tools.proofs.SessionRunLemmas.{no_memory}
 use Rattle.v7tools.proofs.session_command.answer_reader.Goals as goal
 

@@ -2,7 +2,7 @@ use Rattle.std.proofs.Common.{sym, ap, refl, ◌∙◌}
 use Rattle.link_out.specs.Outcomes.{outcome_of}
 use Rattle.v7tools.specs.SessionSteps.{verdict_of}
 use Rattle.v7tools.specs.declared.commands.Step.TheVariants.{Done, Refused}
-use Rattle.v7tools.proofs.DeedLemmas.{passed_on}
+use Rattle.v7tools.proofs.EventLemmas.{passed_on}
 use Rattle.v7tools.proofs.LineRunLemmas.{plain_stores, tells_fault, tells_status}
 use Rattle.v7tools.proofs.session_command.take_step.Goals as goal
 

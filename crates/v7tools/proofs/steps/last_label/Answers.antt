@@ -1,6 +1,6 @@
 use Rattle.std.proofs.Common.{◌≡◌, ◌-◌, ◌∙◌, Some, length, sym, ap, rules}
 use Rattle.std.specs.Prelude.{slice_get}
-use Rattle.v7tools.specs.steps.StepParts.{label_of}
+use Rattle.v7tools.specs.internal.StepParts.{label_of}
 use Rattle.v7tools.proofs.StepLemmas.{last_of-slice_get}
 use Rattle.v7tools.proofs.steps.last_label.Goals as goal
 

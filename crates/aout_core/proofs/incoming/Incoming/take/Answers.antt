@@ -3,7 +3,7 @@ use Rattle.std.proofs.lemmas.List.{drop_all, take_rest}
 use Rattle.std.specs.Prelude.{Err, IfErr}
 use Rattle.std.specs.Io.KnownBytes.{prepend_known}
 use borrow.Rule.Slice.PartMut.{post_of}
-use Rattle.aout_core.specs.steps.Blocks.{Awaited, awaited, EndsBefore, Refills, Takes}
+use Rattle.aout_core.specs.internal.Blocks.{Awaited, awaited, EndsBefore, Refills, Takes}
 use Rattle.aout_core.proofs.IncomingLemmas.{taken_at_once, taken_in_two, ends_behind_waiting}
 use Rattle.aout_core.proofs.incoming.Incoming.take.Goals as goal
 

@@ -1,6 +1,6 @@
 use Rattle.std.proofs.Common.{ℕ, List, position, ap, ◌∙◌}
 use Rattle.std.specs.Prelude.{bytes_eq}
-use Rattle.link_session.specs.steps.Fields.{image_in, threads_in}
+use Rattle.link_session.specs.internal.Fields.{image_in, threads_in}
 use Rattle.link_session.specs.Labelled.{objects}
 use Rattle.link_session.specs.Mentions.{externals}
 use Rattle.link_session.proofs.SessionLemmas.{externals-fields}
@@ -10,12 +10,12 @@ pub returns-in-Some : goal.returns-in-Some
 returns-in-Some c =
     c.in-Some.ensures.index
     ∙ ap (λ (names : List (List ℕ)). position (bytes_eq c.args.name.now) names)
-    (externals-fields c.self.inside.forced c.self.inside.entries.items c.self.inside.steps.items (image_in c.self.inside.image) (threads_in c.self.inside.image) c.self.invariant)
+    (externals-fields c.self.inside.forced c.self.inside.entries.items c.self.inside.undo_records.items (image_in c.self.inside.image) (threads_in c.self.inside.image) c.self.invariant)
     ∙ (λ i. position (bytes_eq c.args.name.now) (externals (c.self.view_is i).forced (objects (c.self.view_is i).entries)))
 
 pub returns-in-None : goal.returns-in-None
 returns-in-None c =
     c.in-None.ensures.index
     ∙ ap (λ (names : List (List ℕ)). position (bytes_eq c.args.name.now) names)
-    (externals-fields c.self.inside.forced c.self.inside.entries.items c.self.inside.steps.items (image_in c.self.inside.image) (threads_in c.self.inside.image) c.self.invariant)
+    (externals-fields c.self.inside.forced c.self.inside.entries.items c.self.inside.undo_records.items (image_in c.self.inside.image) (threads_in c.self.inside.image) c.self.invariant)
     ∙ (λ i. position (bytes_eq c.args.name.now) (externals (c.self.view_is i).forced (objects (c.self.view_is i).entries)))

@@ -4,7 +4,7 @@ use Rattle.std.specs.Io.KnownBytes.{prepend_known}
 use Rattle.scripts.specs.Scripts.{asked}
 use Rattle.scripts.specs.ScriptAnswers.{asked_by, IfTold, IsNextOf, NamesPath}
 use Rattle.scripts.specs.declared.line_reader.Stop.TheVariants.{Memory}
-use Rattle.scripts.specs.steps.LineParts.{IsTakenOf}
+use Rattle.scripts.specs.internal.LineParts.{IsTakenOf}
 use Rattle.scripts.proofs.ScriptLemmas.{told_map, failed_as, line_answered, lost_told, stop_told}
 use Rattle.scripts.proofs.line_reader.LineReader.next_line.Goals as goal
 

@@ -1,5 +1,0 @@
--- Steps of the code: what its loops and private functions do. No contract of a public function leads here.
-pub mod NameBytes
-pub mod Blocks
-pub mod Rows
-pub mod ReadParts

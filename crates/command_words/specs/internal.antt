@@ -1,0 +1,4 @@
+-- Definitions for the code alone: what its private functions do. No contract of a public function leads here.
+pub mod ToolCalls
+pub mod FlagRules
+pub mod ToolApps

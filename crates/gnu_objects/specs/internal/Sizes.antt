@@ -1,0 +1,16 @@
+-- Headers in which nothing is wrong.
+use Rattle.std.specs.Prelude.{◌≡◌, ℕ, ◌%◌, ◌≤◌}
+use Rattle.aout_core.specs.declared.header.Header.{Header}
+use Rattle.aout_core.specs.Encoding.{file_length}
+
+-- segments of whole words
+pub record HasWholeSizes (h : Header) : Type 0 where
+  pub text : h.text_size % 2 ≡ 0
+  pub «data» : h.data_size % 2 ≡ 0
+  pub bss : h.bss_size % 2 ≡ 0
+
+-- the header of an object, in a file of so many bytes
+pub record IsObjectHeader (size : ℕ) (h : Header) : Type 0 where
+  pub magic : h.magic ≡ 0o407
+  pub sizes : HasWholeSizes h
+  pub long : file_length h ≤ size

@@ -1,0 +1,25 @@
+-- Edits that were made, the numbers that reply to them, and the state of a session.
+use Rattle.std.specs.Prelude.{◌≡◌, ℕ, List, map}
+use Rattle.link_session.specs.Edits.{Change, kept_after, answer_to, survivors_from, answers_from}
+use Rattle.link_session.specs.Labelled.{objects}
+use Rattle.link_session.specs.Undo.{Kept, IsJournal}
+use Rattle.library_calls.specs.declared.state_call.Form.{Form}
+use Rattle.library_calls.specs.SessionAnswers.{reply_number}
+use Rattle.library_calls.specs.StateAnswers.{encoded_in}
+
+-- an edit was made, and the number replies to it
+pub record IsEdited (old new : Kept) (change : Change) (number : ℕ) : Type 0 where
+  pub forced : new.forced ≡ old.forced
+  pub kept : new.entries ≡ kept_after old.forced old.entries change
+  pub reply : number ≡ reply_number (answer_to old.forced old.entries change)
+
+-- edits were made in order, and the numbers reply to them
+pub record AreEdited (old new : Kept) (changes : List Change) (numbers : List ℕ) : Type 0 where
+  pub forced : new.forced ≡ old.forced
+  pub kept : new.entries ≡ survivors_from old.forced old.entries changes
+  pub replies : numbers ≡ map reply_number (answers_from old.forced old.entries changes)
+
+-- the state of a session, whose marks take its objects back
+pub record ShowsFrom (form : Form) (s : Kept) (state : List ℕ) : Type 0 where
+  pub undoes : IsJournal s.forced (objects s.entries) s.journal
+  pub encoded : state ≡ encoded_in form s

@@ -1,0 +1,9 @@
+-- Definitions for the code alone: what its loops and private functions do. No contract of a public function leads here.
+pub mod Entries
+pub mod FromCells
+pub mod InOrder
+pub mod Passes
+pub mod Reach
+pub mod Rows
+pub mod Replies
+pub mod ReportParts

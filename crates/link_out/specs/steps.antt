@@ -1,9 +1,0 @@
--- Steps of the code: what its loops and private functions do. No contract of a public function leads here.
-pub mod Entries
-pub mod FromCells
-pub mod InOrder
-pub mod Passes
-pub mod Reach
-pub mod Rows
-pub mod Replies
-pub mod ReportParts

@@ -1,0 +1,10 @@
+-- Definitions for the code alone: what its loops and private functions do. No contract of a public function leads here.
+pub mod ForcedSlots
+pub mod Updates
+pub mod Additions
+pub mod Chains
+pub mod Settled
+pub mod Counts
+pub mod Threads
+pub mod Restores
+pub mod Fields

@@ -1,0 +1,67 @@
+-- Histories that grow.
+use Rattle.std.specs.declared.alloc.Global.{Global}
+use Rattle.std.proofs.Common.{◌≡◌, ℕ, List, [], ◌∷◌, ◌++◌, map, Option, Some, None, Result, Ok, Err, refl, sym, ap, ◌∙◌, subst}
+use Rattle.std.proofs.lemmas.List.{append-nil, append_assoc}
+use Rattle.std.specs.Prelude.{IsErrAnd, String, string_bytes}
+use Rattle.v7tools.specs.declared.fault.CliFault.{CliFault}
+use Rattle.std.specs.List.{AllByRecursion}
+use Rattle.aout_core.specs.Wires.{Latched}
+use Rattle.aout_core.specs.Contents.{Contents}
+use Rattle.v7tools.specs.Events.{Event, History, Extends, opened, opens, paths_of, stored}
+use Rattle.v7tools.specs.declared.office.Stored.{Stored}
+use Rattle.v7tools.specs.internal.Openings.{sources}
+use Rattle.v7tools.specs.LinkRuns.{StopsAt}
+
+pub nothing_asked : (a : History) → Extends a a []
+nothing_asked None = tt
+nothing_asked (Some xs) = sym (append-nil xs)
+
+pub asked_behind : (a b c : History) (first then : List Event) → Extends a b first → Extends b c then → Extends a c (first ++ then)
+asked_behind None b c first then h k = tt
+asked_behind (Some xs) None c first then h k = absurd h
+asked_behind (Some xs) (Some ys) None first then h k = absurd k
+asked_behind (Some xs) (Some ys) (Some zs) first then h k = k ∙ ap (λ (l : List Event). l ++ then) h ∙ append_assoc xs first then
+
+pub map-append : {A B : Type 0} (f : A → B) (xs ys : List A) → map f (xs ++ ys) ≡ map f xs ++ map f ys
+map-append f [] ys = refl
+map-append {A} {B} f (x ∷ xs) ys = ap (λ (l : List B). f x ∷ l) (map-append f xs ys)
+
+pub all_behind : {A : Type 0} (P : A → Type 0) (xs : List A) (x : A) → AllByRecursion P xs → P x → AllByRecursion P (xs ++ x ∷ [])
+all_behind P [] x h p = (p, tt)
+all_behind P (y ∷ ys) x h p = (h.0, all_behind P ys x h.1 p)
+
+-- none are left
+pub no_more : {A : Type 0} (all before left : List A) → all ≡ before ++ left → left ≡ [] → all ≡ before
+no_more {A} all before left h e = h ∙ ap (λ (l : List A). before ++ l) e ∙ append-nil before
+
+module _ {R : Type 0} (remaining : R → Option (List ℕ)) where
+  -- one more file is opened
+  pub opens_more : (a b c : History) (inputs : List (String Global × Latched R)) (i : String Global × Latched R) → Extends a b (opens (sources remaining inputs)) →
+      Extends b c (opened (string_bytes i.0) (Some (remaining i.1.device)) ∷ []) → Extends a c (opens (sources remaining (inputs ++ i ∷ [])))
+  opens_more a b c inputs i h k =
+      subst (Extends a c) (sym (ap opens (map-append _ inputs (i ∷ [])) ∙ map-append _ (sources remaining inputs) _)) (asked_behind a b c _ _ h k)
+
+  -- the paths of the files that were opened
+  pub paths_opened : (inputs : List (String Global × Latched R)) → map string_bytes (map (λ i. i.0) inputs) ≡ paths_of (sources remaining inputs)
+  paths_opened [] = refl
+  paths_opened (i ∷ is) = ap (λ (l : List (List ℕ)). string_bytes i.0 ∷ l) (paths_opened is)
+
+  pub stops_at : (a b c : History) (files left later : List (String Global)) (path : String Global) (inputs : List (String Global × Latched R)) → Extends a b (opens (sources remaining inputs)) →
+      files ≡ map (λ i. i.0) inputs ++ left → left ≡ path ∷ later → Extends b c (opened (string_bytes path) None ∷ []) → StopsAt a c (map string_bytes files) (string_bytes path)
+  stops_at a b c files left later path inputs h order e k = record {
+    found = sources remaining inputs;
+    rest = map string_bytes later;
+    order = ap (map string_bytes) (order ∙ ap (λ (l : List (String Global)). map (λ i. i.0) inputs ++ l) e) ∙ map-append string_bytes (map (λ i. i.0) inputs) (path ∷ later) ∙ ap (λ (l : List (List ℕ)). l ++ string_bytes path ∷ map string_bytes later) (paths_opened inputs);
+    asked = asked_behind a b c _ _ h k;
+  }
+
+pub opened_at : (b c : History) (at path : List ℕ) (came known : Option (Option (List ℕ))) → Extends b c (opened at came ∷ []) → at ≡ path → came ≡ known → Extends b c (opened path known ∷ [])
+opened_at b c at path came known h p k = rw (sym p, sym k) h
+
+pub stored_at : (b c : History) (at path : List ℕ) (file : Contents) (what : Stored) → Extends b c (stored at file what ∷ []) → at ≡ path → Extends b c (stored path file what ∷ [])
+stored_at b c at path file what h p = rw (sym p) h
+
+-- a fault that is passed on as it is
+pub passed_on : {A : Type 0} (r : Result A CliFault) (fault : CliFault) → IsErrAnd r (λ e. e ≡ fault) → r ≡ Err fault
+passed_on (Ok x) fault h = absurd h
+passed_on {A} (Err e) fault h = ap (λ (f : CliFault). let err : Result A CliFault = Err f in err) h

@@ -1,0 +1,6 @@
+-- Definitions for the code alone: what its private functions do. No contract of a public function leads here.
+pub mod StepParts
+pub mod InputParts
+pub mod Openings
+pub mod SessionParts
+pub mod FaultParts

@@ -1,0 +1,16 @@
+-- The text of a fault, by its parts.
+use Rattle.std.specs.Prelude.{ℕ, List, [], ◌++◌, codes, decimal, Option, Some, None}
+use Rattle.std.specs.Borrow.{Bor}
+use Rattle.v7tools.specs.declared.fault_text.FaultText.{FaultText}
+
+-- a path and `: `, if there is a path
+abbrev pub path_text : Option (Bor (List ℕ)) → List ℕ
+path_text (Some path) = path.now ++ codes ": "
+path_text None = []
+
+abbrev pub index_text : Option ℕ → List ℕ
+index_text (Some index) = decimal index
+index_text None = []
+
+abbrev pub text_of : FaultText → List ℕ
+text_of text = path_text text.path ++ text.words.now ++ index_text text.index

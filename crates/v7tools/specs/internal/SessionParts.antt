@@ -1,0 +1,48 @@
+-- How a session answers a line: the file that is opened, the step that is taken, and what goes out.
+use Rattle.std.specs.Prelude.{◌≡◌, ◌↔◌, ℕ, false, List, [], ◌∷◌, Option, Some, None, Result, IfErr, IfOk, IsErr, IsTrue}
+use Rattle.aout_core.specs.Wires.{Latched, Puts}
+use Rattle.link_session.specs.Undo.{Kept}
+use Rattle.link_out.specs.Choices.{Choices}
+use Rattle.v7tools.specs.Answers.{Stepped}
+use Rattle.v7tools.specs.Events.{History, Extends, opened}
+use Rattle.scripts.specs.Scripts.{Asked}
+use Rattle.v7tools.specs.SessionSteps.{Changes, IsStepOn}
+use Rattle.v7tools.specs.declared.commands.Command.{Command}
+use Rattle.v7tools.specs.declared.commands.Command.TheVariants.{Link}
+use Rattle.v7tools.specs.declared.fault.CliFault.{CliFault}
+use Rattle.v7tools.specs.declared.fault.CliFault.TheVariants as faults
+use Rattle.v7tools.specs.LineRuns.{LineRun, IsLineRun, status_after}
+
+-- the file at a path was opened, on a wire that has not failed, or could not be
+abbrev pub IsOpenedAt : {R : Type 0} → (R → Option (List ℕ)) → History → History → List ℕ → Option (Latched R) → Type 0
+IsOpenedAt remaining old new path None = Extends old new (opened path None ∷ [])
+IsOpenedAt remaining old new path (Some wire) = (wire.has_failed ≡ false) × Extends old new (opened path (Some (remaining wire.device)) ∷ [])
+
+abbrev pub IsNoLink : {R : Type 0} → Command R → Type 0
+IsNoLink Link = ⊥
+IsNoLink _ = Unit {0}
+
+-- the status of a step is returned, and its answer went out, or on a fault a prefix of it
+pub record TellsStep {W : Type 0} (contents : W → Option (List ℕ)) (did : Stepped) (left : Kept) (result : Result ℕ CliFault) (before after : Latched W) : Type 0 where
+  pub entries : left.entries ≡ did.kept
+  pub status : IfOk result (λ status. status ≡ status_after did.verdict)
+  pub write_failed : IfErr result (λ fault. fault ≡ faults.WriteFailed)
+  pub fault : IsErr result ↔ IsTrue after.has_failed
+  pub bytes : Puts result (contents before.device) (contents after.device) did.answer
+
+-- a step on a command that is no link was taken
+abbrev pub TakesPlainStep : {R W : Type 0} → (R → Option (List ℕ)) → (W → Option (List ℕ)) → Choices → Command R → Kept → Kept → Result ℕ CliFault → Latched W → Latched W → Type 0
+TakesPlainStep remaining contents o command old new result before after =
+    (did : Stepped) × IsStepOn remaining old o command did × Changes command did.verdict old new × TellsStep contents did new result before after
+
+-- a line was run; its answer went out, or on a fault a prefix of it
+pub record AnswersLine {W : Type 0} (contents : W → Option (List ℕ)) (o : Choices) (asks : Asked) (kept left : Kept) (old new : History) (result : Result ℕ CliFault) (before after : Latched W) : Type 0 where
+  pub run : LineRun
+  pub line : run.line ≡ asks
+  pub leaves : run.kept ≡ left
+  pub is_run : IsLineRun o kept run
+  pub asked : Extends old new run.events
+  pub status : IfOk result (λ status. status ≡ run.status)
+  pub write_failed : IfErr result (λ fault. fault ≡ faults.WriteFailed)
+  pub fault : IsErr result ↔ IsTrue after.has_failed
+  pub bytes : Puts result (contents before.device) (contents after.device) run.answer

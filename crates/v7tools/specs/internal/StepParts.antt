@@ -1,0 +1,90 @@
+-- What the parts of a step find and do.
+use Rattle.std.specs.Prelude.{◌≡◌, ◌≢◌, ◌⊎◌, ℕ, false, cond, List, [], Option, Some, None, Result, Ok, Err, IfSome, IsTrue, String, string_bytes}
+use Rattle.std.specs.declared.alloc.Global.{Global}
+use Rattle.aout_core.specs.declared.file.ReadFault.TheVariants as reads
+use Rattle.aout_core.specs.Contents.{Contents}
+use Rattle.aout_core.specs.Decoding.{decode}
+use Rattle.aout_core.specs.Wires.{Latched}
+use Rattle.link_session.specs.declared.state.State.{State}
+use Rattle.link_session.specs.declared.entry.AddFault.{AddFault}
+use Rattle.link_session.specs.Edits.{last_of, refusal}
+use Rattle.link_session.specs.Labelled.{Labelled, objects}
+use Rattle.link_session.specs.Sessions.{Adds, IsCause, labelled}
+use Rattle.link_session.specs.Undo.{Kept}
+use Rattle.link_out.specs.declared.linked.LinkFault.{LinkFault}
+use Rattle.link_out.specs.function.Reports.{is_missing}
+use Rattle.link_out.specs.function.Link.{Outcome}
+use Rattle.link_out.specs.function.Reports.{line}
+use Rattle.v7tools.specs.declared.fault.CliFault.{CliFault}
+use Rattle.v7tools.specs.declared.fault.CliFault.TheVariants as faults
+use Rattle.v7tools.specs.declared.commands.Step.{Step}
+use Rattle.v7tools.specs.Inputs.{Cause, bad_file, object_in, kept_with}
+use Rattle.v7tools.specs.FaultTexts.{fault_at, fault_of_addition}
+use Rattle.v7tools.specs.LinkAnswers.{WantsMemory}
+use Rattle.v7tools.specs.Answers.{failing, giving, Stepped, add_step, withdraw_step, input_from}
+use Rattle.v7tools.specs.SessionSteps.{without_memory, IsLinkBy, AddsIf, WithdrawsIf, Does}
+
+-- the label of an object, if there is one
+abbrev pub label_of : Option Labelled → List ℕ
+label_of None = []
+label_of (Some e) = e.label
+
+-- the line of a name that is undefined
+abbrev pub missing_line : List ℕ × State → List ℕ
+missing_line e = cond (is_missing e.0 e.1) (line e.0) []
+
+-- what is found behind a path: that the device fails, or what its bytes are, where they are known
+abbrev pub IsFound : Option (List ℕ) → Result Contents Cause → Type 0
+IsFound known found = (found ≡ Err (bad_file reads.Device)) ⊎ IfSome known (λ bytes. found ≡ object_in (decode bytes))
+
+-- the file at a path is not added, for the cause that this fault names
+pub record IsRefusal (known : Option (List ℕ)) (old : Kept) (path : String Global) (fault : CliFault) : Type 0 where
+  pub found : Result Contents Cause
+  pub cause : Cause
+  pub is_found : IsFound known found
+  pub refuses : kept_with old.forced old.entries (string_bytes path) found ≡ Err cause
+  pub names : fault ≡ fault_at path cause
+
+-- an object is added
+pub record IsAccepted (known : Option (List ℕ)) (old new : Kept) (path : List ℕ) (object : Contents) : Type 0 where
+  pub adds : Adds old new (record { label = path; object = object })
+  pub is_found : IsFound known (Ok object)
+  pub accepts : kept_with old.forced old.entries path (Ok object) ≡ Ok new.entries
+
+-- an object was added, or the fault says why it was not: a limit that it passes, or else that memory ran out
+abbrev pub IsObjectAddition : Kept → Kept → String Global → Contents → Result (Unit {0}) CliFault → Type 0
+IsObjectAddition old new path object (Ok _) = (refusal old.forced (objects old.entries) object ≡ None) × Adds old new (labelled path object)
+IsObjectAddition old new path object (Err fault) =
+    (new ≡ old) × ((cause : AddFault) × (fault ≡ fault_of_addition path cause) × IsCause (refusal old.forced (objects old.entries) object) cause)
+
+-- the file at a path was added, or the fault says why it was not; memory runs out only where it is wanted
+abbrev pub IsAddition : Option (List ℕ) → Kept → Kept → String Global → Result (Unit {0}) CliFault → Type 0
+IsAddition known old new path (Ok _) = (object : Contents) × IsAccepted known old new (string_bytes path) object
+IsAddition known old new path (Err fault) = (new ≡ old) × (((fault ≡ faults.Memory) × IfSome known (WantsMemory old.forced old.entries (string_bytes path))) ⊎ IsRefusal known old path fault)
+
+-- the file at a path is added by its bytes, where they are known; else as some file, or refused for some cause but a
+-- device that failed
+abbrev pub IsAddWorking : Option (List ℕ) → List (List ℕ) → List Labelled → List ℕ → Stepped → Type 0
+IsAddWorking (Some bytes) forced kept path did = did ≡ add_step kept path (input_from forced kept path (giving bytes))
+IsAddWorking None forced kept path did = (found : Result Contents Cause) × (found ≢ Err (bad_file reads.Device)) × (did ≡ add_step kept path (kept_with forced kept path found))
+
+-- an addition, with its wire before and after: the answer is that of a device that failed exactly where the wire has
+abbrev pub IsAddOver : {R : Type 0} → (R → Option (List ℕ)) → Latched R → Latched R → List (List ℕ) → List Labelled → List ℕ → Stepped → Type 0
+IsAddOver remaining from to forced kept path did =
+    (IsTrue to.has_failed × (did ≡ add_step kept path (input_from forced kept path failing)))
+    ⊎ ((to.has_failed ≡ false) × (from.has_failed ≡ false) × (((did ≡ without_memory kept) × IfSome (remaining from.device) (WantsMemory forced kept path)) ⊎ IsAddWorking (remaining from.device) forced kept path did))
+
+-- the file at a path is added, or the answer says why it is not
+abbrev pub TakesAddStep : {R W : Type 0} → (R → Option (List ℕ)) → (W → Option (List ℕ)) → String Global → Latched R → Latched R → Kept → Kept → Result Step CliFault → Latched W → Latched W → Type 0
+TakesAddStep remaining contents path from to old new result before after =
+    (did : Stepped) × IsAddOver remaining from to old.forced old.entries (string_bytes path) did × AddsIf did.verdict old new × Does contents did new result before after
+
+-- the last object is taken away, or there is none
+abbrev pub TakesWithdrawal : {W : Type 0} → (W → Option (List ℕ)) → Kept → Kept → Result Step CliFault → Latched W → Latched W → Type 0
+TakesWithdrawal contents old new result before after =
+    WithdrawsIf (withdraw_step old.entries (last_of old.entries)).verdict old new × Does contents (withdraw_step old.entries (last_of old.entries)) new result before after
+
+-- a link is made, or the answer says why it is not
+abbrev pub TakesLinkStep : {W : Type 0} → (W → Option (List ℕ)) → Result Outcome LinkFault → Kept → Result Step CliFault → Latched W → Latched W → Type 0
+TakesLinkStep contents answer kept result before after =
+    (did : Stepped) × IsLinkBy kept.entries answer did × Does contents did kept result before after

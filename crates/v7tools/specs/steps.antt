@@ -1,6 +1,0 @@
--- Steps of the code: what its private functions do. No contract of a public function leads here.
-pub mod StepParts
-pub mod InputParts
-pub mod Openings
-pub mod SessionParts
-pub mod FaultParts
