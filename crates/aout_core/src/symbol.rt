@@ -1,6 +1,6 @@
 //! Symbols.
-ghost use Rattle.std.specs.Prelude.{◌≡◌};
-ghost use Rattle.aout_core.specs.WellFormed.{is_external, segment_of};
+ghost use Rattle.std.specs.Prelude.{◌≡◌, ◌≤◌};
+ghost use Rattle.aout_core.specs.WellFormed.{is_external, segment_number, segment_of};
 
 use crate::name::Name;
 
@@ -25,6 +25,24 @@ pub enum Segment {
     DataSeg,
     BssSeg,
     Other,
+}
+
+impl Segment {
+    /// The number in the type word, without the external bit: 0 to 4 in the order of `Segment`, and 037, a file name's,
+    /// for `Other`. (a.out(5))
+    pub fn number(self) -> u16
+        ensures value { result ≡ segment_number self }
+        ensures small { result ≤ 31 }
+    {
+        match self {
+            Segment::Undefined => 0,
+            Segment::Absolute => 1,
+            Segment::TextSeg => 2,
+            Segment::DataSeg => 3,
+            Segment::BssSeg => 4,
+            Segment::Other => 0o37,
+        }
+    }
 }
 
 impl Symbol {

@@ -14,7 +14,7 @@ use Rattle.aout_core.specs.WellFormed.{IsWellFormed, first_object_fault}
 use Rattle.aout_core.specs.declared.symbol.Segment.TheVariants.{TextSeg}
 use Rattle.link_session.specs.declared.entry.AddFault.{AddFault}
 use Rattle.link_session.specs.declared.entry.AddFault.TheVariants.{TextFull}
-use Rattle.link_session.specs.Edits.{limit_passed, refusal}
+use Rattle.link_session.specs.Limits.{limit_passed, refusal}
 use Rattle.link_session.specs.Labelled.{Labelled, objects}
 use Rattle.link_session.specs.Starts.{total}
 use Rattle.v7tools.specs.Events.{Event, Opened, opens, paths_of}

@@ -14,7 +14,7 @@ use Rattle.aout_core.specs.declared.symbol.Symbol.{Symbol}
 use Rattle.aout_core.specs.declared.reloc.Reloc.{Reloc}
 use Rattle.aout_core.specs.WellFormed.{first_object_fault}
 use Rattle.aout_core.specs.Strip.{stripped}
-use Rattle.link_session.specs.Edits.{refusal}
+use Rattle.link_session.specs.Limits.{refusal}
 use Rattle.link_session.specs.declared.entry.AddFault.TheVariants.{TextFull, DataFull, BssFull}
 use Rattle.link_out.specs.function.Plans.{plan}
 use Rattle.conformance.specs.Samples.{relocs, sym, object, sized, _f, _x, _z, _end, _etext, _edata, L1, a_o, b_o, c_o, d_o, d2_o, e_o, g_o, i_o, k_o, l_o, p_o, q_o, r_o, y1_o, y2_o, plain, plain_s, relocatable, relocatable_d, with_keep, with_layout, with_entry}

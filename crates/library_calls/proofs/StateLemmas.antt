@@ -4,7 +4,8 @@ use Rattle.std.specs.declared.alloc.Global.{Global}
 use Rattle.aout_core.specs.Contents.{Contents}
 use Rattle.link_session.specs.declared.entry.AddFault.{AddFault}
 use Rattle.link_session.specs.declared.entry.AddFault.TheVariants.{Memory}
-use Rattle.link_session.specs.Edits.{Change, addition, withdrawal, refusal, answers_from, survivors_from}
+use Rattle.link_session.specs.Limits.{refusal}
+use Rattle.link_session.specs.Edits.{Change, addition, withdrawal, answers_from, survivors_from}
 use Rattle.link_session.specs.Labelled.{Labelled, objects}
 use Rattle.link_session.specs.Sessions.{Adds, Withdraws, IsCause, labelled}
 use Rattle.link_session.specs.Undo.{Kept, IsJournal}

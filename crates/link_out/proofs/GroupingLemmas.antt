@@ -7,7 +7,7 @@ use Rattle.aout_core.specs.Contents.{Contents}
 use Rattle.aout_core.specs.WellFormed.{IsWellFormed}
 use Rattle.link_session.specs.Mentions.{Mention, mentions, mentions_in, forced_mention, is_among, names_by_first_mention}
 use Rattle.link_session.specs.States.{definition_by, first_definition, state, multiple_names}
-use Rattle.link_session.specs.Edits.{limit_passed}
+use Rattle.link_session.specs.Limits.{limit_passed}
 use Rattle.link_session.specs.declared.entry.AddFault.TheVariants.{TextFull, DataFull, BssFull, NamesFull}
 use Rattle.link_session.proofs.ListLemmas.{all_append, all_split}
 use Rattle.link_session.proofs.UpdateLemmas.{definition_of}

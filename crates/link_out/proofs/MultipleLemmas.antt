@@ -6,11 +6,11 @@ use Rattle.std.proofs.lemmas.Bool.{and_parts}
 use Rattle.std.proofs.lemmas.Slice.Eq.{bytes_eq-Decides}
 use Rattle.aout_core.specs.declared.symbol.Segment.{Segment}
 use Rattle.aout_core.specs.declared.symbol.Segment.TheVariants.{Undefined, Absolute, TextSeg, DataSeg, BssSeg, Other}
-use Rattle.aout_core.specs.WellFormed.{first_of}
+use Rattle.aout_core.specs.WellFormed.{segment_number, first_of}
 use Rattle.link_session.specs.declared.state.State.{State}
 use Rattle.link_session.specs.declared.state.State.TheVariants.{Defined, Wanted}
 use Rattle.link_session.specs.Mentions.{Mention, is_among}
-use Rattle.link_session.specs.States.{Definition, definition_by, first_definition, is_definition, differs, segment_number}
+use Rattle.link_session.specs.States.{Definition, definition_by, first_definition, is_definition, differs}
 use Rattle.link_session.proofs.UpdateLemmas.{own_definition}
 
 -- a mention that says what the first definition of its name among all mentions says

@@ -12,7 +12,8 @@ use Rattle.link_session.specs.Starts.{total}
 use Rattle.link_session.specs.Labelled.{Labelled, objects}
 use Rattle.link_session.specs.Undo.{Kept}
 use Rattle.link_session.specs.Sessions.{Adds, Withdraws, IsCause, labelled}
-use Rattle.link_session.specs.Edits.{Change, addition, withdrawal, Answer, added, refused, withdrew, nothing, refusal, last_of, without_last, kept_unless, kept_after, answer_by, withdrawn_answer, answer_to, survivors_from, answers_from}
+use Rattle.link_session.specs.Limits.{refusal}
+use Rattle.link_session.specs.Edits.{Change, addition, withdrawal, Answer, added, refused, withdrew, nothing, last_of, without_last, kept_unless, kept_after, answer_by, withdrawn_answer, answer_to, survivors_from, answers_from}
 use Rattle.link_out.specs.declared.edit.Edit.{Edit}
 use Rattle.link_out.specs.declared.edit.Reply.{Reply}
 use Rattle.link_out.specs.declared.edit.Reply.TheVariants as replies

@@ -1,7 +1,8 @@
 //! Runs: edits of a session in order, then the link.
 ghost use Rattle.std.specs.Prelude.{◌≡◌, ℕ, ◌+◌, [], None, true, map, IfOk, IfErr};
 ghost use Rattle.aout_core.specs.WellFormed.{IsWellFormed};
-ghost use Rattle.link_session.specs.Edits.{addition, withdrawal, added, answer_to, answers, answers_from, refusal, survivors_from};
+ghost use Rattle.link_session.specs.Limits.{refusal};
+ghost use Rattle.link_session.specs.Edits.{addition, withdrawal, added, answer_to, answers, answers_from, survivors_from};
 ghost use Rattle.link_session.specs.Labelled.{objects};
 ghost use Rattle.link_session.specs.Sessions.{labelled};
 ghost use Rattle.link_out.specs.function.Link.{link};

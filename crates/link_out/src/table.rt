@@ -104,12 +104,8 @@ fn type_of(bound: Option<Segment>) -> u16
     ensures { result ≡ type_of bound }
 {
     match bound {
-        None | Some(Segment::Undefined) => 0o40,
-        Some(Segment::Absolute) => 0o41,
-        Some(Segment::TextSeg) => 0o42,
-        Some(Segment::DataSeg) => 0o43,
-        Some(Segment::BssSeg) => 0o44,
-        Some(Segment::Other) => 0o77,
+        None => 0o40,
+        Some(segment) => 0o40 + segment.number(),
     }
 }
 

@@ -13,7 +13,7 @@ use Rattle.link_session.specs.Labelled.{Labelled, objects}
 use Rattle.link_session.specs.Mentions.{Mention, forced_mention, mentions, externals, names_of}
 use Rattle.link_session.specs.States.{state, multiple_names, differs, first_definition}
 use Rattle.link_session.specs.Image.{Image, image, named_states}
-use Rattle.link_session.specs.Edits.{limit_passed, refusal}
+use Rattle.link_session.specs.Limits.{limit_passed, refusal}
 use Rattle.link_session.specs.Undo.{undo, UndoesImage, IsJournal}
 use Rattle.link_session.specs.Sessions.{newest, Adds, IsObject}
 use Rattle.link_session.specs.internal.Fields.{sizes_of, sizes_in, sizes_before, threads_by, with_heads_back, IsBehind, IsSmall, IsSession}

@@ -21,7 +21,7 @@ use Rattle.link_session.specs.Mentions.{Mention, mentions, mentions_in, names_of
 use Rattle.link_session.specs.States.{state}
 use Rattle.link_session.specs.Cells.{cells, cells_in, cell, words_of}
 use Rattle.link_session.specs.Image.{image}
-use Rattle.link_session.specs.Edits.{limit_passed, refusal}
+use Rattle.link_session.specs.Limits.{limit_passed, refusal}
 use Rattle.link_session.specs.Sessions.{IsObject}
 use Rattle.link_session.specs.internal.Fields.{IsSmall}
 use Rattle.link_session.specs.internal.Additions.{external_names, next_limit}

@@ -8,12 +8,12 @@ use Rattle.std.proofs.lemmas.Slice.Eq.{bytes_eq-Decides}
 use Rattle.aout_core.specs.declared.symbol.Segment.{Segment}
 use Rattle.aout_core.specs.declared.symbol.Segment.TheVariants as segments
 use Rattle.aout_core.specs.Contents.{Contents}
-use Rattle.aout_core.specs.WellFormed.{first_of}
+use Rattle.aout_core.specs.WellFormed.{segment_number, first_of}
 use Rattle.link_session.specs.declared.state.State.{State}
 use Rattle.link_session.specs.declared.state.State.TheVariants.{Defined, Wanted}
 use Rattle.link_session.specs.Starts.{size_of, total}
 use Rattle.link_session.specs.Mentions.{Mention, mentions_in, mentions, is_among, new_names, names_of, names_by_first_mention, place_of}
-use Rattle.link_session.specs.States.{Definition, definition_by, size_wanted_by, first_definition, wanted_size, state_by, state, is_definition, differs, multiple_names, segment_number}
+use Rattle.link_session.specs.States.{Definition, definition_by, size_wanted_by, first_definition, wanted_size, state_by, state, is_definition, differs, multiple_names}
 use Rattle.link_session.specs.Cells.{cells_in}
 use Rattle.link_session.specs.Image.{named_states, image_by, image}
 use Rattle.link_session.specs.Undo.{with_state}

@@ -6,6 +6,7 @@ pub mod Mentions
 pub mod States
 pub mod Cells
 pub mod Image
+pub mod Limits
 pub mod Edits
 pub mod Undo
 pub mod Bounds

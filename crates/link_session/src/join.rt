@@ -17,8 +17,9 @@ use crate::cell::Cell;
 use crate::chain::{Link, grow_heads};
 use crate::mark::Mark;
 use crate::mention::{Table, count_external, enter_all};
-use crate::merged::{Externals, Merged, undo};
+use crate::merged::{Externals, Merged};
 use crate::relocate::{Scope, Shifts, Words, append_cells, next_shifts};
+use crate::undo::undo;
 use aout_core::{File, Name, Object, Segment};
 use std::alloc::{AllocError, Global};
 

@@ -33,6 +33,7 @@ mod merged;
 mod relocate;
 mod session;
 mod state;
+mod undo;
 
 pub use cell::{Cell, Target};
 pub use entry::{AddFault, AddRefused, Entry};

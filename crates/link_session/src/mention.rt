@@ -6,13 +6,13 @@ ghost use Rattle.aout_core.specs.WellFormed.{is_external, segment_of};
 ghost use Rattle.link_session.specs.Starts.{shift_by};
 ghost use Rattle.link_session.specs.Image.{state_at};
 ghost use Rattle.link_session.specs.Mentions.{is_among, statement_by};
-ghost use Rattle.link_session.specs.internal.Updates.{updated, clashes};
+ghost use Rattle.link_session.specs.internal.Updates.{clashes};
 ghost use Rattle.link_session.specs.internal.Additions.{mentioned, said, clash, state_mark, place_in, state_for, changes, mentions_by, all_mentioned, state_marks, all_clashes, all_places};
 
 use crate::mark::Mark;
 use crate::merged::Externals;
 use crate::relocate::Shifts;
-use crate::state::State;
+use crate::state::{State, changes, clashes, updated};
 use aout_core::{Name, Segment, Symbol};
 
 /// Whether the name is one of these.
@@ -64,40 +64,6 @@ fn definition(segment: Segment, value: u16, shifts: &Shifts) -> State
     ensures { result ≡ State.Defined segment (plus value (shift_by shifts.now segment)) }
 {
     State::Defined(segment, value.wrapping_add(shifts.of(segment)))
-}
-
-/// The state of a name that is mentioned once more.
-fn updated(was: State, says: State) -> State
-    ensures { result ≡ updated was says }
-{
-    match (was, says) {
-        (State::Wanted(size), State::Wanted(more)) => State::Wanted(size.max(more)),
-        (State::Wanted(_), State::Defined(segment, offset)) => State::Defined(segment, offset),
-        (State::Defined(segment, offset), _) => State::Defined(segment, offset),
-    }
-}
-
-/// Whether a mention changes the state.
-fn changes(was: State, says: State) -> bool
-    ensures { result ≡ changes was says }
-{
-    match (was, says) {
-        (State::Wanted(size), State::Wanted(more)) => size < more,
-        (State::Wanted(_), State::Defined(_, _)) => true,
-        (State::Defined(_, _), _) => false,
-    }
-}
-
-/// Whether a name that is defined is defined again, and differently.
-fn clashes(was: State, says: State) -> bool
-    ensures { result ≡ clashes was says }
-{
-    match (was, says) {
-        (State::Defined(segment, offset), State::Defined(again, place)) => {
-            !(again == segment && place == offset)
-        }
-        _ => false,
-    }
 }
 
 /// Marks the state of an earlier name that a mention changes. There is room for the mark.

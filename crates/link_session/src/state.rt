@@ -1,4 +1,8 @@
-//! What is known of an external name.
+//! What is known of an external name, and what one more mention makes of it.
+ghost use Rattle.std.specs.Prelude.{◌≡◌};
+ghost use Rattle.link_session.specs.internal.Additions.{changes};
+ghost use Rattle.link_session.specs.internal.Updates.{clashes, updated};
+
 use aout_core::Segment;
 
 /// What the objects so far say of a name. (ld(1) and a.out(5); which definition counts: own choice)
@@ -9,4 +13,38 @@ pub enum State {
     Defined(Segment, u16),
     /// No definition: the size of a common in bytes, the largest that was mentioned, or 0 where the name is undefined.
     Wanted(u16),
+}
+
+/// The state of a name that is mentioned once more.
+pub(crate) fn updated(was: State, says: State) -> State
+    ensures { result ≡ updated was says }
+{
+    match (was, says) {
+        (State::Wanted(size), State::Wanted(more)) => State::Wanted(size.max(more)),
+        (State::Wanted(_), State::Defined(segment, offset)) => State::Defined(segment, offset),
+        (State::Defined(segment, offset), _) => State::Defined(segment, offset),
+    }
+}
+
+/// Whether a mention changes the state.
+pub(crate) fn changes(was: State, says: State) -> bool
+    ensures { result ≡ changes was says }
+{
+    match (was, says) {
+        (State::Wanted(size), State::Wanted(more)) => size < more,
+        (State::Wanted(_), State::Defined(_, _)) => true,
+        (State::Defined(_, _), _) => false,
+    }
+}
+
+/// Whether a name that is defined is defined again, and differently.
+pub(crate) fn clashes(was: State, says: State) -> bool
+    ensures { result ≡ clashes was says }
+{
+    match (was, says) {
+        (State::Defined(segment, offset), State::Defined(again, place)) => {
+            !(again == segment && place == offset)
+        }
+        _ => false,
+    }
 }

@@ -10,7 +10,7 @@ use Rattle.aout_core.specs.Decoding.{decode}
 use Rattle.aout_core.specs.Reading.{IsReadOf, LeavesAfter}
 use Rattle.link_session.specs.declared.entry.AddFault.{AddFault}
 use Rattle.link_session.specs.declared.entry.AddFault.TheVariants as adds
-use Rattle.link_session.specs.Edits.{refusal}
+use Rattle.link_session.specs.Limits.{refusal}
 use Rattle.link_session.specs.Labelled.{Labelled, objects}
 use Rattle.link_session.specs.Sessions.{Adds, IsCause, labelled}
 use Rattle.link_session.specs.Undo.{Kept}

@@ -10,7 +10,7 @@ use Rattle.link_session.specs.declared.state.State.{State}
 use Rattle.link_session.specs.declared.state.State.TheVariants.{Defined, Wanted}
 use Rattle.link_session.specs.Labelled.{Labelled, objects}
 use Rattle.link_session.specs.Mentions.{mentions}
-use Rattle.link_session.specs.States.{segment_number}
+use Rattle.aout_core.specs.WellFormed.{segment_number}
 use Rattle.link_session.specs.Image.{image}
 use Rattle.link_session.specs.Edits.{without_last, last_of}
 use Rattle.link_out.specs.declared.linked.LinkFault.{LinkFault}

@@ -1,30 +1,14 @@
 //! The lists of a session's external names.
-ghost use Rattle.std.specs.Prelude.{◌≡◌, ◌≤◌};
+ghost use Rattle.std.specs.Prelude.{◌≡◌};
 ghost use Rattle.aout_core.specs.Wires.{Writes};
-ghost use Rattle.link_session.specs.States.{segment_number};
 ghost use Rattle.v7tools.specs.Answers.{entry_of, externals_text, undefined_text};
 ghost use Rattle.v7tools.specs.internal.StepParts.{missing_line};
 
-use aout_core::{DeviceFault, Name, Segment, Symbol, Wire};
+use aout_core::{DeviceFault, Name, Symbol, Wire};
 use link_out::is_missing;
 use link_session::{Session, State};
 use std::io::Write;
 use symtools::line;
-
-/// The type of a symbol in this segment, without the external bit.
-fn segment_number(segment: Segment) -> u16
-    ensures value { result ≡ segment_number segment }
-    ensures small { result ≤ 31 }
-{
-    match segment {
-        Segment::Undefined => 0,
-        Segment::Absolute => 1,
-        Segment::TextSeg => 2,
-        Segment::DataSeg => 3,
-        Segment::BssSeg => 4,
-        Segment::Other => 0o37,
-    }
-}
 
 /// An external as a symbol of a table: with the merged offset where it is defined, else with the size that is
 /// wanted.
@@ -34,7 +18,7 @@ fn entry_of(name: Name, state: State) -> Symbol
     match state {
         State::Defined(segment, offset) => Symbol {
             name,
-            type_bits: 0o40 + segment_number(segment),
+            type_bits: 0o40 + segment.number(),
             value: offset,
         },
         State::Wanted(size) => Symbol {

@@ -8,7 +8,8 @@ use Rattle.aout_core.specs.declared.symbol.Segment.TheVariants.{TextSeg, DataSeg
 use Rattle.aout_core.specs.Words.{plus}
 use Rattle.link_session.specs.declared.state.State.{State}
 use Rattle.link_session.specs.declared.state.State.TheVariants.{Defined, Wanted}
-use Rattle.link_session.specs.States.{state, segment_number}
+use Rattle.aout_core.specs.WellFormed.{segment_number}
+use Rattle.link_session.specs.States.{state}
 use Rattle.link_out.specs.Choices.{Choices, lays_commons}
 use Rattle.link_out.specs.Layouts.{Bases, base}
 use Rattle.link_out.specs.function.Plans.{Plan, common_offset}

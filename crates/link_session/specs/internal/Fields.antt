@@ -15,7 +15,7 @@ use Rattle.link_session.specs.Undo.{IsJournal, marks_in}
 use Rattle.link_session.specs.internal.Additions.{own_cells}
 use Rattle.link_session.specs.internal.Chains.{Link, unthreaded, heads_back}
 use Rattle.link_session.specs.internal.Threads.{Threads, IsThreaded, KeepsThreads, grown_heads, with_texts, with_datas, cut_threads}
-use Rattle.link_session.specs.Edits.{limit_passed}
+use Rattle.link_session.specs.Limits.{limit_passed}
 use Rattle.link_session.specs.Sessions.{IsObject}
 
 abbrev pub image_in : Merged → Image

@@ -7,7 +7,8 @@ use Rattle.aout_core.specs.Decoding.{decode}
 use Rattle.aout_core.specs.Wires.{Latched}
 use Rattle.link_session.specs.declared.state.State.{State}
 use Rattle.link_session.specs.declared.entry.AddFault.{AddFault}
-use Rattle.link_session.specs.Edits.{last_of, refusal}
+use Rattle.link_session.specs.Limits.{refusal}
+use Rattle.link_session.specs.Edits.{last_of}
 use Rattle.link_session.specs.Labelled.{Labelled, objects}
 use Rattle.link_session.specs.Sessions.{Adds, IsCause, labelled}
 use Rattle.link_session.specs.Undo.{Kept}

@@ -2,7 +2,7 @@ use Rattle.std.proofs.Common.{◌≡◌, ◌++◌, ◌∷◌, [], map, Option, N
 use Rattle.link_session.specs.declared.entry.AddFault.{AddFault}
 use Rattle.link_session.specs.declared.entry.AddFault.TheVariants.{Memory}
 use Rattle.link_session.specs.Labelled.{objects}
-use Rattle.link_session.specs.Edits.{refusal}
+use Rattle.link_session.specs.Limits.{refusal}
 use Rattle.link_session.specs.Undo.{Kept}
 use Rattle.link_session.specs.Sessions.{IsCause, Adds, labelled}
 use Rattle.link_session.specs.internal.Fields.{image_in, threads_in, IsSession}

@@ -1,6 +1,6 @@
 use Rattle.std.proofs.Common.{sym, arith, refl}
 use Rattle.link_session.proofs.PlaceLemmas.{with_state-behind}
-use Rattle.link_session.proofs.merged.put_state.Goals as goal
+use Rattle.link_session.proofs.undo.put_state.Goals as goal
 
 pub returns-then-index-len : goal.returns-then-index-len
 returns-then-index-len c = refl

@@ -4,7 +4,7 @@ use Rattle.link_session.specs.Undo.{put_all_back}
 use Rattle.link_session.specs.internal.Threads.{Threads}
 use Rattle.link_session.specs.internal.Fields.{image_in, threads_in, with_heads_back}
 use Rattle.link_session.proofs.PutBackLemmas.{put_next, head_next}
-use Rattle.link_session.proofs.merged.undo.Goals as goal
+use Rattle.link_session.proofs.undo.undo.Goals as goal
 
 pub loop-i-preserved : goal.loop-i-preserved
 loop-i-preserved c = record {

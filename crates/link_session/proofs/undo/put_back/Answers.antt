@@ -1,6 +1,6 @@
 use Rattle.std.proofs.Common.{arith}
 use Rattle.std.proofs.lemmas.Grind.{common_steps}
-use Rattle.link_session.proofs.merged.put_back.Goals as goal
+use Rattle.link_session.proofs.undo.put_back.Goals as goal
 
 pub returns-after-place-clause-threads : goal.returns-after-place-clause-threads
 returns-after-place-clause-threads c = grind (arith, common_steps)

@@ -1,7 +1,7 @@
 use Rattle.std.proofs.Common.{◌≡◌, ◌-◌, take, length}
 use Rattle.link_session.specs.Undo.{put_all_back}
 use Rattle.link_session.specs.internal.Fields.{image_in, threads_in, with_heads_back}
-use Rattle.link_session.proofs.merged.undo.Given as goal
+use Rattle.link_session.proofs.undo.undo.Given as goal
 
 -- the marks that are left
 abbrev pub invariant-loop-i : goal.invariant-loop-i
