@@ -31,7 +31,7 @@ build/v7-explain: crates/v7_explain/out/v7_explain
 	mkdir -p build
 	cp crates/v7_explain/out/v7_explain build/v7-explain
 
-EXPLAIN_CRATES := $(addprefix crates/,aout_core link_session link_out symtools command_words gnu_objects v7_explain)
+EXPLAIN_CRATES := $(addprefix crates/,aout_core link_session link_options link_out symtools command_words gnu_objects v7_explain)
 crates/v7_explain/out/v7_explain: crates.txt $(shell find $(EXPLAIN_CRATES) -name out -prune -o -type f -print)
 	cd crates/v7_explain && rt run -- $(CURDIR)/examples/a.o
 	touch crates/v7_explain/out/v7_explain
@@ -49,7 +49,7 @@ build/libv7.a: crates/v7_c/out/libv7_c.a
 build/libv7.so: build/libv7.a
 	$(CC) -shared -o build/libv7.so -Wl,--whole-archive build/libv7.a -Wl,--no-whole-archive $(KIT)c/liblibc_c.a
 
-LIBRARY_CRATES := $(addprefix crates/,aout_core link_session link_out symtools session_text library_calls v7_c)
+LIBRARY_CRATES := $(addprefix crates/,aout_core link_session link_options link_out symtools session_text library_calls v7_c)
 crates/v7_c/out/libv7_c.a: crates.txt $(shell find $(LIBRARY_CRATES) -name out -prune -o -type f -print)
 	cd crates/v7_c && rt lib
 	touch crates/v7_c/out/libv7_c.a
@@ -131,7 +131,7 @@ build/lesson: crates/lesson/out/lesson
 	mkdir -p build
 	cp crates/lesson/out/lesson build/lesson
 
-LESSON_CRATES := $(addprefix crates/,aout_core link_session link_out symtools session_text lesson)
+LESSON_CRATES := $(addprefix crates/,aout_core link_session link_options link_out symtools session_text lesson)
 crates/lesson/out/lesson: crates.txt $(shell find $(LESSON_CRATES) -name out -prune -o -type f -print)
 	cd crates/lesson && rt run -- data/k.o data/l.o
 	touch crates/lesson/out/lesson

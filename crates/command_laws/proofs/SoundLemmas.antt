@@ -18,11 +18,11 @@ use Rattle.link_session.specs.Sessions.{IsObject}
 use Rattle.link_session.specs.Starts.{total}
 use Rattle.link_session.specs.States.{Definition, first_definition, size_wanted_by, state_by, wanted_size}
 use Rattle.link_session.proofs.ListLemmas.{all_append}
-use Rattle.link_out.specs.declared.options.Keep.{Keep}
-use Rattle.link_out.specs.declared.options.Keep.TheVariants.{All, Externals, NotL, Nothing}
-use Rattle.link_out.specs.declared.options.Layout.{Layout}
-use Rattle.link_out.specs.declared.options.Layout.TheVariants.{Plain, Pure, Split}
-use Rattle.link_out.specs.Choices.{Choices, lays_commons}
+use Rattle.link_options.specs.declared.options.Keep.{Keep}
+use Rattle.link_options.specs.declared.options.Keep.TheVariants.{All, Externals, NotL, Nothing}
+use Rattle.link_options.specs.declared.options.Layout.{Layout}
+use Rattle.link_options.specs.declared.options.Layout.TheVariants.{Plain, Pure, Split}
+use Rattle.link_options.specs.Choices.{Choices, lays_commons}
 use Rattle.link_out.specs.KeptSymbols.{is_kept_local, rows_kept}
 use Rattle.link_out.specs.Layouts.{Bases, base, magic_of}
 use Rattle.link_out.specs.ReservedNames.{edata, end_name, etext}

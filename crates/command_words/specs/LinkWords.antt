@@ -5,12 +5,12 @@ use Rattle.std.specs.Prelude.{◌≡◌, ◌≤◌, ℕ, Bool, true, false, cond
 use Rattle.clap.specs.Walk.{Row, all_of, count_of, first_of}
 use Rattle.aout_core.specs.Names.{before_nul}
 use Rattle.link_session.specs.ForcedNames.{AreDifferent, takes, with_name}
-use Rattle.link_out.specs.declared.options.Layout.{Layout}
-use Rattle.link_out.specs.declared.options.Layout.TheVariants.{Plain, Pure, Split}
-use Rattle.link_out.specs.declared.options.Keep.{Keep}
-use Rattle.link_out.specs.declared.options.Keep.TheVariants.{All, NotL, Externals, Nothing}
-use Rattle.link_out.specs.declared.options.OptionFault.{OptionFault}
-use Rattle.link_out.specs.Choices.{Choices, option_fault}
+use Rattle.link_options.specs.declared.options.Layout.{Layout}
+use Rattle.link_options.specs.declared.options.Layout.TheVariants.{Plain, Pure, Split}
+use Rattle.link_options.specs.declared.options.Keep.{Keep}
+use Rattle.link_options.specs.declared.options.Keep.TheVariants.{All, NotL, Externals, Nothing}
+use Rattle.link_options.specs.declared.options.OptionFault.{OptionFault}
+use Rattle.link_options.specs.Choices.{Choices, option_fault}
 use Rattle.command_words.specs.declared.fault.WordsFault.{WordsFault}
 use Rattle.command_words.specs.declared.fault.WordsFault.TheVariants.{Usage}
 use Rattle.command_words.specs.declared.link_words.TheConstants.{RELOCATABLE, STRIP, EXTERNALS, NOT_L, PURE, SPLIT, COMMONS, FORCED, ENTRY}

@@ -11,7 +11,7 @@ ghost use Rattle.command_words.specs.LinkWords.{forced_asked, is_given, keep_ask
 use crate::fault::WordsFault;
 use aout_core::Name;
 use clap::{Arg, ArgAction, ArgMatches, Command};
-use link_out::{Keep, Layout, Options};
+use link_options::{Keep, Layout, Options};
 use link_session::Forced;
 use std::alloc::{AllocError, Global};
 

@@ -15,7 +15,7 @@ use crate::link_words::{
     forced_names, is_set, link_options, valued, with_flags, with_link_options,
 };
 use clap::{Arg, ArgAction, ArgMatches, Command};
-use link_out::Options;
+use link_options::Options;
 use link_session::Forced;
 use std::alloc::{AllocError, Global};
 use symtools::NmOptions;

@@ -12,8 +12,8 @@ use Rattle.link_session.specs.declared.state.State.TheVariants.{Wanted}
 use Rattle.link_session.specs.Starts.{total}
 use Rattle.link_session.specs.Mentions.{mentions, externals, is_among}
 use Rattle.link_session.specs.Sessions.{IsObject}
-use Rattle.link_out.specs.declared.options.Keep.TheVariants.{All, Externals, Nothing}
-use Rattle.link_out.specs.Choices.{Choices, lays_commons}
+use Rattle.link_options.specs.declared.options.Keep.TheVariants.{All, Externals, Nothing}
+use Rattle.link_options.specs.Choices.{Choices, lays_commons}
 use Rattle.link_out.specs.Results.{Outcome}
 use Rattle.link_out.specs.function.Link.{link}
 use Rattle.link_out.specs.relation.NameStates.{HasState, IsWanted}

@@ -14,9 +14,9 @@ use Rattle.link_session.specs.Sessions.{IsObject}
 use Rattle.link_session.specs.Mentions.{is_among, place_of}
 use Rattle.link_out.specs.declared.linked.LinkFault.{LinkFault}
 use Rattle.link_out.specs.declared.linked.LinkFault.TheVariants.{DoesNotFit, TooManySymbols, SymbolNumber, Memory}
-use Rattle.link_out.specs.declared.options.Layout.{Layout}
-use Rattle.link_out.specs.declared.options.Layout.TheVariants.{Split}
-use Rattle.link_out.specs.Choices.{Choices}
+use Rattle.link_options.specs.declared.options.Layout.{Layout}
+use Rattle.link_options.specs.declared.options.Layout.TheVariants.{Split}
+use Rattle.link_options.specs.Choices.{Choices}
 use Rattle.link_out.specs.relation.NameStates.{IsFirst}
 use Rattle.link_out.specs.Results.{Outcome}
 use Rattle.link_out.specs.function.Link.{link}

@@ -12,8 +12,8 @@ use Rattle.aout_core.specs.WellFormed.{is_external, masked_type, segment_of}
 use Rattle.link_session.specs.Mentions.{externals, is_among}
 use Rattle.link_out.specs.declared.linked.LinkFault.{LinkFault}
 use Rattle.link_out.specs.declared.linked.LinkFault.TheVariants.{SymbolNumber}
-use Rattle.link_out.specs.declared.options.Keep.TheVariants.{Nothing}
-use Rattle.link_out.specs.Choices.{Choices}
+use Rattle.link_options.specs.declared.options.Keep.TheVariants.{Nothing}
+use Rattle.link_options.specs.Choices.{Choices}
 use Rattle.link_out.specs.Results.{Outcome}
 use Rattle.link_out.specs.function.Link.{link}
 use Rattle.link_out.specs.relation.Relocated.{entry_of as row_of, external_type, segment_words, segment_relocs}

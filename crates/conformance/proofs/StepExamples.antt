@@ -15,8 +15,8 @@ use Rattle.link_session.specs.Labelled.{Labelled}
 use Rattle.link_session.specs.Mentions.{mentions, is_among}
 use Rattle.link_session.specs.States.{multiple_names}
 use Rattle.link_out.specs.declared.linked.Linked.{Linked}
-use Rattle.link_out.specs.declared.options.Keep.TheVariants.{Externals}
-use Rattle.link_out.specs.Choices.{Choices}
+use Rattle.link_options.specs.declared.options.Keep.TheVariants.{Externals}
+use Rattle.link_options.specs.Choices.{Choices}
 use Rattle.link_out.specs.Outcomes.{outcome_of as result_of}
 use Rattle.link_out.specs.function.Link.{link}
 use Rattle.link_out.specs.laws.PartialLinks.{KeepsNoMore}

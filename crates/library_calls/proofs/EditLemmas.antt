@@ -6,7 +6,7 @@ use Rattle.link_session.specs.Edits.{Change, answers}
 use Rattle.library_calls.specs.declared.cause.Cause.{Cause}
 use Rattle.library_calls.specs.declared.cause.Refusal.{Refusal}
 use Rattle.library_calls.specs.Causes.{at, and_then}
-use Rattle.link_out.specs.Choices.{Choices}
+use Rattle.link_options.specs.Choices.{Choices}
 use Rattle.link_out.specs.function.Link.{Outcome}
 use Rattle.link_out.specs.Runs.{answer_of, link_after}
 use Rattle.link_out.specs.declared.edit.Reply.{Reply}

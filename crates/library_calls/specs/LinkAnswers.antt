@@ -8,7 +8,7 @@ use Rattle.aout_core.specs.Encoding.{encoding}
 use Rattle.link_session.specs.declared.entry.AddFault.{AddFault}
 use Rattle.link_session.specs.Limits.{refusal}
 use Rattle.link_out.specs.declared.linked.LinkFault.{LinkFault}
-use Rattle.link_out.specs.Choices.{Choices}
+use Rattle.link_options.specs.Choices.{Choices}
 use Rattle.link_out.specs.function.Link.{Outcome, link}
 use Rattle.link_out.specs.function.Reports.{report_text, status_of}
 use Rattle.library_calls.specs.declared.cause.Cause.{Cause}

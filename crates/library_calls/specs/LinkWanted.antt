@@ -5,12 +5,12 @@
 use Rattle.std.specs.Prelude.{ℕ, zero, suc, ◌+◌, ◌%◌, ◌/◌, Bool, true, false, cond, eqb, nat_lt, if◌then◌else◌, List, [], ◌∷◌, take, drop, length, Option, Some, None, Result, Ok, Err}
 use Rattle.aout_core.specs.Names.{before_nul}
 use Rattle.link_session.specs.ForcedNames.{takes, with_name}
-use Rattle.link_out.specs.declared.options.Layout.{Layout}
-use Rattle.link_out.specs.declared.options.Layout.TheVariants.{Plain, Pure, Split}
-use Rattle.link_out.specs.declared.options.Keep.{Keep}
-use Rattle.link_out.specs.declared.options.Keep.TheVariants.{All, NotL, Externals, Nothing}
-use Rattle.link_out.specs.declared.options.OptionFault.{OptionFault}
-use Rattle.link_out.specs.Choices.{Choices, option_fault}
+use Rattle.link_options.specs.declared.options.Layout.{Layout}
+use Rattle.link_options.specs.declared.options.Layout.TheVariants.{Plain, Pure, Split}
+use Rattle.link_options.specs.declared.options.Keep.{Keep}
+use Rattle.link_options.specs.declared.options.Keep.TheVariants.{All, NotL, Externals, Nothing}
+use Rattle.link_options.specs.declared.options.OptionFault.{OptionFault}
+use Rattle.link_options.specs.Choices.{Choices, option_fault}
 use Rattle.library_calls.specs.declared.cause.Cause.{Cause}
 use Rattle.library_calls.specs.declared.cause.Cause.TheVariants.{NoOption, Excluded, LongName, CutNames, ManyNames}
 use Rattle.library_calls.specs.declared.cause.Refusal.{Refusal}

@@ -1,8 +1,8 @@
 //! The options of links.
 ghost use Rattle.std.specs.Prelude.{◌≡◌, ◌↔◌, None, IsOk, IfOk, true, false};
-ghost use Rattle.link_out.specs.Choices.{Choices, option_fault};
-ghost use Rattle.link_out.specs.declared.options.Layout.TheVariants.{Plain};
-ghost use Rattle.link_out.specs.declared.options.Keep.TheVariants.{All};
+ghost use Rattle.link_options.specs.Choices.{Choices, option_fault};
+ghost use Rattle.link_options.specs.declared.options.Layout.TheVariants.{Plain};
+ghost use Rattle.link_options.specs.declared.options.Keep.TheVariants.{All};
 
 use link_out::{Keep, Layout, OptionFault, Options};
 

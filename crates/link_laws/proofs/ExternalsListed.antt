@@ -16,8 +16,8 @@ use Rattle.link_session.specs.Earlier.{with_earlier}
 use Rattle.link_session.specs.Starts.{total}
 use Rattle.link_session.specs.Mentions.{Mention, mentions, externals, is_among, new_names, names_of}
 use Rattle.link_session.proofs.MentionLemmas.{is_among-append}
-use Rattle.link_out.specs.declared.options.Keep.TheVariants.{Nothing}
-use Rattle.link_out.specs.Choices.{Choices}
+use Rattle.link_options.specs.declared.options.Keep.TheVariants.{Nothing}
+use Rattle.link_options.specs.Choices.{Choices}
 use Rattle.link_out.specs.KeptSymbols.{is_kept_local}
 use Rattle.link_out.specs.ReservedNames.{etext, edata, end_name}
 use Rattle.link_out.specs.Results.{Outcome}

@@ -20,8 +20,8 @@ use Rattle.link_session.specs.Starts.{size_of, total, own}
 use Rattle.link_session.specs.Sessions.{IsObject}
 use Rattle.link_session.specs.Mentions.{mentions, is_among, names_by_first_mention}
 use Rattle.link_session.specs.States.{state}
-use Rattle.link_out.specs.declared.options.Keep.TheVariants.{Nothing}
-use Rattle.link_out.specs.Choices.{Choices}
+use Rattle.link_options.specs.declared.options.Keep.TheVariants.{Nothing}
+use Rattle.link_options.specs.Choices.{Choices}
 use Rattle.link_out.specs.Layouts.{Bases}
 use Rattle.link_out.specs.Results.{Outcome}
 use Rattle.link_out.specs.function.Plans.{Plan, plan, common_offset}

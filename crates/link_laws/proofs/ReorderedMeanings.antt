@@ -25,8 +25,8 @@ use Rattle.link_session.proofs.ListLemmas.{all_split}
 use Rattle.link_session.proofs.MentionLemmas.{is_among-externals}
 use Rattle.link_session.proofs.CellLemmas.{RefersAmong}
 use Rattle.link_session.proofs.UpdateLemmas.{unmentioned}
-use Rattle.link_out.specs.declared.options.Keep.TheVariants.{Nothing}
-use Rattle.link_out.specs.Choices.{Choices, lays_commons}
+use Rattle.link_options.specs.declared.options.Keep.TheVariants.{Nothing}
+use Rattle.link_options.specs.Choices.{Choices, lays_commons}
 use Rattle.link_out.specs.Layouts.{Bases, base}
 use Rattle.link_out.specs.Results.{Findings}
 use Rattle.link_out.specs.relation.NameStates.{HasState, IsWanted}

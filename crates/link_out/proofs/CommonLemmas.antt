@@ -14,8 +14,8 @@ use Rattle.link_session.specs.Mentions.{Mention, mentions, is_among, names_of, n
 use Rattle.link_session.specs.States.{state}
 use Rattle.link_session.proofs.MentionLemmas.{is_among-externals}
 use Rattle.link_session.proofs.UpdateLemmas.{unmentioned}
-use Rattle.link_out.specs.declared.options.Keep.TheVariants.{Nothing}
-use Rattle.link_out.specs.Choices.{Choices, lays_commons}
+use Rattle.link_options.specs.declared.options.Keep.TheVariants.{Nothing}
+use Rattle.link_options.specs.Choices.{Choices, lays_commons}
 use Rattle.link_out.specs.function.Plans.{Plan, plan, commons_laid, common_offset, common_size, room_of, commons_total}
 use Rattle.link_out.specs.function.Finals.{Final, final, final_by, type_of, bound_at, waiting, reserved_or_waiting}
 use Rattle.link_out.specs.function.Tables.{external_row}

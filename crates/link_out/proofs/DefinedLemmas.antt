@@ -13,8 +13,8 @@ use Rattle.link_session.specs.Mentions.{mention, statement, mentions, is_among, 
 use Rattle.link_session.specs.States.{Definition, first_definition, wanted_size, state_by, differs, multiple_names}
 use Rattle.link_session.proofs.MentionLemmas.{is_among-externals}
 use Rattle.link_session.proofs.UpdateLemmas.{unmentioned}
-use Rattle.link_out.specs.declared.options.Keep.TheVariants.{Nothing}
-use Rattle.link_out.specs.Choices.{Choices}
+use Rattle.link_options.specs.declared.options.Keep.TheVariants.{Nothing}
+use Rattle.link_options.specs.Choices.{Choices}
 use Rattle.link_out.specs.Layouts.{base}
 use Rattle.link_out.specs.function.Plans.{Plan, plan}
 use Rattle.link_out.specs.function.Finals.{Final, final, final_by, type_of, bound_at}

@@ -11,7 +11,7 @@ use Rattle.link_session.specs.Mentions.{Mention, is_among, new_names, names_of, 
 use Rattle.link_session.specs.States.{state}
 use Rattle.link_session.proofs.MentionLemmas.{is_among-append}
 use Rattle.link_session.proofs.UpdateLemmas.{own_name}
-use Rattle.link_out.specs.Choices.{Choices}
+use Rattle.link_options.specs.Choices.{Choices}
 use Rattle.link_out.specs.Layouts.{Bases}
 use Rattle.link_out.specs.function.Plans.{Plan, common_size, room_of, commons_total, common_offset}
 use Rattle.link_out.specs.function.Finals.{Final, final}

@@ -13,9 +13,9 @@ use Rattle.link_session.specs.Mentions.{mentions, forced_mention, new_names, nam
 use Rattle.link_session.specs.States.{state, multiple_names}
 use Rattle.link_session.proofs.ListLemmas.{all_append}
 use Rattle.link_session.proofs.MentionLemmas.{names_of-append, new_names-append}
-use Rattle.link_out.specs.declared.options.Keep.{Keep}
-use Rattle.link_out.specs.declared.options.Keep.TheVariants.{Nothing}
-use Rattle.link_out.specs.Choices.{Choices}
+use Rattle.link_options.specs.declared.options.Keep.{Keep}
+use Rattle.link_options.specs.declared.options.Keep.TheVariants.{Nothing}
+use Rattle.link_options.specs.Choices.{Choices}
 use Rattle.link_out.specs.function.Link.{Outcome, link, linked_file}
 use Rattle.link_out.specs.laws.PartialLinks.{KeepsNoMore, IsPartialLink, without_multiples}
 use Rattle.link_out.specs.laws.PartialLinksAmongOthers.{IsPart, behind, DefinitionsStand}

@@ -15,9 +15,9 @@ use Rattle.link_session.proofs.StateLemmas.{first_definition-append}
 use Rattle.link_session.proofs.ListLemmas.{all_split, all_map}
 use Rattle.link_session.proofs.MentionLemmas.{mentions-append}
 use Rattle.link_session.proofs.UpdateLemmas.{definition_of, own_name}
-use Rattle.link_out.specs.declared.options.Keep.{Keep}
-use Rattle.link_out.specs.declared.options.Keep.TheVariants.{Nothing}
-use Rattle.link_out.specs.Choices.{Choices}
+use Rattle.link_options.specs.declared.options.Keep.{Keep}
+use Rattle.link_options.specs.declared.options.Keep.TheVariants.{Nothing}
+use Rattle.link_options.specs.Choices.{Choices}
 use Rattle.link_out.specs.function.Link.{Outcome, link}
 use Rattle.link_out.specs.laws.PartialLinks.{KeepsNoMore, IsPartialLink}
 use Rattle.link_out.specs.laws.PartialLinksAmongOthers.{IsPart, DefinitionsStand, DefinesNoMultiple}

@@ -18,8 +18,8 @@ use Rattle.link_session.specs.Mentions.{mentions, is_among, names_of, names_by_f
 use Rattle.link_session.specs.Cells.{referent, referent_by, name_in}
 use Rattle.link_session.proofs.CellLemmas.{RefersAmong}
 use Rattle.link_session.proofs.MentionLemmas.{is_among-externals}
-use Rattle.link_out.specs.declared.options.Keep.TheVariants.{Nothing}
-use Rattle.link_out.specs.Choices.{Choices}
+use Rattle.link_options.specs.declared.options.Keep.TheVariants.{Nothing}
+use Rattle.link_options.specs.Choices.{Choices}
 use Rattle.link_out.specs.function.Plans.{Plan, plan, commons_laid}
 use Rattle.link_out.specs.function.Finals.{final}
 use Rattle.link_out.specs.function.Words.{referent_move, final_word, final_words}

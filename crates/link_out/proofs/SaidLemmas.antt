@@ -14,7 +14,7 @@ use Rattle.link_session.specs.Mentions.{Mention, mention, mentions, mentions_in,
 use Rattle.link_session.specs.States.{Definition, definition_by, first_definition, differs, multiple_names}
 use Rattle.link_session.proofs.ListLemmas.{all_append, all_split}
 use Rattle.link_session.proofs.MentionLemmas.{mentions-append}
-use Rattle.link_out.specs.Choices.{Choices}
+use Rattle.link_options.specs.Choices.{Choices}
 use Rattle.link_out.specs.function.Plans.{plan}
 use Rattle.link_out.specs.function.Reports.{Findings}
 use Rattle.link_out.specs.function.Link.{Outcome, link}

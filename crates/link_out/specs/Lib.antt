@@ -1,5 +1,4 @@
 -- The definitions that the contracts of this crate are written in.
-pub mod Choices
 pub mod ReservedNames
 pub mod KeptSymbols
 pub mod Results

@@ -7,10 +7,10 @@ ghost use Rattle.link_out.specs.function.Finals.{final_at};
 ghost use Rattle.link_out.specs.internal.InOrder.{finals_from, plan_of};
 
 use crate::layout::{Bases, common_size};
-use crate::options::Options;
 use crate::reserved_names::reserved_or_waiting;
 use crate::words::base_word;
 use aout_core::{Name, Segment};
+use link_options::Options;
 use link_session::{Session, State};
 use std::alloc::{AllocError, Global};
 use std::marker::Model;

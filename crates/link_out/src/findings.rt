@@ -13,9 +13,9 @@ ghost use Rattle.link_out.specs.Outcomes.{findings_of};
 
 use crate::finals::Final;
 use crate::linked::Report;
-use crate::options::Options;
 use crate::reserved_names::{is_missing, reserved_taken};
 use aout_core::{Name, Segment};
+use link_options::Options;
 use link_session::{Session, State};
 use std::alloc::{AllocError, Global};
 

@@ -7,8 +7,8 @@ ghost use Rattle.link_out.specs.function.Plans.{Plan};
 ghost use Rattle.link_out.specs.function.Tables.{local_rows, table};
 ghost use Rattle.link_out.specs.internal.Rows.{count_in, kept_count};
 
-use crate::options::Keep;
 use aout_core::{Name, Symbol};
+use link_options::Keep;
 use link_session::{Entry, Session};
 
 /// The most symbols of a table: one more, of 12 bytes each, would not fit the size in the header.

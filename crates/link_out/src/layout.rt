@@ -11,7 +11,7 @@ ghost use Rattle.link_out.specs.Layouts.{bases, data_base};
 ghost use Rattle.link_out.specs.function.Plans.{common_size, commons_laid, plan};
 ghost use Rattle.link_out.specs.internal.InOrder.{room_in};
 
-use crate::options::{Layout, Options};
+use link_options::{Layout, Options};
 use link_session::{Session, State};
 use std::marker::Model;
 

@@ -24,7 +24,6 @@ pub mod laws;
 mod layout;
 mod linked;
 mod linker;
-mod options;
 mod reach;
 mod relocs;
 mod reserved_names;
@@ -34,8 +33,8 @@ mod words;
 
 pub use edit::{Edit, Reply, RunFault};
 pub use layout::{Bases, link_bases};
+pub use link_options::{Keep, Layout, OptionFault, Options};
 pub use linked::{LinkFault, Linked, Report};
 pub use linker::finish;
-pub use options::{Keep, Layout, OptionFault, Options};
 pub use reserved_names::is_missing;
 pub use runner::run;

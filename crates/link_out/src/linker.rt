@@ -20,12 +20,12 @@ use crate::findings::{entry_point, report_of};
 use crate::kept_symbols::locals_within;
 use crate::layout::{Bases, link_bases};
 use crate::linked::{LinkFault, Linked};
-use crate::options::{Layout, Options};
 use crate::reach::has_far_word;
 use crate::relocs::relocs_of_cells;
 use crate::table::table;
 use crate::words::words_of_cells;
 use aout_core::{File, Header, Parts, Reloc, Segment};
+use link_options::{Layout, Options};
 use link_session::{Cell, Session};
 use std::alloc::{AllocError, Global};
 

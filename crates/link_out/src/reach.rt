@@ -7,9 +7,9 @@ ghost use Rattle.link_out.specs.internal.InOrder.{plan_of};
 ghost use Rattle.link_out.specs.function.Tables.{local_rows, has_far_word};
 ghost use Rattle.link_out.specs.internal.Reach.{kept_bound, kept_bound_of, is_out};
 
-use crate::options::Options;
 use crate::relocs::waits_far;
 use aout_core::Segment;
+use link_options::Options;
 use link_session::{Cell, Session, State, Target};
 
 /// The segment that a name in this state is bound to in a file with relocation, if it is bound; `commons` tells

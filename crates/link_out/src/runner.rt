@@ -12,8 +12,8 @@ ghost use Rattle.link_out.specs.internal.Replies.{IsDone, HasRoom, IsReplied, Ar
 use crate::edit::{Edit, Reply, RunFault};
 use crate::linked::Linked;
 use crate::linker::finish;
-use crate::options::Options;
 use aout_core::Object;
+use link_options::Options;
 use link_session::{AddFault, Forced, Session};
 use std::alloc::{AllocError, Global};
 

@@ -12,9 +12,9 @@ ghost use Rattle.link_out.specs.internal.Rows.{moves_by, value_moved, symbol_mov
 use crate::finals::Final;
 use crate::kept_symbols::is_kept_local;
 use crate::layout::Bases;
-use crate::options::Keep;
 use crate::words::base_word;
 use aout_core::{Name, Segment, Symbol};
+use link_options::Keep;
 use link_session::{Entry, Session, Shifts, Starts};
 use std::alloc::{AllocError, Global};
 

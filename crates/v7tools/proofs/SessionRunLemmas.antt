@@ -8,7 +8,7 @@ use Rattle.std.proofs.lemmas.Grind.{flat_map-append}
 use Rattle.aout_core.specs.Wires.{Latched}
 use Rattle.link_session.specs.Sessions.{nothing_kept}
 use Rattle.link_session.specs.Undo.{Kept}
-use Rattle.link_out.specs.Choices.{Choices}
+use Rattle.link_options.specs.Choices.{Choices}
 use Rattle.v7tools.specs.Events.{History, Extends}
 use Rattle.scripts.specs.Scripts.{Asked, lines_in, Given, ScriptFault, long_line, many_lines, and_given, given_behind}
 use Rattle.scripts.specs.ScriptAnswers.{Answer, IfTold, IsNextOf, NamesPath, Progress, Settles, asked_by, lines_of}

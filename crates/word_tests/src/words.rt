@@ -2,7 +2,7 @@
 use aout_core::Name;
 use command_words::{Call, WordsFault, parse};
 use fixtures::{words, words_of};
-use link_out::{Keep, Layout, Options};
+use link_options::{Keep, Layout, Options};
 use link_session::Forced;
 use std::alloc::{AllocError, Global};
 use std::process::Abort;

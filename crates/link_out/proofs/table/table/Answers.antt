@@ -1,6 +1,6 @@
 use Rattle.std.proofs.Common.{◌≡◌, ◌∙◌, ap, rules, List}
 use Rattle.link_session.specs.Labelled.{Labelled, objects}
-use Rattle.link_out.specs.declared.options.Keep.TheVariants as keeps
+use Rattle.link_options.specs.declared.options.Keep.TheVariants as keeps
 use Rattle.link_out.specs.function.Tables.{local_rows}
 use Rattle.link_out.proofs.RowLemmas.{table_whole}
 use Rattle.link_out.proofs.table.table.Goals as goal

@@ -1,6 +1,6 @@
 //! What a link is asked for.
 ghost use Rattle.std.specs.Prelude.{◌≡◌, None, Some, false, true, IfOk, IfErr, IsOk, ◌↔◌};
-ghost use Rattle.link_out.specs.Choices.{option_fault, lays_commons};
+ghost use Rattle.link_options.specs.Choices.{option_fault, options_of, lays_commons};
 
 use aout_core::Name;
 use std::marker::Model;
@@ -41,12 +41,12 @@ pub struct Options {
 }
 
 impl Model for Options {
-    ghost use Rattle.link_out.specs.Choices.{Choices};
+    ghost use Rattle.link_options.specs.Choices.{Choices};
 
     ghost Value = { Choices };
 
     ghost use Rattle.std.specs.Prelude.{◌≡◌};
-    ghost use Rattle.link_out.specs.Choices.{option_fault};
+    ghost use Rattle.link_options.specs.Choices.{option_fault};
     ghost use Rattle.std.specs.Prelude.{None};
 
     ghost view = { λ a. record { layout = a.layout; relocatable = a.relocatable; keep = a.keep; entry = a.entry; force_commons = a.force_commons } };
@@ -82,7 +82,7 @@ fn fault_of(layout: Layout, relocatable: bool, keep: Keep) -> Option<OptionFault
 }
 
 impl Options {
-    ghost use Rattle.link_out.specs.Choices.{Choices};
+    ghost use Rattle.link_options.specs.Choices.{Choices};
 
     /// These options, without `-d`; `relocatable` is the option `-r`, and `entry` the name after `-e`. (ld(1); what
     /// excludes what: own choice)
@@ -95,7 +95,7 @@ impl Options {
         keep: Keep,
         entry: Option<Name>,
     ) -> Result<Options, OptionFault>
-        ensures ok { option_fault layout relocatable keep ≡ None → IfOk result (λ o. let c : Choices = record { layout = layout; relocatable = relocatable; keep = keep; entry = entry; force_commons = false } in o ≡ c) }
+        ensures ok { option_fault layout relocatable keep ≡ None → IfOk result (λ o. o ≡ options_of layout relocatable keep entry) }
         ensures allowed { IsOk result ↔ (option_fault layout relocatable keep ≡ None) }
         ensures fault { IfErr result (λ f. option_fault layout relocatable keep ≡ Some f) }
     {
@@ -135,15 +135,16 @@ impl Options {
         self.relocatable
     }
 
-    pub(crate) fn keep(&self) -> Keep
+    /// Which symbols of the symbol table are written. (ld(1))
+    pub fn keep(&self) -> Keep
         ensures value { result ≡ self.now.keep }
         ensures allowed { option_fault self.now.layout self.now.relocatable self.now.keep ≡ None }
     {
         self.keep
     }
 
-    /// The name of the entry point.
-    pub(crate) fn entry(&self) -> Option<Name>
+    /// The name of the entry point, where one is asked for. (ld(1))
+    pub fn entry(&self) -> Option<Name>
         ensures { result ≡ self.now.entry }
     {
         self.entry
