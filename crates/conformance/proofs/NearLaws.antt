@@ -12,6 +12,7 @@ use Rattle.link_session.specs.declared.state.State.{State}
 use Rattle.link_session.specs.declared.state.State.TheVariants.{Defined, Wanted}
 use Rattle.link_session.specs.Sessions.{IsObject}
 use Rattle.link_session.specs.Mentions.{is_among, place_of}
+use Rattle.link_session.specs.Cells.{segment_words, segment_relocs}
 use Rattle.link_out.specs.declared.linked.LinkFault.{LinkFault}
 use Rattle.link_out.specs.declared.linked.LinkFault.TheVariants.{DoesNotFit, TooManySymbols, SymbolNumber, Memory}
 use Rattle.link_options.specs.declared.options.Layout.{Layout}
@@ -20,7 +21,6 @@ use Rattle.link_options.specs.Choices.{Choices}
 use Rattle.link_out.specs.relation.NameStates.{IsFirst}
 use Rattle.link_out.specs.Results.{Outcome}
 use Rattle.link_out.specs.function.Link.{link}
-use Rattle.link_out.specs.relation.Relocated.{segment_words, segment_relocs}
 use Rattle.link_out.specs.laws.WordsAndNames.{IsSaid, HasTwoDefinitions, MultiplesDiffer}
 use Rattle.link_out.specs.laws.CommonsAndLayouts.{DifferInPlace, LayoutsDiffer}
 use Rattle.link_out.specs.relation.Refusals.{CommonsTake, EndsAt, entry_count, HasFarWord, RefusedExactly}

@@ -14,12 +14,13 @@ use Rattle.aout_core.specs.Words.{plus}
 use Rattle.aout_core.specs.WellFormed.{kind_of, symbol_number}
 use Rattle.link_session.specs.Starts.{total, own}
 use Rattle.link_session.specs.Sessions.{IsObject}
+use Rattle.link_session.specs.Cells.{segment_words, segment_relocs}
 use Rattle.link_options.specs.declared.options.Layout.TheVariants.{Split}
 use Rattle.link_options.specs.declared.options.Keep.TheVariants.{Nothing}
 use Rattle.link_options.specs.Choices.{Choices, lays_commons}
 use Rattle.link_out.specs.Results.{Outcome}
 use Rattle.link_out.specs.function.Link.{link}
-use Rattle.link_out.specs.relation.Relocated.{base_in, entry_of, segment_words, segment_relocs}
+use Rattle.link_out.specs.relation.Relocated.{base_in, entry_of}
 use Rattle.link_out.specs.laws.CommonsAndLayouts.{IsCommon}
 use Rattle.link_laws.specs.Core.{Space, of_instructions, of_data, has_segment, first_address, bytes_of, is_in, core}
 use Rattle.link_laws.specs.CoreLaws.{IsLoaded, IsZero, IsOfWord, NothingElse}

@@ -11,13 +11,14 @@ use Rattle.aout_core.specs.Strip.{stripped}
 use Rattle.aout_core.specs.WellFormed.{is_external, masked_type, IsWellFormed}
 use Rattle.link_session.specs.Sessions.{IsObject}
 use Rattle.link_session.specs.Mentions.{externals, is_among}
+use Rattle.link_session.specs.Cells.{segment_words, segment_relocs}
 use Rattle.link_out.specs.declared.linked.LinkFault.{LinkFault}
 use Rattle.link_options.specs.declared.options.Keep.TheVariants.{All, NotL, Nothing}
 use Rattle.link_options.specs.Choices.{Choices, lays_commons, option_fault}
 use Rattle.link_out.specs.Results.{Outcome}
 use Rattle.link_out.specs.function.Link.{link}
 use Rattle.link_out.specs.laws.PartialLinks.{KeepsNoMore, IsPartialLink, without_multiples}
-use Rattle.link_out.specs.relation.Relocated.{entry_of, segment_words, segment_relocs, IsRelocated, HoldsObjects, IsEntry}
+use Rattle.link_out.specs.relation.Relocated.{entry_of, IsRelocated, HoldsObjects, IsEntry}
 use Rattle.link_out.specs.laws.WordsAndNames.{IsDefined}
 use Rattle.link_out.specs.laws.CommonsAndLayouts.{IsCommon, HasRoom}
 use Rattle.conformance.specs.Samples.{sym as entry, sized, _f, _x, _z, c_o, d_o, d2_o, x4_o, plain, plain_s, relocatable, relocatable_d, with_keep, with_entry}

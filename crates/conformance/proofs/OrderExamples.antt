@@ -10,13 +10,14 @@ use Rattle.aout_core.specs.declared.reloc.Reloc.{Reloc}
 use Rattle.aout_core.specs.Contents.{Contents}
 use Rattle.aout_core.specs.WellFormed.{is_external, masked_type, segment_of}
 use Rattle.link_session.specs.Mentions.{externals, is_among}
+use Rattle.link_session.specs.Cells.{segment_words, segment_relocs}
 use Rattle.link_out.specs.declared.linked.LinkFault.{LinkFault}
 use Rattle.link_out.specs.declared.linked.LinkFault.TheVariants.{SymbolNumber}
 use Rattle.link_options.specs.declared.options.Keep.TheVariants.{Nothing}
 use Rattle.link_options.specs.Choices.{Choices}
 use Rattle.link_out.specs.Results.{Outcome}
 use Rattle.link_out.specs.function.Link.{link}
-use Rattle.link_out.specs.relation.Relocated.{entry_of as row_of, external_type, segment_words, segment_relocs}
+use Rattle.link_out.specs.relation.Relocated.{entry_of as row_of, external_type}
 use Rattle.link_laws.specs.Orders.{AreOrders, Meaning, definition, common, missing, Means, MeansTheSame, RefersAlike, OrderKeepsSizes, OrderReportsAlike, OrderFindsEntry, OrderKeepsMeanings, defines, OnceInAnyOrder}
 use Rattle.conformance.specs.Samples.{sym as entry, object, d_o, _f, _g, _x, L1, _main, _twice, main_o, twice_o, count_o, g_o, x4_o, plain, plain_s, relocatable, with_entry}
 use Rattle.conformance.proofs.ClauseLemmas.{at_most_so}

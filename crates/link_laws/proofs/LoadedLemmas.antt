@@ -17,6 +17,7 @@ use Rattle.link_session.specs.Starts.{size_of, total, own}
 use Rattle.link_session.specs.Sessions.{IsObject}
 use Rattle.link_session.specs.Mentions.{mentions}
 use Rattle.link_session.proofs.ListLemmas.{all_split}
+use Rattle.link_session.specs.Cells.{segment_words, segment_relocs}
 use Rattle.link_options.specs.declared.options.Keep.TheVariants.{Nothing}
 use Rattle.link_options.specs.declared.options.Layout.{Layout}
 use Rattle.link_options.specs.declared.options.Layout.TheVariants.{Plain, Pure, Split}
@@ -25,7 +26,7 @@ use Rattle.link_out.specs.Layouts.{magic_of, data_base}
 use Rattle.link_out.specs.Results.{Outcome}
 use Rattle.link_out.specs.function.Plans.{plan, commons_laid}
 use Rattle.link_out.specs.function.Link.{link, linked_file}
-use Rattle.link_out.specs.relation.Relocated.{data_base_in, base_in, move_in, entry_of, segment_words, segment_relocs, IsRelocated, HoldsObjects}
+use Rattle.link_out.specs.relation.Relocated.{data_base_in, base_in, move_in, entry_of, IsRelocated, HoldsObjects}
 use Rattle.link_out.specs.laws.CommonsAndLayouts.{IsCommon, HasRoom}
 use Rattle.link_out.proofs.OutcomeLemmas.{made_file, made_fits}
 use Rattle.link_out.proofs.SegmentLemmas.{HasWords, made_length}

@@ -20,6 +20,7 @@ use Rattle.link_session.specs.Starts.{size_of, total, own}
 use Rattle.link_session.specs.Sessions.{IsObject}
 use Rattle.link_session.specs.Mentions.{mentions, is_among, names_by_first_mention}
 use Rattle.link_session.specs.States.{state}
+use Rattle.link_session.specs.Cells.{segment_words, segment_relocs}
 use Rattle.link_options.specs.declared.options.Keep.TheVariants.{Nothing}
 use Rattle.link_options.specs.Choices.{Choices}
 use Rattle.link_out.specs.Layouts.{Bases}
@@ -28,7 +29,7 @@ use Rattle.link_out.specs.function.Plans.{Plan, plan, common_offset}
 use Rattle.link_out.specs.function.Finals.{Final, final_by, bound_at, waiting, reserved_or_waiting, etext, edata, end_name}
 use Rattle.link_out.specs.function.Tables.{external_row}
 use Rattle.link_out.specs.function.Link.{link}
-use Rattle.link_out.specs.relation.Relocated.{move_in, entry_of, address_in, IsAddressOf, IsAdded, base_in, external_type, segment_words, segment_relocs, IsRelocated}
+use Rattle.link_out.specs.relation.Relocated.{move_in, entry_of, address_in, IsAddressOf, IsAdded, base_in, external_type, IsRelocated}
 use Rattle.link_out.specs.relation.LinkedFrom.{IsLinkedFrom}
 use Rattle.link_out.specs.laws.WordsAndNames.{IsDefined}
 use Rattle.link_out.proofs.OutcomeLemmas.{made_file}

@@ -20,7 +20,7 @@ use Rattle.link_session.specs.Starts.{total, shift}
 use Rattle.link_session.specs.Sessions.{IsObject}
 use Rattle.link_session.specs.Mentions.{statement, mentions, is_among, names_of, externals}
 use Rattle.link_session.specs.States.{state, multiple_names}
-use Rattle.link_session.specs.Cells.{referent_by, name_in}
+use Rattle.link_session.specs.Cells.{referent_by, name_in, segment_words, segment_relocs}
 use Rattle.link_session.proofs.ListLemmas.{all_split}
 use Rattle.link_session.proofs.MentionLemmas.{is_among-externals}
 use Rattle.link_session.proofs.CellLemmas.{RefersAmong}
@@ -30,7 +30,7 @@ use Rattle.link_options.specs.Choices.{Choices, lays_commons}
 use Rattle.link_out.specs.Layouts.{Bases, base}
 use Rattle.link_out.specs.Results.{Findings}
 use Rattle.link_out.specs.relation.NameStates.{HasState, IsWanted}
-use Rattle.link_out.specs.relation.Relocated.{data_base_in, entry_of, external_type, segment_words, segment_relocs, IsRelocated}
+use Rattle.link_out.specs.relation.Relocated.{data_base_in, entry_of, external_type, IsRelocated}
 use Rattle.link_out.specs.relation.LinkedTable.{shown, undefined_row}
 use Rattle.link_out.specs.laws.WordsAndNames.{IsDefined, IsSaid}
 use Rattle.link_out.specs.laws.CommonsAndLayouts.{IsCommon}

@@ -25,7 +25,7 @@ use Rattle.link_out.specs.relation.Refusals.{CommonsTake, kept_locals}
 use Rattle.link_out.specs.relation.LinkedFrom.{IsLinkedFrom}
 use Rattle.symtools.specs.declared.options.NmOptions.{NmOptions}
 use Rattle.symtools.specs.SymbolLines.{is_shown_undefined, letter, symbol_line}
-use Rattle.symtools.specs.NmLists.{arranged, shown, line_front, nm_text}
+use Rattle.symtools.specs.NmLists.{arranged, shown, line_heading, nm_text}
 use Rattle.symtools.specs.SizeLines.{size_line, size_text}
 
 -- the locals that a link keeps and nm shows as undefined: those of type 0 and value 0. A link reports none of them, since no
@@ -43,7 +43,7 @@ undefined_symbol name = record { name = name; type_bits = 0o40; value = 0 }
 
 -- the lines of these symbols
 abbrev pub lines : NmOptions → List ℕ → List Symbol → List ℕ
-lines n path ss = flat_map (λ s. line_front n path ++ symbol_line s) ss
+lines n path ss = flat_map (λ s. line_heading n path ++ symbol_line s) ss
 
 -- by `nm -u`, with `-g` or where no such local is kept, the names that are reported undefined are listed, each once, and no others
 abbrev pub UndefinedAreListed : Type 0

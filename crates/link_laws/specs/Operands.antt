@@ -16,11 +16,12 @@ use Rattle.aout_core.specs.Words.{plus}
 use Rattle.aout_core.specs.WellFormed.{is_external, segment_of, kind_of, is_pc_relative, symbol_number}
 use Rattle.link_session.specs.Starts.{size_of, own}
 use Rattle.link_session.specs.Sessions.{IsObject}
+use Rattle.link_session.specs.Cells.{segment_words, segment_relocs}
 use Rattle.link_options.specs.declared.options.Keep.TheVariants.{Nothing}
 use Rattle.link_options.specs.Choices.{Choices}
 use Rattle.link_out.specs.Results.{Outcome}
 use Rattle.link_out.specs.function.Link.{link}
-use Rattle.link_out.specs.relation.Relocated.{move_in, entry_of, segment_words, segment_relocs}
+use Rattle.link_out.specs.relation.Relocated.{move_in, entry_of}
 use Rattle.link_laws.specs.Core.{IsWordAt}
 use Rattle.link_laws.specs.CoreLaws.{space_of, IsPlace}
 

@@ -14,12 +14,13 @@ use Rattle.aout_core.specs.Contents.{Contents}
 use Rattle.aout_core.specs.WellFormed.{is_external, masked_type, kind_of, symbol_number}
 use Rattle.link_session.specs.Sessions.{IsObject}
 use Rattle.link_session.specs.Mentions.{mentions, externals, is_among}
+use Rattle.link_session.specs.Cells.{segment_words, segment_relocs}
 use Rattle.link_out.specs.declared.linked.LinkFault.{LinkFault}
 use Rattle.link_options.specs.declared.options.Keep.TheVariants.{Nothing}
 use Rattle.link_options.specs.Choices.{Choices}
 use Rattle.link_out.specs.function.Link.{Outcome, link}
 use Rattle.link_out.specs.relation.NameStates.{IsWanted}
-use Rattle.link_out.specs.relation.Relocated.{entry_of, segment_words, segment_relocs, IsRelocated}
+use Rattle.link_out.specs.relation.Relocated.{entry_of, IsRelocated}
 use Rattle.link_out.specs.relation.LinkedTable.{undefined_row}
 use Rattle.link_out.specs.laws.WordsAndNames.{IsDefined}
 use Rattle.link_out.specs.laws.CommonsAndLayouts.{IsCommon, HasRoom}

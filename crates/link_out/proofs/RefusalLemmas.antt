@@ -22,7 +22,7 @@ use Rattle.link_session.specs.Starts.{total}
 use Rattle.link_session.specs.Sessions.{IsObject}
 use Rattle.link_session.specs.Mentions.{Mention, mentions, names_by_first_mention, externals, place_of}
 use Rattle.link_session.specs.States.{state}
-use Rattle.link_session.specs.Cells.{referent, referent_by, name_in, words_of}
+use Rattle.link_session.specs.Cells.{referent, referent_by, name_in, words_of, segment_words, segment_relocs}
 use Rattle.link_out.specs.declared.linked.LinkFault.{LinkFault}
 use Rattle.link_out.specs.declared.linked.LinkFault.TheVariants.{DoesNotFit, TooManySymbols, SymbolNumber, Memory}
 use Rattle.link_options.specs.declared.options.Keep.{Keep}
@@ -35,7 +35,6 @@ use Rattle.link_out.specs.function.Tables.{is_kept_local, rows_kept, moved_local
 use Rattle.link_out.specs.function.Reports.{findings}
 use Rattle.link_out.specs.internal.InOrder.{room_in}
 use Rattle.link_out.specs.relation.NameStates.{HasState, IsWanted}
-use Rattle.link_out.specs.relation.Relocated.{segment_words, segment_relocs}
 use Rattle.link_out.specs.relation.LinkedTable.{room_for}
 use Rattle.link_out.specs.function.Link.{Outcome, linked_file, link}
 use Rattle.link_out.specs.relation.Refusals.{CommonsTake, EndsAt, kept_locals, entries, entry_count, HasFarWord, IsRefused}

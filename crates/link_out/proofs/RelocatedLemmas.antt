@@ -15,7 +15,7 @@ use Rattle.aout_core.specs.declared.header.Header.{Header}
 use Rattle.link_session.specs.Starts.{total}
 use Rattle.link_session.specs.Sessions.{IsObject}
 use Rattle.link_session.specs.Mentions.{mentions, is_among, names_of, names_by_first_mention}
-use Rattle.link_session.specs.Cells.{referent, referent_by, name_in}
+use Rattle.link_session.specs.Cells.{referent, referent_by, name_in, segment_words, segment_relocs}
 use Rattle.link_session.proofs.CellLemmas.{RefersAmong}
 use Rattle.link_session.proofs.MentionLemmas.{is_among-externals}
 use Rattle.link_options.specs.declared.options.Keep.TheVariants.{Nothing}
@@ -25,7 +25,7 @@ use Rattle.link_out.specs.function.Finals.{final}
 use Rattle.link_out.specs.function.Words.{referent_move, final_word, final_words}
 use Rattle.link_out.specs.function.Tables.{external_row, table}
 use Rattle.link_out.specs.function.Link.{Outcome, linked_file, link, linked_header}
-use Rattle.link_out.specs.relation.Relocated.{move_in, IsAddressOf, IsAdded, segment_words, segment_relocs, IsRelocated, HoldsObjects, entry_of, address_in}
+use Rattle.link_out.specs.relation.Relocated.{move_in, IsAddressOf, IsAdded, IsRelocated, HoldsObjects, entry_of, address_in}
 use Rattle.link_out.proofs.OutcomeLemmas.{made_file}
 use Rattle.link_out.proofs.MoveLemmas.{move_by_header}
 use Rattle.link_out.proofs.ExternalLemmas.{entry_there, row_address}

@@ -15,13 +15,12 @@ use Rattle.aout_core.proofs.AlikeLemmas.{slice_get_behind}
 use Rattle.link_session.specs.Starts.{size_of, total}
 use Rattle.link_session.specs.Sessions.{IsObject}
 use Rattle.link_session.specs.Mentions.{mentions, names_of}
-use Rattle.link_session.specs.Cells.{referent, words_of}
+use Rattle.link_session.specs.Cells.{referent, words_of, segment_words, segment_relocs}
 use Rattle.link_session.proofs.AdditionLemmas.{well_formed}
 use Rattle.link_session.proofs.CellLemmas.{RefersAmong, AllReferAmong}
 use Rattle.link_session.proofs.TotalLemmas.{with_all}
 use Rattle.link_session.proofs.WellFormedLemmas.{objects_refer, well_formed_parts}
 use Rattle.link_session.proofs.ListLemmas.{all_split, get_append, get_mapped}
-use Rattle.link_out.specs.relation.Relocated.{segment_words, segment_relocs}
 use Rattle.link_out.proofs.IndexLemmas.{zip_get, zip_length, all_get, same_elements, get_either, get_back, zip_back}
 use Rattle.link_out.proofs.NeighbourMentions.{blocks, blocks-append}
 

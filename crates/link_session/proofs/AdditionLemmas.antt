@@ -23,14 +23,14 @@ use Rattle.link_session.specs.Cells.{Referent, to_segment, to_name, referent, re
 use Rattle.link_session.specs.Image.{named_states, image}
 use Rattle.link_session.specs.Sessions.{IsObject}
 use Rattle.link_session.specs.Image.{state_in, state_at}
-use Rattle.link_session.specs.internal.Additions.{state_for, place_in, all_mentioned, all_clashes, bound_by, binding_at, binding, bound_or, settled, mention_by, mentions_by, referred, own_cell, own_cells, next_shifts, next_mentions, next_named, joined_image}
+use Rattle.link_session.specs.internal.Additions.{state_for, place_in, with_mentions, all_clashes, bound_by, binding_at, binding, bound_or, settled_cell, mention_by, mentions_by, reference, own_cell, own_cells, next_shifts, next_mentions, next_named, joined_image}
 use Rattle.link_session.proofs.StateLemmas.{first_definition-append}
 use Rattle.link_session.proofs.MentionLemmas.{names_by_first_mention-append, is_among-externals, get_place}
 use Rattle.link_session.proofs.CellLemmas.{rebound, bound, RefersAmong, AllReferAmong, cells_more, all_made}
 use Rattle.link_session.proofs.MarkLemmas.{awaited, bound-awaited}
 use Rattle.link_session.proofs.WellFormedLemmas.{objects_refer}
 use Rattle.link_session.proofs.UpdateLemmas.{image_own}
-use Rattle.link_session.proofs.MentionedLemmas.{keys-named_states, state_for-named_states, all_mentioned-named_states, all_clashes-named_states}
+use Rattle.link_session.proofs.MentionedLemmas.{keys-named_states, state_for-named_states, with_mentions-named_states, all_clashes-named_states}
 use Rattle.link_session.proofs.TotalLemmas.{text_total, data_total}
 use Rattle.link_session.proofs.ListLemmas.{all_map, get_append, index_get, get_mapped}
 
@@ -90,21 +90,21 @@ binding-awaited ms ns c h = by_target c.target h
         by_definition None = refl
         by_definition (Some d) = refl
 
-settled-bound : (ms ns : List Mention) (c : Cell) → WaitsAmong ms c.target → settled (named_states (ms ++ ns)) c ≡ bound (names_by_first_mention ms) ns c
-settled-bound ms ns c h =
+settled_cell-bound : (ms ns : List Mention) (c : Cell) → WaitsAmong ms c.target → settled_cell (named_states (ms ++ ns)) c ≡ bound (names_by_first_mention ms) ns c
+settled_cell-bound ms ns c h =
     ap (λ (b : Option Cell). bound_or b c) (binding-awaited ms ns c h) ∙ by_definition (awaited (names_by_first_mention ms) ns c.target) ∙ sym (bound-awaited (names_by_first_mention ms) ns c)
   where
     by_definition : (d : Option Definition) → bound_or (rebinding d c) c ≡ rebound d c
     by_definition None = refl
     by_definition (Some d) = refl
 
-all_settled : (ms ns : List Mention) (cs : List Cell) → AllByRecursion (λ c. WaitsAmong ms c.target) cs → map (settled (named_states (ms ++ ns))) cs ≡ map (bound (names_by_first_mention ms) ns) cs
+all_settled : (ms ns : List Mention) (cs : List Cell) → AllByRecursion (λ c. WaitsAmong ms c.target) cs → map (settled_cell (named_states (ms ++ ns))) cs ≡ map (bound (names_by_first_mention ms) ns) cs
 all_settled ms ns [] h = refl
-all_settled ms ns (c ∷ cs) h = λ i. settled-bound ms ns c h.0 i ∷ all_settled ms ns cs h.1 i
+all_settled ms ns (c ∷ cs) h = λ i. settled_cell-bound ms ns c h.0 i ∷ all_settled ms ns cs h.1 i
 
 -- the cells that are settled are those of the same objects under more mentions
 pub cells_settled : (ms ns : List Mention) (segment : Segment) (os : List Contents) → AllByRecursion (λ o. AllReferAmong (names_of ms) o (words_of segment o)) os →
-    map (settled (named_states (ms ++ ns))) (cells ms segment os) ≡ cells (ms ++ ns) segment os
+    map (settled_cell (named_states (ms ++ ns))) (cells ms segment os) ≡ cells (ms ++ ns) segment os
 cells_settled ms ns segment os h = all_settled ms ns (cells ms segment os) (cells_wait ms segment os h) ∙ sym (cells_more ms ns segment os h)
 
 -- what is added to the addresses of an object behind these
@@ -134,7 +134,7 @@ next_mentions-in forced os o h = ap (λ (s : Shifts). mentions_by s o.symbols) (
     each (s ∷ ss) = λ i. record { name = s.name; says = says (segment_of s) s.value i } ∷ each ss i
 
 pub next_named-states : (forced : List (List ℕ)) (os : List Contents) (o : Contents) → AllByRecursion IsObject os → next_named (image forced os) o ≡ named_states (mentions forced os ++ mentions_in os o)
-next_named-states forced os o h = ap (λ (ms : List Mention). all_mentioned (named_states (mentions forced os)) ms) (next_mentions-in forced os o h) ∙ all_mentioned-named_states (mentions forced os) (mentions_in os o)
+next_named-states forced os o h = ap (λ (ms : List Mention). with_mentions (named_states (mentions forced os)) ms) (next_mentions-in forced os o h) ∙ with_mentions-named_states (mentions forced os) (mentions_in os o)
 
 -- an object's own cell is the cell of the word
 own_cell-is : (ms : List Mention) (os : List Contents) (o : Contents) (segment : Segment) (w : ℕ) (r : Reloc) →
@@ -149,7 +149,7 @@ own_cell-is ms os o segment w r = λ i. record {
         ≡ (target_shift ms os o (to_name name), target_of ms (to_name name))
     of_name name = λ i. (offset_in (state_for-named_states ms name i), name_target (state_for-named_states ms name i) (place_of name (keys-named_states ms i)))
 
-    by_kind : (kind : Option Kind) → referred (named_states ms) o.symbols (shifts_behind os o) (symbol_number r) kind ≡ (target_shift ms os o (referent_by o (symbol_number r) kind), target_of ms (referent_by o (symbol_number r) kind))
+    by_kind : (kind : Option Kind) → reference (named_states ms) o.symbols (shifts_behind os o) (symbol_number r) kind ≡ (target_shift ms os o (referent_by o (symbol_number r) kind), target_of ms (referent_by o (symbol_number r) kind))
     by_kind None = refl
     by_kind (Some kinds.Absolute) = refl
     by_kind (Some kinds.TextSeg) = refl
@@ -169,8 +169,8 @@ well_formed os h = all_map IsObject IsWellFormed (λ o k. k.well) os h
 pub joined_image-is : (forced : List (List ℕ)) (os : List Contents) (o : Contents) → AllByRecursion IsObject os → joined_image (image forced os) o ≡ image forced (os ++ o ∷ [])
 joined_image-is forced os o h =
     (λ i. record {
-      text_cells = map (settled (named i)) (image forced os).text_cells ++ own_cells (named i) o.symbols (shifts i) (shifts i).text o.text_words o.text_reloc;
-      data_cells = map (settled (named i)) (image forced os).data_cells ++ own_cells (named i) o.symbols (shifts i) (shifts i).data o.data_words o.data_reloc;
+      text_cells = map (settled_cell (named i)) (image forced os).text_cells ++ own_cells (named i) o.symbols (shifts i) (shifts i).text o.text_words o.text_reloc;
+      data_cells = map (settled_cell (named i)) (image forced os).data_cells ++ own_cells (named i) o.symbols (shifts i) (shifts i).data o.data_words o.data_reloc;
       bss_total = (image forced os).bss_total + o.header.bss_size;
       externals = named i;
       multiples = clashes i;

@@ -9,16 +9,16 @@ use Rattle.link_session.specs.declared.mark.Mark.TheVariants.{StateWas}
 use Rattle.link_session.specs.Mentions.{Mention, is_among}
 use Rattle.link_session.specs.Image.{Image}
 use Rattle.link_session.specs.Undo.{with_state, put_all_back, IsInside}
-use Rattle.link_session.specs.internal.Updates.{updated}
+use Rattle.link_session.specs.internal.Updates.{updated_state}
 use Rattle.link_session.specs.Image.{Named, state_at}
-use Rattle.link_session.specs.internal.Additions.{state_for, place_in, mentioned, all_mentioned, changes, state_mark, state_marks}
+use Rattle.link_session.specs.internal.Additions.{state_for, place_in, with_mention, with_mentions, changes, state_mark, state_marks}
 use Rattle.link_session.proofs.MarkLemmas.{put_all_back-append, take_grown, take_with_state}
-use Rattle.link_session.proofs.MentionedLemmas.{mentioned-is, next_state}
+use Rattle.link_session.proofs.MentionedLemmas.{with_mention-is, next_state}
 use Rattle.link_session.proofs.ListLemmas.{all_append}
 
 -- States.
 
-unchanged : (was says : State) → changes was says ≡ false → updated was says ≡ was
+unchanged : (was says : State) → changes was says ≡ false → updated_state was says ≡ was
 unchanged (Defined segment offset) says h = refl
 unchanged (Wanted size) (Defined segment offset) h = absurd (cc)
 unchanged (Wanted size) (Wanted more) h = let no = ltb-false size more h in ap (λ (n : ℕ). Wanted n) (omega arith)
@@ -41,16 +41,16 @@ length-with_state (e ∷ es) zero s = refl
 length-with_state (e ∷ es) (suc i) s = ap suc (length-with_state es i s)
 
 -- the names that were there before, after one more mention
-front_mentioned : (kept : ℕ) (es : Named) (m : Mention) → kept ≤ length es → take kept (mentioned es m) ≡ take kept (with_state es (place_in es m.name) (next_state es m))
+front_mentioned : (kept : ℕ) (es : Named) (m : Mention) → kept ≤ length es → take kept (with_mention es m) ≡ take kept (with_state es (place_in es m.name) (next_state es m))
 front_mentioned kept es m h =
-    ap (λ (l : Named). take kept l) (mentioned-is es m)
+    ap (λ (l : Named). take kept l) (with_mention-is es m)
     ∙ take_grown (with_state es (place_in es m.name) (next_state es m)) (cond (is_among (keys_of es) m.name) [] ((m.name, next_state es m) ∷ [])) kept (omega (arith, length-with_state es (place_in es m.name) (next_state es m)))
 
-longer : (es : Named) (m : Mention) → length es ≤ length (mentioned es m)
+longer : (es : Named) (m : Mention) → length es ≤ length (with_mention es m)
 longer es m =
     omega (
       arith,
-      ap (λ (l : Named). length l) (mentioned-is es m),
+      ap (λ (l : Named). length l) (with_mention-is es m),
       length-with_state es (place_in es m.name) (next_state es m),
       length-append (with_state es (place_in es m.name) (next_state es m)) (cond (is_among (keys_of es) m.name) [] ((m.name, next_state es m) ∷ [])),
     )
@@ -59,7 +59,7 @@ abbrev with_named : Image → Named → Image
 with_named m es = record m { externals = es }
 
 -- one mention is put back
-mention_back : (m : Image) (kept : ℕ) (es : Named) (k : Mention) → kept ≤ length es → put_all_back (state_mark kept es k) (with_named m (take kept (mentioned es k))) ≡ with_named m (take kept es)
+mention_back : (m : Image) (kept : ℕ) (es : Named) (k : Mention) → kept ≤ length es → put_all_back (state_mark kept es k) (with_named m (take kept (with_mention es k))) ≡ with_named m (take kept es)
 mention_back m kept es k h =
     ap (λ (l : Named). put_all_back (state_mark kept es k) (with_named m l)) (front_mentioned kept es k h) ∙ by_place (nat_lt (place_in es k.name) kept) refl
   where
@@ -76,11 +76,11 @@ mention_back m kept es k h =
     by_place false e = ap (with_named m) (take_with_state es kept (place_in es k.name) (next_state es k) (ltb-false (place_in es k.name) kept e))
 
 -- all mentions are put back
-pub mentions_back : (m : Image) (kept : ℕ) (es : Named) (ms : List Mention) → kept ≤ length es → put_all_back (state_marks kept es ms) (with_named m (take kept (all_mentioned es ms))) ≡ with_named m (take kept es)
+pub mentions_back : (m : Image) (kept : ℕ) (es : Named) (ms : List Mention) → kept ≤ length es → put_all_back (state_marks kept es ms) (with_named m (take kept (with_mentions es ms))) ≡ with_named m (take kept es)
 mentions_back m kept es [] h = refl
 mentions_back m kept es (k ∷ ms) h =
-    put_all_back-append (state_mark kept es k) (state_marks kept (mentioned es k) ms) (with_named m (take kept (all_mentioned (mentioned es k) ms)))
-    ∙ ap (λ (n : Image). put_all_back (state_mark kept es k) n) (mentions_back m kept (mentioned es k) ms (let l = longer es k in omega arith))
+    put_all_back-append (state_mark kept es k) (state_marks kept (with_mention es k) ms) (with_named m (take kept (with_mentions (with_mention es k) ms)))
+    ∙ ap (λ (n : Image). put_all_back (state_mark kept es k) n) (mentions_back m kept (with_mention es k) ms (let l = longer es k in omega arith))
     ∙ mention_back m kept es k h
 
 -- Where the marks lie.
@@ -88,7 +88,7 @@ mentions_back m kept es (k ∷ ms) h =
 pub states_inside : (m : Image) (es : Named) (ms : List Mention) → AllByRecursion (IsInside m) (state_marks (length m.externals) es ms)
 states_inside m es [] = tt
 states_inside m es (k ∷ ms) =
-    all_append (IsInside m) (state_mark (length m.externals) es k) (state_marks (length m.externals) (mentioned es k) ms) (by_place (nat_lt (place_in es k.name) (length m.externals)) refl (changes (state_for es k.name) k.says)) (states_inside m (mentioned es k) ms)
+    all_append (IsInside m) (state_mark (length m.externals) es k) (state_marks (length m.externals) (with_mention es k) ms) (by_place (nat_lt (place_in es k.name) (length m.externals)) refl (changes (state_for es k.name) k.says)) (states_inside m (with_mention es k) ms)
   where
     by_place : (t : Bool) → nat_lt (place_in es k.name) (length m.externals) ≡ t → (u : Bool) → AllByRecursion (IsInside m) (cond (t && u) (StateWas (place_in es k.name) (state_for es k.name) ∷ []) [])
     by_place true e true = (ltb-true (place_in es k.name) (length m.externals) e, tt)
@@ -100,9 +100,9 @@ states_inside m es (k ∷ ms) =
 pub states_few : (kept : ℕ) (es : Named) (ms : List Mention) → length (state_marks kept es ms) ≤ length ms
 states_few kept es [] = omega arith
 states_few kept es (k ∷ ms) =
-    let rest = states_few kept (mentioned es k) ms in
+    let rest = states_few kept (with_mention es k) ms in
     let here = by_tests (nat_lt (place_in es k.name) kept && changes (state_for es k.name) k.says) in
-    omega (arith, length-append (state_mark kept es k) (state_marks kept (mentioned es k) ms))
+    omega (arith, length-append (state_mark kept es k) (state_marks kept (with_mention es k) ms))
   where
     by_tests : (t : Bool) → length (cond t (StateWas (place_in es k.name) (state_for es k.name) ∷ []) []) ≤ 1
     by_tests true = omega arith

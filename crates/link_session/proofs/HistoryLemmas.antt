@@ -18,13 +18,13 @@ use Rattle.link_session.specs.Cells.{cells}
 use Rattle.link_session.specs.Image.{Image, named_states, image}
 use Rattle.link_session.specs.Sessions.{IsObject}
 use Rattle.link_session.specs.Image.{Named}
-use Rattle.link_session.specs.internal.Additions.{place_in, settled, external_names, next_mentions, next_named, joined_image}
+use Rattle.link_session.specs.internal.Additions.{place_in, settled_cell, external_names, next_mentions, next_named, joined_image}
 use Rattle.link_session.specs.internal.Chains.{Link, threaded, AreChained}
 use Rattle.link_session.specs.internal.Settled.{settled_over, places_of, IsCovered}
 use Rattle.link_session.specs.internal.Threads.{Threads, with_texts, with_datas, next_texts, next_datas, bound_heads, next_heads, next_threads, threads_from, forced_threads, threads_of, IsThreaded}
 use Rattle.link_session.proofs.EarlierLemmas.{with_earlier-append}
 use Rattle.link_session.proofs.MentionLemmas.{names_of-map}
-use Rattle.link_session.proofs.MentionedLemmas.{length-all_mentioned}
+use Rattle.link_session.proofs.MentionedLemmas.{length-with_mentions}
 use Rattle.link_session.proofs.WellFormedLemmas.{objects_refer}
 use Rattle.link_session.proofs.AdditionLemmas.{WaitsAmong, cells_wait, next_named-states, well_formed, joined_image-is}
 use Rattle.link_session.proofs.ListLemmas.{all_append, all_split, all_map}
@@ -87,11 +87,11 @@ module _ (forced : List (List ℕ)) (os : List Contents) (o : Contents) (good : 
   ks = places_of (next_named (image forced os) o) o.symbols
 
   -- to bind the names that the object mentions is to settle all cells
-  pub covered : (segment : Segment) → map (settled_over es ks) (cells (mentions forced os) segment os) ≡ map (settled es) (cells (mentions forced os) segment os)
+  pub covered : (segment : Segment) → map (settled_over es ks) (cells (mentions forced os) segment os) ≡ map (settled_cell es) (cells (mentions forced os) segment os)
   covered segment =
       (λ i. map (settled_over (named i) (map (place_in (named i)) (names i))) (cells (mentions forced os) segment os))
       ∙ all_covered (mentions forced os) (mentions_in os o) (cells (mentions forced os) segment os) (cells_wait (mentions forced os) segment os (objects_refer forced segment os (well_formed os good)))
-      ∙ (λ i. map (settled (sym named i)) (cells (mentions forced os) segment os))
+      ∙ (λ i. map (settled_cell (sym named i)) (cells (mentions forced os) segment os))
     where
       named : next_named (image forced os) o ≡ named_states (mentions forced os ++ mentions_in os o)
       named = next_named-states forced os o good
@@ -101,7 +101,7 @@ module _ (forced : List (List ℕ)) (os : List Contents) (o : Contents) (good : 
 
   -- there are no fewer externals than before
   no_fewer : length (image forced os).externals ≤ length es
-  no_fewer = omega (arith, length-all_mentioned (image forced os).externals (next_mentions (image forced os) o))
+  no_fewer = omega (arith, length-with_mentions (image forced os).externals (next_mentions (image forced os) o))
 
   module _ (own : IsObject o) where
     all_good : AllByRecursion IsObject (os ++ o ∷ [])
@@ -122,10 +122,10 @@ module _ (forced : List (List ℕ)) (os : List Contents) (o : Contents) (good : 
         (cells_wait (mentions forced (os ++ o ∷ [])) segment (os ++ o ∷ []) (objects_refer forced segment (os ++ o ∷ []) (well_formed (os ++ o ∷ []) all_good))))).1)
 
     texts_below : AllByRecursion (λ c. WaitsBelow (length es) c.target) (next_texts (image forced os) o)
-    texts_below = below (map (settled es) (image forced os).text_cells) (next_texts (image forced os) o) segments.TextSeg (ap (λ (m : Image). m.text_cells) (sym (joined_image-is forced os o good)))
+    texts_below = below (map (settled_cell es) (image forced os).text_cells) (next_texts (image forced os) o) segments.TextSeg (ap (λ (m : Image). m.text_cells) (sym (joined_image-is forced os o good)))
 
     datas_below : AllByRecursion (λ c. WaitsBelow (length es) c.target) (next_datas (image forced os) o)
-    datas_below = below (map (settled es) (image forced os).data_cells) (next_datas (image forced os) o) segments.DataSeg (ap (λ (m : Image). m.data_cells) (sym (joined_image-is forced os o good)))
+    datas_below = below (map (settled_cell es) (image forced os).data_cells) (next_datas (image forced os) o) segments.DataSeg (ap (λ (m : Image). m.data_cells) (sym (joined_image-is forced os o good)))
 
     module _ (t : Threads) (h : IsThreaded (image forced os) t) where
       abbrev grown : Threads
@@ -134,16 +134,16 @@ module _ (forced : List (List ℕ)) (os : List Contents) (o : Contents) (good : 
       heads_grown : length (next_heads (image forced os) o t.heads) ≡ length es
       heads_grown = length-grown_heads (length es) (bound_heads (image forced os) o t.heads) (let e = h.heads in omega (arith, length-cut_heads es ks t.heads, no_fewer))
 
-      settled_chained : AreChained (map (settled es) (image forced os).text_cells) (map (settled es) (image forced os).data_cells) t.text_links t.data_links (next_heads (image forced os) o t.heads)
+      settled_chained : AreChained (map (settled_cell es) (image forced os).text_cells) (map (settled_cell es) (image forced os).data_cells) t.text_links t.data_links (next_heads (image forced os) o t.heads)
       settled_chained =
           subst (λ (P : Type 0). P) (λ i. AreChained (covered segments.TextSeg i) (covered segments.DataSeg i) t.text_links t.data_links (next_heads (image forced os) o t.heads))
           (grown_chained (length es) (map (settled_over es ks) (image forced os).text_cells) (map (settled_over es ks) (image forced os).data_cells) t.text_links t.data_links (bound_heads (image forced os) o t.heads)
           (cut_all es ks (image forced os).text_cells (image forced os).data_cells t.text_links t.data_links t.heads h.chained))
 
-      with_texts_chained : AreChained (joined_image (image forced os) o).text_cells (map (settled es) (image forced os).data_cells)
+      with_texts_chained : AreChained (joined_image (image forced os) o).text_cells (map (settled_cell es) (image forced os).data_cells)
           (with_texts (next_texts (image forced os) o) grown).text_links t.data_links (with_texts (next_texts (image forced os) o) grown).heads
       with_texts_chained =
-          texts_last (map (settled es) (image forced os).text_cells) (map (settled es) (image forced os).data_cells) (next_texts (image forced os) o) grown settled_chained
+          texts_last (map (settled_cell es) (image forced os).text_cells) (map (settled_cell es) (image forced os).data_cells) (next_texts (image forced os) o) grown settled_chained
           (subst (λ (n : ℕ). AllByRecursion (λ (c : Cell). WaitsBelow n c.target) (next_texts (image forced os) o)) (sym heads_grown) texts_below)
 
       heads_then : length (with_texts (next_texts (image forced os) o) grown).heads ≡ length es
@@ -152,7 +152,7 @@ module _ (forced : List (List ℕ)) (os : List Contents) (o : Contents) (good : 
       pub threaded_next : IsThreaded (joined_image (image forced os) o) (next_threads (image forced os) o t)
       threaded_next = record {
         chained =
-            datas_last (joined_image (image forced os) o).text_cells (map (settled es) (image forced os).data_cells) (next_datas (image forced os) o) (with_texts (next_texts (image forced os) o) grown) with_texts_chained
+            datas_last (joined_image (image forced os) o).text_cells (map (settled_cell es) (image forced os).data_cells) (next_datas (image forced os) o) (with_texts (next_texts (image forced os) o) grown) with_texts_chained
             (subst (λ (n : ℕ). AllByRecursion (λ (c : Cell). WaitsBelow n c.target) (next_datas (image forced os) o)) (sym heads_then) datas_below);
         heads = length-threaded_heads (λ i. InData i) (length t.data_links) (next_datas (image forced os) o) (with_texts (next_texts (image forced os) o) grown).heads ∙ heads_then;
       }

@@ -18,8 +18,8 @@ use Rattle.link_session.specs.internal.Counts.{NotesBound}
 use Rattle.link_session.specs.Undo.{undo}
 use Rattle.link_session.specs.internal.Fields.{sizes_of, with_cells, with_heads, with_own_cells, with_own_threads, threads_by, with_heads_back}
 use Rattle.link_session.specs.Image.{Named}
-use Rattle.link_session.specs.internal.Additions.{all_mentioned, all_clashes, mention_by, mentions_by, state_marks, settled, new_count, next_limit, next_shifts, next_mentions, next_named, entered, joined_image}
-use Rattle.link_session.proofs.MentionedLemmas.{length-all_mentioned}
+use Rattle.link_session.specs.internal.Additions.{with_mentions, all_clashes, mention_by, mentions_by, state_marks, settled_cell, new_count, next_limit, next_shifts, next_mentions, next_named, entered, joined_image}
+use Rattle.link_session.proofs.MentionedLemmas.{length-with_mentions}
 use Rattle.link_session.proofs.LimitLemmas.{new_count-le}
 use Rattle.link_session.proofs.TotalLemmas.{within_limit}
 use Rattle.link_session.proofs.TakenBackLemmas.{taken_back, bound_alone}
@@ -28,12 +28,12 @@ use Rattle.link_session.proofs.MentionLemmas.{names_of-map}
 
 -- the fields once the mentions are entered
 pub entered-is : (m n : Image) (o f : Contents) (shifts : Shifts) (symbols : List Symbol) (es : Named) (xs : List (List ℕ)) → n ≡ m → f ≡ o → symbols ≡ f.symbols → shifts ≡ next_shifts m o →
-    es ≡ all_mentioned n.externals (mentions_by shifts symbols) → xs ≡ n.multiples ++ all_clashes n.externals (mentions_by shifts symbols) → (record n { externals = es; multiples = xs }) ≡ entered m o
+    es ≡ with_mentions n.externals (mentions_by shifts symbols) → xs ≡ n.multiples ++ all_clashes n.externals (mentions_by shifts symbols) → (record n { externals = es; multiples = xs }) ≡ entered m o
 entered-is m n o f shifts symbols es xs made file table moved names multiples = λ i. record {
   text_cells = (made i).text_cells;
   data_cells = (made i).data_cells;
   bss_total = (made i).bss_total;
-  externals = (names ∙ (λ j. all_mentioned (made j).externals (mentions_by (moved j) (all j)))) i;
+  externals = (names ∙ (λ j. with_mentions (made j).externals (mentions_by (moved j) (all j)))) i;
   multiples = (multiples ∙ (λ j. (made j).multiples ++ all_clashes (made j).externals (mentions_by (moved j) (all j)))) i;
 }
   where
@@ -45,26 +45,26 @@ pub few_named : (m : Image) (o : Contents) → next_limit m o ≡ None → lengt
 few_named m o h =
     let w = within_limit (2 * length m.text_cells + o.header.text_size) (2 * length m.data_cells + o.header.data_size) (m.bss_total + o.header.bss_size) (length m.externals + new_count (keys_of m.externals) o.symbols) h in
     let same = ap (λ (ns : List (List ℕ)). length (new_names (keys_of m.externals) ns)) (names_of-map (mention_by (next_shifts m o)) (λ (s : Symbol). s.name) (λ s. refl) (filter is_external o.symbols)) in
-    omega (arith, length-all_mentioned m.externals (next_mentions m o), same, w.names)
+    omega (arith, length-with_mentions m.externals (next_mentions m o), same, w.names)
 
 -- the names grow by no more than the external entries
 pub few_new : (m : Image) (o : Contents) → length (next_named m o) ≤ length m.externals + length (filter is_external o.symbols)
 few_new m o =
     let same = ap (λ (ns : List (List ℕ)). length (new_names (keys_of m.externals) ns)) (names_of-map (mention_by (next_shifts m o)) (λ (s : Symbol). s.name) (λ s. refl) (filter is_external o.symbols)) in
-    omega (arith, length-all_mentioned m.externals (next_mentions m o), same, new_count-le (keys_of m.externals) o.symbols)
+    omega (arith, length-with_mentions m.externals (next_mentions m o), same, new_count-le (keys_of m.externals) o.symbols)
 
 -- the image once the chains of the names that the object defines are bound
 abbrev pub bound_image : Image → Contents → Image
-bound_image m o = record (entered m o) { text_cells = map (settled (next_named m o)) m.text_cells; data_cells = map (settled (next_named m o)) m.data_cells }
+bound_image m o = record (entered m o) { text_cells = map (settled_cell (next_named m o)) m.text_cells; data_cells = map (settled_cell (next_named m o)) m.data_cells }
 
 module _ (m n : Image) (o : Contents) (symbols : List Symbol) (made : n ≡ entered m o) (table : symbols ≡ o.symbols) where
   cells_are : (old : Image → List Cell) → map (settled_over n.externals (places_of n.externals symbols)) (old n) ≡ map (settled_over (next_named m o) (places_of (next_named m o) o.symbols)) (old (entered m o))
   cells_are old = λ i. map (settled_over (made i).externals (places_of (made i).externals (table i))) (old (made i))
 
-  texts_are : IsCovered m o → (texts : List Cell) → texts ≡ map (settled_over n.externals (places_of n.externals symbols)) n.text_cells → texts ≡ map (settled (next_named m o)) m.text_cells
+  texts_are : IsCovered m o → (texts : List Cell) → texts ≡ map (settled_over n.externals (places_of n.externals symbols)) n.text_cells → texts ≡ map (settled_cell (next_named m o)) m.text_cells
   texts_are covered texts e = e ∙ cells_are (λ x. x.text_cells) ∙ covered.text
 
-  datas_are : IsCovered m o → (datas : List Cell) → datas ≡ map (settled_over n.externals (places_of n.externals symbols)) n.data_cells → datas ≡ map (settled (next_named m o)) m.data_cells
+  datas_are : IsCovered m o → (datas : List Cell) → datas ≡ map (settled_over n.externals (places_of n.externals symbols)) n.data_cells → datas ≡ map (settled_cell (next_named m o)) m.data_cells
   datas_are covered datas e = e ∙ cells_are (λ x. x.data_cells) ∙ covered.data
 
   -- the fields once chains are bound

@@ -10,9 +10,9 @@ use Rattle.link_session.specs.Mentions.{Mention, is_among, new_names, names_of, 
 use Rattle.link_session.specs.States.{state, multiple_names}
 use Rattle.link_session.specs.Image.{named_states}
 use Rattle.link_session.specs.Undo.{with_state}
-use Rattle.link_session.specs.internal.Updates.{updated, clashes}
+use Rattle.link_session.specs.internal.Updates.{updated_state, clashes}
 use Rattle.link_session.specs.Image.{Named, state_at, state_in}
-use Rattle.link_session.specs.internal.Additions.{state_for, place_in, mentioned, all_mentioned, all_clashes}
+use Rattle.link_session.specs.internal.Additions.{state_for, place_in, with_mention, with_mentions, all_clashes}
 use Rattle.link_session.proofs.MentionLemmas.{is_among-externals, seen_again, new_names-seen, get_place}
 use Rattle.link_session.proofs.UpdateLemmas.{unmentioned, externals_mention, multiples_mention, says_alone}
 use Rattle.link_session.proofs.ListLemmas.{get_mapped}
@@ -40,14 +40,14 @@ insert_entry-is (e ∷ es) name s = by_test (bytes_eq name e.0) (insert_entry-is
     by_test false h = rw add-one (ap (λ (l : Named). e ∷ l) h)
 
 abbrev pub next_state : Named → Mention → State
-next_state es m = updated (state_for es m.name) m.says
+next_state es m = updated_state (state_for es m.name) m.says
 
-pub mentioned-is : (es : Named) (m : Mention) → mentioned es m ≡ with_state es (place_in es m.name) (next_state es m) ++ cond (is_among (keys_of es) m.name) [] ((m.name, next_state es m) ∷ [])
-mentioned-is es m = insert_entry-is es m.name (next_state es m)
+pub with_mention-is : (es : Named) (m : Mention) → with_mention es m ≡ with_state es (place_in es m.name) (next_state es m) ++ cond (is_among (keys_of es) m.name) [] ((m.name, next_state es m) ∷ [])
+with_mention-is es m = insert_entry-is es m.name (next_state es m)
 
-pub keys-mentioned : (es : Named) (m : Mention) → keys_of (mentioned es m) ≡ keys_of es ++ cond (is_among (keys_of es) m.name) [] (m.name ∷ [])
-keys-mentioned es m =
-    ap keys_of (mentioned-is es m)
+pub keys-with_mention : (es : Named) (m : Mention) → keys_of (with_mention es m) ≡ keys_of es ++ cond (is_among (keys_of es) m.name) [] (m.name ∷ [])
+keys-with_mention es m =
+    ap keys_of (with_mention-is es m)
     ∙ map-append (λ (e : List ℕ × State). e.0) (with_state es (place_in es m.name) (next_state es m)) (cond (is_among (keys_of es) m.name) [] ((m.name, next_state es m) ∷ []))
     ∙ (λ i. keys-with_state es (place_in es m.name) (next_state es m) i ++ last (is_among (keys_of es) m.name) i)
   where
@@ -56,17 +56,17 @@ keys-mentioned es m =
     last false = refl
 
 -- how many names there are after the mentions
-pub length-all_mentioned : (es : Named) (ms : List Mention) → length (all_mentioned es ms) ≡ length es + length (new_names (keys_of es) (names_of ms))
-length-all_mentioned es [] = omega arith
-length-all_mentioned es (m ∷ ms) =
-    length-all_mentioned (mentioned es m) ms
-    ∙ (λ i. keys_length i + length (new_names (keys-mentioned es m i) (names_of ms)))
+pub length-with_mentions : (es : Named) (ms : List Mention) → length (with_mentions es ms) ≡ length es + length (new_names (keys_of es) (names_of ms))
+length-with_mentions es [] = omega arith
+length-with_mentions es (m ∷ ms) =
+    length-with_mentions (with_mention es m) ms
+    ∙ (λ i. keys_length i + length (new_names (keys-with_mention es m i) (names_of ms)))
     ∙ by_test (is_among (keys_of es) m.name) refl
   where
-    keys_length : length (mentioned es m) ≡ length es + length (cond (is_among (keys_of es) m.name) [] (m.name ∷ []))
+    keys_length : length (with_mention es m) ≡ length es + length (cond (is_among (keys_of es) m.name) [] (m.name ∷ []))
     keys_length =
-        sym (length-map (mentioned es m) (λ (e : List ℕ × State). e.0))
-        ∙ ap (λ (ns : List (List ℕ)). length ns) (keys-mentioned es m)
+        sym (length-map (with_mention es m) (λ (e : List ℕ × State). e.0))
+        ∙ ap (λ (ns : List (List ℕ)). length ns) (keys-with_mention es m)
         ∙ length-append (keys_of es) (cond (is_among (keys_of es) m.name) [] (m.name ∷ []))
         ∙ ap (λ (n : ℕ). n + length (cond (is_among (keys_of es) m.name) [] (m.name ∷ []))) (length-map es (λ (e : List ℕ × State). e.0))
 
@@ -108,27 +108,27 @@ abbrev one : List ℕ → State → Named
 one name s = (name, s) ∷ []
 
 -- one more mention
-mentioned-named_states : (ms : List Mention) (m : Mention) → mentioned (named_states ms) m ≡ named_states (ms ++ m ∷ [])
-mentioned-named_states ms m =
-    mentioned-is (named_states ms) m
-    ∙ (λ i. with_state (named_states ms) (place_of m.name (keys-named_states ms i)) (updated (state_for-named_states ms m.name i) m.says)
-    ++ cond (is_among (keys-named_states ms i) m.name) [] (one m.name (updated (state_for-named_states ms m.name i) m.says)))
-    ∙ ap (λ (l : Named). with_state (named_states ms) (place_of m.name (names_by_first_mention ms)) (updated (state ms m.name) m.says) ++ l) (last (is_among (names_by_first_mention ms) m.name) refl)
+with_mention-named_states : (ms : List Mention) (m : Mention) → with_mention (named_states ms) m ≡ named_states (ms ++ m ∷ [])
+with_mention-named_states ms m =
+    with_mention-is (named_states ms) m
+    ∙ (λ i. with_state (named_states ms) (place_of m.name (keys-named_states ms i)) (updated_state (state_for-named_states ms m.name i) m.says)
+    ++ cond (is_among (keys-named_states ms i) m.name) [] (one m.name (updated_state (state_for-named_states ms m.name i) m.says)))
+    ∙ ap (λ (l : Named). with_state (named_states ms) (place_of m.name (names_by_first_mention ms)) (updated_state (state ms m.name) m.says) ++ l) (last (is_among (names_by_first_mention ms) m.name) refl)
     ∙ sym (externals_mention ms m)
   where
     last : (t : Bool) → is_among (names_by_first_mention ms) m.name ≡ t →
-        cond t [] (one m.name (updated (state ms m.name) m.says)) ≡ cond (is_among (names_of ms) m.name) [] (one m.name m.says)
+        cond t [] (one m.name (updated_state (state ms m.name) m.says)) ≡ cond (is_among (names_of ms) m.name) [] (one m.name m.says)
     last true h = let known : is_among (names_of ms) m.name ≡ true = sym (is_among-externals ms m.name) ∙ h in rw known refl
     last false h =
         let unknown : is_among (names_of ms) m.name ≡ false = sym (is_among-externals ms m.name) ∙ h in
-        let said : updated (state ms m.name) m.says ≡ m.says = ap (λ (s : State). updated s m.says) (unmentioned ms m.name unknown) ∙ says_alone m.says in
-        rw (unknown, said) refl
+        let mention_of : updated_state (state ms m.name) m.says ≡ m.says = ap (λ (s : State). updated_state s m.says) (unmentioned ms m.name unknown) ∙ says_alone m.says in
+        rw (unknown, mention_of) refl
 
 -- several more mentions
-pub all_mentioned-named_states : (ms ns : List Mention) → all_mentioned (named_states ms) ns ≡ named_states (ms ++ ns)
-all_mentioned-named_states ms [] = ap named_states (sym (append-nil ms))
-all_mentioned-named_states ms (n ∷ ns) =
-    ap (λ (es : Named). all_mentioned es ns) (mentioned-named_states ms n) ∙ all_mentioned-named_states (ms ++ n ∷ []) ns ∙ ap named_states (append_assoc ms (n ∷ []) ns)
+pub with_mentions-named_states : (ms ns : List Mention) → with_mentions (named_states ms) ns ≡ named_states (ms ++ ns)
+with_mentions-named_states ms [] = ap named_states (sym (append-nil ms))
+with_mentions-named_states ms (n ∷ ns) =
+    ap (λ (es : Named). with_mentions es ns) (with_mention-named_states ms n) ∙ with_mentions-named_states (ms ++ n ∷ []) ns ∙ ap named_states (append_assoc ms (n ∷ []) ns)
 
 pub all_clashes-named_states : (ms ns : List Mention) → multiple_names (ms ++ ns) ≡ multiple_names ms ++ all_clashes (named_states ms) ns
 all_clashes-named_states ms [] = ap multiple_names (append-nil ms) ∙ sym (append-nil (multiple_names ms))
@@ -136,5 +136,5 @@ all_clashes-named_states ms (n ∷ ns) =
     ap multiple_names (sym (append_assoc ms (n ∷ []) ns))
     ∙ all_clashes-named_states (ms ++ n ∷ []) ns
     ∙ (λ i. (multiples_mention ms n ∙ ap (λ (s : State). multiple_names ms ++ cond (clashes s n.says) (n.name ∷ []) []) (sym (state_for-named_states ms n.name))) i
-    ++ all_clashes (sym (mentioned-named_states ms n) i) ns)
-    ∙ append_assoc (multiple_names ms) (cond (clashes (state_for (named_states ms) n.name) n.says) (n.name ∷ []) []) (all_clashes (mentioned (named_states ms) n) ns)
+    ++ all_clashes (sym (with_mention-named_states ms n) i) ns)
+    ∙ append_assoc (multiple_names ms) (cond (clashes (state_for (named_states ms) n.name) n.says) (n.name ∷ []) []) (all_clashes (with_mention (named_states ms) n) ns)

@@ -15,7 +15,7 @@ use Rattle.link_session.specs.declared.cell.Target.{Target}
 use Rattle.link_session.specs.declared.relocate.Shifts.{Shifts}
 use Rattle.link_session.specs.Cells.{name_target, offset_in, name_in, if_pc}
 use Rattle.link_session.specs.Image.{Named, state_at}
-use Rattle.link_session.specs.internal.Additions.{place_in, referred, own_cell, own_cells, no_place, all_places, placed, placed_cell, placed_cells}
+use Rattle.link_session.specs.internal.Additions.{place_in, reference, own_cell, own_cells, no_place, all_places, placed_reference, placed_cell, placed_cells}
 use Rattle.link_session.proofs.ListLemmas.{all_split}
 use Rattle.link_session.proofs.PlacedLemmas.{wanted_place}
 use Rattle.link_session.proofs.WellFormedLemmas.{first_of_none, well_formed_parts}
@@ -44,18 +44,18 @@ all_fit symbols i (r ∷ rs) h =
     (fit symbols i (symbol_number r) (kind_of r) both.0, all_fit symbols (i + 1) rs both.1)
 
 module _ (es : Named) (symbols : List Symbol) (shifts : Shifts) where
-  placed-is : (number : ℕ) (kind : Option Kind) → IsFit symbols number kind → placed es (all_places es symbols) shifts number kind ≡ referred es symbols shifts number kind
-  placed-is number None h = refl
-  placed-is number (Some kinds.Absolute) h = refl
-  placed-is number (Some kinds.TextSeg) h = refl
-  placed-is number (Some kinds.DataSeg) h = refl
-  placed-is number (Some kinds.BssSeg) h = refl
-  placed-is number (Some kinds.External) h =
+  placed_reference-is : (number : ℕ) (kind : Option Kind) → IsFit symbols number kind → placed_reference es (all_places es symbols) shifts number kind ≡ reference es symbols shifts number kind
+  placed_reference-is number None h = refl
+  placed_reference-is number (Some kinds.Absolute) h = refl
+  placed_reference-is number (Some kinds.TextSeg) h = refl
+  placed_reference-is number (Some kinds.DataSeg) h = refl
+  placed_reference-is number (Some kinds.BssSeg) h = refl
+  placed_reference-is number (Some kinds.External) h =
       ap (λ (k : ℕ). let r : ℕ × Target = (offset_in (state_at es k), name_target (state_at es k) k) in r) (wanted_place es symbols number h)
 
   cell-is : (own_shift w : ℕ) (r : Reloc) → IsFit symbols (symbol_number r) (kind_of r) → placed_cell es (all_places es symbols) shifts own_shift w r ≡ own_cell es symbols shifts own_shift w r
   cell-is own_shift w r h =
-      ap (λ (p : ℕ × Target). let c : Cell = record { value = minus (plus w p.0) (if_pc r own_shift); target = p.1; pc = is_pc_relative r } in c) (placed-is (symbol_number r) (kind_of r) h)
+      ap (λ (p : ℕ × Target). let c : Cell = record { value = minus (plus w p.0) (if_pc r own_shift); target = p.1; pc = is_pc_relative r } in c) (placed_reference-is (symbol_number r) (kind_of r) h)
 
   cells-are : (own_shift : ℕ) (ws : List ℕ) (rs : List Reloc) → AllByRecursion (λ r. IsFit symbols (symbol_number r) (kind_of r)) rs →
       placed_cells es (all_places es symbols) shifts own_shift ws rs ≡ own_cells es symbols shifts own_shift ws rs

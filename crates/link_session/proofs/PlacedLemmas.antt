@@ -12,12 +12,12 @@ use Rattle.link_session.specs.declared.state.State.TheVariants.{Wanted}
 use Rattle.link_session.specs.Mentions.{Mention, is_among, place_of}
 use Rattle.link_session.specs.Cells.{name_in}
 use Rattle.link_session.specs.Image.{Named, state_at}
-use Rattle.link_session.specs.internal.Additions.{place_in, mentioned, all_mentioned, mention_by, mentions_by, no_place, place_by, all_places}
+use Rattle.link_session.specs.internal.Additions.{place_in, with_mention, with_mentions, mention_by, mentions_by, no_place, place_by, all_places}
 use Rattle.link_session.specs.internal.Chains.{Link}
 use Rattle.link_session.specs.internal.Settled.{settled_at, settled_over, places_of}
 use Rattle.link_session.specs.internal.Threads.{cut_by_state, cut_heads}
 use Rattle.link_session.proofs.MentionLemmas.{is_among-append, place_of-append}
-use Rattle.link_session.proofs.MentionedLemmas.{keys-mentioned}
+use Rattle.link_session.proofs.MentionedLemmas.{keys-with_mention}
 use Rattle.link_session.proofs.NamesLemmas.{unsettled, all_one}
 use Rattle.link_session.proofs.UpdateLemmas.{own_name}
 
@@ -25,22 +25,22 @@ use Rattle.link_session.proofs.UpdateLemmas.{own_name}
 abbrev pub noted_places : Shifts → Named → List Symbol → List ℕ
 noted_places shifts es [] = []
 noted_places shifts es (s ∷ ss) =
-    cond (is_external s) (place_in es s.name ∷ noted_places shifts (mentioned es (mention_by shifts s)) ss) (no_place ∷ noted_places shifts es ss)
+    cond (is_external s) (place_in es s.name ∷ noted_places shifts (with_mention es (mention_by shifts s)) ss) (no_place ∷ noted_places shifts es ss)
 
 -- a name that is there keeps its place
-kept_once : (es : Named) (m : Mention) (name : List ℕ) → is_among (keys_of es) name ≡ true → place_in (mentioned es m) name ≡ place_in es name
+kept_once : (es : Named) (m : Mention) (name : List ℕ) → is_among (keys_of es) name ≡ true → place_in (with_mention es m) name ≡ place_in es name
 kept_once es m name h =
-    ap (place_of name) (keys-mentioned es m) ∙ place_of-append (keys_of es) (cond (is_among (keys_of es) m.name) [] (m.name ∷ [])) name h
+    ap (place_of name) (keys-with_mention es m) ∙ place_of-append (keys_of es) (cond (is_among (keys_of es) m.name) [] (m.name ∷ [])) name h
 
-still_among : (es : Named) (m : Mention) (name : List ℕ) → is_among (keys_of es) name ≡ true → is_among (keys_of (mentioned es m)) name ≡ true
+still_among : (es : Named) (m : Mention) (name : List ℕ) → is_among (keys_of es) name ≡ true → is_among (keys_of (with_mention es m)) name ≡ true
 still_among es m name h =
-    ap (λ (ns : List (List ℕ)). is_among ns name) (keys-mentioned es m)
+    ap (λ (ns : List (List ℕ)). is_among ns name) (keys-with_mention es m)
     ∙ is_among-append (keys_of es) (cond (is_among (keys_of es) m.name) [] (m.name ∷ [])) name
     ∙ or_left _ _ h
 
-kept : (es : Named) (ms : List Mention) (name : List ℕ) → is_among (keys_of es) name ≡ true → place_in (all_mentioned es ms) name ≡ place_in es name
+kept : (es : Named) (ms : List Mention) (name : List ℕ) → is_among (keys_of es) name ≡ true → place_in (with_mentions es ms) name ≡ place_in es name
 kept es [] name h = refl
-kept es (m ∷ ms) name h = kept (mentioned es m) ms name (still_among es m name h) ∙ kept_once es m name h
+kept es (m ∷ ms) name h = kept (with_mention es m) ms name (still_among es m name h) ∙ kept_once es m name h
 
 -- a name that is not there gets the place behind the last
 place_last : (ns : List (List ℕ)) (name : List ℕ) → is_among ns name ≡ false → place_of name (ns ++ name ∷ []) ≡ place_of name ns
@@ -52,16 +52,16 @@ place_last (n ∷ ns) name h = by_test (bytes_eq name n) h (place_last ns name)
     by_test true h rest = absurd (cc)
     by_test false h rest = ap (λ (k : ℕ). k + 1) (rest h)
 
-mentioned_place : (es : Named) (m : Mention) → place_in (mentioned es m) m.name ≡ place_in es m.name
-mentioned_place es m = ap (place_of m.name) (keys-mentioned es m) ∙ by_test (is_among (keys_of es) m.name) refl
+mentioned_place : (es : Named) (m : Mention) → place_in (with_mention es m) m.name ≡ place_in es m.name
+mentioned_place es m = ap (place_of m.name) (keys-with_mention es m) ∙ by_test (is_among (keys_of es) m.name) refl
   where
     by_test : (t : Bool) → is_among (keys_of es) m.name ≡ t → place_of m.name (keys_of es ++ cond t [] (m.name ∷ [])) ≡ place_of m.name (keys_of es)
     by_test true h = place_of-append (keys_of es) [] m.name h
     by_test false h = place_last (keys_of es) m.name h
 
-mentioned_among : (es : Named) (m : Mention) → is_among (keys_of (mentioned es m)) m.name ≡ true
+mentioned_among : (es : Named) (m : Mention) → is_among (keys_of (with_mention es m)) m.name ≡ true
 mentioned_among es m =
-    ap (λ (ns : List (List ℕ)). is_among ns m.name) (keys-mentioned es m)
+    ap (λ (ns : List (List ℕ)). is_among ns m.name) (keys-with_mention es m)
     ∙ is_among-append (keys_of es) (cond (is_among (keys_of es) m.name) [] (m.name ∷ [])) m.name
     ∙ by_test (is_among (keys_of es) m.name) refl
   where
@@ -70,20 +70,20 @@ mentioned_among es m =
     by_test false h = or_right _ _ (or_left _ _ (own_name m.name))
 
 -- what is noted is where the names stand in the end
-pub noted-all : (shifts : Shifts) (es : Named) (ss : List Symbol) → noted_places shifts es ss ≡ all_places (all_mentioned es (mentions_by shifts ss)) ss
+pub noted-all : (shifts : Shifts) (es : Named) (ss : List Symbol) → noted_places shifts es ss ≡ all_places (with_mentions es (mentions_by shifts ss)) ss
 noted-all shifts es [] = refl
-noted-all shifts es (s ∷ ss) = by_test (is_external s) (noted-all shifts (mentioned es (mention_by shifts s)) ss) (noted-all shifts es ss)
+noted-all shifts es (s ∷ ss) = by_test (is_external s) (noted-all shifts (with_mention es (mention_by shifts s)) ss) (noted-all shifts es ss)
   where
     with_test : Bool → Named
-    with_test t = all_mentioned es (map (mention_by shifts) (cond t (s ∷ filter is_external ss) (filter is_external ss)))
+    with_test t = with_mentions es (map (mention_by shifts) (cond t (s ∷ filter is_external ss) (filter is_external ss)))
 
-    by_test : (t : Bool) → noted_places shifts (mentioned es (mention_by shifts s)) ss ≡ all_places (with_test true) ss → noted_places shifts es ss ≡ all_places (with_test false) ss →
-        cond t (place_in es s.name ∷ noted_places shifts (mentioned es (mention_by shifts s)) ss) (no_place ∷ noted_places shifts es ss)
+    by_test : (t : Bool) → noted_places shifts (with_mention es (mention_by shifts s)) ss ≡ all_places (with_test true) ss → noted_places shifts es ss ≡ all_places (with_test false) ss →
+        cond t (place_in es s.name ∷ noted_places shifts (with_mention es (mention_by shifts s)) ss) (no_place ∷ noted_places shifts es ss)
         ≡ cond t (place_in (with_test t) s.name) no_place ∷ all_places (with_test t) ss
     by_test true next same =
         let m = mention_by shifts s in
         let here : place_in es s.name ≡ place_in (with_test true) s.name =
-        sym (kept (mentioned es m) (mentions_by shifts ss) s.name (mentioned_among es m) ∙ mentioned_place es m) in
+        sym (kept (with_mention es m) (mentions_by shifts ss) s.name (mentioned_among es m) ∙ mentioned_place es m) in
         λ i. here i ∷ next i
     by_test false next same = ap (λ (l : List ℕ). no_place ∷ l) same
 

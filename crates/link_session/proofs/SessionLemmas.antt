@@ -18,14 +18,14 @@ use Rattle.link_session.specs.Undo.{undo, UndoesImage, IsJournal}
 use Rattle.link_session.specs.Sessions.{newest, Adds, IsObject}
 use Rattle.link_session.specs.internal.Fields.{sizes_of, sizes_in, sizes_before, threads_by, with_heads_back, IsBehind, IsSmall, IsSession}
 use Rattle.link_session.specs.Undo.{marks_in}
-use Rattle.link_session.specs.internal.Additions.{all_mentioned, settled, next_limit, next_named, joined_image}
+use Rattle.link_session.specs.internal.Additions.{with_mentions, settled_cell, next_limit, next_named, joined_image}
 use Rattle.link_session.specs.internal.Settled.{IsCovered}
 use Rattle.link_session.specs.internal.Chains.{Link}
 use Rattle.link_session.specs.internal.Threads.{Threads, IsThreaded, KeepsThreads, next_threads, next_texts, next_datas}
 use Rattle.link_session.specs.internal.Restores.{TakesBack}
 use Rattle.link_session.proofs.EarlierLemmas.{with_earlier-append}
 use Rattle.link_session.proofs.JournalLemmas.{journal_push, journal_pop, journal_empty}
-use Rattle.link_session.proofs.MentionedLemmas.{keys-named_states, all_mentioned-named_states}
+use Rattle.link_session.proofs.MentionedLemmas.{keys-named_states, with_mentions-named_states}
 use Rattle.link_session.proofs.LimitLemmas.{length-new_names}
 use Rattle.link_session.proofs.TotalLemmas.{refusal-next_limit, image_small, within_before, limit_within}
 use Rattle.link_session.proofs.AdditionLemmas.{joined_image-is}
@@ -123,9 +123,9 @@ module _ (forced : List (List ℕ)) (es : List Labelled) (undo_records : List Un
   pub behind : IsBehind undo_record.sizes m t
   behind = record {
     text = subst (λ (n : ℕ). n ≤ length m.text_cells) (ap (λ (z : Sizes). z.text_cells) (sym kept_sizes.1)) (subst (λ (n : Image). length old.text_cells ≤ length n.text_cells) (sym joined)
-        (omega (arith, length-append (map (settled (next_named old e.object)) old.text_cells) (next_texts old e.object), length-map old.text_cells (settled (next_named old e.object)))));
+        (omega (arith, length-append (map (settled_cell (next_named old e.object)) old.text_cells) (next_texts old e.object), length-map old.text_cells (settled_cell (next_named old e.object)))));
     «data» = subst (λ (n : ℕ). n ≤ length m.data_cells) (ap (λ (z : Sizes). z.data_cells) (sym kept_sizes.1)) (subst (λ (n : Image). length old.data_cells ≤ length n.data_cells) (sym joined)
-        (omega (arith, length-append (map (settled (next_named old e.object)) old.data_cells) (next_datas old e.object), length-map old.data_cells (settled (next_named old e.object)))));
+        (omega (arith, length-append (map (settled_cell (next_named old e.object)) old.data_cells) (next_datas old e.object), length-map old.data_cells (settled_cell (next_named old e.object)))));
     text_links = s.chained.chained.text;
     data_links = s.chained.chained.data;
   }
@@ -169,7 +169,7 @@ none_twice : (names : List (List ℕ)) (ms : List Mention) → map (λ (k : Ment
 none_twice [] ms = refl
 none_twice (n ∷ names) ms = none_twice names ms
 
-pub forced_session : (forced : List (List ℕ)) → length forced ≤ 64 → (m : Image) (t : Threads) → m.text_cells ≡ [] → m.data_cells ≡ [] → m.bss_total ≡ 0 → m.externals ≡ all_mentioned [] (map forced_mention forced) → m.multiples ≡ [] →
+pub forced_session : (forced : List (List ℕ)) → length forced ≤ 64 → (m : Image) (t : Threads) → m.text_cells ≡ [] → m.data_cells ≡ [] → m.bss_total ≡ 0 → m.externals ≡ with_mentions [] (map forced_mention forced) → m.multiples ≡ [] →
     t.text_links ≡ [] → t.data_links ≡ [] → t.heads ≡ replicate (length m.externals) None → IsSession forced [] [] m t
 forced_session forced few m t text datas bss names multiples text_links data_links heads = record {
   image = none;
@@ -191,7 +191,7 @@ forced_session forced few m t text datas bss names multiples text_links data_lin
       text_cells = text i;
       data_cells = datas i;
       bss_total = bss i;
-      externals = (names ∙ all_mentioned-named_states [] (map forced_mention forced) ∙ ap named_states (sym (append-nil (map forced_mention forced)))) i;
+      externals = (names ∙ with_mentions-named_states [] (map forced_mention forced) ∙ ap named_states (sym (append-nil (map forced_mention forced)))) i;
       multiples = (multiples ∙ sym (none_twice forced (map forced_mention forced)) ∙ ap multiple_names (sym (append-nil (map forced_mention forced)))) i;
     }
 

@@ -10,7 +10,7 @@ use Rattle.link_session.specs.Mentions.{externals_in}
 use Rattle.link_session.specs.Image.{Image}
 use Rattle.link_session.specs.Undo.{put_all_back, cut_to, undo, IsInside}
 use Rattle.link_session.specs.Image.{Named}
-use Rattle.link_session.specs.internal.Additions.{state_marks, settled, all_clashes, mention_by, next_shifts, next_mentions, next_named, joined_image, entered}
+use Rattle.link_session.specs.internal.Additions.{state_marks, settled_cell, all_clashes, mention_by, next_shifts, next_mentions, next_named, joined_image, entered}
 use Rattle.link_session.specs.internal.Chains.{Link, heads_back}
 use Rattle.link_session.specs.internal.Counts.{NotesBound}
 use Rattle.link_session.specs.internal.Threads.{bound_heads, next_texts, next_datas}
@@ -48,12 +48,12 @@ module _ (m : Image) (o : Contents) where
     })
 
     -- all that the object leaves
-    pub taken_back : texts ≡ map (settled (next_named m o)) m.text_cells → datas ≡ map (settled (next_named m o)) m.data_cells → new_heads ≡ bound_heads m o heads →
+    pub taken_back : texts ≡ map (settled_cell (next_named m o)) m.text_cells → datas ≡ map (settled_cell (next_named m o)) m.data_cells → new_heads ≡ bound_heads m o heads →
         (marks : List Mark) → marks ≡ states ++ ks → NotesBound (next_named m o) m.text_cells m.data_cells texts datas states marks → TakesBack m o heads marks
     taken_back t d hs marks e few = record {
       undoes = ap (λ (l : List Mark). undo l (joined_image m o) m) e ∙ cells_and_states (cut_to m (joined_image m o)) (λ i. record {
-        text_cells = (cut_front (settled (next_named m o)) m.text_cells (next_texts m o) ∙ sym t) i;
-        data_cells = (cut_front (settled (next_named m o)) m.data_cells (next_datas m o) ∙ sym d) i;
+        text_cells = (cut_front (settled_cell (next_named m o)) m.text_cells (next_texts m o) ∙ sym t) i;
+        data_cells = (cut_front (settled_cell (next_named m o)) m.data_cells (next_datas m o) ∙ sym d) i;
         bss_total = m.bss_total;
         externals = take (length m.externals) (next_named m o);
         multiples = take_at m.multiples (all_clashes m.externals (next_mentions m o)) (length m.multiples) refl i;

@@ -17,19 +17,19 @@ use Rattle.link_session.specs.States.{Definition, definition_by, size_wanted_by,
 use Rattle.link_session.specs.Cells.{cells_in}
 use Rattle.link_session.specs.Image.{named_states, image_by, image}
 use Rattle.link_session.specs.Undo.{with_state}
-use Rattle.link_session.specs.internal.Updates.{updated, clashes}
+use Rattle.link_session.specs.internal.Updates.{updated_state, clashes}
 use Rattle.link_session.proofs.MentionLemmas.{mentions_push, names_by_first_mention-append, is_among-append}
 use Rattle.link_session.proofs.StateLemmas.{first_definition-append, wanted_size-append}
 use Rattle.link_session.proofs.CellLemmas.{cells_push}
 use Rattle.link_session.proofs.MultipleLemmas.{multiple_names-append}
 
 -- the state of a name after one more mention
-pub state_mention : (ms : List Mention) (m : Mention) (name : List ℕ) → state (ms ++ m ∷ []) name ≡ cond (bytes_eq name m.name) (updated (state ms name) m.says) (state ms name)
+pub state_mention : (ms : List Mention) (m : Mention) (name : List ℕ) → state (ms ++ m ∷ []) name ≡ cond (bytes_eq name m.name) (updated_state (state ms name) m.says) (state ms name)
 state_mention ms m name =
     rw (first_definition-append ms (m ∷ []) name, wanted_size-append ms (m ∷ []) name) (by_test (bytes_eq name m.name) (first_definition ms name) (wanted_size ms name) m.says)
   where
     by_test : (t : Bool) (a : Option Definition) (w : ℕ) (s : State) →
-        state_by (first_of a (cond t (first_of (definition_by s) None) None)) (max w (cond t (max (size_wanted_by s) 0) 0)) ≡ cond t (updated (state_by a w) s) (state_by a w)
+        state_by (first_of a (cond t (first_of (definition_by s) None) None)) (max w (cond t (max (size_wanted_by s) 0) 0)) ≡ cond t (updated_state (state_by a w) s) (state_by a w)
     by_test true (Some d) w s = refl
     by_test true None w (Defined segment offset) = refl
     by_test true None w (Wanted n) = ap (λ (k : ℕ). Wanted k) (omega arith)
@@ -61,7 +61,7 @@ multiples_mention ms m =
     by_test true = refl
     by_test false = refl
 
-    by_states : (was says : State) → differs (definition_by (updated was says)) says ≡ clashes was says
+    by_states : (was says : State) → differs (definition_by (updated_state was says)) says ≡ clashes was says
     by_states (Defined segment offset) (Defined again place) = refl
     by_states (Defined segment offset) (Wanted size) = refl
     by_states (Wanted size) (Defined segment offset) = ap not (own_definition segment offset)
@@ -69,7 +69,7 @@ multiples_mention ms m =
 
     same : differs (first_definition (ms ++ m ∷ []) m.name) m.says ≡ clashes (state ms m.name) m.says
     same =
-        ap (λ (d : Option Definition). differs d m.says) (definition_of (ms ++ m ∷ []) m.name ∙ ap definition_by (state_mention ms m m.name ∙ ap (λ (t : Bool). cond t (updated (state ms m.name) m.says) (state ms m.name)) (own_name m.name)))
+        ap (λ (d : Option Definition). differs d m.says) (definition_of (ms ++ m ∷ []) m.name ∙ ap definition_by (state_mention ms m m.name ∙ ap (λ (t : Bool). cond t (updated_state (state ms m.name) m.says) (state ms m.name)) (own_name m.name)))
         ∙ by_states (state ms m.name) m.says
 
 pub bytes_eq_sym : (a b : List ℕ) → bytes_eq a b ≡ bytes_eq b a
@@ -145,32 +145,32 @@ unmentioned ms name h = rw (no_definition ms h, no_size ms h) refl
     no_size (m ∷ ms) h = let parts = or_parts (bytes_eq name m.name) (is_among (names_of ms) name) h in rw parts.0 (no_size ms parts.1)
 
 -- a name that was not wanted takes what is said
-pub says_alone : (s : State) → updated (Wanted 0) s ≡ s
+pub says_alone : (s : State) → updated_state (Wanted 0) s ≡ s
 says_alone (Defined segment offset) = refl
 says_alone (Wanted size) = ap (λ (n : ℕ). Wanted n) (omega arith)
 
 -- the names and states after one more mention: the state of a known name is updated, a new name stands last
 pub externals_mention : (ms : List Mention) (m : Mention) →
-    named_states (ms ++ m ∷ []) ≡ with_state (named_states ms) (place_of m.name (names_by_first_mention ms)) (updated (state ms m.name) m.says) ++ cond (is_among (names_of ms) m.name) [] ((m.name, m.says) ∷ [])
+    named_states (ms ++ m ∷ []) ≡ with_state (named_states ms) (place_of m.name (names_by_first_mention ms)) (updated_state (state ms m.name) m.says) ++ cond (is_among (names_of ms) m.name) [] ((m.name, m.says) ∷ [])
 externals_mention ms m =
     ap (λ (ns : List (List ℕ)). map {B = List ℕ × State} (λ n. (n, state (ms ++ m ∷ []) n)) ns) (names_by_first_mention-append ms (m ∷ []))
     ∙ map-append {B = List ℕ × State} (λ n. (n, state (ms ++ m ∷ []) n)) (names_by_first_mention ms) (cond (is_among (names_of ms) m.name) [] (m.name ∷ []))
-    ∙ (λ i. (ap (λ (f : List ℕ → State). map {B = List ℕ × State} (λ n. (n, f n)) (names_by_first_mention ms)) (λ j n. new_state n j) ∙ one_changed (state ms) m.name (updated (state ms m.name) m.says) [] (names_of ms)) i ++ last (is_among (names_of ms) m.name) refl i)
+    ∙ (λ i. (ap (λ (f : List ℕ → State). map {B = List ℕ × State} (λ n. (n, f n)) (names_by_first_mention ms)) (λ j n. new_state n j) ∙ one_changed (state ms) m.name (updated_state (state ms m.name) m.says) [] (names_of ms)) i ++ last (is_among (names_of ms) m.name) refl i)
   where
-    new_state : (n : List ℕ) → state (ms ++ m ∷ []) n ≡ with_one (state ms) m.name (updated (state ms m.name) m.says) n
+    new_state : (n : List ℕ) → state (ms ++ m ∷ []) n ≡ with_one (state ms) m.name (updated_state (state ms m.name) m.says) n
     new_state n = state_mention ms m n ∙ by_test (bytes_eq n m.name) refl
       where
-        by_test : (t : Bool) → bytes_eq n m.name ≡ t → cond t (updated (state ms n) m.says) (state ms n) ≡ cond t (updated (state ms m.name) m.says) (state ms n)
-        by_test true e = ap (λ (k : List ℕ). updated (state ms k) m.says) ((bytes_eq-Decides n m.name).0 e)
+        by_test : (t : Bool) → bytes_eq n m.name ≡ t → cond t (updated_state (state ms n) m.says) (state ms n) ≡ cond t (updated_state (state ms m.name) m.says) (state ms n)
+        by_test true e = ap (λ (k : List ℕ). updated_state (state ms k) m.says) ((bytes_eq-Decides n m.name).0 e)
         by_test false e = refl
 
     last : (t : Bool) → is_among (names_of ms) m.name ≡ t →
         map {B = List ℕ × State} (λ n. (n, state (ms ++ m ∷ []) n)) (cond t [] (m.name ∷ [])) ≡ cond t [] ((m.name, m.says) ∷ [])
     last true e = refl
     last false e =
-        let said : state (ms ++ m ∷ []) m.name ≡ m.says =
-        new_state m.name ∙ ap (λ (t : Bool). cond t (updated (state ms m.name) m.says) (state ms m.name)) (own_name m.name) ∙ ap (λ (s : State). updated s m.says) (unmentioned ms m.name e) ∙ says_alone m.says in
-        ap (λ (s : State). let pair : List ℕ × State = (m.name, s) in pair ∷ []) said
+        let mention_of : state (ms ++ m ∷ []) m.name ≡ m.says =
+        new_state m.name ∙ ap (λ (t : Bool). cond t (updated_state (state ms m.name) m.says) (state ms m.name)) (own_name m.name) ∙ ap (λ (s : State). updated_state s m.says) (unmentioned ms m.name e) ∙ says_alone m.says in
+        ap (λ (s : State). let pair : List ℕ × State = (m.name, s) in pair ∷ []) mention_of
 
 module _ (ms : List Mention) (m : Mention) where
   abbrev place : ℕ

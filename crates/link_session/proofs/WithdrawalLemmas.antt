@@ -8,7 +8,7 @@ use Rattle.link_session.specs.declared.mark.Place.TheVariants.{InText, InData}
 use Rattle.link_session.specs.Mentions.{Mention}
 use Rattle.link_session.specs.Image.{Image}
 use Rattle.link_session.specs.Image.{Named}
-use Rattle.link_session.specs.internal.Additions.{place_in, state_for, mentioned, changes, state_mark, state_marks, settled, next_named, joined_image}
+use Rattle.link_session.specs.internal.Additions.{place_in, state_for, with_mention, changes, state_mark, state_marks, settled_cell, next_named, joined_image}
 use Rattle.link_session.specs.internal.Chains.{Link, threaded, unthreaded, heads_back}
 use Rattle.link_session.specs.internal.Settled.{places_of}
 use Rattle.link_session.specs.internal.Threads.{Threads, with_texts, next_texts, next_datas, bound_heads, next_heads, next_threads, cut_threads, undo_threads, IsThreaded}
@@ -32,8 +32,8 @@ drop_none (x ∷ xs) (suc n) e = drop_none xs n (omega arith)
 pub heads_back-states : (kept : ℕ) (es : Named) (ms : List Mention) (heads : List Link) → heads_back (state_marks kept es ms) heads ≡ heads
 heads_back-states kept es [] heads = refl
 heads_back-states kept es (m ∷ ms) heads =
-    heads_back-append (state_mark kept es m) (state_marks kept (mentioned es m) ms) heads
-    ∙ ap (heads_back (state_mark kept es m)) (heads_back-states kept (mentioned es m) ms heads)
+    heads_back-append (state_mark kept es m) (state_marks kept (with_mention es m) ms) heads
+    ∙ ap (heads_back (state_mark kept es m)) (heads_back-states kept (with_mention es m) ms heads)
     ∙ by_tests (nat_lt (place_in es m.name) kept && changes (state_for es m.name) m.says)
   where
     by_tests : (t : Bool) → heads_back (cond t (StateWas (place_in es m.name) (state_for es m.name) ∷ []) []) heads ≡ heads
@@ -63,10 +63,10 @@ module _ (m : Image) (o : Contents) (t : Threads) (h : IsThreaded m t) where
   heads_cut : (cut_threads (length m.text_cells) (length m.data_cells) (length m.externals) (joined_image m o) (next_threads m o t)).heads ≡ bound_heads m o t.heads
   heads_cut =
       (λ i. take (length m.externals) (unthreaded
-      (drop_at (map (settled es) m.text_cells) (next_texts m o) (length m.text_cells) (length-map m.text_cells (settled es)) i)
+      (drop_at (map (settled_cell es) m.text_cells) (next_texts m o) (length m.text_cells) (length-map m.text_cells (settled_cell es)) i)
       (drop_at t.text_links text_links (length m.text_cells) h.chained.text i)
       (unthreaded
-      (drop_at (map (settled es) m.data_cells) (next_datas m o) (length m.data_cells) (length-map m.data_cells (settled es)) i)
+      (drop_at (map (settled_cell es) m.data_cells) (next_datas m o) (length m.data_cells) (length-map m.data_cells (settled_cell es)) i)
       (drop_at t.data_links data_links (length m.data_cells) h.chained.data i)
       (next_threads m o t).heads)))
       ∙ ap (λ (hs : List Link). take (length m.externals) (unthreaded (next_texts m o) text_links hs)) (unthreaded-threaded (λ i. InData i) (length t.data_links) (next_datas m o) then.heads)

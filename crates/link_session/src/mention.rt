@@ -7,12 +7,12 @@ ghost use Rattle.link_session.specs.Starts.{shift_by};
 ghost use Rattle.link_session.specs.Image.{state_at};
 ghost use Rattle.link_session.specs.Mentions.{is_among, statement_by};
 ghost use Rattle.link_session.specs.internal.Updates.{clashes};
-ghost use Rattle.link_session.specs.internal.Additions.{mentioned, said, clash, state_mark, place_in, state_for, changes, mentions_by, all_mentioned, state_marks, all_clashes, all_places};
+ghost use Rattle.link_session.specs.internal.Additions.{with_mention, mention_of, clash, state_mark, place_in, state_for, changes, mentions_by, with_mentions, state_marks, all_clashes, all_places};
 
 use crate::mark::Mark;
 use crate::merged::Externals;
 use crate::relocate::Shifts;
-use crate::state::{State, changes, clashes, updated};
+use crate::state::{State, changes, clashes, updated_state};
 use aout_core::{Name, Segment, Symbol};
 
 /// Whether the name is one of these.
@@ -97,13 +97,13 @@ fn update(externals: &mut Externals, name: Name, says: State) -> (usize, State)
     ensures place { result.0 ≡ place_in externals.old.entries name }
     ensures within { result.0 ≤ length externals.old.entries }
     ensures state { result.1 ≡ state_for externals.old.entries name }
-    ensures names { externals.new.entries ≡ mentioned externals.old.entries (said name says) }
+    ensures names { externals.new.entries ≡ with_mention externals.old.entries (mention_of name says) }
     ensures left { spare externals.old ≤ spare externals.new + 1 }
 {
     let (place, known) = externals.insert_full(name, says).unwrap();
     match known {
         Some(was) => {
-            externals[place] = updated(was, says);
+            externals[place] = updated_state(was, says);
             (place, was)
         }
         None => (place, State::Wanted(0)),
@@ -113,7 +113,7 @@ fn update(externals: &mut Externals, name: Name, says: State) -> (usize, State)
 /// Mentions a name. There is room for it.
 pub(crate) fn mention(externals: &mut Externals, name: Name, says: State)
     requires { 0 < spare externals.old }
-    ensures names { externals.new.entries ≡ mentioned externals.old.entries (said name says) }
+    ensures names { externals.new.entries ≡ with_mention externals.old.entries (mention_of name says) }
     ensures left { spare externals.old ≤ spare externals.new + 1 }
 {
     let _place = update(externals, name, says);
@@ -134,9 +134,9 @@ fn enter(
     requires multiples_room { vec_len multiples.old < vec_capacity multiples.old }
     requires marks_room { vec_len marks.old < vec_capacity marks.old }
     ensures place { result ≡ place_in externals.old.entries claim.name }
-    ensures names { externals.new.entries ≡ mentioned externals.old.entries (said claim.name claim.says) }
-    ensures multiples { multiples.new.items ≡ multiples.old.items ++ clash externals.old.entries (said claim.name claim.says) }
-    ensures marks { marks.new.items ≡ marks.old.items ++ state_mark kept externals.old.entries (said claim.name claim.says) }
+    ensures names { externals.new.entries ≡ with_mention externals.old.entries (mention_of claim.name claim.says) }
+    ensures multiples { multiples.new.items ≡ multiples.old.items ++ clash externals.old.entries (mention_of claim.name claim.says) }
+    ensures marks { marks.new.items ≡ marks.old.items ++ state_mark kept externals.old.entries (mention_of claim.name claim.says) }
     ensures names_left { spare externals.old ≤ spare externals.new + 1 }
     ensures multiples_len { vec_len multiples.new ≤ vec_len multiples.old + 1 }
     ensures multiples_capacity { vec_capacity multiples.old ≤ vec_capacity multiples.new }
@@ -175,12 +175,12 @@ pub(crate) fn enter_all(
     table: &Table<'_>,
 )
     requires small { kept ≤ 65535 }
-    requires names { length (all_mentioned externals.old.entries (mentions_by table.now.shifts table.now.symbols.now)) ≤ 65535 }
+    requires names { length (with_mentions externals.old.entries (mentions_by table.now.shifts table.now.symbols.now)) ≤ 65535 }
     requires names_room { length (filter is_external table.now.symbols.now) ≤ spare externals.old }
     requires multiples_room { vec_len multiples.old + length (filter is_external table.now.symbols.now) ≤ vec_capacity multiples.old }
     requires marks_room { vec_len marks.old + length (filter is_external table.now.symbols.now) ≤ vec_capacity marks.old }
     requires places_room { vec_len places.old + length table.now.symbols.now ≤ vec_capacity places.old }
-    ensures names { externals.new.entries ≡ all_mentioned externals.old.entries (mentions_by table.now.shifts table.now.symbols.now) }
+    ensures names { externals.new.entries ≡ with_mentions externals.old.entries (mentions_by table.now.shifts table.now.symbols.now) }
     ensures multiples { multiples.new.items ≡ multiples.old.items ++ all_clashes externals.old.entries (mentions_by table.now.shifts table.now.symbols.now) }
     ensures marks { marks.new.items ≡ marks.old.items ++ state_marks kept externals.old.entries (mentions_by table.now.shifts table.now.symbols.now) }
     ensures places { places.new.items ≡ places.old.items ++ all_places externals.new.entries table.now.symbols.now }

@@ -5,7 +5,7 @@ ghost use Rattle.link_session.specs.Starts.{no_starts, next_starts, shifts_at};
 ghost use Rattle.link_session.specs.Image.{state_at};
 ghost use Rattle.link_session.specs.Cells.{name_target, offset_in, segment_target};
 ghost use Rattle.link_session.specs.internal.Fields.{image_in};
-ghost use Rattle.link_session.specs.internal.Additions.{next_shifts, no_place, placed, placed_cell, placed_cells, place_at};
+ghost use Rattle.link_session.specs.internal.Additions.{next_shifts, no_place, placed_reference, placed_cell, placed_cells, place_at};
 ghost use Rattle.link_session.specs.Starts.{shift_by};
 ghost use Rattle.link_session.specs.internal.Chains.{threaded};
 
@@ -148,7 +148,7 @@ fn name_reference(externals: &Externals, place: u16) -> (u16, Target)
 
 /// What a relocation word adds to its word, and the target.
 fn reference(scope: &Scope<'_>, reloc: Reloc) -> (u16, Target)
-    ensures { result ≡ placed scope.now.externals.now.entries scope.now.places.now scope.now.shifts (symbol_number reloc) (kind_of reloc) }
+    ensures { result ≡ placed_reference scope.now.externals.now.entries scope.now.places.now scope.now.shifts (symbol_number reloc) (kind_of reloc) }
 {
     let shifts = scope.shifts;
     match reloc.kind() {

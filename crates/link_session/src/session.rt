@@ -12,7 +12,7 @@ ghost use Rattle.link_session.specs.internal.Fields.{image_in, threads_in, IsSma
 ghost use Rattle.link_session.specs.internal.Threads.{next_threads, IsThreaded};
 ghost use Rattle.link_session.specs.internal.Settled.{IsCovered};
 ghost use Rattle.link_session.specs.internal.Restores.{TakesBack};
-ghost use Rattle.link_session.specs.internal.Additions.{all_mentioned, joined_image, next_limit};
+ghost use Rattle.link_session.specs.internal.Additions.{with_mentions, joined_image, next_limit};
 ghost use Rattle.link_session.specs.Sessions.{nothing_kept, labelled, newest, Adds, Withdraws, IsCause, IsObject};
 
 use crate::cell::Cell;
@@ -78,7 +78,7 @@ impl Model for Session {
 /// Mentions the forced names. There is room for them.
 fn force_names(externals: &mut Externals, names: &[Name])
     requires { length names.now ≤ spare externals.old }
-    ensures { externals.new.entries ≡ all_mentioned externals.old.entries (map forced_mention names.now) }
+    ensures { externals.new.entries ≡ with_mentions externals.old.entries (map forced_mention names.now) }
 {
     for name in names {
         mention(externals, *name, State::Wanted(0));
@@ -93,7 +93,7 @@ fn enter_forced(
 ) -> Result<(), AllocError>
     requires no_names { externals.old.entries ≡ [] }
     requires no_heads { heads.old.items ≡ [] }
-    ensures names { OnOk result (externals.new.entries ≡ all_mentioned [] (map forced_mention names.now)) }
+    ensures names { OnOk result (externals.new.entries ≡ with_mentions [] (map forced_mention names.now)) }
     ensures heads { OnOk result (heads.new.items ≡ replicate (length externals.new.entries) None) }
     ensures none { names.now ≡ [] → IsOk result }
 {

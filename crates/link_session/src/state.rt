@@ -1,7 +1,7 @@
 //! What is known of an external name, and what one more mention makes of it.
 ghost use Rattle.std.specs.Prelude.{◌≡◌};
 ghost use Rattle.link_session.specs.internal.Additions.{changes};
-ghost use Rattle.link_session.specs.internal.Updates.{clashes, updated};
+ghost use Rattle.link_session.specs.internal.Updates.{clashes, updated_state};
 
 use aout_core::Segment;
 
@@ -16,8 +16,8 @@ pub enum State {
 }
 
 /// The state of a name that is mentioned once more.
-pub(crate) fn updated(was: State, says: State) -> State
-    ensures { result ≡ updated was says }
+pub(crate) fn updated_state(was: State, says: State) -> State
+    ensures { result ≡ updated_state was says }
 {
     match (was, says) {
         (State::Wanted(size), State::Wanted(more)) => State::Wanted(size.max(more)),

@@ -44,15 +44,15 @@ abbrev pub shown : NmOptions → Contents → List Symbol
 shown o c = arranged o (filter (is_shown o) c.symbols)
 
 -- what stands before each line of a file
-abbrev pub line_front : NmOptions → List ℕ → List ℕ
-line_front o file = if o.each_line then file ++ codes ":" else []
+abbrev pub line_heading : NmOptions → List ℕ → List ℕ
+line_heading o file = if o.each_line then file ++ codes ":" else []
 
 -- what stands above the lines of a file, one of so many
 abbrev pub heading : NmOptions → ℕ → List ℕ → List ℕ
 heading o files file = if not o.each_line && nat_lt 1 files then file ++ codes ":\n" else []
 
 abbrev pub file_lines : NmOptions → ℕ → List ℕ → Contents → List ℕ
-file_lines o files file c = heading o files file ++ flat_map (λ s. line_front o file ++ symbol_line s) (shown o c)
+file_lines o files file c = heading o files file ++ flat_map (λ s. line_heading o file ++ symbol_line s) (shown o c)
 
 abbrev pub nm_text : NmOptions → List (List ℕ × Contents) → List ℕ
 nm_text o files = flat_map (λ f. file_lines o (length files) f.0 f.1) files

@@ -26,7 +26,7 @@
 
 mod buffer;
 mod fault;
-mod front;
+mod heading;
 mod listing;
 mod options;
 mod sizes;

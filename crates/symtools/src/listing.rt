@@ -8,7 +8,7 @@ ghost use Rattle.symtools.specs.NmLists.{is_shown, name_before, value_before, in
 ghost use Rattle.symtools.specs.declared.fault.ToolFault.TheVariants.{Memory, Device};
 
 use crate::fault::ToolFault;
-use crate::front::put_front;
+use crate::heading::put_heading;
 use crate::options::NmOptions;
 use crate::symbol_line::{is_shown_undefined, line};
 use aout_core::{DeviceFault, File, Symbol, Wire};
@@ -60,7 +60,7 @@ fn list_file<W: Write>(
         ++ flat_map (λ s. (if options.each_line then path.now ++ 58 ∷ [] else []) ++ symbol_line s) (arranged options (filter (is_shown options) table.now))) }
 {
     let symbols = shown(alloc, table, options)?;
-    put_front(is_headed, path, b":\n", out)?;
+    put_heading(is_headed, path, b":\n", out)?;
     put_lines(&symbols, path, options.each_line, out)?;
     Ok(())
 }
@@ -76,7 +76,7 @@ fn put_lines<W: Write>(
         (flat_map (λ s. (if each_line then path.now ++ 58 ∷ [] else []) ++ symbol_line s) symbols.now) }
 {
     for symbol in symbols {
-        put_front(each_line, path, b":", out)?;
+        put_heading(each_line, path, b":", out)?;
         line(symbol, out)?;
     }
     Ok(())

@@ -7,7 +7,7 @@ ghost use Rattle.symtools.specs.declared.fault.ToolFault.TheVariants.{Device};
 
 use crate::buffer::LineBuffer;
 use crate::fault::ToolFault;
-use crate::front::put_front;
+use crate::heading::put_heading;
 use aout_core::{DeviceFault, File, Header, Wire};
 use std::io::Write;
 
@@ -39,7 +39,7 @@ fn put_size<W: Write>(
     ensures { Writes W.contents result out.old out.new
         ((if is_named then path.now ++ codes ": " else []) ++ size_line header.now ++ 10 ∷ []) }
 {
-    put_front(is_named, path, b": ", out)?;
+    put_heading(is_named, path, b": ", out)?;
     let text = line_text(header);
     out.put(text.as_bytes())
 }

@@ -106,7 +106,7 @@ pub(crate) fn link_text<'a>(fault: LinkFault) -> FaultText<'a>
 }
 
 /// Writes a path and `: `, if there is a path.
-fn put_front<W: Write>(path: Option<&str>, out: &mut Wire<W>) -> Result<(), DeviceFault>
+fn put_path<W: Write>(path: Option<&str>, out: &mut Wire<W>) -> Result<(), DeviceFault>
     ensures { Writes W.contents result out.old out.new (path_text path.entry) }
 {
     match path {
@@ -130,7 +130,7 @@ impl<'a> FaultText<'a> {
     pub(crate) fn write<W: Write>(&self, out: &mut Wire<W>) -> Result<(), DeviceFault>
         ensures { Writes W.contents result out.old out.new (text_of self.now) }
     {
-        put_front(self.path, out)?;
+        put_path(self.path, out)?;
         out.put(self.words.as_bytes())?;
         put_index(self.index, out)
     }

@@ -14,10 +14,11 @@ use Rattle.link_session.specs.declared.state.State.{State}
 use Rattle.link_session.specs.Sessions.{IsObject}
 use Rattle.link_session.specs.Mentions.{externals, is_among, statement}
 use Rattle.link_session.specs.declared.state.State.TheVariants.{Defined}
+use Rattle.link_session.specs.Cells.{segment_words, segment_relocs}
 use Rattle.link_options.specs.declared.options.Keep.TheVariants.{Nothing}
 use Rattle.link_options.specs.Choices.{Choices}
 use Rattle.link_out.specs.function.Link.{Outcome, link}
-use Rattle.link_out.specs.relation.Relocated.{move_in, entry_of, external_type, segment_words, segment_relocs, IsRelocated, HoldsObjects}
+use Rattle.link_out.specs.relation.Relocated.{move_in, entry_of, external_type, IsRelocated, HoldsObjects}
 
 -- each word of each object is found in the linked file, relocated by what that file's own symbol table says
 abbrev pub WordsAreRelocated : Type 0

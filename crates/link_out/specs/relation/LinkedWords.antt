@@ -12,7 +12,8 @@ use Rattle.aout_core.specs.Contents.{Contents}
 use Rattle.aout_core.specs.WellFormed.{masked_type, kind_of, symbol_number}
 use Rattle.link_session.specs.Starts.{total}
 use Rattle.link_session.specs.Mentions.{place_of}
-use Rattle.link_out.specs.relation.Relocated.{entry_of, segment_words, segment_relocs, IsRelocated}
+use Rattle.link_session.specs.Cells.{segment_words, segment_relocs}
+use Rattle.link_out.specs.relation.Relocated.{entry_of, IsRelocated}
 
 -- each word of each object stands relocated at its place
 abbrev pub AreRelocated : Contents → List Symbol → List Contents → Segment → Type 0

@@ -16,6 +16,7 @@ use Rattle.link_session.specs.declared.state.State.{State}
 use Rattle.link_session.specs.Starts.{total}
 use Rattle.link_session.specs.Sessions.{IsObject}
 use Rattle.link_session.specs.Mentions.{Mention, mentions, externals, place_of}
+use Rattle.link_session.specs.Cells.{segment_words, segment_relocs}
 use Rattle.link_out.specs.declared.linked.LinkFault.{LinkFault}
 use Rattle.link_out.specs.declared.linked.LinkFault.TheVariants.{DoesNotFit, TooManySymbols, SymbolNumber, Memory}
 use Rattle.link_options.specs.declared.options.Keep.{Keep}
@@ -24,7 +25,6 @@ use Rattle.link_options.specs.Choices.{Choices, lays_commons}
 use Rattle.link_out.specs.Layouts.{data_base}
 use Rattle.link_out.specs.relation.NameStates.{HasState, IsWanted}
 use Rattle.link_out.specs.KeptSymbols.{is_kept_local}
-use Rattle.link_out.specs.relation.Relocated.{segment_words, segment_relocs}
 use Rattle.link_out.specs.relation.LinkedTable.{room_for}
 use Rattle.link_out.specs.function.Link.{link}
 

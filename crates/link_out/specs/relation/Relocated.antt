@@ -15,6 +15,7 @@ use Rattle.aout_core.specs.Contents.{Contents}
 use Rattle.aout_core.specs.Words.{plus, minus}
 use Rattle.aout_core.specs.WellFormed.{is_external, masked_type, kind_of, is_pc_relative, symbol_number}
 use Rattle.link_session.specs.Starts.{total, own}
+use Rattle.link_session.specs.Cells.{segment_words, segment_relocs}
 
 -- where data begins in core, as the magic says
 abbrev pub data_base_in : Header → ℕ
@@ -61,17 +62,6 @@ IsAdded h rows os before k (Some kinds.TextSeg) number a = a ≡ move_in h os be
 IsAdded h rows os before k (Some kinds.DataSeg) number a = a ≡ move_in h os before k DataSeg
 IsAdded h rows os before k (Some kinds.BssSeg) number a = a ≡ move_in h os before k BssSeg
 IsAdded h rows os before k (Some kinds.External) number a = IsAddressOf rows k number a
-
--- the words, and the relocation words, of a segment
-abbrev pub segment_words : Segment → Contents → List ℕ
-segment_words TextSeg c = c.text_words
-segment_words DataSeg c = c.data_words
-segment_words _ c = []
-
-abbrev pub segment_relocs : Segment → Contents → List Reloc
-segment_relocs TextSeg c = c.text_reloc
-segment_relocs DataSeg c = c.data_reloc
-segment_relocs _ c = []
 
 -- word i of a segment of k, which is w with relocation word r, stands behind that segment of the objects before k: what
 -- `IsAdded` has for r is added to it, and if it is relative to the pc, how far its own segment was moved is subtracted

@@ -28,7 +28,7 @@ use Rattle.link_session.specs.Mentions.{Mention, statement_by, place_of, new_nam
 use Rattle.link_session.specs.Cells.{segment_target, name_target, name_in, offset_in, if_pc}
 use Rattle.link_session.specs.Starts.{shift_by}
 use Rattle.link_session.specs.Image.{Image, Named, state_at}
-use Rattle.link_session.specs.internal.Updates.{updated, clashes}
+use Rattle.link_session.specs.internal.Updates.{updated_state, clashes}
 
 abbrev pub place_in : Named → List ℕ → ℕ
 place_in es name = place_of name (keys_of es)
@@ -36,16 +36,16 @@ place_in es name = place_of name (keys_of es)
 abbrev pub state_for : Named → List ℕ → State
 state_for es name = state_at es (place_in es name)
 
-abbrev pub said : List ℕ → State → Mention
-said name says = record { name = name; says = says }
+abbrev pub mention_of : List ℕ → State → Mention
+mention_of name says = record { name = name; says = says }
 
 -- the names after one more mention, and after several
-abbrev pub mentioned : Named → Mention → Named
-mentioned es m = insert_entry (pointwise nat_eq) es m.name (updated (state_for es m.name) m.says)
+abbrev pub with_mention : Named → Mention → Named
+with_mention es m = insert_entry (pointwise nat_eq) es m.name (updated_state (state_for es m.name) m.says)
 
-abbrev pub all_mentioned : Named → List Mention → Named
-all_mentioned es [] = es
-all_mentioned es (m ∷ ms) = all_mentioned (mentioned es m) ms
+abbrev pub with_mentions : Named → List Mention → Named
+with_mentions es [] = es
+with_mentions es (m ∷ ms) = with_mentions (with_mention es m) ms
 
 -- a mention changes the state
 abbrev pub changes : State → State → Bool
@@ -60,7 +60,7 @@ state_mark kept es m =
 
 abbrev pub state_marks : ℕ → Named → List Mention → List Mark
 state_marks kept es [] = []
-state_marks kept es (m ∷ ms) = state_mark kept es m ++ state_marks kept (mentioned es m) ms
+state_marks kept es (m ∷ ms) = state_mark kept es m ++ state_marks kept (with_mention es m) ms
 
 -- the names that mentions define once more, and differently
 abbrev pub clash : Named → Mention → List (List ℕ)
@@ -68,7 +68,7 @@ clash es m = cond (clashes (state_for es m.name) m.says) (m.name ∷ []) []
 
 abbrev pub all_clashes : Named → List Mention → List (List ℕ)
 all_clashes es [] = []
-all_clashes es (m ∷ ms) = clash es m ++ all_clashes (mentioned es m) ms
+all_clashes es (m ∷ ms) = clash es m ++ all_clashes (with_mention es m) ms
 
 -- the cell, bound, if it waits for a name that is defined
 abbrev pub bound_by : State → Cell → Option Cell
@@ -86,34 +86,34 @@ abbrev pub bound_or : Option Cell → Cell → Cell
 bound_or None c = c
 bound_or (Some b) c = b
 
-abbrev pub settled : Named → Cell → Cell
-settled es c = bound_or (binding es c) c
+abbrev pub settled_cell : Named → Cell → Cell
+settled_cell es c = bound_or (binding es c) c
 
 abbrev pub place_at : Segment → ℕ → Place
 place_at segments.DataSeg i = InData i
 place_at _ i = InText i
 
 abbrev pub mention_by : Shifts → Symbol → Mention
-mention_by shifts s = said s.name (statement_by (shift_by shifts) (segment_of s) s.value)
+mention_by shifts s = mention_of s.name (statement_by (shift_by shifts) (segment_of s) s.value)
 
 abbrev pub mentions_by : Shifts → List Symbol → List Mention
 mentions_by shifts symbols = map (mention_by shifts) (filter is_external symbols)
 
 -- what is added to a word, and its target
-abbrev pub referred : Named → List Symbol → Shifts → ℕ → Option Kind → ℕ × Target
-referred es symbols shifts number (Some kinds.TextSeg) = (shifts.text, targets.TextSeg)
-referred es symbols shifts number (Some kinds.DataSeg) = (shifts.data, targets.DataSeg)
-referred es symbols shifts number (Some kinds.BssSeg) = (shifts.bss, targets.BssSeg)
-referred es symbols shifts number (Some kinds.External) = (
+abbrev pub reference : Named → List Symbol → Shifts → ℕ → Option Kind → ℕ × Target
+reference es symbols shifts number (Some kinds.TextSeg) = (shifts.text, targets.TextSeg)
+reference es symbols shifts number (Some kinds.DataSeg) = (shifts.data, targets.DataSeg)
+reference es symbols shifts number (Some kinds.BssSeg) = (shifts.bss, targets.BssSeg)
+reference es symbols shifts number (Some kinds.External) = (
   offset_in (state_for es (name_in (slice_get symbols number))),
   name_target (state_for es (name_in (slice_get symbols number))) (place_in es (name_in (slice_get symbols number))),
 )
-referred es symbols shifts number _ = (0, targets.Absolute)
+reference es symbols shifts number _ = (0, targets.Absolute)
 
 abbrev pub own_cell : Named → List Symbol → Shifts → ℕ → ℕ → Reloc → Cell
 own_cell es symbols shifts own_shift w r = record {
-  value = minus (plus w (referred es symbols shifts (symbol_number r) (kind_of r)).0) (if_pc r own_shift);
-  target = (referred es symbols shifts (symbol_number r) (kind_of r)).1;
+  value = minus (plus w (reference es symbols shifts (symbol_number r) (kind_of r)).0) (if_pc r own_shift);
+  target = (reference es symbols shifts (symbol_number r) (kind_of r)).1;
   pc = is_pc_relative r;
 }
 
@@ -132,20 +132,20 @@ abbrev pub all_places : Named → List Symbol → List ℕ
 all_places es symbols = map (place_by es) symbols
 
 -- what is added to a word, its target and its cell, by the places of the symbols
-abbrev pub placed : Named → List ℕ → Shifts → ℕ → Option Kind → ℕ × Target
-placed es places shifts number (Some kinds.TextSeg) = (shifts.text, targets.TextSeg)
-placed es places shifts number (Some kinds.DataSeg) = (shifts.data, targets.DataSeg)
-placed es places shifts number (Some kinds.BssSeg) = (shifts.bss, targets.BssSeg)
-placed es places shifts number (Some kinds.External) = (
+abbrev pub placed_reference : Named → List ℕ → Shifts → ℕ → Option Kind → ℕ × Target
+placed_reference es places shifts number (Some kinds.TextSeg) = (shifts.text, targets.TextSeg)
+placed_reference es places shifts number (Some kinds.DataSeg) = (shifts.data, targets.DataSeg)
+placed_reference es places shifts number (Some kinds.BssSeg) = (shifts.bss, targets.BssSeg)
+placed_reference es places shifts number (Some kinds.External) = (
   offset_in (state_at es (slice_index_or places number no_place)),
   name_target (state_at es (slice_index_or places number no_place)) (slice_index_or places number no_place),
 )
-placed es places shifts number _ = (0, targets.Absolute)
+placed_reference es places shifts number _ = (0, targets.Absolute)
 
 abbrev pub placed_cell : Named → List ℕ → Shifts → ℕ → ℕ → Reloc → Cell
 placed_cell es places shifts own_shift w r = record {
-  value = minus (plus w (placed es places shifts (symbol_number r) (kind_of r)).0) (if_pc r own_shift);
-  target = (placed es places shifts (symbol_number r) (kind_of r)).1;
+  value = minus (plus w (placed_reference es places shifts (symbol_number r) (kind_of r)).0) (if_pc r own_shift);
+  target = (placed_reference es places shifts (symbol_number r) (kind_of r)).1;
   pc = is_pc_relative r;
 }
 
@@ -164,13 +164,13 @@ abbrev pub next_mentions : Image → Contents → List Mention
 next_mentions m o = mentions_by (next_shifts m o) o.symbols
 
 abbrev pub next_named : Image → Contents → Named
-next_named m o = all_mentioned m.externals (next_mentions m o)
+next_named m o = with_mentions m.externals (next_mentions m o)
 
 -- the image with one more object
 abbrev pub joined_image : Image → Contents → Image
 joined_image m o = record {
-  text_cells = map (settled (next_named m o)) m.text_cells ++ own_cells (next_named m o) o.symbols (next_shifts m o) (next_shifts m o).text o.text_words o.text_reloc;
-  data_cells = map (settled (next_named m o)) m.data_cells ++ own_cells (next_named m o) o.symbols (next_shifts m o) (next_shifts m o).data o.data_words o.data_reloc;
+  text_cells = map (settled_cell (next_named m o)) m.text_cells ++ own_cells (next_named m o) o.symbols (next_shifts m o) (next_shifts m o).text o.text_words o.text_reloc;
+  data_cells = map (settled_cell (next_named m o)) m.data_cells ++ own_cells (next_named m o) o.symbols (next_shifts m o) (next_shifts m o).data o.data_words o.data_reloc;
   bss_total = m.bss_total + o.header.bss_size;
   externals = next_named m o;
   multiples = m.multiples ++ all_clashes m.externals (next_mentions m o);

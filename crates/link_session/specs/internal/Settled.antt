@@ -5,7 +5,7 @@ use Rattle.aout_core.specs.Contents.{Contents}
 use Rattle.link_session.specs.declared.cell.Cell.{Cell}
 use Rattle.link_session.specs.Image.{Image}
 use Rattle.link_session.specs.Image.{Named, state_at}
-use Rattle.link_session.specs.internal.Additions.{bound_by, bound_or, settled, place_in, external_names, next_named}
+use Rattle.link_session.specs.internal.Additions.{bound_by, bound_or, settled_cell, place_in, external_names, next_named}
 use Rattle.link_session.specs.internal.Chains.{waits_at}
 
 -- the cell once the chain of the external is bound, if that is defined
@@ -22,5 +22,5 @@ places_of es symbols = map (place_in es) (external_names symbols)
 
 -- to bind the names that the object mentions is to settle all cells of the image
 pub record IsCovered (m : Image) (o : Contents) : Type 0 where
-  pub text : map (settled_over (next_named m o) (places_of (next_named m o) o.symbols)) m.text_cells ≡ map (settled (next_named m o)) m.text_cells
-  pub «data» : map (settled_over (next_named m o) (places_of (next_named m o) o.symbols)) m.data_cells ≡ map (settled (next_named m o)) m.data_cells
+  pub text : map (settled_over (next_named m o) (places_of (next_named m o) o.symbols)) m.text_cells ≡ map (settled_cell (next_named m o)) m.text_cells
+  pub «data» : map (settled_over (next_named m o) (places_of (next_named m o) o.symbols)) m.data_cells ≡ map (settled_cell (next_named m o)) m.data_cells

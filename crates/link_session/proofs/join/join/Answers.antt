@@ -9,7 +9,7 @@ use Rattle.link_session.specs.Image.{Image}
 use Rattle.link_session.specs.internal.Threads.{Threads, cut_heads}
 use Rattle.link_session.specs.internal.Chains.{AreChained}
 use Rattle.link_session.specs.internal.Fields.{image_in, threads_in, sizes_of, threads_by, with_heads_back, IsBehind}
-use Rattle.link_session.specs.internal.Additions.{next_mentions, state_marks, all_mentioned, mentions_by, all_places}
+use Rattle.link_session.specs.internal.Additions.{next_mentions, state_marks, with_mentions, mentions_by, all_places}
 use Rattle.link_session.specs.internal.Settled.{settled_over}
 use Rattle.link_session.proofs.JoinLemmas.{entered-is, few_named, few_new, bound-is, heads-are, marks-are, undone, joined-is, joined_threads}
 use Rattle.link_session.proofs.PlacedLemmas.{settled_places, cut_places}
@@ -21,7 +21,7 @@ enter_all-requires-clause-names c =
     let o = c.args.object.now in
     let table : c.symbols.result.now ≡ o.symbols = c.symbols.ensures.value ∙ ap (λ (f : Contents). f.symbols) c.file-file.ensures.value in
     subst (λ (P : Type 0). P)
-    (λ i. let n : Image = sym c.make_room.ensures.image i in length (all_mentioned n.externals (mentions_by (sym c.next_shifts-shifts.ensures i) (sym table i))) ≤ 65535)
+    (λ i. let n : Image = sym c.make_room.ensures.image i in length (with_mentions n.externals (mentions_by (sym c.next_shifts-shifts.ensures i) (sym table i))) ≤ 65535)
     (few_named m o c.requires.fits)
 
 pub bind_waiting-requires : goal.bind_waiting-requires

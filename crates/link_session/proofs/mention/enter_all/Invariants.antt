@@ -2,14 +2,14 @@ use Rattle.std.proofs.Common.{◌≡◌, ◌+◌, ◌≤◌, ◌++◌, drop, len
 use Rattle.std.specs.Prelude.{filter, vec_len, vec_capacity}
 use Rattle.indexmap.specs.IndexMap.{spare}
 use Rattle.aout_core.specs.WellFormed.{is_external}
-use Rattle.link_session.specs.internal.Additions.{all_mentioned, all_clashes, state_marks, mentions_by}
+use Rattle.link_session.specs.internal.Additions.{with_mentions, all_clashes, state_marks, mentions_by}
 use Rattle.link_session.proofs.PlacedLemmas.{noted_places}
 use Rattle.link_session.proofs.mention.enter_all.Given as goal
 
 -- what is entered so far, with what is left, makes the whole; there is room for what is left
 abbrev pub invariant-loop-symbol : goal.invariant-loop-symbol
 invariant-loop-symbol l = record {
-  names : all_mentioned l.initial.externals.entries (mentions_by l.table.shifts l.table.symbols.now) ≡ all_mentioned l.externals.entries (mentions_by l.table.shifts (drop l.symbol-index l.table.symbols.now));
+  names : with_mentions l.initial.externals.entries (mentions_by l.table.shifts l.table.symbols.now) ≡ with_mentions l.externals.entries (mentions_by l.table.shifts (drop l.symbol-index l.table.symbols.now));
   multiples : l.initial.multiples.items ++ all_clashes l.initial.externals.entries (mentions_by l.table.shifts l.table.symbols.now)
       ≡ l.multiples.items ++ all_clashes l.externals.entries (mentions_by l.table.shifts (drop l.symbol-index l.table.symbols.now));
   marks : l.initial.marks.items ++ state_marks l.kept l.initial.externals.entries (mentions_by l.table.shifts l.table.symbols.now)

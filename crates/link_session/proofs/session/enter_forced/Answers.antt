@@ -3,21 +3,21 @@ use Rattle.std.specs.Prelude.{vec_len, vec_capacity}
 use Rattle.std.proofs.lemmas.List.{length-map}
 use Rattle.link_session.specs.Mentions.{Mention, forced_mention, names_of}
 use Rattle.link_session.specs.Image.{Named}
-use Rattle.link_session.specs.internal.Additions.{all_mentioned}
+use Rattle.link_session.specs.internal.Additions.{with_mentions}
 use Rattle.link_session.specs.internal.Threads.{grown_heads}
 use Rattle.link_session.proofs.LimitLemmas.{length-new_names}
-use Rattle.link_session.proofs.MentionedLemmas.{length-all_mentioned}
+use Rattle.link_session.proofs.MentionedLemmas.{length-with_mentions}
 use Rattle.link_session.proofs.HeadLemmas.{grown_none}
 use Rattle.link_session.proofs.session.enter_forced.Goals as goal
 
 pub grow_heads-requires : goal.grow_heads-requires
 grow_heads-requires c =
-    let names : c.force_names.new.externals.entries ≡ all_mentioned [] (map forced_mention c.args.names.now) = search rules in
+    let names : c.force_names.new.externals.entries ≡ with_mentions [] (map forced_mention c.args.names.now) = search rules in
     let room : vec_len c.reserve-2.new.self + length c.args.names.now ≤ vec_capacity c.reserve-2.new.self = search rules in
     omega (
       arith,
       ap (λ (es : Named). length es) names,
-      length-all_mentioned [] (map forced_mention c.args.names.now),
+      length-with_mentions [] (map forced_mention c.args.names.now),
       length-new_names [] (names_of (map forced_mention c.args.names.now)),
       length-map (map forced_mention c.args.names.now) (λ (k : Mention). k.name),
       length-map c.args.names.now forced_mention,

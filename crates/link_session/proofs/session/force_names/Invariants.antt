@@ -1,12 +1,12 @@
 use Rattle.std.proofs.Common.{◌≡◌, ◌≤◌, drop, length, map}
 use Rattle.indexmap.specs.IndexMap.{spare}
 use Rattle.link_session.specs.Mentions.{forced_mention}
-use Rattle.link_session.specs.internal.Additions.{all_mentioned}
+use Rattle.link_session.specs.internal.Additions.{with_mentions}
 use Rattle.link_session.proofs.session.force_names.Given as goal
 
 -- the names so far, with those that are left, make the whole
 abbrev pub invariant-loop-name : goal.invariant-loop-name
 invariant-loop-name l = record {
-  names : all_mentioned l.initial.externals.entries (map forced_mention l.names) ≡ all_mentioned l.externals.entries (map forced_mention (drop l.name-index l.names));
+  names : with_mentions l.initial.externals.entries (map forced_mention l.names) ≡ with_mentions l.externals.entries (map forced_mention (drop l.name-index l.names));
   room : length (drop l.name-index l.names) ≤ spare l.externals;
 }

@@ -1,6 +1,6 @@
 use Rattle.std.proofs.Common.{◌≡◌, [], ◌≤◌, None, length, map, replicate, sym, ap, subst, rules}
 use Rattle.link_session.specs.Mentions.{forced_mention}
-use Rattle.link_session.specs.internal.Additions.{all_mentioned}
+use Rattle.link_session.specs.internal.Additions.{with_mentions}
 use Rattle.link_session.specs.internal.Threads.{Threads}
 use Rattle.link_session.specs.internal.Fields.{image_in, threads_in, IsSession}
 use Rattle.link_session.proofs.SessionLemmas.{forced_session}
@@ -9,7 +9,7 @@ use Rattle.link_session.proofs.session.Session.with_forced.Goals as goal
 pub invariant_of-result : goal.invariant_of-result
 invariant_of-result c =
     let few : length c.args.forced.now ≤ 64 = search rules in
-    let names : c.enter_forced.new.externals.entries ≡ all_mentioned [] (map forced_mention c.args.forced.now) = search rules in
+    let names : c.enter_forced.new.externals.entries ≡ with_mentions [] (map forced_mention c.args.forced.now) = search rules in
     let heads : c.enter_forced.new.heads.items ≡ replicate (length c.enter_forced.new.externals.entries) None = search rules in
     let entries : c.new.result.items ≡ [] = search rules in
     let undo_records : c.new-2.result.items ≡ [] = search rules in

@@ -1,5 +1,5 @@
 use Rattle.aout_core.proofs.PutsLemmas.{writes_both, writes_no_more}
-use Rattle.symtools.proofs.front.put_front.Goals as goal
+use Rattle.symtools.proofs.heading.put_heading.Goals as goal
 
 pub returns-in_err-put : goal.returns-in_err-put
 returns-in_err-put g c =

@@ -6,7 +6,7 @@ use aout_core::{DeviceFault, Wire};
 use std::io::Write;
 
 /// Writes a path and the mark behind it, or nothing.
-pub(crate) fn put_front<W: Write>(
+pub(crate) fn put_heading<W: Write>(
     is_wanted: bool,
     path: &str,
     mark: &[u8],
