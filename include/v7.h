@@ -1,19 +1,19 @@
-/* libv7: the linker, nm, size and strip of v7, called from C. v7(3) shows it in use; docs/LINK.md tells the rules of a link,
+/* libv7: the linker, nm, size and strip of v7, for C. v7(3) shows it in use; docs/LINK.md has the rules of a link, and
  * docs/FORMAT.md the format.
  *
- * Each call takes bytes and gives bytes, and keeps nothing until the next one. An object or a file is the bytes of an a.out
- * file; a list of objects is their bytes one behind another, since the header of each says how long it is.
+ * Each call takes bytes and gives bytes, and keeps nothing for the next call. An object or a file is the bytes of an a.out
+ * file; a list of objects is their bytes one after another, since the header of each says how long it is.
  *
- * Sizes are in bytes. No pointer is null, also where its size is 0. What is written to, and *ANSWER, lie apart from each other
- * and from what is read. A call takes memory from malloc and gives it back before it returns. Calls share nothing, so threads
+ * Sizes are in bytes. No pointer may be null, even if its size is 0. What a call writes to, and *ANSWER, must not overlap each
+ * other or what it reads. A call takes memory from malloc and gives it back before it returns. Calls share nothing, so threads
  * may make them at once.
  *
- * A result is written at the beginning of a room that the caller gives; behind the result the room stays as it was. Where a
- * room is too small the fault is V7_NO_ROOM, nothing is written, and the sizes in *ANSWER say how much room is wanted: so a
+ * A call writes its result at the beginning of a room that the caller gives; after the result the room stays as it was. Where
+ * a room is too small the fault is V7_NO_ROOM, nothing is written, and the sizes in *ANSWER say how much room is needed. So a
  * call with rooms of size 0 asks for the sizes. With any other fault nothing is written either, and the sizes are 0.
  *
  * Each call returns a status as the program v7 does: 0; 1 where a link was made and there is something to report; 2 where
- * there is a fault, and so no result. *ANSWER is always filled.
+ * there is a fault, and so no result. *ANSWER is always filled. docs/LIMITS.md has all limits on one page.
  */
 #ifndef V7_H
 #define V7_H
@@ -28,11 +28,11 @@ extern "C" {
 enum v7_fault {
     V7_NO_FAULT = 0,
     /* what is asked for */
-    V7_NO_OPTION = 1,          /* a bit of OPTIONS stands for none, or FORM is none */
-    V7_EXCLUDED = 2,           /* options exclude each other: V7_RELOCATABLE with V7_STRIP, V7_PURE or V7_SPLIT, or the last two */
+    V7_NO_OPTION = 1,          /* a bit of OPTIONS is no option, or FORM is no form */
+    V7_EXCLUDED = 2,           /* options exclude each other: V7_RELOCATABLE and V7_STRIP, V7_PURE or V7_SPLIT; V7_PURE and V7_SPLIT */
     V7_LONG_NAME = 3,          /* the name of the entry point has more than 8 bytes */
     V7_CUT_NAMES = 4,          /* the size of the forced names is no multiple of 8 */
-    V7_MANY_NAMES = 5,         /* more than 64 different names are forced; `place` is the number of the one too many */
+    V7_MANY_NAMES = 5,         /* more than 64 different names are forced; `place` is the number of the first too many */
     V7_TOO_LONG = 6,           /* more than 32,767 words of text or data, 65,535 bytes of bss, or 5,461 symbols */
     V7_NO_EDIT = 7,            /* an edit is neither V7_ADD nor V7_WITHDRAW; `place` is its number */
     /* the bytes of a file */
@@ -43,17 +43,17 @@ enum v7_fault {
     /* an object */
     V7_NOT_AN_OBJECT = 21,     /* the magic is not 0407 */
     V7_NO_RELOCATION = 22,     /* relocation was stripped */
-    V7_BAD_RELOCATION = 23,    /* the relocation word of the word `word` has no kind that there is */
-    V7_BAD_SYMBOL_NUMBER = 24, /* that of the word `word` has no number of an undefined external symbol */
-    /* the object behind those before it */
+    V7_BAD_RELOCATION = 23,    /* the relocation word of the word `word` has none of the five kinds */
+    V7_BAD_SYMBOL_NUMBER = 24, /* its symbol number is not that of an undefined external symbol */
+    /* an object together with those before it */
     V7_TEXT_FULL = 31,         /* the text would pass 65,534 bytes in all */
-    V7_DATA_FULL = 32,         /* so would the data */
-    V7_BSS_FULL = 33,          /* so would bss */
+    V7_DATA_FULL = 32,         /* the data would pass them */
+    V7_BSS_FULL = 33,          /* bss would pass them */
     V7_NAMES_FULL = 34,        /* there would be more than 65,535 external names */
     /* the link */
-    V7_DOES_NOT_FIT = 41,      /* the program would end behind 65,535 */
+    V7_DOES_NOT_FIT = 41,      /* the program would end past 65,535 */
     V7_TOO_MANY_SYMBOLS = 42,  /* its table would have more than 5,461 symbols */
-    V7_SYMBOL_NUMBER = 43,     /* with V7_RELOCATABLE, a word refers to a name of a number over 4,095 */
+    V7_SYMBOL_NUMBER = 43,     /* with V7_RELOCATABLE, a word refers to a name with a number over 4,095 */
     /* the caller's machine */
     V7_NO_MEMORY = 50,         /* malloc gave none */
     V7_NO_ROOM = 60            /* a room is too small */
@@ -68,21 +68,21 @@ struct v7_answer {
     size_t report_size; /* v7_link, v7_session: the size of the report; v7_state: the number of replies; else 0 */
 };
 
-/* Looks whether BYTES begin with an object, which can be linked; the size is then that of the object, so that the next one of
- * a list begins there. Faults: 11 to 14, 21 to 24, V7_NO_MEMORY. */
+/* Checks whether BYTES begin with an object, which can be linked. The size is then that of the object, so the next object of a
+ * list begins there. Faults: 11 to 14, 21 to 24, V7_NO_MEMORY. */
 uint32_t v7_check(const unsigned char *bytes, size_t size, struct v7_answer *answer);
 
 /* Writes the file that BYTES begin with without its symbols and relocation. Faults: 11 to 14, V7_NO_MEMORY, V7_NO_ROOM. */
 uint32_t v7_strip(const unsigned char *bytes, size_t size, unsigned char *room, size_t room_size, struct v7_answer *answer);
 
-/* Writes the list of the symbols of the file that BYTES begin with, as `v7 nm` prints it: a line each, which ends with a
- * newline; no NUL ends the text. Faults: V7_NO_OPTION, 11 to 14, V7_NO_MEMORY, V7_NO_ROOM. */
+/* Writes the list of the symbols of the file that BYTES begin with, as `v7 nm` prints it: one line for each symbol, with its
+ * newline. No NUL ends the text. Faults: V7_NO_OPTION, 11 to 14, V7_NO_MEMORY, V7_NO_ROOM. */
 enum v7_nm_option {
-    V7_NM_EXTERNAL = 1,    /* -g: externals alone */
+    V7_NM_EXTERNAL = 1,    /* -g: only externals */
     V7_NM_BY_VALUE = 2,    /* -n: by value, then by name */
     V7_NM_TABLE_ORDER = 4, /* -p: in the order of the table, whatever else is asked for */
-    V7_NM_REVERSE = 8,     /* -r: the other way round */
-    V7_NM_UNDEFINED = 16   /* -u: undefined names alone */
+    V7_NM_REVERSE = 8,     /* -r: in reverse order */
+    V7_NM_UNDEFINED = 16   /* -u: only undefined names */
 };
 uint32_t v7_nm(uint32_t options, const unsigned char *bytes, size_t size, unsigned char *room, size_t room_size, struct v7_answer *answer);
 
@@ -90,18 +90,18 @@ uint32_t v7_nm(uint32_t options, const unsigned char *bytes, size_t size, unsign
  * `v7 size` prints them: one line with its newline. Faults: 11 to 14, V7_NO_MEMORY, V7_NO_ROOM. */
 uint32_t v7_size(const unsigned char *bytes, size_t size, unsigned char *room, size_t room_size, struct v7_answer *answer);
 
-/* Links OBJECTS in their order, as `v7 ld` does: the linked file goes to ROOM, and what there is to report, as lines, to
- * REPORT. Both are written or neither. ENTRY is the name of the entry point, at most 8 bytes, or of size 0 where there is
- * none; FORCED are names that are mentioned before all objects, 8 bytes each, filled up with NULs. Without objects the
- * program is empty. Bytes behind an object are the next one: of a file with other bytes behind its end, give as many as
- * v7_check tells. Faults, the first that applies: 1 to 3, 4, 5, then for each object in turn 11 to 34, then 41 to 43;
- * V7_NO_MEMORY at any time; and V7_NO_ROOM. */
+/* Links OBJECTS in their order, as `v7 ld` does: the linked file goes to ROOM, and the lines of the report to REPORT. Both are
+ * written or neither. ENTRY is the name of the entry point, at most 8 bytes, or of size 0 where there is none. FORCED are
+ * names that are mentioned before all objects, 8 bytes each, filled up with NULs. Without objects the program is empty. Bytes
+ * after an object are the next object: of a file with other bytes after its end, pass as many bytes as v7_check says. Faults,
+ * the first that applies: 1 to 3, 4, 5, then for each object in turn 11 to 34, then 41 to 43; V7_NO_MEMORY at any time; and
+ * V7_NO_ROOM. */
 enum v7_link_option {
     V7_RELOCATABLE = 1,   /* -r: keeps relocation, so that the result is an object */
     V7_STRIP = 2,         /* -s: keeps no symbols; wins over the next two */
-    V7_EXTERNALS = 4,     /* -x: keeps externals alone; wins over the next one */
+    V7_EXTERNALS = 4,     /* -x: keeps only externals; wins over the next one */
     V7_NOT_L = 8,         /* -X: keeps all but the locals that begin with L */
-    V7_PURE = 16,         /* -n: data begins at the next multiple of 020000 bytes */
+    V7_PURE = 16,         /* -n: data begins at the next multiple of 020000 */
     V7_SPLIT = 32,        /* -i: text and data both begin at 0 */
     V7_FORCE_COMMONS = 64 /* -d: lays commons out with V7_RELOCATABLE too */
 };
@@ -109,14 +109,14 @@ uint32_t v7_link(uint32_t options, const unsigned char *entry, size_t entry_size
                  const unsigned char *objects, size_t objects_size, unsigned char *room, size_t room_size, unsigned char *report,
                  size_t report_size, struct v7_answer *answer);
 
-/* Runs EDITS, and links what is left, as v7_link does. Each edit is a letter: V7_ADD adds the next of OBJECTS behind those that
- * are kept, and V7_WITHDRAW withdraws the object that was added last and is kept. So the first N edits with the same objects
- * are the session as it was after N of them: what is behind the last object that is asked for is not looked at. REPLIES gets a
- * byte for each edit: V7_DONE, V7_NOTHING where there was nothing to withdraw, or 31 to 34 where the object was not added; an
- * edit that was not made leaves the session as it was, and the status is 1. REPLIES, file and report are written, or none;
- * for V7_NO_ROOM give REPLIES as many bytes as there are edits. Faults, the first that applies: 1 to 5 as of v7_link; then for
- * each edit in turn V7_NO_EDIT, 11 to 14 (also where there is no further object), and 21 to 24; then 41 to 43; V7_NO_MEMORY at
- * any time; and V7_NO_ROOM. */
+/* Runs EDITS, and links what is left, as v7_link does. Each edit is a letter: V7_ADD adds the next of OBJECTS after those that
+ * are kept, and V7_WITHDRAW withdraws the last object that is kept. Bytes after the last object that is added are not looked
+ * at, so the first N edits with the same objects give the session as it was after N edits. REPLIES gets a byte for each edit:
+ * V7_DONE, V7_NOTHING where there was nothing to withdraw, or 31 to 34 where the object was not added. An edit that was not
+ * made leaves the session as it was, and the status is 1. REPLIES, file and report are all written, or none is; REPLIES needs
+ * as many bytes as there are edits. Faults, the first that applies: 1 to 5 as for v7_link; then for each edit in turn
+ * V7_NO_EDIT, 11 to 14 (also where there is no further object), and 21 to 24; then 41 to 43; V7_NO_MEMORY at any time; and
+ * V7_NO_ROOM. */
 enum v7_edit { V7_ADD = 'a', V7_WITHDRAW = 'w' };
 enum v7_reply { V7_DONE = 0, V7_NOTHING = 35 };
 uint32_t v7_session(uint32_t options, const unsigned char *entry, size_t entry_size, const unsigned char *forced, size_t forced_size,
@@ -124,31 +124,31 @@ uint32_t v7_session(uint32_t options, const unsigned char *entry, size_t entry_s
                     unsigned char *replies, size_t replies_size, unsigned char *room, size_t room_size, unsigned char *report,
                     size_t report_size, struct v7_answer *answer);
 
-/* Runs EDITS as v7_session does, and tells what the session then shows, without a link. ROOM gets it as lines, each of which ends
- * with a newline, or as one JSON object: the words of the merged text and data, each with its offset in bytes, its value and what
- * it refers to or waits for; the size of bss in bytes; the external names with what is known of each; the names that are multiply
- * defined; and the marks of the addition of the last object that is kept: what it overwrote, in the order in which it did. Lines
- * have offsets and values in octal and sizes in decimal; a byte of a name that does not print, a blank and a backslash are \ooo
- * there. JSON has all numbers in decimal; a byte of a name that does not print, a quote and a backslash are \u00xx there. v7(3)
- * tells its members. REPLIES are as those of v7_session; `report_size` is how many there are. The status is 1 where an edit
- * was not made. State and replies are written, or neither. Faults, the first that applies: V7_NO_OPTION of FORM; 4 and 5; then for
- * each edit in turn those of v7_session; V7_NO_MEMORY at any time; and V7_NO_ROOM. */
+/* Runs EDITS as v7_session does, and writes what the session then shows, without a link. ROOM gets it as lines, each with its
+ * newline, or as one JSON object: the words of the merged text and data, each with its offset in bytes, its value and what it
+ * refers to or waits for; the size of bss in bytes; the external names with what is known of each; the names that are multiply
+ * defined; and the marks of the last object that is kept: what its addition overwrote, in order. Lines have offsets and
+ * values in octal and sizes in decimal; a byte of a name that does not print, a blank and a backslash are \ooo there. JSON has
+ * all numbers in decimal; a byte of a name that does not print, a quote and a backslash are \u00xx there. v7(3) lists the
+ * members of the JSON object. REPLIES are those of v7_session; `report_size` is how many there are. The status is 1 where an
+ * edit was not made. State and replies are both written, or neither is. Faults, the first that applies: V7_NO_OPTION for FORM;
+ * 4 and 5; then for each edit in turn those of v7_session; V7_NO_MEMORY at any time; and V7_NO_ROOM. */
 enum v7_form { V7_LINES = 0, V7_JSON = 1 };
 uint32_t v7_state(uint32_t form, const unsigned char *forced, size_t forced_size, const unsigned char *edits, size_t edit_count,
                   const unsigned char *objects, size_t objects_size, unsigned char *replies, size_t replies_size,
                   unsigned char *room, size_t room_size, struct v7_answer *answer);
 
-/* A word of text or data, and its relocation word: 0 where it is a number, 2 where it refers to text, 4 to data, 6 to bss, and
- * 8 + 16 * N where it refers to the symbol N of the table, which is an undefined external; and 1 more where it is relative to
- * the pc. */
+/* A word of text or data, and its relocation word: 0 where the word is a number, 2 where it refers to text, 4 to data, 6 to
+ * bss, and 8 + 16 * N where it refers to the symbol N of the table, which is an undefined external; and 1 more where the word
+ * is relative to the pc. */
 struct v7_word {
     uint16_t value;
     uint16_t reloc;
 };
 
 /* A symbol: its name, filled up with NULs, its type word (0 to 4: undefined, absolute, text, data, bss; 32 more where it is
- * external), and its value. Addresses count text, data and bss on, from 0. An undefined external with a value is a common of
- * so many bytes. */
+ * external), and its value. Addresses count on through text, data and bss, from 0. An undefined external with a value is a
+ * common of so many bytes. */
 struct v7_symbol {
     unsigned char name[8];
     uint16_t type;
@@ -168,9 +168,9 @@ struct v7_counts {
     uint32_t bss;
 };
 
-/* Takes the object apart that BYTES begin with: writes its parts, all or none, and fills *COUNTS, which with V7_NO_ROOM says
- * how much room is wanted, and with any other fault is 0. The header's entry point, at which no link looks, is not told. Room
- * is counted in words and symbols. Faults: 11 to 14, 21 to 24, V7_NO_MEMORY, V7_NO_ROOM. */
+/* Takes apart the object that BYTES begin with: writes its parts, all or none, and fills *COUNTS. With V7_NO_ROOM *COUNTS says
+ * how much room is needed, and with any other fault it is 0. The header's entry point, at which no link looks, is not given.
+ * Room is counted in words and symbols. Faults: 11 to 14, 21 to 24, V7_NO_MEMORY, V7_NO_ROOM. */
 uint32_t v7_take_apart(const unsigned char *bytes, size_t size, struct v7_word *text, size_t text_room, struct v7_word *data,
                        size_t data_room, struct v7_symbol *symbols, size_t symbol_room, struct v7_counts *counts,
                        struct v7_answer *answer);

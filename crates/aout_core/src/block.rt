@@ -130,7 +130,7 @@ impl Block {
     }
 
     /// Fills an empty block with the next `n` bytes, or with `BLOCK_SIZE` where that is less; fewer come only at
-    /// the end of the device. (own choice)
+    /// the end of the device.
     pub(crate) fn fill<R: Read>(&mut self, n: usize, wire: &mut Wire<R>) -> Result<(), DeviceFault>
         requires { self.old ≡ [] }
         ensures fault { IsErr result ↔ IsTrue wire.new.has_failed }

@@ -101,7 +101,7 @@ impl<R: Read> Wire<R> {
     }
 
     /// Reads until `buf` is full or the device is at its end, and returns how many bytes were read. What else
-    /// `buf` holds afterwards is not said, but that a latch that was on leaves it as it was. (own choice)
+    /// `buf` holds afterwards is not said, but that a latch that was on leaves it as it was.
     pub(crate) fn fill(&mut self, buf: &mut [u8]) -> Result<usize, DeviceFault>
         ensures fault { IsErr result ↔ IsTrue self.new.has_failed }
         ensures latched { IsTrue self.old.has_failed → (self.new ≡ self.old) }

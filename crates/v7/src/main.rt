@@ -8,7 +8,7 @@ use std::{env, fs, io};
 use v7tools::{command, words};
 
 /// Opens a folder at each descriptor below 3 that is closed, since a file that a command opens would else take the place
-/// of a standard stream. A folder is neither read nor written: what goes there is a read or a write error. (own choice)
+/// of a standard stream. A folder is neither read nor written: what goes there is a read or a write error.
 fn hold_streams(rt: &HostRuntime) -> io::Result<Vec<File>> {
     let mut held = Vec::new(rt.alloc());
     for _ in 0..3 {

@@ -5,7 +5,7 @@ use link_session::Session;
 use std::alloc::{AllocError, Global};
 use std::fmt::Write;
 
-/// The most bytes of text, of data and of bss. (docs/LINK.md has all limits)
+/// The most bytes of text, of data and of bss. (docs/LIMITS.md has all limits)
 const MOST_BYTES: u64 = 65_534;
 /// The last address.
 const LAST_ADDRESS: u64 = 65_535;
