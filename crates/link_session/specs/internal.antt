@@ -8,3 +8,5 @@ pub mod Counts
 pub mod Threads
 pub mod Restores
 pub mod Fields
+pub mod OwnWords
+pub mod Bindings

@@ -1,11 +1,9 @@
 //! The cells that wait for names, bound once the names are defined.
 ghost use Rattle.std.specs.Prelude.{◌≡◌, ◌*◌, ◌≤◌, ◌++◌, length, slice_set, map, None, OnOk, OnErr, take};
-ghost use Rattle.link_session.specs.internal.Chains.{bound_one, cell_at, EndsWithin, IsWithin, BindsText, BindsData, NotesChain, AreChained, bound_if};
+ghost use Rattle.link_session.specs.internal.Chains.{bound_one, cell_at, EndsWithin, IsWithin, BindsText, BindsData, NotesChain, AreChained};
 ghost use Rattle.link_session.specs.internal.Restores.{LeavesMarks};
-ghost use Rattle.link_session.specs.Image.{state_at};
-ghost use Rattle.link_session.specs.internal.Settled.{settled_at, settled_over};
-ghost use Rattle.link_session.specs.internal.Counts.{NotesWaiting, NotesBound};
-ghost use Rattle.link_session.specs.internal.Threads.{cut_by_state, cut_heads};
+ghost use Rattle.link_session.specs.internal.Counts.{NotesWaiting};
+ghost use Rattle.link_session.specs.internal.Bindings.{bound_on, settled_for, settled_by, heads_for, heads_by, NotesAwaited, NotesMentioned};
 
 use crate::cell::Cell;
 use crate::chain::{Link, Links, cut_chain, link_at, link_in};
@@ -131,12 +129,13 @@ fn bind_name(
 ) -> Result<(), AllocError>
     requires { AreChained text_cells.old data_cells.old chain.now.text_links.now chain.now.data_links.now heads.old }
     ensures chained { AreChained text_cells.new data_cells.new chain.now.text_links.now chain.now.data_links.now heads.new }
-    ensures texts { OnOk result (text_cells.new ≡ map (bound_if chain.now.index chain.now.definition.segment chain.now.definition.offset) text_cells.old) }
-    ensures datas { OnOk result (data_cells.new ≡ map (bound_if chain.now.index chain.now.definition.segment chain.now.definition.offset) data_cells.old) }
+    ensures texts { OnOk result (text_cells.new ≡ map (bound_on chain.now) text_cells.old) }
+    ensures datas { OnOk result (data_cells.new ≡ map (bound_on chain.now) data_cells.old) }
     ensures heads { OnOk result (heads.new ≡ slice_set heads.old chain.now.index None) }
     ensures back { OnOk result (LeavesMarks text_cells.old data_cells.old heads.old text_cells.new data_cells.new heads.new marks.old.items marks.new.items) }
     ensures few { OnOk result (NotesWaiting chain.now.index text_cells.old data_cells.old marks.old.items marks.new.items) }
-    ensures unchanged { OnErr result ((text_cells.new ≡ text_cells.old) × (data_cells.new ≡ data_cells.old) × (heads.new ≡ heads.old) × (marks.new.items ≡ marks.old.items)) }
+    ensures cells_stay { OnErr result ((text_cells.new ≡ text_cells.old) × (data_cells.new ≡ data_cells.old)) }
+    ensures else_stays { OnErr result ((heads.new ≡ heads.old) × (marks.new.items ≡ marks.old.items)) }
 {
     let index = chain.index;
     let links = Links {
@@ -164,12 +163,13 @@ fn bind_defined(
 ) -> Result<(), AllocError>
     requires chained { AreChained text_cells.old data_cells.old awaited.now.text_links.now awaited.now.data_links.now heads.old }
     ensures chained { AreChained text_cells.new data_cells.new awaited.now.text_links.now awaited.now.data_links.now heads.new }
-    ensures texts { OnOk result (text_cells.new ≡ map (settled_at awaited.now.externals.now.entries awaited.now.place) text_cells.old) }
-    ensures datas { OnOk result (data_cells.new ≡ map (settled_at awaited.now.externals.now.entries awaited.now.place) data_cells.old) }
-    ensures heads { OnOk result (heads.new ≡ cut_by_state (state_at awaited.now.externals.now.entries awaited.now.place) awaited.now.place heads.old) }
+    ensures texts { OnOk result (text_cells.new ≡ map (settled_for awaited.now) text_cells.old) }
+    ensures datas { OnOk result (data_cells.new ≡ map (settled_for awaited.now) data_cells.old) }
+    ensures heads { OnOk result (heads.new ≡ heads_for awaited.now heads.old) }
     ensures back { LeavesMarks text_cells.old data_cells.old heads.old text_cells.new data_cells.new heads.new marks.old.items marks.new.items }
-    ensures few { OnOk result (NotesBound awaited.now.externals.now.entries text_cells.old data_cells.old text_cells.new data_cells.new marks.old.items marks.new.items) }
-    ensures unchanged { OnErr result ((text_cells.new ≡ text_cells.old) × (data_cells.new ≡ data_cells.old) × (heads.new ≡ heads.old) × (marks.new.items ≡ marks.old.items)) }
+    ensures few { OnOk result (NotesAwaited awaited.now text_cells.old data_cells.old text_cells.new data_cells.new marks.old.items marks.new.items) }
+    ensures cells_stay { OnErr result ((text_cells.new ≡ text_cells.old) × (data_cells.new ≡ data_cells.old)) }
+    ensures else_stays { OnErr result ((heads.new ≡ heads.old) × (marks.new.items ≡ marks.old.items)) }
 {
     match state_at(awaited.externals, awaited.place) {
         State::Defined(segment, offset) => {
@@ -196,11 +196,11 @@ pub(crate) fn bind_names(
 ) -> Result<(), AllocError>
     requires chained { AreChained text_cells.old data_cells.old mentioned.now.text_links.now mentioned.now.data_links.now heads.old }
     ensures chained { AreChained text_cells.new data_cells.new mentioned.now.text_links.now mentioned.now.data_links.now heads.new }
-    ensures texts { OnOk result (text_cells.new ≡ map (settled_over mentioned.now.externals.now.entries mentioned.now.places.now) text_cells.old) }
-    ensures datas { OnOk result (data_cells.new ≡ map (settled_over mentioned.now.externals.now.entries mentioned.now.places.now) data_cells.old) }
-    ensures heads { OnOk result (heads.new ≡ cut_heads mentioned.now.externals.now.entries mentioned.now.places.now heads.old) }
+    ensures texts { OnOk result (text_cells.new ≡ map (settled_by mentioned.now) text_cells.old) }
+    ensures datas { OnOk result (data_cells.new ≡ map (settled_by mentioned.now) data_cells.old) }
+    ensures heads { OnOk result (heads.new ≡ heads_by mentioned.now heads.old) }
     ensures back { LeavesMarks text_cells.old data_cells.old heads.old text_cells.new data_cells.new heads.new marks.old.items marks.new.items }
-    ensures few { OnOk result (NotesBound mentioned.now.externals.now.entries text_cells.old data_cells.old text_cells.new data_cells.new marks.old.items marks.new.items) }
+    ensures few { OnOk result (NotesMentioned mentioned.now text_cells.old data_cells.old text_cells.new data_cells.new marks.old.items marks.new.items) }
 {
     for place in mentioned.places {
         let awaited = Awaited {

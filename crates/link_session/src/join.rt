@@ -4,12 +4,10 @@ ghost use Rattle.indexmap.specs.IndexMap.{spare};
 ghost use Rattle.aout_core.specs.declared.symbol.Segment.TheVariants as segments;
 ghost use Rattle.aout_core.specs.Contents.{Fits};
 ghost use Rattle.aout_core.specs.WellFormed.{is_external, IsWellFormed};
-ghost use Rattle.link_session.specs.internal.Fields.{image_in, threads_in, with_cells, with_heads, with_own_cells, with_own_threads, KeepsRoom, IsSmall};
-ghost use Rattle.link_session.specs.internal.Chains.{AreChained};
-ghost use Rattle.link_session.specs.internal.Restores.{LeavesMarks, TakesBack};
+ghost use Rattle.link_session.specs.internal.Fields.{image_in, threads_in, with_cells, with_heads, with_own_cells, with_own_threads, HoldsChains, LeavesMarksIn, NotesBoundIn, KeepsRoom, IsSmall};
+ghost use Rattle.link_session.specs.internal.Restores.{TakesBack};
 ghost use Rattle.link_session.specs.internal.Settled.{settled_over, IsCovered};
 ghost use Rattle.link_session.specs.internal.Threads.{cut_heads, next_threads, IsThreaded};
-ghost use Rattle.link_session.specs.internal.Counts.{NotesBound};
 ghost use Rattle.link_session.specs.internal.Additions.{all_places, joined_image, next_limit};
 
 use crate::bind::{Mentioned, bind_names};
@@ -168,13 +166,13 @@ fn append_object(image: &mut Merged, file: &File, shifts: &Shifts, places: &[u16
 /// Binds the cells that wait for the externals at these places, as far as they are defined, and marks them. After an
 /// error the marks bring back what was bound.
 fn bind_waiting(image: &mut Merged, places: &[u16], marks: &mut Vec<Mark>) -> Result<(), AllocError>
-    requires chained { AreChained image.old.text_cells.items image.old.data_cells.items image.old.text_links.items image.old.data_links.items image.old.heads.items }
-    ensures chained { AreChained image.new.text_cells.items image.new.data_cells.items image.new.text_links.items image.new.data_links.items image.new.heads.items }
+    requires chained { HoldsChains image.old }
+    ensures chained { HoldsChains image.new }
     ensures texts { OnOk result (image.new.text_cells.items ≡ map (settled_over image.old.externals.entries places.now) image.old.text_cells.items) }
     ensures datas { OnOk result (image.new.data_cells.items ≡ map (settled_over image.old.externals.entries places.now) image.old.data_cells.items) }
     ensures heads { OnOk result (image.new.heads.items ≡ cut_heads image.old.externals.entries places.now image.old.heads.items) }
-    ensures back { LeavesMarks image.old.text_cells.items image.old.data_cells.items image.old.heads.items image.new.text_cells.items image.new.data_cells.items image.new.heads.items marks.old.items marks.new.items }
-    ensures few { OnOk result (NotesBound image.old.externals.entries image.old.text_cells.items image.old.data_cells.items image.new.text_cells.items image.new.data_cells.items marks.old.items marks.new.items) }
+    ensures back { LeavesMarksIn image.old image.new marks.old.items marks.new.items }
+    ensures few { OnOk result (NotesBoundIn image.old image.new marks.old.items marks.new.items) }
     ensures else_same { image_in image.new ≡ with_cells image.new.text_cells.items image.new.data_cells.items (image_in image.old) }
     ensures links { threads_in image.new ≡ with_heads image.new.heads.items (threads_in image.old) }
     ensures room { KeepsRoom image.old image.new }

@@ -5,9 +5,9 @@ ghost use Rattle.link_session.specs.Starts.{no_starts, next_starts, shifts_at};
 ghost use Rattle.link_session.specs.Image.{state_at};
 ghost use Rattle.link_session.specs.Cells.{name_target, offset_in, segment_target};
 ghost use Rattle.link_session.specs.internal.Fields.{image_in};
-ghost use Rattle.link_session.specs.internal.Additions.{next_shifts, no_place, placed_reference, placed_cell, placed_cells, place_at};
+ghost use Rattle.link_session.specs.internal.Additions.{next_shifts, no_place, placed_reference, placed_cell, place_at};
 ghost use Rattle.link_session.specs.Starts.{shift_by};
-ghost use Rattle.link_session.specs.internal.Chains.{threaded};
+ghost use Rattle.link_session.specs.internal.OwnWords.{own_placed, own_threaded};
 
 use crate::cell::{Cell, Target};
 use crate::chain::{Link, thread};
@@ -198,9 +198,9 @@ pub(crate) fn append_cells(
     requires small { length links.old.items + length own.now.words.now ≤ 65535 }
     requires room { vec_len cells.old + length own.now.words.now ≤ vec_capacity cells.old }
     requires links_room { vec_len links.old + length own.now.words.now ≤ vec_capacity links.old }
-    ensures cells { cells.new.items ≡ cells.old.items ++ placed_cells scope.now.externals.now.entries scope.now.places.now scope.now.shifts (shift_by scope.now.shifts own.now.segment) own.now.words.now own.now.relocs.now }
-    ensures links { links.new.items ≡ links.old.items ++ (threaded (place_at own.now.segment) (length links.old.items) (placed_cells scope.now.externals.now.entries scope.now.places.now scope.now.shifts (shift_by scope.now.shifts own.now.segment) own.now.words.now own.now.relocs.now) heads.old).0 }
-    ensures heads { heads.new ≡ (threaded (place_at own.now.segment) (length links.old.items) (placed_cells scope.now.externals.now.entries scope.now.places.now scope.now.shifts (shift_by scope.now.shifts own.now.segment) own.now.words.now own.now.relocs.now) heads.old).1 }
+    ensures cells { cells.new.items ≡ cells.old.items ++ own_placed scope.now own.now }
+    ensures links { links.new.items ≡ links.old.items ++ (own_threaded own.now (own_placed scope.now own.now) links.old.items heads.old).0 }
+    ensures heads { heads.new ≡ (own_threaded own.now (own_placed scope.now own.now) links.old.items heads.old).1 }
 {
     let own_shift = scope.shifts.of(own.segment);
     for (i, word) in own.words.iter().enumerate() {

@@ -13,7 +13,9 @@ use Rattle.link_session.specs.Labelled.{Labelled, objects}
 use Rattle.link_session.specs.Image.{Image, image}
 use Rattle.link_session.specs.Undo.{IsJournal, marks_in}
 use Rattle.link_session.specs.internal.Additions.{own_cells}
-use Rattle.link_session.specs.internal.Chains.{Link, unthreaded, heads_back}
+use Rattle.link_session.specs.internal.Chains.{Link, unthreaded, heads_back, AreChained}
+use Rattle.link_session.specs.internal.Counts.{NotesBound}
+use Rattle.link_session.specs.internal.Restores.{LeavesMarks}
 use Rattle.link_session.specs.internal.Threads.{Threads, IsThreaded, KeepsThreads, grown_heads, with_texts, with_datas, cut_threads}
 use Rattle.link_session.specs.Limits.{limit_passed}
 use Rattle.link_session.specs.Sessions.{IsObject}
@@ -29,6 +31,18 @@ image_in m = record {
 
 abbrev pub threads_in : Merged → Threads
 threads_in m = record { text_links = m.text_links.items; data_links = m.data_links.items; heads = m.heads.items }
+
+-- the links and heads hold the chains of the cells
+abbrev pub HoldsChains : Merged → Type 0
+HoldsChains m = AreChained m.text_cells.items m.data_cells.items m.text_links.items m.data_links.items m.heads.items
+
+-- marks were appended that bring the old cells and heads back
+abbrev pub LeavesMarksIn : Merged → Merged → List Mark → List Mark → Type 0
+LeavesMarksIn m n old new = LeavesMarks m.text_cells.items m.data_cells.items m.heads.items n.text_cells.items n.data_cells.items n.heads.items old new
+
+-- one more mark for each cell that was to be bound and no longer is
+abbrev pub NotesBoundIn : Merged → Merged → List Mark → List Mark → Type 0
+NotesBoundIn m n old new = NotesBound m.externals.entries m.text_cells.items m.data_cells.items n.text_cells.items n.data_cells.items old new
 
 -- the threads of no cells and no names
 abbrev pub no_threads : Threads

@@ -1,0 +1,36 @@
+-- What binding names makes of cells, heads and marks, by the names that the code is given.
+use Rattle.std.specs.Prelude.{List}
+use Rattle.link_session.specs.declared.bind.Awaited.{Awaited}
+use Rattle.link_session.specs.declared.bind.Chain.{Chain}
+use Rattle.link_session.specs.declared.bind.Mentioned.{Mentioned}
+use Rattle.link_session.specs.declared.cell.Cell.{Cell}
+use Rattle.link_session.specs.declared.mark.Mark.{Mark}
+use Rattle.link_session.specs.Image.{state_at}
+use Rattle.link_session.specs.internal.Chains.{Link, bound_if}
+use Rattle.link_session.specs.internal.Counts.{NotesBound}
+use Rattle.link_session.specs.internal.Settled.{settled_at, settled_over}
+use Rattle.link_session.specs.internal.Threads.{cut_by_state, cut_heads}
+
+-- a cell once the chain is bound
+abbrev pub bound_on : Chain → Cell → Cell
+bound_on chain = bound_if chain.index chain.definition.segment chain.definition.offset
+
+-- a cell and the heads once the external is bound, if it is defined; one more mark for each cell that is bound
+abbrev pub settled_for : Awaited → Cell → Cell
+settled_for awaited = settled_at awaited.externals.now.entries awaited.place
+
+abbrev pub heads_for : Awaited → List Link → List Link
+heads_for awaited = cut_by_state (state_at awaited.externals.now.entries awaited.place) awaited.place
+
+abbrev pub NotesAwaited : Awaited → List Cell → List Cell → List Cell → List Cell → List Mark → List Mark → Type 0
+NotesAwaited awaited texts datas new_texts new_datas old new = NotesBound awaited.externals.now.entries texts datas new_texts new_datas old new
+
+-- the same of several externals, one after the other
+abbrev pub settled_by : Mentioned → Cell → Cell
+settled_by mentioned = settled_over mentioned.externals.now.entries mentioned.places.now
+
+abbrev pub heads_by : Mentioned → List Link → List Link
+heads_by mentioned = cut_heads mentioned.externals.now.entries mentioned.places.now
+
+abbrev pub NotesMentioned : Mentioned → List Cell → List Cell → List Cell → List Cell → List Mark → List Mark → Type 0
+NotesMentioned mentioned texts datas new_texts new_datas old new = NotesBound mentioned.externals.now.entries texts datas new_texts new_datas old new
