@@ -1,11 +1,12 @@
 -- A link that no fault refuses.
-use Rattle.std.proofs.Common.{◌≡◌, ℕ, true, false, cond, List, [], map, ◌∙◌, ap}
+use Rattle.std.proofs.Common.{◌≡◌, ℕ, ◌+◌, ◌-◌, true, false, cond, List, [], map, length, ◌∙◌, ap, arith}
 use Rattle.std.specs.List.{AllByRecursion, list_any}
 use Rattle.std.proofs.lemmas.Bool.{or_parts}
 use Rattle.aout_core.specs.Contents.{Contents}
 use Rattle.aout_core.specs.declared.symbol.Segment.{Segment}
-use Rattle.aout_core.specs.declared.symbol.Segment.TheVariants.{TextSeg, DataSeg}
+use Rattle.aout_core.specs.declared.symbol.Segment.TheVariants.{TextSeg, DataSeg, BssSeg}
 use Rattle.link_session.specs.declared.cell.Cell.{Cell}
+use Rattle.link_session.specs.Starts.{total}
 use Rattle.link_session.specs.Mentions.{mentions}
 use Rattle.link_session.specs.Image.{named_states}
 use Rattle.link_session.specs.Cells.{cells}
@@ -14,12 +15,14 @@ use Rattle.link_session.proofs.AdditionLemmas.{well_formed}
 use Rattle.link_session.proofs.WellFormedLemmas.{objects_refer}
 use Rattle.link_options.specs.Choices.{Choices}
 use Rattle.link_out.specs.Layouts.{Bases}
-use Rattle.link_out.specs.function.Plans.{Plan, plan}
+use Rattle.link_out.specs.function.Plans.{Plan, plan, commons_laid}
 use Rattle.link_out.specs.function.Words.{final_words}
 use Rattle.link_out.specs.function.Finals.{Final}
 use Rattle.link_out.specs.internal.FromCells.{finals, word_of_cell, reloc_of_cell, is_far}
+use Rattle.link_out.specs.internal.Headers.{header_of}
 use Rattle.link_out.specs.internal.InOrder.{finals_from}
 use Rattle.link_out.specs.function.Tables.{table, final_relocs, has_far_in}
+use Rattle.link_out.specs.function.Reports.{entry_word}
 use Rattle.link_out.specs.function.Link.{linked_header, linked_file}
 use Rattle.link_out.specs.internal.Passes.{IsPassed}
 use Rattle.link_out.proofs.InOrderLemmas.{finals-in_order}
@@ -46,6 +49,16 @@ module _ (forced : List (List ℕ)) (os : List Contents) (o : Choices) where
 
   pub names_planned : (b : Bases) → b ≡ planned.at → finals_from o b 0 (named_states (mentions forced os)) ≡ finals planned
   names_planned b h = ap (λ (x : Bases). finals_from o x 0 (named_states (mentions forced os))) h ∙ finals-in_order planned
+
+  pub header_planned : (b : Bases) (rows entry : ℕ) → b ≡ planned.at → rows ≡ length (table planned os) → entry ≡ entry_word planned o.entry → header_of o b rows entry ≡ linked_header planned os
+  header_planned b rows entry at many address =
+      (λ i. header_of o (at i) (many i) (address i)) ∙ (λ i. record (linked_header planned os) { data_size = of_data i; bss_size = of_bss i })
+    where
+      of_data : planned.at.data_end - planned.at.data_start ≡ total DataSeg os
+      of_data = omega arith
+
+      of_bss : planned.at.bss_end - planned.at.data_end ≡ commons_laid o planned.said + total BssSeg os
+      of_bss = omega arith
 
   pub words_planned : (segment : Segment) (b : Bases) (names : List Final) (cs : List Cell) → AllByRecursion IsObject os → b ≡ planned.at → names ≡ finals planned → cs ≡ cells (mentions forced os) segment os →
       map (word_of_cell b names segment) cs ≡ final_words planned segment os

@@ -1,5 +1,5 @@
 -- The rows of the table, object by object and name by name, are those of the whole list.
-use Rattle.std.proofs.Common.{◌≡◌, ℕ, zero, suc, ◌+◌, ◌%◌, Bool, true, false, List, [], ◌∷◌, ◌++◌, map, length, drop, refl, sym, subst, ◌∙◌, ap, arith, append_assoc, length-append, append-nil, drop_of_length-le, ◌≤◌}
+use Rattle.std.proofs.Common.{◌≡◌, ℕ, ◌+◌, ◌%◌, Bool, true, false, List, [], ◌∷◌, ◌++◌, map, length, drop, refl, sym, subst, ◌∙◌, ap, arith, append_assoc, length-append, append-nil, drop_of_length-le, ◌≤◌}
 use Rattle.std.specs.Prelude.{filter, cond, nat_lt, slice_get, Option, Some, IsNone, IsTrue, IfSome, ◌↔◌}
 use Rattle.std.specs.List.{flat_map}
 use Rattle.std.proofs.lemmas.List.{length-map}
@@ -14,21 +14,20 @@ use Rattle.link_session.specs.Earlier.{with_earlier}
 use Rattle.link_session.specs.Labelled.{Labelled, objects}
 use Rattle.link_session.specs.declared.relocate.Starts.{Starts}
 use Rattle.link_session.specs.Starts.{total, no_starts, starts_behind, next_starts, shifts_at}
-use Rattle.link_session.specs.Mentions.{Mention, names_by_first_mention}
+use Rattle.link_session.specs.Mentions.{names_by_first_mention}
 use Rattle.link_session.specs.States.{state}
-use Rattle.link_session.specs.Image.{named_states}
+use Rattle.link_session.specs.Image.{Named, named_states}
 use Rattle.link_options.specs.declared.options.Keep.{Keep}
 use Rattle.link_options.specs.declared.options.Keep.TheVariants as keeps
 use Rattle.link_out.specs.declared.table.Moves.{Moves}
 use Rattle.link_out.specs.Layouts.{Bases}
-use Rattle.link_out.specs.function.Finals.{Final, final, type_of}
+use Rattle.link_out.specs.function.Finals.{Final, final}
 use Rattle.link_out.specs.internal.FromCells.{finals}
 use Rattle.link_out.specs.function.Plans.{Plan}
 use Rattle.link_out.specs.function.Tables.{is_kept_local, moved_value, moved_local, local_rows, external_row, external_rows, rows_kept, table}
-use Rattle.link_out.specs.internal.Rows.{moves_by, value_moved, symbol_moved, rows_in, rows_from, kept_count}
+use Rattle.link_out.specs.internal.Rows.{moves_by, value_moved, symbol_moved, rows_in, rows_from, row_with, rows_with, kept_count}
 use Rattle.link_session.proofs.StartLemmas.{next_starts-behind}
 use Rattle.link_out.proofs.InOrderLemmas.{drop_next}
-use Rattle.link_out.proofs.FindingLemmas.{name_read}
 
 -- a start modulo 65,536 moves as the start does
 moved_from : (v b t own : ℕ) → plus v (plus b (minus (t % 65536) own)) ≡ plus v (plus b (minus t own))
@@ -51,7 +50,7 @@ module _ (b : Bases) (earlier : List Contents) (o : Contents) where
   symbols_moved (s ∷ ss) = λ i. record s { value = value_moved-local (segment_of s) s.value i } ∷ symbols_moved ss i
 
 -- the kept locals, object by object
-rows_from-local_rows : (p : Plan) (os : List Contents) → rows_from p.at p.choices.keep no_starts os ≡ local_rows p os
+pub rows_from-local_rows : (p : Plan) (os : List Contents) → rows_from p.at p.choices.keep no_starts os ≡ local_rows p os
 rows_from-local_rows p os = from [] os
   where
     from : (earlier os : List Contents) → rows_from p.at p.choices.keep (starts_behind earlier) os
@@ -94,56 +93,41 @@ rows_kept-others keeps.Externals rows h = refl
 rows_kept-others keeps.Nothing rows h = absurd (h refl)
 
 -- the rows of all objects, with none left
-pub rows_all : (p : Plan) (b : Bases) (keep : Keep) (s : Starts) (rows : List Symbol) (es : List Labelled) (i : ℕ) → p.choices.keep ≡ keep → p.at ≡ b → length es ≤ i →
-    rows_from b keep no_starts (objects es) ≡ rows ++ rows_from b keep s (objects (drop i es)) → rows ≡ local_rows p (objects es)
-rows_all p b keep s rows es i same at «end» so_far =
+pub rows_all : (b : Bases) (keep : Keep) (s : Starts) (rows : List Symbol) (es : List Labelled) (i : ℕ) → length es ≤ i →
+    rows_from b keep no_starts (objects es) ≡ rows ++ rows_from b keep s (objects (drop i es)) → rows ≡ rows_from b keep no_starts (objects es)
+rows_all b keep s rows es i «end» so_far =
     sym (append-nil rows)
     ∙ ap (λ (left : List Labelled). rows ++ rows_from b keep s (objects left)) (sym (drop_of_length-le es «end»))
     ∙ sym so_far
-    ∙ (λ j. rows_from (sym at j) (sym same j) no_starts (objects es))
-    ∙ rows_from-local_rows p (objects es)
 
--- the rows of the externals from this place on
-abbrev pub externals_behind : Plan → ℕ → List Symbol
-externals_behind p i = map (external_row p) (drop i (names_by_first_mention p.said))
-
--- the name at a place, and what becomes of it
-pub row_read : (p : Plan) (ms : List Mention) (fs : List Final) (i : ℕ) (name : List ℕ) (s : State) (f : Final) → p.said ≡ ms → fs ≡ finals p → slice_get (named_states ms) i ≡ Some (name, s) → slice_get fs i ≡ Some f →
-    (slice_get (names_by_first_mention p.said) i ≡ Some name) × (f ≡ final p name)
-row_read p ms fs i name s f said last named at =
-    let read = name_read ms (names_by_first_mention ms) i name s named in
-    let found : slice_get (names_by_first_mention p.said) i ≡ Some name = ap (λ (l : List Mention). slice_get (names_by_first_mention l) i) said ∙ read.0 in
-    (found, by_place (names_by_first_mention p.said) i found (ap (λ (l : List Final). slice_get l i) (sym last) ∙ at))
-  where
-    by_place : (names : List (List ℕ)) (i : ℕ) → slice_get names i ≡ Some name → slice_get (map (final p) names) i ≡ Some f → f ≡ final p name
-    by_place [] i e h = absurd (cc)
-    by_place (n ∷ ns) zero e h = let same : n ≡ name = cc in let so : final p n ≡ f = cc in sym so ∙ ap (final p) same
-    by_place (n ∷ ns) (suc i) e h = by_place ns i e h
-
--- a row with these fields
-pub row_is : (p : Plan) (name : List ℕ) (f : Final) (r : Symbol) → f ≡ final p name → r.name ≡ name → r.type_bits ≡ type_of f.bound → r.value ≡ f.written → r ≡ external_row p name
-row_is p name f r same named bits value = λ i. record {
-  name = named i;
-  type_bits = (bits ∙ ap (λ (g : Final). type_of g.bound) same) i;
-  value = (value ∙ ap (λ (g : Final). g.written) same) i;
-}
-
--- one more name
-pub row_put : (p : Plan) (i : ℕ) (name : List ℕ) (all rows more : List Symbol) → slice_get (names_by_first_mention p.said) i ≡ Some name →
-    all ≡ rows ++ externals_behind p i → more ≡ rows ++ external_row p name ∷ [] → all ≡ more ++ externals_behind p (i + 1)
-row_put p i name all rows more found so_far put =
+-- one more external
+pub rows_next : (es : Named) (fs : List Final) (i : ℕ) (e : List ℕ × State) (f : Final) (all rows more : List Symbol) → slice_get es i ≡ Some e → slice_get fs i ≡ Some f →
+    all ≡ rows ++ rows_with (drop i es) (drop i fs) → more ≡ rows ++ row_with e.0 f ∷ [] → all ≡ more ++ rows_with (drop (i + 1) es) (drop (i + 1) fs)
+rows_next es fs i e f all rows more named at so_far put =
     so_far
-    ∙ ap (λ (names : List (List ℕ)). rows ++ map (external_row p) names) (drop_next (names_by_first_mention p.said) i name found)
-    ∙ sym (append_assoc rows (external_row p name ∷ []) (externals_behind p (i + 1)))
-    ∙ ap (λ (l : List Symbol). l ++ externals_behind p (i + 1)) (sym put)
+    ∙ (λ j. rows ++ rows_with (drop_next es i e named j) (drop_next fs i f at j))
+    ∙ sym (append_assoc rows (row_with e.0 f ∷ []) (rows_with (drop (i + 1) es) (drop (i + 1) fs)))
+    ∙ ap (λ (l : List Symbol). l ++ rows_with (drop (i + 1) es) (drop (i + 1) fs)) (sym put)
 
--- no name is left
-pub rows_put : (p : Plan) (ms : List Mention) (i : ℕ) (all rows : List Symbol) → p.said ≡ ms → length (named_states ms) ≤ i → all ≡ rows ++ externals_behind p i → rows ≡ all
-rows_put p ms i all rows said behind so_far =
+-- no external is left
+pub rows_put : (es : Named) (fs : List Final) (i : ℕ) (all rows : List Symbol) → length es ≤ i → all ≡ rows ++ rows_with (drop i es) (drop i fs) → rows ≡ all
+rows_put es fs i all rows behind so_far =
     sym (append-nil rows)
-    ∙ ap (λ (names : List (List ℕ)). rows ++ map (external_row p) names) (sym (drop_of_length-le (names_by_first_mention p.said)
-    (omega (arith, behind, length-map (names_by_first_mention ms) (λ (n : List ℕ). let e : List ℕ × State = (n, state ms n) in e), ap (λ (l : List Mention). length (names_by_first_mention l)) said))))
+    ∙ ap (λ (left : Named). rows ++ rows_with left (drop i fs)) (sym (drop_of_length-le es behind))
     ∙ sym so_far
+
+-- the externals with what becomes of them in a link
+pub finals_many : (p : Plan) → length (finals p) ≡ length (named_states p.said)
+finals_many p =
+    let names = names_by_first_mention p.said in
+    length-map names (final p) ∙ sym (length-map names (λ (n : List ℕ). let e : List ℕ × State = (n, state p.said n) in e))
+
+pub rows_planned : (p : Plan) → rows_with (named_states p.said) (finals p) ≡ external_rows p
+rows_planned p = from (names_by_first_mention p.said)
+  where
+    from : (names : List (List ℕ)) → rows_with (map (λ n. (n, state p.said n)) names) (map (final p) names) ≡ map (external_row p) names
+    from [] = refl
+    from (n ∷ ns) = ap (λ (l : List Symbol). external_row p n ∷ l) (from ns)
 
 -- the whole table, of the locals and the externals
 pub table_whole : (p : Plan) (os : List Contents) (keep : Keep) (locals rows : List Symbol) → p.choices.keep ≡ keep → (keep ≡ keeps.Nothing → ⊥) →

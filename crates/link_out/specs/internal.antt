@@ -1,6 +1,7 @@
 -- Definitions for the code alone: what its loops and private functions do. No contract of a public function leads here.
 pub mod Entries
 pub mod FromCells
+pub mod Headers
 pub mod InOrder
 pub mod Passes
 pub mod Reach

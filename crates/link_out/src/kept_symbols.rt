@@ -1,14 +1,13 @@
 //! Which symbols a link keeps.
 ghost use Rattle.std.specs.Prelude.{◌≡◌, ◌+◌, ◌↔◌, length, nat_lt, IfSome, IsNone, IsTrue};
 ghost use Rattle.link_session.specs.Labelled.{objects};
-ghost use Rattle.link_session.specs.Mentions.{mentions};
 ghost use Rattle.link_out.specs.KeptSymbols.{begins_with_l, keeps, is_kept_local};
-ghost use Rattle.link_out.specs.function.Plans.{Plan};
 ghost use Rattle.link_out.specs.function.Tables.{local_rows, table};
+ghost use Rattle.link_out.specs.internal.InOrder.{plan_of};
 ghost use Rattle.link_out.specs.internal.Rows.{count_in, kept_count};
 
 use aout_core::{Name, Symbol};
-use link_options::Keep;
+use link_options::{Keep, Options};
 use link_session::{Entry, Session};
 
 /// The most symbols of a table: one more, of 12 bytes each, would not fit the size in the header.
@@ -73,10 +72,11 @@ fn count_locals(entries: &[Entry], keep: Keep, externals: u16) -> Option<u16>
 }
 
 /// How many locals the table of a link has; `None` where the table would have more than 5,461 rows.
-pub(crate) fn locals_within(session: &Session, keep: Keep) -> Option<u16>
-    ensures many { (p : Plan) → p.choices.keep ≡ keep → p.said ≡ mentions session.now.forced (objects session.now.entries) → (IsNone result ↔ IsTrue (nat_lt 5461 (length (table p (objects session.now.entries))))) }
-    ensures count { (p : Plan) → p.choices.keep ≡ keep → IfSome result (λ n. n ≡ length (local_rows p (objects session.now.entries))) }
+pub(crate) fn locals_within(session: &Session, options: &Options) -> Option<u16>
+    ensures many { IsNone result ↔ IsTrue (nat_lt 5461 (length (table (plan_of session.now options.now) (objects session.now.entries)))) }
+    ensures count { IfSome result (λ n. n ≡ length (local_rows (plan_of session.now options.now) (objects session.now.entries))) }
 {
+    let keep = options.keep();
     if keep == Keep::Nothing {
         return Some(0);
     }

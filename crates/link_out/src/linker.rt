@@ -1,16 +1,14 @@
 //! The link of what a session keeps.
-ghost use Rattle.std.specs.Prelude.{◌≡◌, ℕ, ◌≤◌, true, false, cond, List, map, [], length, IfOk, IfErr, Ok, Err};
+ghost use Rattle.std.specs.Prelude.{◌≡◌, ◌≤◌, true, false, cond, map, [], IfOk, IfErr, Ok, Err};
 ghost use Rattle.std.specs.List.{list_any};
-ghost use Rattle.aout_core.specs.Contents.{Contents};
 ghost use Rattle.aout_core.specs.WellFormed.{IsWellFormed};
 ghost use Rattle.aout_core.specs.Parts.{contents_of};
 ghost use Rattle.link_session.specs.Labelled.{objects};
 ghost use Rattle.link_out.specs.Layouts.{magic_of};
 ghost use Rattle.link_out.specs.internal.FromCells as from_cells;
 ghost use Rattle.link_out.specs.function.Reports.{entry_word};
-ghost use Rattle.link_out.specs.function.Plans.{plan};
-ghost use Rattle.link_out.specs.function.Tables.{table};
-ghost use Rattle.link_out.specs.function.Link.{link, link_by, linked_header, linked_file};
+ghost use Rattle.link_out.specs.function.Link.{link, link_by, linked_file};
+ghost use Rattle.link_out.specs.internal.Headers.{header_of};
 ghost use Rattle.link_out.specs.internal.InOrder.{plan_of};
 ghost use Rattle.link_out.specs.internal.Passes.{IsPassed};
 ghost use Rattle.link_out.specs.Outcomes.{IsLinkOf, outcome_of};
@@ -63,7 +61,7 @@ fn header_for(options: &Options, bases: &Bases, rows: usize, entry: u16) -> Head
     requires bss { bases.now.data_end ≤ bases.now.bss_end }
     requires short { bases.now.bss_end ≤ 65535 }
     requires rows { rows ≤ 5461 }
-    ensures { (forced : List (List ℕ)) (os : List Contents) → bases.now ≡ (plan forced os options.now).at → rows ≡ length (table (plan forced os options.now) os) → entry ≡ entry_word (plan forced os options.now) options.now.entry → result ≡ linked_header (plan forced os options.now) os }
+    ensures { result ≡ header_of options.now bases.now rows entry }
 {
     Header {
         magic: magic_of(options.layout()),
@@ -119,7 +117,7 @@ fn parts_of(
         locals,
         entry,
     } = *resolved;
-    let symbols = table(alloc, session, options.keep(), bases, finals)?;
+    let symbols = table(alloc, session, options, bases, finals)?;
     Ok(Parts {
         header: header_for(options, bases, symbols.len(), entry),
         text_words: words_of_cells(alloc, text_cells, Segment::TextSeg, bases, finals)?,
@@ -188,10 +186,12 @@ fn locals_unless_refused(
     ensures passed { IfOk result (λ locals. IsPassed (plan_of session.now options.now) (objects session.now.entries) locals) }
     ensures refused { IfErr result (λ fault. link_by (plan_of session.now options.now) (objects session.now.entries) ≡ Err fault) }
 {
+    // for its contract: the options are allowed
+    let _keep = options.keep();
     if LAST_ADDRESS < bases.bss_end {
         return Err(LinkFault::DoesNotFit);
     }
-    let Some(locals) = locals_within(session, options.keep()) else {
+    let Some(locals) = locals_within(session, options) else {
         return Err(LinkFault::TooManySymbols);
     };
     if options.is_relocatable() && has_far_word(session, options, locals) {

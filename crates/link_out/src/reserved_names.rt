@@ -1,5 +1,5 @@
 //! The names `_etext`, `_edata` and `_end`: what becomes of them, and which undefined names are others.
-ghost use Rattle.std.specs.Prelude.{◌≡◌, ◌≤◌, ◌++◌, ◌∷◌, [], not, filter, bytes_eq, IfOk, OnOk};
+ghost use Rattle.std.specs.Prelude.{◌≡◌, ◌≤◌, ◌++◌, ◌∷◌, [], bytes_eq, IfOk, OnOk};
 ghost use Rattle.link_session.specs.Image.{state_at};
 ghost use Rattle.link_session.specs.Labelled.{objects};
 ghost use Rattle.link_session.specs.Mentions.{mentions, is_among};
@@ -8,6 +8,7 @@ ghost use Rattle.link_session.specs.Undo.{image_of};
 ghost use Rattle.link_out.specs.ReservedNames.{reserved_names};
 ghost use Rattle.link_out.specs.function.Finals.{reserved_or_waiting};
 ghost use Rattle.link_out.specs.function.Reports.{is_undefined, is_missing, reserved_taken};
+ghost use Rattle.link_out.specs.internal.ReportParts.{taken_among};
 
 use crate::finals::{Final, bound_at, waiting};
 use crate::layout::Bases;
@@ -72,7 +73,7 @@ fn state_of(session: &Session, name: &Name) -> State
 
 /// Appends a name if it is defined, or a common.
 fn put_if_taken(names: &mut Vec<Name>, session: &Session, name: Name) -> Result<(), AllocError>
-    ensures { OnOk result (names.new.items ≡ names.old.items ++ filter (λ n. not (is_undefined (state (mentions session.now.forced (objects session.now.entries)) n))) (name ∷ [])) }
+    ensures { OnOk result (names.new.items ≡ names.old.items ++ taken_among (mentions session.now.forced (objects session.now.entries)) (name ∷ [])) }
 {
     if !is_undefined(state_of(session, &name)) {
         names.push(name)?;

@@ -1,13 +1,12 @@
 //! Runs: edits of a session in order, then the link.
-ghost use Rattle.std.specs.Prelude.{◌≡◌, ℕ, ◌+◌, [], None, true, map, IfOk, IfErr};
+ghost use Rattle.std.specs.Prelude.{◌≡◌, ℕ, ◌+◌, None, true, map, IfOk, IfErr};
 ghost use Rattle.aout_core.specs.WellFormed.{IsWellFormed};
 ghost use Rattle.link_session.specs.Limits.{refusal};
-ghost use Rattle.link_session.specs.Edits.{addition, withdrawal, added, answer_to, answers, answers_from, survivors_from};
+ghost use Rattle.link_session.specs.Edits.{addition, withdrawal, added, answer_to, answers, answers_from};
 ghost use Rattle.link_session.specs.Labelled.{objects};
 ghost use Rattle.link_session.specs.Sessions.{labelled};
-ghost use Rattle.link_out.specs.function.Link.{link};
 ghost use Rattle.link_out.specs.Runs.{change_of, link_after, HasAdded, IsRunOf};
-ghost use Rattle.link_out.specs.internal.Replies.{IsDone, HasRoom, IsReplied, AreDone};
+ghost use Rattle.link_out.specs.internal.Replies.{IsDone, HasRoom, IsReplied, AreDone, IsRunFrom};
 
 use crate::edit::{Edit, Reply, RunFault};
 use crate::linked::Linked;
@@ -98,7 +97,7 @@ fn run_on(
     edits: Vec<Edit>,
     options: &Options,
 ) -> Result<(Vec<Reply>, Linked), RunFault>
-    ensures value { let changes = map change_of edits.items in IsRunOf [] result (answers_from session.old.forced session.old.entries changes) (link session.old.forced (objects (survivors_from session.old.forced session.old.entries changes)) options.now) }
+    ensures value { IsRunFrom session.old (map change_of edits.items) options.now result }
     ensures object { options.now.relocatable ≡ true → IfOk result (λ run. IsWellFormed run.1.file) }
 {
     let replies = replies_to(alloc, session, edits)?;
@@ -120,7 +119,7 @@ pub fn run(
     edits: Vec<Edit>,
     options: &Options,
 ) -> Result<(Vec<Reply>, Linked), RunFault>
-    ensures value { let changes = map change_of edits.items in IsRunOf forced.now result (answers forced.now changes) (link_after forced.now changes options.now) }
+    ensures value { let made = map change_of edits.items in IsRunOf forced.now result (answers forced.now made) (link_after forced.now made options.now) }
     ensures object { options.now.relocatable ≡ true → IfOk result (λ run. IsWellFormed run.1.file) }
 {
     let mut session = Session::with_forced(alloc, forced)?;

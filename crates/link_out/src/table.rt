@@ -1,20 +1,20 @@
 //! The symbol table of a linked file.
 ghost use Rattle.std.specs.Prelude.{◌≡◌, ◌++◌, length, IfOk, OnOk};
 ghost use Rattle.link_session.specs.Labelled.{objects};
-ghost use Rattle.link_session.specs.Mentions.{mentions};
+ghost use Rattle.link_session.specs.Starts.{no_starts};
 ghost use Rattle.link_session.specs.Undo.{image_of};
 ghost use Rattle.link_out.specs.function.Finals.{type_of};
 ghost use Rattle.link_out.specs.internal.FromCells as from_cells;
-ghost use Rattle.link_out.specs.function.Plans.{Plan};
-ghost use Rattle.link_out.specs.function.Tables.{local_rows, external_rows, table};
-ghost use Rattle.link_out.specs.internal.Rows.{moves_by, value_moved, symbol_moved, rows_in};
+ghost use Rattle.link_out.specs.function.Tables.{table};
+ghost use Rattle.link_out.specs.internal.InOrder.{plan_of};
+ghost use Rattle.link_out.specs.internal.Rows.{moves_by, value_moved, symbol_moved, rows_in, rows_from, row_with, rows_with};
 
 use crate::finals::Final;
 use crate::kept_symbols::is_kept_local;
 use crate::layout::Bases;
 use crate::words::base_word;
 use aout_core::{Name, Segment, Symbol};
-use link_options::Keep;
+use link_options::{Keep, Options};
 use link_session::{Entry, Session, Shifts, Starts};
 use std::alloc::{AllocError, Global};
 
@@ -86,7 +86,7 @@ fn kept_locals(
     keep: Keep,
     bases: &Bases,
 ) -> Result<Vec<Symbol>, AllocError>
-    ensures { (p : Plan) → p.choices.keep ≡ keep → p.at ≡ bases.now → IfOk result (λ rows. rows.items ≡ local_rows p (objects entries.now)) }
+    ensures { IfOk result (λ rows. rows.items ≡ rows_from bases.now keep no_starts (objects entries.now)) }
 {
     let mut rows = Vec::new(alloc);
     let mut starts = Starts::first();
@@ -111,9 +111,7 @@ fn type_of(bound: Option<Segment>) -> u16
 
 /// The row of an external.
 fn row_for(name: Name, last: &Final) -> Symbol
-    ensures name { result.name ≡ name }
-    ensures type_bits { result.type_bits ≡ type_of last.now.bound }
-    ensures value { result.value ≡ last.now.written }
+    ensures { result ≡ row_with name last.now }
 {
     Symbol {
         name,
@@ -129,7 +127,7 @@ fn put_externals(
     finals: &[Final],
 ) -> Result<(), AllocError>
     requires { length finals.now ≡ length (image_of session.now).externals }
-    ensures { (p : Plan) → p.said ≡ mentions session.now.forced (objects session.now.entries) → finals.now ≡ from_cells.finals p → OnOk result (rows.new.items ≡ rows.old.items ++ external_rows p) }
+    ensures { OnOk result (rows.new.items ≡ rows.old.items ++ rows_with (image_of session.now).externals finals.now) }
 {
     for index in 0..session.external_count() {
         if let Some((name, _)) = session.external(index) {
@@ -144,13 +142,15 @@ fn put_externals(
 pub(crate) fn table(
     alloc: Global,
     session: &Session,
-    keep: Keep,
+    options: &Options,
     bases: &Bases,
     finals: &[Final],
 ) -> Result<Vec<Symbol>, AllocError>
-    requires { length finals.now ≡ length (image_of session.now).externals }
-    ensures { (p : Plan) → p.choices.keep ≡ keep → p.at ≡ bases.now → p.said ≡ mentions session.now.forced (objects session.now.entries) → finals.now ≡ from_cells.finals p → IfOk result (λ rows. rows.items ≡ table p (objects session.now.entries)) }
+    requires bases { bases.now ≡ (plan_of session.now options.now).at }
+    requires finals { finals.now ≡ from_cells.finals (plan_of session.now options.now) }
+    ensures { IfOk result (λ rows. rows.items ≡ table (plan_of session.now options.now) (objects session.now.entries)) }
 {
+    let keep = options.keep();
     if keep == Keep::Nothing {
         return Ok(Vec::new(alloc));
     }

@@ -1,10 +1,15 @@
 -- Changes that were made, and the replies to them, one after another.
 use Rattle.std.specs.declared.alloc.Global.{Global}
-use Rattle.std.specs.Prelude.{◌≡◌, ℕ, ◌+◌, ◌≤◌, List, [], ◌∷◌, ◌++◌, map, Option, Some, None, Vec, vec_len, vec_capacity}
+use Rattle.std.specs.Prelude.{◌≡◌, ℕ, ◌+◌, ◌≤◌, List, [], ◌∷◌, ◌++◌, map, Option, Some, None, Vec, vec_len, vec_capacity, Result}
 use Rattle.link_session.specs.Edits.{Change, kept_after, answer_to, survivors_from, answers_from}
+use Rattle.link_session.specs.Labelled.{objects}
 use Rattle.link_session.specs.Undo.{Kept}
 use Rattle.link_out.specs.declared.edit.Reply.{Reply}
-use Rattle.link_out.specs.Runs.{answer_of}
+use Rattle.link_out.specs.declared.edit.RunFault.{RunFault}
+use Rattle.link_out.specs.declared.linked.Linked.{Linked}
+use Rattle.link_options.specs.Choices.{Choices}
+use Rattle.link_out.specs.function.Link.{link}
+use Rattle.link_out.specs.Runs.{answer_of, IsRunOf}
 
 -- a change was made, and the reply is the answer to it
 pub record IsDone (old new : Kept) (change : Change) (reply : Reply) : Type 0 where
@@ -35,3 +40,8 @@ pub record AreDone (old new : Kept) (changes : List Change) (replies : Option (V
   pub told : List Reply
   pub lists : Lists replies told
   pub answers : map answer_of told ≡ answers_from old.forced old.entries changes
+
+-- a run of changes of what a session keeps
+abbrev pub IsRunFrom : Kept → List Change → Choices → Result (Vec Reply Global × Linked) RunFault → Type 0
+IsRunFrom s changes o result =
+    IsRunOf [] result (answers_from s.forced s.entries changes) (link s.forced (objects (survivors_from s.forced s.entries changes)) o)

@@ -1,8 +1,10 @@
 -- The parts of a report, and when there are none.
-use Rattle.std.specs.Prelude.{ℕ, Bool, ◌&&◌, eqb, List, ◌++◌, length, is_none, codes}
+use Rattle.std.specs.Prelude.{ℕ, Bool, not, ◌&&◌, eqb, List, ◌++◌, filter, length, is_none, codes}
 use Rattle.std.specs.List.{flat_map}
+use Rattle.link_session.specs.Mentions.{Mention}
+use Rattle.link_session.specs.States.{state}
 use Rattle.link_out.specs.Results.{Findings}
-use Rattle.link_out.specs.function.Reports.{line}
+use Rattle.link_out.specs.function.Reports.{line, is_undefined}
 
 -- no line
 abbrev pub is_silent : Findings → Bool
@@ -11,3 +13,7 @@ is_silent f = eqb (length f.multiples) 0 && (eqb (length f.reserved) 0 && (is_no
 -- the lines of names that are multiply defined
 abbrev pub multiple_lines : List (List ℕ) → List ℕ
 multiple_lines names = flat_map (λ n. line (n ++ codes ": Multiply defined")) names
+
+-- those of the names that are defined or common
+abbrev pub taken_among : List Mention → List (List ℕ) → List (List ℕ)
+taken_among ms names = filter (λ n. not (is_undefined (state ms n))) names

@@ -1,4 +1,4 @@
--- The kept locals as they follow from the objects' sizes.
+-- The kept locals as they follow from the objects' sizes, and the rows of externals as they follow from what becomes of them.
 use Rattle.std.specs.Prelude.{ℕ, ◌+◌, List, [], ◌∷◌, ◌++◌, map, filter, length}
 use Rattle.aout_core.specs.declared.symbol.Symbol.{Symbol}
 use Rattle.aout_core.specs.declared.symbol.Segment.{Segment}
@@ -8,11 +8,13 @@ use Rattle.aout_core.specs.Words.{plus}
 use Rattle.aout_core.specs.WellFormed.{segment_of}
 use Rattle.link_session.specs.declared.relocate.Starts.{Starts}
 use Rattle.link_session.specs.declared.relocate.Shifts.{Shifts}
+use Rattle.link_session.specs.Image.{Named}
 use Rattle.link_session.specs.Starts.{next_starts, shifts_at}
 use Rattle.link_session.specs.Starts.{shift_by}
 use Rattle.link_options.specs.declared.options.Keep.{Keep}
 use Rattle.link_out.specs.declared.table.Moves.{Moves}
 use Rattle.link_out.specs.Layouts.{Bases, base}
+use Rattle.link_out.specs.function.Finals.{Final, type_of}
 use Rattle.link_out.specs.function.Tables.{is_kept_local}
 
 -- how far the segments of an object move
@@ -40,6 +42,15 @@ rows_in keep m symbols = map (symbol_moved m) (filter (is_kept_local keep) symbo
 abbrev pub rows_from : Bases → Keep → Starts → List Contents → List Symbol
 rows_from b keep s [] = []
 rows_from b keep s (o ∷ os) = rows_in keep (moves_by b (shifts_at s o.header)) o.symbols ++ rows_from b keep (next_starts s o.header) os
+
+-- the row of an external, and those of the externals in order
+abbrev pub row_with : List ℕ → Final → Symbol
+row_with name f = record { name = name; type_bits = type_of f.bound; value = f.written }
+
+abbrev pub rows_with : Named → List Final → List Symbol
+rows_with [] fs = []
+rows_with (e ∷ es) [] = []
+rows_with (e ∷ es) (f ∷ fs) = row_with e.0 f ∷ rows_with es fs
 
 -- how many locals are kept
 abbrev pub count_in : Keep → List Symbol → ℕ

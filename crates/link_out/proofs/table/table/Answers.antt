@@ -1,13 +1,29 @@
-use Rattle.std.proofs.Common.{◌≡◌, ◌∙◌, ap, rules, List}
-use Rattle.link_session.specs.Labelled.{Labelled, objects}
+use Rattle.std.proofs.Common.{◌≡◌, ◌∙◌, ◌++◌, ap, sym, length, rules, List}
+use Rattle.aout_core.specs.declared.symbol.Symbol.{Symbol}
+use Rattle.link_session.specs.Labelled.{objects}
+use Rattle.link_session.specs.Starts.{no_starts}
+use Rattle.link_session.specs.Undo.{image_of}
 use Rattle.link_options.specs.declared.options.Keep.TheVariants as keeps
-use Rattle.link_out.specs.function.Tables.{local_rows}
-use Rattle.link_out.proofs.RowLemmas.{table_whole}
+use Rattle.link_out.specs.function.Finals.{Final}
+use Rattle.link_out.specs.function.Tables.{local_rows, external_rows}
+use Rattle.link_out.specs.internal.InOrder.{plan_of}
+use Rattle.link_out.specs.internal.Rows.{rows_from, rows_with}
+use Rattle.link_out.proofs.RowLemmas.{rows_from-local_rows, finals_many, rows_planned, table_whole}
 use Rattle.link_out.proofs.table.table.Goals as goal
 
+pub put_externals-requires : goal.put_externals-requires
+put_externals-requires c = ap (λ (l : List Final). length l) c.requires.finals ∙ finals_many (plan_of c.args.session.now c.args.options.now)
+
 pub returns : goal.returns
-returns c = λ p same at said last.
-    let others : c.args.keep ≡ keeps.Nothing → ⊥ = search rules in
-    let locals : c.in_ok-rows.rows.items ≡ local_rows p (objects c.args.session.now.entries) =
-    c.in_ok-rows.ensures p same at ∙ ap (λ (es : List Labelled). local_rows p (objects es)) c.entries.ensures.value in
-    table_whole p (objects c.args.session.now.entries) c.args.keep c.in_ok-rows.rows.items c.put_externals.new.rows.items same others locals (c.in_ok-put_externals.ensures p said last)
+returns c =
+    let s = c.args.session.now in
+    let os = objects s.entries in
+    let p = plan_of s c.args.options.now in
+    let rows = c.in_ok-rows.rows.items in
+    let others : c.keep-keep.result ≡ keeps.Nothing → ⊥ = search rules in
+    let locals : rows ≡ local_rows p os =
+    c.in_ok-rows.ensures
+    ∙ (λ i. rows_from (c.requires.bases i) (c.keep-keep.ensures.value i) no_starts (objects (c.entries.ensures.value i)))
+    ∙ rows_from-local_rows p os in
+    let externals : rows_with (image_of s).externals c.args.finals.now ≡ external_rows p = ap (λ (l : List Final). rows_with (image_of s).externals l) c.requires.finals ∙ rows_planned p in
+    table_whole p os c.keep-keep.result rows c.put_externals.new.rows.items (sym c.keep-keep.ensures.value) others locals (c.in_ok-put_externals.ensures ∙ ap (λ (l : List Symbol). rows ++ l) externals)
