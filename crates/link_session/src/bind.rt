@@ -25,8 +25,7 @@ pub(crate) struct Definition {
 /// The chain of the external with this index, and what its cells are bound to.
 #[derive(Clone, Copy)]
 struct Chain<'a> {
-    text_links: &'a [Link],
-    data_links: &'a [Link],
+    links: &'a Links<'a>,
     index: u16,
     definition: Definition,
 }
@@ -34,8 +33,7 @@ struct Chain<'a> {
 /// The external at a place, which cells may wait for.
 #[derive(Clone, Copy)]
 struct Awaited<'a> {
-    text_links: &'a [Link],
-    data_links: &'a [Link],
+    links: &'a Links<'a>,
     externals: &'a Externals,
     place: u16,
 }
@@ -43,8 +41,7 @@ struct Awaited<'a> {
 /// The places of the externals that cells may wait for.
 #[derive(Clone, Copy)]
 pub(crate) struct Mentioned<'a> {
-    pub(crate) text_links: &'a [Link],
-    pub(crate) data_links: &'a [Link],
+    pub(crate) links: &'a Links<'a>,
     pub(crate) externals: &'a Externals,
     pub(crate) places: &'a [u16],
 }
@@ -127,8 +124,8 @@ fn bind_name(
     marks: &mut Vec<Mark>,
     chain: &Chain<'_>,
 ) -> Result<(), AllocError>
-    requires { AreChained text_cells.old data_cells.old chain.now.text_links.now chain.now.data_links.now heads.old }
-    ensures chained { AreChained text_cells.new data_cells.new chain.now.text_links.now chain.now.data_links.now heads.new }
+    requires { AreChained text_cells.old data_cells.old chain.now.links.now.text.now chain.now.links.now.«data».now heads.old }
+    ensures chained { AreChained text_cells.new data_cells.new chain.now.links.now.text.now chain.now.links.now.«data».now heads.new }
     ensures texts { OnOk result (text_cells.new ≡ map (bound_on chain.now) text_cells.old) }
     ensures datas { OnOk result (data_cells.new ≡ map (bound_on chain.now) data_cells.old) }
     ensures heads { OnOk result (heads.new ≡ slice_set heads.old chain.now.index None) }
@@ -138,17 +135,13 @@ fn bind_name(
     ensures else_stays { OnErr result ((heads.new ≡ heads.old) × (marks.new.items ≡ marks.old.items)) }
 {
     let index = chain.index;
-    let links = Links {
-        text: chain.text_links,
-        data: chain.data_links,
-    };
     let head = link_in(heads, index);
     let kept = marks.len();
-    if let Err(refused) = note_chain(text_cells, data_cells, &links, head, marks) {
+    if let Err(refused) = note_chain(text_cells, data_cells, chain.links, head, marks) {
         marks.truncate(kept);
         return Err(refused);
     }
-    bind(text_cells, data_cells, &links, head, chain.definition);
+    bind(text_cells, data_cells, chain.links, head, chain.definition);
     cut_chain(heads, index);
     Ok(())
 }
@@ -161,8 +154,8 @@ fn bind_defined(
     marks: &mut Vec<Mark>,
     awaited: &Awaited<'_>,
 ) -> Result<(), AllocError>
-    requires chained { AreChained text_cells.old data_cells.old awaited.now.text_links.now awaited.now.data_links.now heads.old }
-    ensures chained { AreChained text_cells.new data_cells.new awaited.now.text_links.now awaited.now.data_links.now heads.new }
+    requires chained { AreChained text_cells.old data_cells.old awaited.now.links.now.text.now awaited.now.links.now.«data».now heads.old }
+    ensures chained { AreChained text_cells.new data_cells.new awaited.now.links.now.text.now awaited.now.links.now.«data».now heads.new }
     ensures texts { OnOk result (text_cells.new ≡ map (settled_for awaited.now) text_cells.old) }
     ensures datas { OnOk result (data_cells.new ≡ map (settled_for awaited.now) data_cells.old) }
     ensures heads { OnOk result (heads.new ≡ heads_for awaited.now heads.old) }
@@ -174,8 +167,7 @@ fn bind_defined(
     match state_at(awaited.externals, awaited.place) {
         State::Defined(segment, offset) => {
             let chain = Chain {
-                text_links: awaited.text_links,
-                data_links: awaited.data_links,
+                links: awaited.links,
                 index: awaited.place,
                 definition: Definition { segment, offset },
             };
@@ -194,8 +186,8 @@ pub(crate) fn bind_names(
     marks: &mut Vec<Mark>,
     mentioned: &Mentioned<'_>,
 ) -> Result<(), AllocError>
-    requires chained { AreChained text_cells.old data_cells.old mentioned.now.text_links.now mentioned.now.data_links.now heads.old }
-    ensures chained { AreChained text_cells.new data_cells.new mentioned.now.text_links.now mentioned.now.data_links.now heads.new }
+    requires chained { AreChained text_cells.old data_cells.old mentioned.now.links.now.text.now mentioned.now.links.now.«data».now heads.old }
+    ensures chained { AreChained text_cells.new data_cells.new mentioned.now.links.now.text.now mentioned.now.links.now.«data».now heads.new }
     ensures texts { OnOk result (text_cells.new ≡ map (settled_by mentioned.now) text_cells.old) }
     ensures datas { OnOk result (data_cells.new ≡ map (settled_by mentioned.now) data_cells.old) }
     ensures heads { OnOk result (heads.new ≡ heads_by mentioned.now heads.old) }
@@ -204,8 +196,7 @@ pub(crate) fn bind_names(
 {
     for place in mentioned.places {
         let awaited = Awaited {
-            text_links: mentioned.text_links,
-            data_links: mentioned.data_links,
+            links: mentioned.links,
             externals: mentioned.externals,
             place: *place,
         };

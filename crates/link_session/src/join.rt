@@ -12,7 +12,7 @@ ghost use Rattle.link_session.specs.internal.Additions.{all_places, joined_image
 
 use crate::bind::{Mentioned, bind_names};
 use crate::cell::Cell;
-use crate::chain::{Link, grow_heads};
+use crate::chain::{Link, Links, grow_heads};
 use crate::mark::Mark;
 use crate::mention::{Table, count_external, enter_all};
 use crate::merged::{Externals, Merged};
@@ -177,9 +177,12 @@ fn bind_waiting(image: &mut Merged, places: &[u16], marks: &mut Vec<Mark>) -> Re
     ensures links { threads_in image.new ≡ with_heads image.new.heads.items (threads_in image.old) }
     ensures room { KeepsRoom image.old image.new }
 {
+    let links = Links {
+        text: &image.text_links,
+        data: &image.data_links,
+    };
     let mentioned = Mentioned {
-        text_links: &image.text_links,
-        data_links: &image.data_links,
+        links: &links,
         externals: &image.externals,
         places,
     };
