@@ -3,3 +3,4 @@ pub mod NameBytes
 pub mod Blocks
 pub mod Rows
 pub mod ReadParts
+pub mod Items

@@ -25,9 +25,9 @@ impl Model for Incoming {
 
 impl Incoming {
     ghost use Rattle.std.specs.Prelude.{◌≡◌, ◌↔◌, ◌≤◌, [], false, drop, length, IfOk, IfErr, IsTrue, Err};
-    ghost use Rattle.std.specs.Io.KnownBytes.{prepend_known};
     ghost use Rattle.aout_core.specs.declared.block.TheConstants.{BLOCK_SIZE};
     ghost use Rattle.aout_core.specs.internal.Blocks.{awaited, EndsBefore, Refills, Takes};
+    ghost use Rattle.aout_core.specs.internal.Items.{EndsAwaiting};
 
     /// Nothing was read yet.
     pub(crate) fn new(missing: usize) -> Incoming
@@ -82,7 +82,7 @@ impl Incoming {
         requires within { length out.old ≤ awaited self.old }
         ensures device { (result ≡ Err ReadFault.Device) ↔ IsTrue wire.new.has_failed }
         ensures value { IfOk result (λ _. Takes self.old (R.remaining wire.old.device) self.new (R.remaining wire.new.device) out.new) }
-        ensures end { IfErr result (λ fault. EndsBefore fault (prepend_known self.old.waiting (R.remaining wire.old.device)) (R.remaining wire.new.device) (awaited self.old)) }
+        ensures end { IfErr result (λ fault. EndsAwaiting fault self.old (R.remaining wire.old.device) (R.remaining wire.new.device)) }
     {
         let n = self.block.give_out(out);
         if n < out.len() {

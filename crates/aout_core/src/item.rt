@@ -1,13 +1,13 @@
 //! The items of a file's lists: words, relocation words and symbols.
-ghost use Rattle.std.specs.Prelude.{◌≡◌, ◌+◌, ◌-◌, ◌*◌, ◌≤◌, ◌++◌, ◌↔◌, ℕ, List, Option, false, IfOk, IfErr, IsErr, IsTrue, Err, length, vec_len, vec_capacity};
+ghost use Rattle.std.specs.Prelude.{◌≡◌, ◌+◌, ◌-◌, ◌*◌, ◌≤◌, ◌++◌, ◌↔◌, ℕ, List, Option, false, IfOk, IfErr, OnOk, IsErr, IsTrue, Err, length, vec_len, vec_capacity};
 ghost use Rattle.std.specs.List.{flat_map};
-ghost use Rattle.std.specs.Io.KnownBytes.{prepend_known};
 ghost use Rattle.std.proofs.Common.{rules};
 ghost use Rattle.aout_core.specs.declared.block.TheConstants.{BLOCK_SIZE};
 ghost use Rattle.aout_core.specs.Words.{word_bytes};
 ghost use Rattle.aout_core.specs.Decoding.{symbol_in};
 ghost use Rattle.aout_core.specs.Encoding.{symbol_encoding};
-ghost use Rattle.aout_core.specs.internal.Blocks.{awaited, EndsBefore, PutsBut};
+ghost use Rattle.aout_core.specs.internal.Blocks.{awaited, PutsBut};
+ghost use Rattle.aout_core.specs.internal.Items.{EndsAwaiting, PutsBoth, TakesAll};
 ghost use Rattle.aout_core.specs.internal.Rows.{row_in, word_in, reloc_in, TakesItem, TakesRow};
 
 use crate::block::BLOCK_SIZE;
@@ -157,8 +157,8 @@ fn take_item<T: Item, R: Read>(incoming: &mut Incoming, wire: &mut Wire<R>) -> R
     requires works { wire.old.has_failed ≡ false }
     requires within { T.WIDTH ≤ awaited incoming.old }
     ensures device { (result ≡ Err ReadFault.Device) ↔ IsTrue wire.new.has_failed }
-    ensures value { IfOk result (λ item. TakesItem T.item_in T.WIDTH incoming.old (R.remaining wire.old.device) incoming.new (R.remaining wire.new.device) item) }
-    ensures end { IfErr result (λ fault. EndsBefore fault (prepend_known incoming.old.waiting (R.remaining wire.old.device)) (R.remaining wire.new.device) (awaited incoming.old)) }
+    ensures value { IfOk result (TakesItem T.item_in T.WIDTH incoming.old (R.remaining wire.old.device) incoming.new (R.remaining wire.new.device)) }
+    ensures end { IfErr result (λ fault. EndsAwaiting fault incoming.old (R.remaining wire.old.device) (R.remaining wire.new.device)) }
 {
     let mut buffer = [0; MOST_WIDTH];
     let bytes = &mut buffer[..T::WIDTH];
@@ -177,8 +177,8 @@ pub(crate) fn take_items<T: Item, R: Read>(
     requires room { vec_len items.old + count ≤ vec_capacity items.old }
     requires within { T.WIDTH * count ≤ awaited incoming.old }
     ensures device { (result ≡ Err ReadFault.Device) ↔ IsTrue wire.new.has_failed }
-    ensures value { IfOk result (λ _. TakesRow T.item_in T.WIDTH count incoming.old (R.remaining wire.old.device) incoming.new (R.remaining wire.new.device) items.old.items items.new.items) }
-    ensures end { IfErr result (λ fault. EndsBefore fault (prepend_known incoming.old.waiting (R.remaining wire.old.device)) (R.remaining wire.new.device) (awaited incoming.old)) }
+    ensures value { OnOk result (TakesAll T.item_in T.WIDTH count R.remaining incoming.old wire.old.device incoming.new wire.new.device items.old items.new) }
+    ensures end { IfErr result (λ fault. EndsAwaiting fault incoming.old (R.remaining wire.old.device) (R.remaining wire.new.device)) }
 {
     let mut left = count;
     while left > 0 {
@@ -246,7 +246,7 @@ pub(crate) fn put_both<T: Item, W: Write>(
 ) -> Result<(), DeviceFault>
     requires { wire.old.has_failed ≡ false }
     ensures fault { IsErr result ↔ IsTrue wire.new.has_failed }
-    ensures bytes { PutsBut result (W.contents wire.old.device) (W.contents wire.new.device) outgoing.new (outgoing.old ++ (flat_map T.encoding first.now ++ flat_map T.encoding second.now)) }
+    ensures bytes { PutsBoth T.encoding result (W.contents wire.old.device) (W.contents wire.new.device) outgoing.old outgoing.new first.now second.now }
 {
     put_items(first, outgoing, wire)?;
     put_items(second, outgoing, wire)

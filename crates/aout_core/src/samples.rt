@@ -323,7 +323,7 @@ impl Write for TestWriter {
         ensures bound { WritesAtMost result bytes.now }
         ensures bytes { WriteAppends (Some self.old.taken) (Some self.new.taken) result bytes.now }
         ensures count { IfOk result (λ n. n ≡ min (min self.old.most self.old.before_failure) (length bytes.now)) }
-        ensures fails { self.old.before_failure ≡ 0 → (kind : ErrorKind) → self.old.failure ≡ Fails kind → IfErr result (λ e. error_kind e ≡ kind) × IsErr result }
+        ensures fails { self.old.before_failure ≡ 0 → (k : ErrorKind) → self.old.failure ≡ Fails k → IfErr result (λ e. error_kind e ≡ k) × IsErr result }
         ensures later { IfOk result (λ n. self.new.before_failure ≡ self.old.before_failure - n) }
         ensures nothing { self.old.before_failure ≡ 0 → self.old.failure ≡ Failing.TakesNothing → IsOk result }
         ensures memory { 0 < self.old.before_failure → IfErr result (λ e. error_kind e ≡ ErrorKind.OutOfMemory) }
@@ -349,7 +349,7 @@ impl Write for TestWriter {
     fn flush(&mut self) -> io::Result<()>
         ensures bytes { Keeps (Some self.old.taken) (Some self.new.taken) }
         ensures calls { self.new.calls ≡ self.old.calls }
-        ensures fails { self.old.before_failure ≡ 0 → (kind : ErrorKind) → self.old.failure ≡ Fails kind → IfErr result (λ e. error_kind e ≡ kind) × IsErr result }
+        ensures fails { self.old.before_failure ≡ 0 → (k : ErrorKind) → self.old.failure ≡ Fails k → IfErr result (λ e. error_kind e ≡ k) × IsErr result }
         ensures works { 0 < self.old.before_failure → IsOk result }
         ensures nothing { self.old.failure ≡ Failing.TakesNothing → IsOk result }
         ensures most { self.new.most ≡ self.old.most }

@@ -1,5 +1,6 @@
 -- The cells of an object's own words of one segment, and their links.
-use Rattle.std.specs.Prelude.{ℕ, List, drop, length}
+use Rattle.std.specs.Prelude.{ℕ, List, length}
+use Rattle.aout_core.specs.declared.reloc.Reloc.{Reloc}
 use Rattle.link_session.specs.declared.cell.Cell.{Cell}
 use Rattle.link_session.specs.declared.relocate.Scope.{Scope}
 use Rattle.link_session.specs.declared.relocate.Words.{Words}
@@ -7,14 +8,13 @@ use Rattle.link_session.specs.Starts.{shift_by}
 use Rattle.link_session.specs.internal.Additions.{placed_cells, place_at}
 use Rattle.link_session.specs.internal.Chains.{Link, threaded}
 
--- the cells of the words, relocated
-abbrev pub own_placed : Scope → Words → List Cell
-own_placed scope own = placed_cells scope.externals.now.entries scope.places.now scope.shifts (shift_by scope.shifts own.segment) own.words.now own.relocs.now
+-- the cells of these words of a segment that moves by so much
+abbrev pub cells_moved : Scope → ℕ → List ℕ → List Reloc → List Cell
+cells_moved scope own_shift words relocs = placed_cells scope.externals.now.entries scope.places.now scope.shifts own_shift words relocs
 
--- those of the words from this one on
-abbrev pub own_left : Scope → Words → ℕ → List Cell
-own_left scope own i =
-    placed_cells scope.externals.now.entries scope.places.now scope.shifts (shift_by scope.shifts own.segment) (drop i own.words.now) (drop i own.relocs.now)
+-- the cells of all the words
+abbrev pub own_placed : Scope → Words → List Cell
+own_placed scope own = cells_moved scope (shift_by scope.shifts own.segment) own.words.now own.relocs.now
 
 -- the links of such cells, behind these links, and the heads then
 abbrev pub own_threaded : Words → List Cell → List Link → List Link → List Link × List Link
