@@ -9,7 +9,7 @@ use std::cell::Cell;
 use std::io;
 use std::io::{ErrorKind, Read, Write};
 use std::test::Fail;
-use v7tools::{BlockWriter, perform};
+use v7tools::{BlockWriter, Outputs, perform};
 
 /// The status of a command of a line over a device for what it prints, and the bytes of its faults.
 fn run<R: Read + Drop, W: Write>(
@@ -19,11 +19,13 @@ fn run<R: Read + Drop, W: Write>(
     device: &mut W,
 ) -> Result<(u8, Vec<u8>), AllocError> {
     let mut shelf = Shelf::new(alloc, &FILES);
-    let mut output = Wire::new(BlockWriter::new(device));
-    let mut error = Wire::new(TestWriter::whole(Vec::new(alloc)));
+    let mut outputs = Outputs {
+        output: Wire::new(BlockWriter::new(device)),
+        error: Wire::new(TestWriter::whole(Vec::new(alloc))),
+    };
     let words = words_of(alloc, line)?;
-    let status = perform(alloc, &mut shelf, script, &mut output, &mut error, words);
-    Ok((status, error.into_inner().into_taken()))
+    let status = perform(alloc, &mut shelf, script, &mut outputs, words);
+    Ok((status, outputs.error.into_inner().into_taken()))
 }
 
 /// How often the device for what a command prints is flushed.

@@ -8,7 +8,7 @@ use std::cell::Cell;
 use std::io;
 use std::io::Read;
 use std::test::Fail;
-use v7tools::{BlockWriter, Office, Stored, perform};
+use v7tools::{BlockWriter, Office, Outputs, Stored, perform};
 
 /// A file that counts how often all files are read.
 #[derive(Drop)]
@@ -55,11 +55,13 @@ fn run(alloc: Global, line: &str) -> Result<(u8, bool, bool), AllocError> {
         reads: &reads,
         reads_before: 0,
     };
-    let mut output = Wire::new(BlockWriter::new(TestWriter::whole(Vec::new(alloc))));
-    let mut error = Wire::new(TestWriter::whole(Vec::new(alloc)));
+    let mut outputs = Outputs {
+        output: Wire::new(BlockWriter::new(TestWriter::whole(Vec::new(alloc)))),
+        error: Wire::new(TestWriter::whole(Vec::new(alloc))),
+    };
     let script = TestReader::whole(b"");
     let words = words_of(alloc, line)?;
-    let status = perform(alloc, &mut desk, script, &mut output, &mut error, words);
+    let status = perform(alloc, &mut desk, script, &mut outputs, words);
     Ok((status, desk.reads_before > 0, reads.get() > 0))
 }
 

@@ -4,7 +4,7 @@ use aout_core::{File, Wire};
 use fixtures::{CALL, written};
 use std::alloc::Global;
 use std::io::ErrorKind;
-use v7tools::{BlockWriter, Office, Stored, perform};
+use v7tools::{BlockWriter, Office, Outputs, Stored, perform};
 
 /// A file on a shelf: its path, its bytes, and how many of them can be read before its device fails.
 #[derive(Clone, Copy)]
@@ -156,31 +156,41 @@ pub struct Played {
     stored: Vec<u8>,
 }
 
-/// The status of the program on these files, with its words and a script, and devices for what it writes.
+/// The devices for what a command writes.
+#[derive(Drop)]
+struct Devices {
+    output: TestWriter,
+    error: TestWriter,
+}
+
+/// The status of the program on these files, with its words and a script.
 fn status_of(
     alloc: Global,
     shelf: &mut Shelf<'_>,
     words: Vec<String>,
     script: &[u8],
-    output: &mut TestWriter,
-    error: &mut TestWriter,
+    devices: &mut Devices,
 ) -> u8 {
-    let mut output = Wire::new(BlockWriter::new(output));
-    let mut error = Wire::new(error);
+    let mut outputs = Outputs {
+        output: Wire::new(BlockWriter::new(&mut devices.output)),
+        error: Wire::new(&mut devices.error),
+    };
     let script = TestReader::whole(script);
-    perform(alloc, shelf, script, &mut output, &mut error, words)
+    perform(alloc, shelf, script, &mut outputs, words)
 }
 
 /// Runs the program on these files, with its words and a script.
 pub fn play(alloc: Global, items: &[Item<'_>], words: Vec<String>, script: &[u8]) -> Played {
     let mut shelf = Shelf::new(alloc, items);
-    let mut output = TestWriter::whole(Vec::new(alloc));
-    let mut error = TestWriter::whole(Vec::new(alloc));
-    let status = status_of(alloc, &mut shelf, words, script, &mut output, &mut error);
+    let mut devices = Devices {
+        output: TestWriter::whole(Vec::new(alloc)),
+        error: TestWriter::whole(Vec::new(alloc)),
+    };
+    let status = status_of(alloc, &mut shelf, words, script, &mut devices);
     Played {
         status,
-        output: output.into_taken(),
-        error: error.into_taken(),
+        output: devices.output.into_taken(),
+        error: devices.error.into_taken(),
         path: shelf.path,
         stored: shelf.stored,
     }

@@ -3,7 +3,17 @@
 //! those that the calls make is refused. See tests/memory.sh.
 #![tactic(auto)]
 
-use memory_calls::{Outcome, commands, files, links, programs, script_steps, sessions};
+mod commands;
+mod files;
+mod links;
+mod outcome;
+mod programs;
+mod script_steps;
+mod sessions;
+#[cfg(test)]
+mod tests;
+
+use crate::outcome::Outcome;
 use std::alloc::Global;
 use std::io;
 

@@ -6,7 +6,7 @@ use aout_core::samples::{TestReader, TestWriter};
 use fixtures::{ANSWERS, ONE_OBJECT, SCRIPT, words};
 use std::alloc::Global;
 use std::process::Abort;
-use v7tools::{BlockWriter, Office, perform};
+use v7tools::{BlockWriter, Office, Outputs, perform};
 
 /// The words and the script of a session, and what then comes of it: its answers, the status of the program, and what
 /// the office is asked, in order.
@@ -28,11 +28,13 @@ fn status_of<O: Office>(
     device: &mut TestWriter,
 ) -> Option<u8> {
     let words = words(alloc, case.words).ok()?;
-    let mut output = Wire::new(BlockWriter::new(device));
-    let mut error = in_memory(alloc);
+    let mut outputs = Outputs {
+        output: Wire::new(BlockWriter::new(device)),
+        error: in_memory(alloc),
+    };
     let script = TestReader::whole(case.script);
-    let status = perform(alloc, office, script, &mut output, &mut error, words);
-    if error.into_inner().taken().is_empty() {
+    let status = perform(alloc, office, script, &mut outputs, words);
+    if outputs.error.into_inner().taken().is_empty() {
         Some(status)
     } else {
         None

@@ -32,7 +32,7 @@ pub use linking::ld;
 pub use loading::load;
 pub use office::{Office, Stored};
 pub use parsing::parse;
-pub use program::{command, perform};
+pub use program::{Outputs, command, perform};
 pub use script::Script;
 pub use scripts::{BlockWriter, Line};
 pub use steps::step;

@@ -60,23 +60,37 @@ fn report_stored<W: BufferedWrite>(
     }
 }
 
-/// Links the files into the file `out`, and writes the report to `output`.
+/// What the words of ld ask for.
+#[derive(Drop)]
+pub(crate) struct LinkCall {
+    pub(crate) options: Options,
+    pub(crate) forced: Forced,
+    /// The path of the file that is made.
+    pub(crate) out: String,
+    /// The paths of the inputs.
+    pub(crate) files: Vec<String>,
+}
+
+/// Links the files of the call into its file `out`, and writes the report to `output`.
 pub(crate) fn link_files<O: Office, W: BufferedWrite>(
     alloc: Global,
     office: &mut O,
-    options: &Options,
-    forced: &Forced,
-    out: String,
-    files: Vec<String>,
+    call: LinkCall,
     output: &mut Wire<W>,
 ) -> Result<u8, CliFault>
     ensures small { IfOk result (λ status. status ≤ 1) }
-    ensures run { IsLinkRun W.contents forced.now options.now out (map string_bytes files.items)
+    ensures run { IsLinkRun W.contents call.forced call.options call.out (map string_bytes call.files.items)
         (O.history office.old) (O.history office.new) result output.old output.new }
     ensures passed { IsPassedOn W.waiting output.old → IsPassedOn W.waiting output.new }
 {
+    let LinkCall {
+        options,
+        forced,
+        out,
+        files,
+    } = call;
     let inputs = open_all(alloc, office, files)?;
-    let linked = ld(alloc, inputs, forced, options)?;
+    let linked = ld(alloc, inputs, &forced, &options)?;
     let stored = office.store(out.as_str(), &linked.file);
     report_stored(&linked.report, out, stored, output)
 }

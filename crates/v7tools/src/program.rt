@@ -6,10 +6,10 @@ ghost use Rattle.v7tools.specs.CommandRuns.{IsCallRun, Performs, RunsWords};
 use crate::disk::Disk;
 use crate::fault::CliFault;
 use crate::file_commands::{list_files, size_files, strip_files};
-use crate::link_command::link_files;
+use crate::link_command::{LinkCall, link_files};
 use crate::office::Office;
 use crate::parsing::parse;
-use crate::session_command::answer_script;
+use crate::session_command::{Setting, answer_script};
 use crate::standard_error::StandardError;
 use aout_core::{BufferedWrite, Wire};
 use command_words::Call;
@@ -38,12 +38,24 @@ fn run_call<O: Office, R: Read + Drop, W: BufferedWrite>(
             forced,
             out,
             files,
-        } => link_files(alloc, office, &options, &forced, out, files, output),
+        } => {
+            let call = LinkCall {
+                options,
+                forced,
+                out,
+                files,
+            };
+            link_files(alloc, office, call, output)
+        }
         Call::Nm { options, files } => list_files(alloc, office, options, files, output),
         Call::Size { files } => size_files(alloc, office, files, output),
         Call::Strip { files } => strip_files(alloc, office, files),
         Call::Session { options, forced } => {
-            answer_script(alloc, office, &options, &forced, script, output)
+            let setting = Setting {
+                alloc,
+                options: &options,
+            };
+            answer_script(&setting, office, &forced, script, output)
         }
     }
 }
@@ -65,6 +77,15 @@ fn run_words<O: Office, R: Read + Drop, W: BufferedWrite>(
     run_call(alloc, office, script, output, call)
 }
 
+/// Where a program writes. (own choice)
+#[derive(Drop)]
+pub struct Outputs<W, E> {
+    /// Standard output.
+    pub output: Wire<W>,
+    /// Standard error.
+    pub error: Wire<E>,
+}
+
 /// Does what the words after the program's name ask for, over any office and any streams: a session's script, standard
 /// output and standard error. It returns the status of the program: 0, or 1 where there was something to report or a
 /// session refused a line or could not store a link, or 2 for a fault, whose line goes to standard error; without a
@@ -74,20 +95,19 @@ pub fn perform<O: Office, R: Read + Drop, W: BufferedWrite, E: Write>(
     alloc: Global,
     office: &mut O,
     script: R,
-    output: &mut Wire<W>,
-    error: &mut Wire<E>,
+    outputs: &mut Outputs<W, E>,
     words: Vec<String>,
 ) -> u8
     ensures small { result ≤ 2 }
     ensures run { Performs W.contents E.contents (map string_bytes words.items) (R.remaining script)
-        (record { asked = O.history office.old; output = output.old; error = error.old })
-        (record { asked = O.history office.new; output = output.new; error = error.new }) result }
-    ensures passed { IsPassedOn W.waiting output.old → IsPassedOn W.waiting output.new }
+        (record { asked = O.history office.old; output = outputs.old.output; error = outputs.old.error })
+        (record { asked = O.history office.new; output = outputs.new.output; error = outputs.new.error }) result }
+    ensures passed { IsPassedOn W.waiting outputs.old.output → IsPassedOn W.waiting outputs.new.output }
 {
-    match run_words(alloc, office, script, output, words) {
+    match run_words(alloc, office, script, &mut outputs.output, words) {
         Ok(status) => status,
         Err(fault) => {
-            let _ = fault.write(error);
+            let _ = fault.write(&mut outputs.error);
             2
         }
     }
@@ -102,14 +122,9 @@ pub fn command<H: Runtime + AllocGlobal>(rt: &H, words: Vec<String>) -> u8
     ensures { result ≤ 2 }
 {
     let mut office = Disk::new(rt);
-    let mut output = Wire::new(BlockWriter::new(io::writer(rt)));
-    let mut error = Wire::new(StandardError::new(rt));
-    perform(
-        rt.alloc(),
-        &mut office,
-        rt.reader(),
-        &mut output,
-        &mut error,
-        words,
-    )
+    let mut outputs = Outputs {
+        output: Wire::new(BlockWriter::new(io::writer(rt))),
+        error: Wire::new(StandardError::new(rt)),
+    };
+    perform(rt.alloc(), &mut office, rt.reader(), &mut outputs, words)
 }

@@ -23,6 +23,13 @@ use scripts::Line;
 use std::alloc::Global;
 use std::io::{Read, Write};
 
+/// What stays the same through a session: where its memory comes from, and the options of its links.
+#[derive(Clone, Copy)]
+pub(crate) struct Setting<'a> {
+    pub(crate) alloc: Global,
+    pub(crate) options: &'a Options,
+}
+
 /// Opens the file at a path, on a wire.
 fn open_wire<O: Office>(office: &mut O, path: &str) -> Option<Wire<O::Source>>
     ensures { IsOpenedAt O.Source.remaining (O.history office.old) (O.history office.new) path.now result }
@@ -33,18 +40,17 @@ fn open_wire<O: Office>(office: &mut O, path: &str) -> Option<Wire<O::Source>>
 
 /// Takes a step that is no link, and returns its status.
 fn take_step<R: Read + Drop, W: Write>(
-    alloc: Global,
+    setting: &Setting<'_>,
     session: &mut Session,
-    options: &Options,
     command: Command<R>,
     answers: &mut Wire<W>,
 ) -> Result<u8, CliFault>
     requires { IsNoLink command }
     ensures small { IfOk result (λ status. status ≤ 1) }
     ensures latched { IsTrue answers.old.has_failed → (answers.new ≡ answers.old) }
-    ensures run { TakesPlainStep R.remaining W.contents options.now command session.old session.new result answers.old answers.new }
+    ensures run { TakesPlainStep R.remaining W.contents setting.now.options.now command session.old session.new result answers.old answers.new }
 {
-    match step(alloc, session, options, command, answers)? {
+    match step(setting.alloc, session, setting.options, command, answers)? {
         Step::Done => Ok(0),
         Step::Refused => Ok(1),
         Step::ToStore(_) => unreachable!(),
@@ -53,20 +59,19 @@ fn take_step<R: Read + Drop, W: Write>(
 
 /// Opens the file at a path, adds it and answers.
 fn answer_add<O: Office, W: Write>(
-    alloc: Global,
+    setting: &Setting<'_>,
     office: &mut O,
     session: &mut Session,
-    options: &Options,
     path: String,
     answers: &mut Wire<W>,
 ) -> Result<u8, CliFault>
     ensures small { IfOk result (λ status. status ≤ 1) }
     ensures latched { IsTrue answers.old.has_failed → (answers.new ≡ answers.old) }
-    ensures run { AnswersLine W.contents options.now (to_add (string_bytes path)) session.old session.new
+    ensures run { AnswersLine W.contents setting.now.options.now (to_add (string_bytes path)) session.old session.new
         (O.history office.old) (O.history office.new) result answers.old answers.new }
 {
     let wire = open_wire(office, path.as_str());
-    take_step(alloc, session, options, Command::Add(path, wire), answers)
+    take_step(setting, session, Command::Add(path, wire), answers)
 }
 
 /// Answers with the text of the fault that refuses a link, and returns the status of that.
@@ -81,19 +86,18 @@ fn refuse_link<W: Write>(fault: &CliFault, answers: &mut Wire<W>) -> Result<u8, 
 
 /// Links what the session keeps, stores the file at a path and answers.
 fn answer_link<O: Office, W: Write>(
-    alloc: Global,
+    setting: &Setting<'_>,
     office: &mut O,
     session: &Session,
-    options: &Options,
     path: &str,
     answers: &mut Wire<W>,
 ) -> Result<u8, CliFault>
     ensures small { IfOk result (λ status. status ≤ 1) }
     ensures latched { IsTrue answers.old.has_failed → (answers.new ≡ answers.old) }
-    ensures run { AnswersLine W.contents options.now (to_link path.now) session.now session.now
+    ensures run { AnswersLine W.contents setting.now.options.now (to_link path.now) session.now session.now
         (O.history office.old) (O.history office.new) result answers.old answers.new }
 {
-    match finish(alloc, session, options) {
+    match finish(setting.alloc, session, setting.options) {
         Ok(linked) => {
             let stored = office.store(path, &linked.file);
             link_answer(&linked, path, stored, answers)
@@ -105,57 +109,54 @@ fn answer_link<O: Office, W: Write>(
 /// Does what a line asks for and answers it, and returns the status of that: 0, or 1 where it was refused or its link had
 /// something to report.
 fn answer_line<O: Office, W: Write>(
-    alloc: Global,
+    setting: &Setting<'_>,
     office: &mut O,
     session: &mut Session,
-    options: &Options,
     line: Line,
     answers: &mut Wire<W>,
 ) -> Result<u8, CliFault>
     ensures small { IfOk result (λ status. status ≤ 1) }
     ensures latched { IsTrue answers.old.has_failed → (answers.new ≡ answers.old) }
-    ensures run { AnswersLine W.contents options.now (asked_by line) session.old session.new
+    ensures run { AnswersLine W.contents setting.now.options.now (asked_by line) session.old session.new
         (O.history office.old) (O.history office.new) result answers.old answers.new }
 {
     let command: Command<O::Source> = match line {
-        Line::Add(path) => return answer_add(alloc, office, session, options, path, answers),
+        Line::Add(path) => return answer_add(setting, office, session, path, answers),
         Line::Link(path) => {
-            return answer_link(alloc, office, session, options, path.as_str(), answers);
+            return answer_link(setting, office, session, path.as_str(), answers);
         }
         Line::Withdraw => Command::Withdraw,
         Line::Externals => Command::Externals,
         Line::Undefined => Command::Undefined,
         Line::Bad => Command::Bad,
     };
-    take_step(alloc, session, options, command, answers)
+    take_step(setting, session, command, answers)
 }
 
 /// Answers a line, and passes the answer on.
 fn pass_answer<O: Office, W: BufferedWrite>(
-    alloc: Global,
+    setting: &Setting<'_>,
     office: &mut O,
     session: &mut Session,
-    options: &Options,
     line: Line,
     answers: &mut Wire<W>,
 ) -> Result<u8, CliFault>
     ensures small { IfOk result (λ status. status ≤ 1) }
     ensures latched { IsTrue answers.old.has_failed → (answers.new ≡ answers.old) }
-    ensures run { AnswersLine W.contents options.now (asked_by line) session.old session.new
+    ensures run { AnswersLine W.contents setting.now.options.now (asked_by line) session.old session.new
         (O.history office.old) (O.history office.new) result answers.old answers.new }
     ensures passed { IsPassedOn W.waiting answers.new }
 {
-    let status = answer_line(alloc, office, session, options, line, answers)?;
+    let status = answer_line(setting, office, session, line, answers)?;
     answers.pass_on()?;
     Ok(status)
 }
 
 /// Answers the lines of a script of which none was read, one after another.
 fn answer_lines<O: Office, R: Read + Drop, W: BufferedWrite>(
-    alloc: Global,
+    setting: &Setting<'_>,
     office: &mut O,
     session: &mut Session,
-    options: &Options,
     script: &mut Script<R>,
     answers: &mut Wire<W>,
 ) -> Result<u8, CliFault>
@@ -163,7 +164,7 @@ fn answer_lines<O: Office, R: Read + Drop, W: BufferedWrite>(
     requires fresh { script.old ≡ begun script.old.wire }
     ensures small { IfOk result (λ status. status ≤ 1) }
     ensures failed { (result ≡ Err ScriptFailed) ↔ IsTrue script.new.wire.has_failed }
-    ensures run { IsSessionRun W.contents session.old.forced options.now (R.remaining script.old.wire.device)
+    ensures run { IsSessionRun W.contents session.old.forced setting.now.options.now (R.remaining script.old.wire.device)
         (O.history office.old) (O.history office.new) result answers.old answers.new }
     ensures passed { IsPassedOn W.waiting answers.old → IsPassedOn W.waiting answers.new }
 {
@@ -173,7 +174,7 @@ fn answer_lines<O: Office, R: Read + Drop, W: BufferedWrite>(
         let Some(line) = script.next_line()? else {
             return Ok(status);
         };
-        let answered = pass_answer(alloc, office, session, options, line, answers)?;
+        let answered = pass_answer(setting, office, session, line, answers)?;
         status = status.max(answered);
     }
     unreachable!()
@@ -181,37 +182,35 @@ fn answer_lines<O: Office, R: Read + Drop, W: BufferedWrite>(
 
 /// Answers the script that a reader gives, on a session that keeps nothing yet.
 fn answer_reader<O: Office, R: Read + Drop, W: BufferedWrite>(
-    alloc: Global,
+    setting: &Setting<'_>,
     office: &mut O,
     session: &mut Session,
-    options: &Options,
     reader: R,
     answers: &mut Wire<W>,
 ) -> Result<u8, CliFault>
     requires empty { session.old ≡ nothing_kept session.old.forced }
     ensures small { IfOk result (λ status. status ≤ 1) }
-    ensures run { IsSessionRun W.contents session.old.forced options.now (R.remaining reader)
+    ensures run { IsSessionRun W.contents session.old.forced setting.now.options.now (R.remaining reader)
         (O.history office.old) (O.history office.new) result answers.old answers.new }
     ensures passed { IsPassedOn W.waiting answers.old → IsPassedOn W.waiting answers.new }
 {
-    let mut script = Script::new(alloc, Wire::new(reader))?;
-    answer_lines(alloc, office, session, options, &mut script, answers)
+    let mut script = Script::new(setting.alloc, Wire::new(reader))?;
+    answer_lines(setting, office, session, &mut script, answers)
 }
 
 /// Answers the lines of a script, one after another.
 pub(crate) fn answer_script<O: Office, R: Read + Drop, W: BufferedWrite>(
-    alloc: Global,
+    setting: &Setting<'_>,
     office: &mut O,
-    options: &Options,
     forced: &Forced,
     script: R,
     answers: &mut Wire<W>,
 ) -> Result<u8, CliFault>
     ensures small { IfOk result (λ status. status ≤ 1) }
-    ensures run { IsSessionRun W.contents forced.now options.now (R.remaining script)
+    ensures run { IsSessionRun W.contents forced.now setting.now.options.now (R.remaining script)
         (O.history office.old) (O.history office.new) result answers.old answers.new }
     ensures passed { IsPassedOn W.waiting answers.old → IsPassedOn W.waiting answers.new }
 {
-    let mut session = Session::with_forced(alloc, forced)?;
-    answer_reader(alloc, office, &mut session, options, script, answers)
+    let mut session = Session::with_forced(setting.alloc, forced)?;
+    answer_reader(setting, office, &mut session, script, answers)
 }

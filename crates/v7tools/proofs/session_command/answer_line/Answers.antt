@@ -8,7 +8,7 @@ pub returns-clause-run : goal.returns-clause-run
 returns-clause-run g c =
     let contents = g.W.Write.contents in
     let remaining = g.O.Source.Read.remaining in
-    let o = c.args.options.now in
+    let o = c.args.setting.now.options.now in
     let kept = c.args.session.now in
     let left = c.take_step.new.session in
     let result = c.take_step.result in

@@ -15,7 +15,7 @@ returns-in_err-step-clause-run g c =
 pub unreachable-requires : goal.unreachable-requires
 unreachable-requires g c =
     let (did, on, changes, does) = c.in_ok-step.ensures.step in
-    plain_stores g.R.Read.remaining c.args.options.now c.args.session.now c.args.command did c.requires on (outcome_of c.in-ToStore.field-0, sym does.verdict ∙ ap verdict_of c.in-ToStore.is)
+    plain_stores g.R.Read.remaining c.args.setting.now.options.now c.args.session.now c.args.command did c.requires on (outcome_of c.in-ToStore.field-0, sym does.verdict ∙ ap verdict_of c.in-ToStore.is)
 
 pub returns-in-Done-clause-run : goal.returns-in-Done-clause-run
 returns-in-Done-clause-run g c =

@@ -1,5 +1,6 @@
 //! The calls that may be refused memory, while none is.
-use memory_calls::{Outcome, commands, files, links, programs, script_steps, sessions};
+use crate::outcome::Outcome;
+use crate::{commands, files, links, programs, script_steps, sessions};
 
 #[test]
 fn memory_refused_reading(rt: HostRuntime) {

@@ -5,7 +5,7 @@ use v7tools::CliFault;
 
 /// How a call ended.
 #[derive(Clone, Copy, Debug, PartialEq, Eq)]
-pub enum Outcome {
+pub(crate) enum Outcome {
     /// It did what it should.
     Done,
     /// It was refused memory, said so, and left things as it should.
@@ -18,7 +18,7 @@ pub enum Outcome {
 
 impl Outcome {
     /// The end of a call that was not refused memory.
-    pub fn done(is_right: bool) -> Outcome {
+    pub(crate) fn done(is_right: bool) -> Outcome {
         if is_right {
             Outcome::Done
         } else {
@@ -35,7 +35,7 @@ impl Outcome {
     }
 
     /// The end of a call that was refused memory.
-    pub fn refused(is_right: bool) -> Outcome {
+    pub(crate) fn refused(is_right: bool) -> Outcome {
         if is_right {
             Outcome::Refused
         } else {

@@ -4,7 +4,7 @@ use aout_core::samples::{D_O, S_O, TestReader, TestWriter};
 use aout_core::{File, Wire};
 use fixtures::words;
 use std::alloc::Global;
-use v7tools::{BlockWriter, Office, Stored, perform};
+use v7tools::{BlockWriter, Office, Outputs, Stored, perform};
 
 /// An office of two files, which stores none.
 #[derive(Drop)]
@@ -38,10 +38,12 @@ const NO_MEMORY: [u8; 14] = *b"v7: no memory\n";
 
 /// Runs the program with these words, and returns its status.
 fn run(alloc: Global, words: Vec<String>, device: &mut TestWriter, told: &mut [u8]) -> u8 {
-    let mut output = Wire::new(BlockWriter::new(device));
-    let mut error = Wire::new(told);
+    let mut outputs = Outputs {
+        output: Wire::new(BlockWriter::new(device)),
+        error: Wire::new(told),
+    };
     let script = TestReader::whole(b"");
-    perform(alloc, &mut TwoFiles, script, &mut output, &mut error, words)
+    perform(alloc, &mut TwoFiles, script, &mut outputs, words)
 }
 
 /// How a list of two files ended, by the status, what the device has and what was told. Where memory runs out for the
@@ -60,7 +62,7 @@ fn listed(status: u8, taken: &[u8], told: &[u8; 14]) -> Outcome {
 }
 
 /// Two files are listed by the program; refused memory for the second list, the first has reached the device.
-pub fn listing_behind(alloc: Global) -> Outcome {
+pub(crate) fn listing_behind(alloc: Global) -> Outcome {
     let (Ok(words), Ok(taken)) = (
         words(alloc, &["nm", "s.o", "d.o"]),
         Vec::with_capacity(alloc, 128),
