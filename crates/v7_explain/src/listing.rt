@@ -1,8 +1,8 @@
 //! The listing of a file, in the form that examples/object.sh reads.
 use crate::places::{Places, Segments};
 use crate::text::shown;
-use crate::words_in::reloc_text;
-use aout_core::{File, Header, Reloc, Symbol, Wire};
+use crate::words_in::{Contents, reloc_text};
+use aout_core::{File, Header, Symbol, Wire};
 use std::alloc::{AllocError, Global};
 use std::fmt::Write;
 use symtools::line;
@@ -57,12 +57,15 @@ pub(crate) fn put_header(text: &mut String, header: &Header) -> Result<(), Alloc
 fn put_words(
     alloc: Global,
     text: &mut String,
-    start: u32,
-    words: &[u16],
-    relocs: &[Reloc],
+    contents: Contents<'_>,
     symbols: &[Symbol],
 ) -> Result<(), AllocError> {
-    let mut address = (start % 65536) as u16;
+    let Contents {
+        start,
+        words,
+        relocs,
+    } = contents;
+    let mut address = start;
     for (word, reloc) in words.iter().zip(relocs.iter()) {
         let word = *word;
         let reloc = *reloc;
@@ -75,8 +78,8 @@ fn put_words(
 }
 
 /// Words of a file without relocation.
-fn put_plain_words(text: &mut String, start: u32, words: &[u16]) -> Result<(), AllocError> {
-    let mut address = (start % 65536) as u16;
+fn put_plain_words(text: &mut String, start: u16, words: &[u16]) -> Result<(), AllocError> {
+    let mut address = start;
     for word in words {
         let word = *word;
         write!(text, "{address:06o}  {word:06o}\n")?;
@@ -121,14 +124,12 @@ fn put_segment(
     alloc: Global,
     text: &mut String,
     file: &File,
-    start: u32,
-    words: &[u16],
-    relocs: &[Reloc],
+    contents: Contents<'_>,
 ) -> Result<(), AllocError> {
     if file.header().flag == 0 {
-        put_words(alloc, text, start, words, relocs, file.symbols())
+        put_words(alloc, text, contents, file.symbols())
     } else {
-        put_plain_words(text, start, words)
+        put_plain_words(text, contents.start, contents.words)
     }
 }
 
@@ -138,17 +139,19 @@ pub(crate) fn put_listing(alloc: Global, text: &mut String, file: &File) -> Resu
     let segments = Segments::of(header);
     put_header(text, header)?;
     text.push_str("text\n")?;
-    put_segment(alloc, text, file, 0, file.text_words(), file.text_reloc())?;
+    let contents = Contents {
+        start: 0,
+        words: file.text_words(),
+        relocs: file.text_reloc(),
+    };
+    put_segment(alloc, text, file, contents)?;
     text.push_str("data\n")?;
-    let start = segments.data.start;
-    put_segment(
-        alloc,
-        text,
-        file,
-        start,
-        file.data_words(),
-        file.data_reloc(),
-    )?;
+    let contents = Contents {
+        start: (segments.data.start % 65536) as u16,
+        words: file.data_words(),
+        relocs: file.data_reloc(),
+    };
+    put_segment(alloc, text, file, contents)?;
     write!(text, "bss {:o}\n", header.bss_size)?;
     if header.entry_point != 0 {
         write!(text, "entry {:06o}\n", header.entry_point)?;

@@ -190,21 +190,14 @@ fn put_map(
 }
 
 /// Tells a map, and its status.
-fn tell_all<'x>(
+fn tell_all(
     alloc: Global,
     told: &mut Told,
-    session: &'x Session,
+    names: &Names<'_>,
     options: &Options,
-    gathered: &'x Gathered,
-    outcome: Option<&'x Outcome>,
 ) -> Result<(), AllocError> {
-    let names = Names {
-        gathered,
-        session,
-        outcome,
-    };
-    put_map(alloc, &mut told.text, &names, options)?;
-    told.status = status_of(outcome);
+    put_map(alloc, &mut told.text, names, options)?;
+    told.status = status_of(names.outcome);
     Ok(())
 }
 
@@ -216,11 +209,20 @@ fn tell_map(
     options: &Options,
     gathered: &Gathered,
 ) -> Result<(), AllocError> {
+    let names = Names {
+        gathered,
+        session,
+        outcome: None,
+    };
     if gathered.refused.is_some() {
-        return tell_all(alloc, told, session, options, gathered, None);
+        return tell_all(alloc, told, &names, options);
     }
     let outcome = outcome_of(alloc, session, options)?;
-    tell_all(alloc, told, session, options, gathered, Some(&outcome))
+    let names = Names {
+        outcome: Some(&outcome),
+        ..names
+    };
+    tell_all(alloc, told, &names, options)
 }
 
 /// Tells the map of the link that a call of `ld` asks for.

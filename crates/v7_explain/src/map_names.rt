@@ -62,15 +62,42 @@ fn item(alloc: Global, members: &[Member], used: &Use, what: Says) -> Result<Str
     }
 }
 
-/// Adds a list of the objects whose symbols say this.
+/// A list of objects: what stands before it, and what their symbols say.
+#[derive(Clone, Copy)]
+struct List {
+    label: &'static str,
+    what: Says,
+}
+
+const DEFINED: List = List {
+    label: "defined in",
+    what: Says::Defines,
+};
+
+const AGAIN: List = List {
+    label: "again in",
+    what: Says::Defines,
+};
+
+const COMMON: List = List {
+    label: "common in",
+    what: Says::WantsCommon,
+};
+
+const USED: List = List {
+    label: "used in",
+    what: Says::Mentions,
+};
+
+/// Adds a list of the objects among the uses.
 fn put_list(
     alloc: Global,
     text: &mut String,
     members: &[Member],
     uses: &[Use],
-    label: &str,
-    what: Says,
+    list: List,
 ) -> Result<(), AllocError> {
+    let List { label, what } = list;
     let mut column = 0;
     for used in uses {
         if is_said(used, what) {
@@ -171,10 +198,10 @@ fn put_known(
     let members = names.gathered.members.as_slice();
     let (front, behind) = at_definition(uses);
     put_line(alloc, text, names, &symbol)?;
-    put_list(alloc, text, members, front, "defined in", Says::Defines)?;
-    put_list(alloc, text, members, behind, "again in", Says::Defines)?;
-    put_list(alloc, text, members, uses, "common in", Says::WantsCommon)?;
-    put_list(alloc, text, members, uses, "used in", Says::Mentions)
+    put_list(alloc, text, members, front, DEFINED)?;
+    put_list(alloc, text, members, behind, AGAIN)?;
+    put_list(alloc, text, members, uses, COMMON)?;
+    put_list(alloc, text, members, uses, USED)
 }
 
 /// Which names a part of the map has.

@@ -2,7 +2,7 @@
 use crate::finding::{Finding, find};
 use crate::places::{Places, Range, Segments};
 use crate::text::shown;
-use crate::words_in::{is_wanted, meant};
+use crate::words_in::{Contents, is_wanted, meant};
 use aout_core::{File, Header, Kind, Reloc, Segment, Symbol};
 use std::alloc::{AllocError, Global};
 
@@ -26,14 +26,25 @@ fn segment_meant(segments: &Segments, reloc: Reloc) -> Option<(&'static str, Ran
     }
 }
 
+/// A symbol, the place of its entry in the file, and what a finding calls it.
+#[derive(Clone, Copy)]
+struct Titled<'a> {
+    symbol: &'a Symbol,
+    place: usize,
+    title: &'a str,
+}
+
 /// Adds a common, and that its size is odd.
 fn find_common(
     alloc: Global,
     findings: &mut Vec<Finding>,
-    place: usize,
-    title: &str,
-    symbol: &Symbol,
+    at: Titled<'_>,
 ) -> Result<(), AllocError> {
+    let Titled {
+        symbol,
+        place,
+        title,
+    } = at;
     if !is_wanted(symbol) || symbol.value == 0 {
         return Ok(());
     }
@@ -53,11 +64,14 @@ fn find_common(
 fn find_value(
     alloc: Global,
     findings: &mut Vec<Finding>,
-    place: usize,
-    title: &str,
-    symbol: &Symbol,
+    at: Titled<'_>,
     segments: &Segments,
 ) -> Result<(), AllocError> {
+    let Titled {
+        symbol,
+        place,
+        title,
+    } = at;
     let Some((name, range)) = segment_of(segments, symbol) else {
         return Ok(());
     };
@@ -77,10 +91,13 @@ fn find_value(
 fn find_type_bits(
     alloc: Global,
     findings: &mut Vec<Finding>,
-    place: usize,
-    title: &str,
-    symbol: &Symbol,
+    at: Titled<'_>,
 ) -> Result<(), AllocError> {
+    let Titled {
+        symbol,
+        place,
+        title,
+    } = at;
     let bits = symbol.type_bits;
     if bits < 0o100 {
         return Ok(());
@@ -100,10 +117,13 @@ fn prints(name: &[u8]) -> bool {
 fn find_name_bytes(
     alloc: Global,
     findings: &mut Vec<Finding>,
-    place: usize,
-    title: &str,
-    symbol: &Symbol,
+    at: Titled<'_>,
 ) -> Result<(), AllocError> {
+    let Titled {
+        symbol,
+        place,
+        title,
+    } = at;
     let name = symbol.name.as_bytes();
     if name.is_empty() {
         let text = format!(in alloc; "{title} has an empty name")?;
@@ -137,12 +157,15 @@ fn alike(symbols: &[Symbol], number: usize, symbol: &Symbol) -> Option<usize> {
 fn find_alike(
     alloc: Global,
     findings: &mut Vec<Finding>,
-    place: usize,
-    title: &str,
+    at: Titled<'_>,
     symbols: &[Symbol],
     number: usize,
-    symbol: &Symbol,
 ) -> Result<(), AllocError> {
+    let Titled {
+        symbol,
+        place,
+        title,
+    } = at;
     let Some(first) = alike(symbols, number, symbol) else {
         return Ok(());
     };
@@ -152,57 +175,72 @@ fn find_alike(
     find(findings, place, text)
 }
 
+/// A file, and the bytes that it was read from.
+#[derive(Clone, Copy)]
+struct Source<'a> {
+    bytes: &'a [u8],
+    file: &'a File,
+}
+
 /// Adds what is odd of a symbol.
 fn find_symbol(
     alloc: Global,
     findings: &mut Vec<Finding>,
-    bytes: &[u8],
-    file: &File,
+    source: Source<'_>,
     number: usize,
     symbol: &Symbol,
 ) -> Result<(), AllocError> {
+    let Source { bytes, file } = source;
     let place = Places::of(file.header()).symbol(number);
     let segments = Segments::of(file.header());
     let name = shown(alloc, symbol.name.as_bytes())?;
     let title = format!(in alloc; "symbol {number} {name}")?;
     let title = title.as_str();
-    find_name_bytes(alloc, findings, place, title, symbol)?;
+    let at = Titled {
+        symbol,
+        place,
+        title,
+    };
+    find_name_bytes(alloc, findings, at)?;
     if has_rest(bytes, place, symbol) {
         let text = format!(in alloc;
             "{title} has bytes behind the NUL of its name, which are ignored"
         )?;
         find(findings, place, text)?;
     }
-    find_alike(
-        alloc,
-        findings,
-        place,
-        title,
-        file.symbols(),
-        number,
-        symbol,
-    )?;
-    find_type_bits(alloc, findings, place, title, symbol)?;
-    find_common(alloc, findings, place, title, symbol)?;
-    find_value(alloc, findings, place, title, symbol, &segments)
+    find_alike(alloc, findings, at, file.symbols(), number)?;
+    find_type_bits(alloc, findings, at)?;
+    find_common(alloc, findings, at)?;
+    find_value(alloc, findings, at, &segments)
 }
 
-/// Adds what is odd of a word with a relocation word.
-fn find_word(
-    alloc: Global,
-    findings: &mut Vec<Finding>,
-    places: usize,
-    segments: &Segments,
+/// A word at an address, and its relocation word.
+#[derive(Clone, Copy)]
+struct Relocated {
     address: u16,
     word: u16,
     reloc: Reloc,
+}
+
+/// Adds what is odd of a word, whose relocation word stands at a place of the file.
+fn find_word(
+    alloc: Global,
+    findings: &mut Vec<Finding>,
+    place: usize,
+    segments: &Segments,
+    at: Relocated,
 ) -> Result<(), AllocError> {
+    let Relocated {
+        address,
+        word,
+        reloc,
+    } = at;
     let bits = reloc.0;
     if bits >= 0o20 && reloc.kind().is_some() && reloc.kind() != Some(Kind::External) {
         let text = format!(in alloc;
             "relocation word {bits:06o} of the word at {address:06o}: bits above 17 are ignored"
         )?;
-        find(findings, places, text)?;
+        find(findings, place, text)?;
     }
     let Some((name, range)) = segment_meant(segments, reloc) else {
         return Ok(());
@@ -216,24 +254,32 @@ fn find_word(
     let text = format!(in alloc;
         "the word at {address:06o} is of kind {name} and refers to {target:06o}; {name} lies from {start:06o} to {end:06o}"
     )?;
-    find(findings, places, text)
+    find(findings, place, text)
 }
 
-/// Adds what is odd of words, the first of which has this index and this address.
+/// Adds what is odd of the words of a segment.
 fn find_words(
     alloc: Global,
     findings: &mut Vec<Finding>,
     header: &Header,
-    start: u16,
-    words: &[u16],
-    relocs: &[Reloc],
+    contents: Contents<'_>,
 ) -> Result<(), AllocError> {
+    let Contents {
+        start,
+        words,
+        relocs,
+    } = contents;
     let places = Places::of(header);
     let segments = Segments::of(header);
     let mut address = start;
     for (word, reloc) in words.iter().zip(relocs.iter()) {
         let place = places.relocation.saturating_add(usize::from(address));
-        find_word(alloc, findings, place, &segments, address, *word, *reloc)?;
+        let at = Relocated {
+            address,
+            word: *word,
+            reloc: *reloc,
+        };
+        find_word(alloc, findings, place, &segments, at)?;
         address = address.wrapping_add(2);
     }
     Ok(())
@@ -272,19 +318,21 @@ pub(crate) fn odd_of(alloc: Global, bytes: &[u8], file: &File) -> Result<Vec<Fin
     let mut findings = Vec::new(alloc);
     let header = file.header();
     find_ignored(alloc, &mut findings, bytes, header)?;
-    let text = (file.text_words(), file.text_reloc());
-    find_words(alloc, &mut findings, header, 0, text.0, text.1)?;
-    let data = (file.data_words(), file.data_reloc());
-    find_words(
-        alloc,
-        &mut findings,
-        header,
-        header.text_size,
-        data.0,
-        data.1,
-    )?;
+    let text = Contents {
+        start: 0,
+        words: file.text_words(),
+        relocs: file.text_reloc(),
+    };
+    find_words(alloc, &mut findings, header, text)?;
+    let data = Contents {
+        start: header.text_size,
+        words: file.data_words(),
+        relocs: file.data_reloc(),
+    };
+    find_words(alloc, &mut findings, header, data)?;
+    let source = Source { bytes, file };
     for (number, symbol) in file.symbols().iter().enumerate() {
-        find_symbol(alloc, &mut findings, bytes, file, number, symbol)?;
+        find_symbol(alloc, &mut findings, source, number, symbol)?;
     }
     Ok(findings)
 }

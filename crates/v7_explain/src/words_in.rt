@@ -4,6 +4,14 @@ use aout_core::{Kind, Reloc, Segment, Symbol};
 use std::alloc::{AllocError, Global};
 use std::fmt::Write;
 
+/// The words of a segment, of which the first has this address, and their relocation words.
+#[derive(Clone, Copy)]
+pub(crate) struct Contents<'a> {
+    pub(crate) start: u16,
+    pub(crate) words: &'a [u16],
+    pub(crate) relocs: &'a [Reloc],
+}
+
 /// Whether a word may refer to a symbol: it is external and undefined, or a common.
 pub(crate) fn is_wanted(symbol: &Symbol) -> bool {
     symbol.is_external() && symbol.segment() == Segment::Undefined
