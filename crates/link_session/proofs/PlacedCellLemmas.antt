@@ -1,6 +1,6 @@
 -- The cells of an object by the places of its symbols: they are those by the names.
-use Rattle.std.proofs.Common.{◌≡◌, ℕ, ◌+◌, Bool, true, false, cond, List, [], ◌∷◌, ◌++◌, map, Option, Some, None, refl, ◌∙◌, ap}
-use Rattle.std.specs.Prelude.{zip, slice_get, slice_index_or, ⊤}
+use Rattle.std.proofs.Common.{◌≡◌, ℕ, ◌+◌, Bool, true, false, cond, List, [], ◌∷◌, ◌++◌, Option, Some, None, refl, ◌∙◌, ap}
+use Rattle.std.specs.Prelude.{slice_get, ⊤}
 use Rattle.std.specs.List.{AllByRecursion}
 use Rattle.aout_core.specs.declared.symbol.Symbol.{Symbol}
 use Rattle.aout_core.specs.declared.reloc.Reloc.{Reloc}
@@ -13,9 +13,9 @@ use Rattle.aout_core.specs.WellFormed.{kind_of, symbol_number, is_pc_relative, i
 use Rattle.link_session.specs.declared.cell.Cell.{Cell}
 use Rattle.link_session.specs.declared.cell.Target.{Target}
 use Rattle.link_session.specs.declared.relocate.Shifts.{Shifts}
-use Rattle.link_session.specs.Cells.{name_target, offset_in, name_in, if_pc}
+use Rattle.link_session.specs.Cells.{name_target, offset_in, if_pc}
 use Rattle.link_session.specs.Image.{Named, state_at}
-use Rattle.link_session.specs.internal.Additions.{place_in, reference, own_cell, own_cells, no_place, all_places, placed_reference, placed_cell, placed_cells}
+use Rattle.link_session.specs.internal.Additions.{reference, own_cell, own_cells, all_places, placed_reference, placed_cell, placed_cells}
 use Rattle.link_session.proofs.ListLemmas.{all_split}
 use Rattle.link_session.proofs.PlacedLemmas.{wanted_place}
 use Rattle.link_session.proofs.WellFormedLemmas.{first_of_none, well_formed_parts}

@@ -1,5 +1,5 @@
 -- The places of an object's symbols among the names.
-use Rattle.std.proofs.Common.{◌≡◌, ℕ, zero, suc, ◌+◌, ◌≤◌, Bool, true, false, cond, ◌&&◌, ◌||◌, eqb, List, [], ◌∷◌, ◌++◌, length, map, None, Option, Some, refl, sym, ◌∙◌, ap, arith}
+use Rattle.std.proofs.Common.{◌≡◌, ℕ, zero, suc, ◌+◌, ◌≤◌, Bool, true, false, cond, ◌&&◌, ◌||◌, eqb, List, [], ◌∷◌, ◌++◌, length, map, refl, sym, ◌∙◌, ap, arith}
 use Rattle.std.specs.Prelude.{bytes_eq, filter, slice_get, slice_index_or}
 use Rattle.std.specs.Map.{keys_of}
 use Rattle.std.proofs.lemmas.Bool.{or_left, or_right}
@@ -12,7 +12,7 @@ use Rattle.link_session.specs.declared.state.State.TheVariants.{Wanted}
 use Rattle.link_session.specs.Mentions.{Mention, is_among, place_of}
 use Rattle.link_session.specs.Cells.{name_in}
 use Rattle.link_session.specs.Image.{Named, state_at}
-use Rattle.link_session.specs.internal.Additions.{place_in, with_mention, with_mentions, mention_by, mentions_by, no_place, place_by, all_places}
+use Rattle.link_session.specs.internal.Additions.{place_in, with_mention, with_mentions, mention_by, mentions_by, no_place, all_places}
 use Rattle.link_session.specs.internal.Chains.{Link}
 use Rattle.link_session.specs.internal.Settled.{settled_at, settled_over, places_of}
 use Rattle.link_session.specs.internal.Threads.{cut_by_state, cut_heads}

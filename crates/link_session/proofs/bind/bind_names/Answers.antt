@@ -1,10 +1,8 @@
-use Rattle.std.proofs.Common.{get_or, ℕ, ◌≡◌, ◌+◌, ◌∷◌, [], List, map, drop, ap, sym, ◌∙◌, subst, arith, rules}
+use Rattle.std.proofs.Common.{get_or, ℕ, ◌≡◌, ◌+◌, ◌∷◌, [], List, map, drop, ap, sym, ◌∙◌, arith}
 use Rattle.std.proofs.lemmas.List.{drop_more, drop_all}
 use Rattle.link_session.specs.declared.cell.Cell.{Cell}
-use Rattle.link_session.specs.Image.{state_at}
-use Rattle.link_session.specs.internal.Restores.{LeavesMarks}
-use Rattle.link_session.specs.internal.Settled.{settled_at, settled_over}
-use Rattle.link_session.specs.internal.Threads.{cut_by_state, cut_heads}
+use Rattle.link_session.specs.internal.Settled.{settled_over}
+use Rattle.link_session.specs.internal.Threads.{cut_heads}
 use Rattle.link_session.proofs.FewLemmas.{noted_then}
 use Rattle.link_session.proofs.NamesLemmas.{all_one, none_left, leaves_then}
 use Rattle.link_session.proofs.bind.bind_names.Goals as goal
