@@ -15,7 +15,7 @@ use Rattle.aout_core.specs.Contents.{Contents}
 use Rattle.aout_core.specs.Words.{plus, minus}
 use Rattle.aout_core.specs.WellFormed.{is_external, masked_type, kind_of, is_pc_relative, symbol_number}
 use Rattle.link_session.specs.Starts.{total, own}
-use Rattle.link_session.specs.Cells.{segment_words, segment_relocs}
+use Rattle.link_session.specs.Cells.{segment_words}
 
 -- where data begins in core, as the magic says
 abbrev pub data_base_in : Header → ℕ
