@@ -190,14 +190,21 @@ fn put_map(
 }
 
 /// Tells a map, and its status.
-fn tell_all(
+fn tell_all<'x>(
     alloc: Global,
     told: &mut Told,
-    names: &Names<'_>,
+    session: &'x Session,
     options: &Options,
+    gathered: &'x Gathered,
+    outcome: Option<&'x Outcome>,
 ) -> Result<(), AllocError> {
-    put_map(alloc, &mut told.text, names, options)?;
-    told.status = status_of(names.outcome);
+    let names = Names {
+        gathered,
+        session,
+        outcome,
+    };
+    put_map(alloc, &mut told.text, &names, options)?;
+    told.status = status_of(outcome);
     Ok(())
 }
 
@@ -209,20 +216,11 @@ fn tell_map(
     options: &Options,
     gathered: &Gathered,
 ) -> Result<(), AllocError> {
-    let names = Names {
-        gathered,
-        session,
-        outcome: None,
-    };
     if gathered.refused.is_some() {
-        return tell_all(alloc, told, &names, options);
+        return tell_all(alloc, told, session, options, gathered, None);
     }
     let outcome = outcome_of(alloc, session, options)?;
-    let names = Names {
-        outcome: Some(&outcome),
-        ..names
-    };
-    tell_all(alloc, told, &names, options)
+    tell_all(alloc, told, session, options, gathered, Some(&outcome))
 }
 
 /// Tells the map of the link that a call of `ld` asks for.
