@@ -162,7 +162,7 @@ fn reference(scope: &Scope<'_>, reloc: Reloc) -> (u16, Target)
     }
 }
 
-/// The cell of a word in a segment that moves by this shift.
+/// The cell of a word in a segment that has this shift.
 fn own_cell(scope: &Scope<'_>, own_shift: u16, word: u16, reloc: Reloc) -> Cell
     ensures { result ≡ placed_cell scope.now.externals.now.entries scope.now.places.now scope.now.shifts own_shift word reloc }
 {

@@ -8,7 +8,7 @@ use Rattle.link_session.specs.Starts.{shift_by}
 use Rattle.link_session.specs.internal.Additions.{placed_cells, place_at}
 use Rattle.link_session.specs.internal.Chains.{Link, threaded}
 
--- the cells of these words of a segment that moves by so much
+-- the cells of these words of a segment with this shift
 abbrev pub cells_moved : Scope → ℕ → List ℕ → List Reloc → List Cell
 cells_moved scope own_shift words relocs = placed_cells scope.externals.now.entries scope.places.now scope.shifts own_shift words relocs
 
