@@ -47,6 +47,19 @@ def functions(crate):
     return sum(len(re.findall(r"^ *(?:pub(?:\(crate\))? )?fn ", read(f"{folder}/{file}"), re.M)) for file in os.listdir(folder))
 
 
+def longest_chain(libraries):
+    """The libraries that wait longest, each for the one before it, by their functions."""
+    length, last = {None: 0}, {}
+    for crate, uses in libraries.items():
+        last[crate] = max(uses, key=length.get, default=None)
+        length[crate] = length[last[crate]] + functions(crate)
+    chain, crate = [], max(libraries, key=length.get)
+    while crate:
+        chain.append(crate)
+        crate = last[crate]
+    return chain
+
+
 def link_or_copy(source, target):
     """Gives a file a second name where nothing writes into it, and else copies it."""
     try:
@@ -65,7 +78,10 @@ def bring(source, target):
 
 
 def proved(crate, libraries, lanes, copies):
-    """Waits for what a library uses, and proves and builds it in a copy. Whether it could."""
+    """Waits for what a library uses, and proves and builds it in a copy. Whether it could.
+
+    The libraries beside the longest chain take what processors it leaves.
+    """
     if not all([lanes[other].result() for other in libraries[crate]]):
         return False
     copy = f"{copies}/{crate}"
@@ -78,7 +94,8 @@ def proved(crate, libraries, lanes, copies):
     bring(f"crates/{crate}/out", f"{copy}/crates/{crate}/out")
     print(f"{crate}: proving {functions(crate)} functions", flush=True)
     begun = time.monotonic()
-    run = subprocess.run(["rt", "lib"], cwd=f"{copy}/crates/{crate}", stdout=subprocess.PIPE, stderr=subprocess.STDOUT)
+    words = ["rt", "lib"] if crate in longest_chain(libraries) else ["nice", "-n", "19", "rt", "lib"]
+    run = subprocess.run(words, cwd=f"{copy}/crates/{crate}", stdout=subprocess.PIPE, stderr=subprocess.STDOUT)
     bring(f"{copy}/crates/{crate}/out", f"crates/{crate}/out")
     if run.returncode:
         sys.stdout.buffer.write(run.stdout)
