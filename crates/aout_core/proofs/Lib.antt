@@ -6,6 +6,7 @@ pub mod NameLemmas
 pub mod WordFaultLemmas
 pub mod PutsLemmas
 pub mod SymbolLemmas
+pub mod SegmentLemmas
 pub mod FilePutLemmas
 pub mod BodyLemmas
 pub mod ReadLemmas

@@ -59,7 +59,7 @@ module _ {W E : Type 0} (contents : W → Option (List ℕ)) (r : Run W E) (stat
     all = answer.all;
     answer = answer.link.over;
     asked = events_asked r.earlier r.events _ asked;
-    report = reports.bytes;
+    report = reports.writes.bytes;
     status = is ∙ reports.status;
   }
   by_stored forced o output paths made NotCreated found answer asked reports = absurd (no_fault status _ reports.0)

@@ -154,9 +154,9 @@ small_type (Some DataSeg) = omega arith
 small_type (Some BssSeg) = omega arith
 small_type (Some Other) = omega arith
 
-module _ (p : Plan) (ends : AreEnds p.at) (small : AllByRecursion IsSmall p.said) where
+module _ (p : Plan) (ends : AreEnds p.at) (small : AllByRecursion IsSmall p.mentions) where
   final_is_small : (name : List ℕ) → IsFinal (final p name)
-  final_is_small name = final_small p.choices p.at (common_offset p.said name) name (first_definition p.said name) (wanted_size p.said name) ends (small_size p.said name small)
+  final_is_small name = final_small p.choices p.at (common_offset p.mentions name) name (first_definition p.mentions name) (wanted_size p.mentions name) ends (small_size p.mentions name small)
 
   external_sound : (name : List ℕ) → IsName name → IsSymbol (external_row p name)
   external_sound name h = record { name = h; type_bits = small_type (final p name).bound; value = (final_is_small name).written }
@@ -187,7 +187,7 @@ module _ (p : Plan) (ends : AreEnds p.at) (small : AllByRecursion IsSmall p.said
   table_sound os sound =
       kept_sound p.choices.keep (local_rows p os ++ external_rows p)
       (all_append IsSymbol (local_rows p os) (external_rows p) (locals_sound os sound)
-      (all_images IsName IsSymbol (external_row p) external_sound (names_by_first_mention p.said) (names_mentioned p.said small)))
+      (all_images IsName IsSymbol (external_row p) external_sound (names_by_first_mention p.mentions) (names_mentioned p.mentions small)))
 
   entry_small : (entry : Option (List ℕ)) → entry_word p entry < 65536
   entry_small None = omega arith
@@ -296,7 +296,7 @@ linked_sound forced os o x names sound well text linked =
     rows : length (table p os) ≤ 5461
     rows = ltb-false 5461 (length (table p os)) m.few
 
-    small : AllByRecursion IsSmall p.said
+    small : AllByRecursion IsSmall p.mentions
     small = small_mentions forced os names sound
 
     ends : AreEnds p.at

@@ -94,7 +94,7 @@ module _ (words : List (List ℕ)) (disk : Disk) (found : List Opened) (out : St
               found = found;
               answer = record { all = all; link = record { over = record { kept = kept; taken = taken; link = is }; bytes = bytes } };
               asked = refl;
-              reports = record { status = refl; write_failed = tt; fault = ((λ e. e), (λ e. e)); bytes = refl };
+              reports = record { status = refl; write_failed = tt; writes = record { fault = ((λ e. e), (λ e. e)); latched = λ failed. absurd (cc); bytes = refl } };
             })));
           }),
           (refl, refl),

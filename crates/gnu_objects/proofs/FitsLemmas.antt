@@ -1,5 +1,5 @@
 -- The parts of a converted object fit its header.
-use Rattle.std.proofs.Common.{◌≡◌, ℕ, ◌+◌, ◌*◌, ◌/◌, ◌%◌, ◌≤◌, ◌&&◌, ◌==◌, Bool, true, false, IsTrue, if◌then◌else◌, List, map, take, drop, length, replicate, refl, sym, ap, ◌∙◌, subst, arith}
+use Rattle.std.proofs.Common.{◌≡◌, ℕ, ◌+◌, ◌*◌, ◌/◌, ◌%◌, ◌&&◌, ◌==◌, Bool, true, false, IsTrue, if◌then◌else◌, List, take, drop, length, replicate, refl, sym, ap, subst, arith}
 use Rattle.std.proofs.lemmas.List.{length-map, length-take, length-drop, length-replicate}
 use Rattle.std.proofs.lemmas.List.FromFn.{length-map-range_with_len}
 use Rattle.aout_core.specs.declared.header.Header.{Header}

@@ -2,7 +2,7 @@
 --
 -- First the header and the sizes are looked at, then the strings, each symbol, how many stay, names that are equal in eight bytes,
 -- and last the relocation words.
-use Rattle.std.specs.Prelude.{ℕ, ◌+◌, ◌*◌, ◌/◌, ◌%◌, Bool, true, false, ◌&&◌, ◌||◌, ◌==◌, not, nat_eq, nat_lt, nat_le, if◌then◌else◌, List, [], ◌∷◌, take, length, slice_get, Option, Some, None}
+use Rattle.std.specs.Prelude.{ℕ, ◌+◌, ◌/◌, ◌%◌, Bool, false, ◌&&◌, ◌||◌, ◌==◌, not, nat_eq, nat_lt, nat_le, if◌then◌else◌, List, [], ◌∷◌, take, length, slice_get, Option, Some, None}
 use Rattle.std.specs.Cmp.Lexicographic.{pointwise}
 use Rattle.aout_core.specs.declared.header.Header.{Header}
 use Rattle.aout_core.specs.Encoding.{file_length}

@@ -93,20 +93,31 @@ fn converted_symbols(
         .collect(alloc)
 }
 
+/// The strings, symbols and relocation words of an object.
+#[derive(Clone, Copy)]
+struct Tables<'a> {
+    strings: &'a [u8],
+    symbols: &'a [GnuSymbol],
+    words: &'a [u16],
+}
+
 /// The parts of the converted object.
 fn parts_with(
     alloc: Global,
     bytes: &[u8],
     header: &Header,
-    strings: &[u8],
-    symbols: &[GnuSymbol],
-    words: &[u16],
+    tables: &Tables<'_>,
 ) -> Result<Parts, AllocError>
     requires whole { file_length header.now ≤ length bytes.now }
-    requires few { length (kept strings.now symbols.now) ≤ 5461 }
-    requires words { length words.now ≡ header.now.text_size / 2 + header.now.data_size / 2 }
-    ensures { IfOk result (λ parts. contents_of parts ≡ contents_with bytes.now header.now strings.now symbols.now words.now) }
+    requires few { length (kept tables.now.strings.now tables.now.symbols.now) ≤ 5461 }
+    requires words { length tables.now.words.now ≡ header.now.text_size / 2 + header.now.data_size / 2 }
+    ensures { IfOk result (λ parts. contents_of parts ≡ contents_with bytes.now header.now tables.now.strings.now tables.now.symbols.now tables.now.words.now) }
 {
+    let Tables {
+        strings,
+        symbols,
+        words,
+    } = *tables;
     let text = usize::from(header.text_size / 2);
     let data = usize::from(header.data_size / 2);
     let data_start = 16 + usize::from(header.text_size);
@@ -149,7 +160,12 @@ fn convert_with(
     if let Some(refusal) = table_refusal(strings, drops, &symbols, &words) {
         return Err(refusal);
     }
-    let parts = parts_with(alloc, bytes, header, strings, &symbols, &words)?;
+    let tables = Tables {
+        strings,
+        symbols: &symbols,
+        words: &words,
+    };
+    let parts = parts_with(alloc, bytes, header, &tables)?;
     object_of(File::from_parts(parts))
 }
 

@@ -31,13 +31,10 @@ pub(crate) fn kept_count(strings: &[u8], symbols: &[GnuSymbol]) -> usize
     ensures value { result ≡ length (kept strings.now symbols.now) }
     ensures bound { result ≤ length symbols.now }
 {
-    let mut count = 0;
-    for symbol in symbols {
-        if !is_stab(strings, symbol) {
-            count += 1;
-        }
-    }
-    count
+    symbols
+        .iter()
+        .filter(|symbol| !is_stab(strings, symbol))
+        .count()
 }
 
 /// A relocation word, an external by its number among the symbols that stay.

@@ -20,6 +20,14 @@ pub(crate) struct Given {
     pub(crate) data: Vec<usize>,
 }
 
+/// The objects of a page, and how much of them is shown.
+#[derive(Clone, Copy)]
+pub(crate) struct Choice<'a> {
+    pub(crate) givens: &'a [Given],
+    /// How many words of a segment, and how many names and symbols, at most.
+    pub(crate) most: usize,
+}
+
 /// The object at a path, none of whose words is shown yet.
 pub(crate) fn given_at(rt: &HostRuntime, path: String) -> Result<Given> {
     let alloc = rt.alloc();
@@ -101,19 +109,25 @@ fn put_object_word(
     put_word(out, place_meant(word, pc, offset))
 }
 
+/// A segment of an object, where it begins there, and which of its words are shown.
+#[derive(Clone, Copy)]
+struct Part<'a> {
+    words: &'a [u16],
+    relocs: &'a [Reloc],
+    start: u16,
+    shown: &'a [usize],
+}
+
 /// Adds the words of a segment that are shown, as a list.
 fn put_object_words(
     out: &mut String,
     symbols: &[Symbol],
-    words: &[u16],
-    relocs: &[Reloc],
-    start: u16,
-    shown: &[usize],
+    part: &Part<'_>,
 ) -> Result<(), AllocError> {
     begin(out, '[')?;
-    for index in shown {
-        if let (Some(word), Some(reloc)) = (words.get(*index), relocs.get(*index)) {
-            let offset = offset_of(*index).wrapping_add(start);
+    for index in part.shown {
+        if let (Some(word), Some(reloc)) = (part.words.get(*index), part.relocs.get(*index)) {
+            let offset = offset_of(*index).wrapping_add(part.start);
             put_object_word(out, symbols, offset, *word, *reloc)?;
         }
     }
@@ -139,26 +153,24 @@ fn put_file(
 ) -> Result<(), AllocError> {
     let text_size = file.header().text_size;
     let symbols = file.symbols();
+    let text = Part {
+        words: file.text_words(),
+        relocs: file.text_reloc(),
+        start: 0,
+        shown: &given.text,
+    };
+    let data = Part {
+        words: file.data_words(),
+        relocs: file.data_reloc(),
+        start: text_size,
+        shown: &given.data,
+    };
     put_key(out, "at")?;
     put_numbers(out, &[0, usize::from(text_size)])?;
     put_key(out, "text")?;
-    put_object_words(
-        out,
-        symbols,
-        file.text_words(),
-        file.text_reloc(),
-        0,
-        &given.text,
-    )?;
+    put_object_words(out, symbols, &text)?;
     put_key(out, "data")?;
-    put_object_words(
-        out,
-        symbols,
-        file.data_words(),
-        file.data_reloc(),
-        text_size,
-        &given.data,
-    )?;
+    put_object_words(out, symbols, &data)?;
     put_key(out, "bss")?;
     put_word(out, file.header().bss_size)?;
     put_key(out, "symbols")?;

@@ -1,19 +1,25 @@
 //! The links of a session, as JSON.
 use crate::entries::Fronts;
-use crate::given::{Given, nm_lines, offset_of};
+use crate::given::{Choice, nm_lines, offset_of};
 use crate::json::{begin, put_bytes, put_key, put_null, put_number, put_text, put_word};
 use aout_core::{Segment, Symbol, Wire};
 use link_out::{Bases, Keep, Layout, LinkFault, Linked, Options, Report, finish, link_bases};
 use link_session::{Session, Shifts, Starts};
 use std::alloc::{AllocError, Global};
 
-/// What of a link is shown.
+/// What of a link is shown, and of which objects it is.
 #[derive(Clone, Copy)]
 pub(crate) struct Shown<'a> {
-    pub(crate) givens: &'a [Given],
+    pub(crate) choice: Choice<'a>,
     pub(crate) list: &'a [usize],
-    /// How many names and symbols at most.
-    pub(crate) most: usize,
+}
+
+/// A link that is made: of which session, and where its segments lie.
+#[derive(Clone, Copy)]
+struct Made<'a> {
+    session: &'a Session,
+    bases: &'a Bases,
+    linked: &'a Linked,
 }
 
 /// The links that are shown.
@@ -65,24 +71,23 @@ fn put_moves(out: &mut String, bases: &Bases, shifts: &Shifts) -> Result<(), All
 /// Adds the words of the objects in a linked file.
 fn put_linked_entries(
     out: &mut String,
-    session: &Session,
-    bases: &Bases,
-    linked: &Linked,
+    made: &Made<'_>,
     shown: Shown<'_>,
 ) -> Result<(), AllocError> {
+    let file = &made.linked.file;
     let mut starts = Starts::first();
-    for (entry, object) in session.entries().iter().zip(shown.list) {
+    for (entry, object) in made.session.entries().iter().zip(shown.list) {
         let header = entry.object().file().header();
         let shifts = starts.shifts(header);
-        if let Some(given) = shown.givens.get(*object) {
+        if let Some(given) = shown.choice.givens.get(*object) {
             let fronts = Fronts::of(header, &shifts);
             begin(out, '{')?;
             put_key(out, "moves")?;
-            put_moves(out, bases, &shifts)?;
+            put_moves(out, made.bases, &shifts)?;
             put_key(out, "text")?;
-            put_words(out, linked.file.text_words(), fronts.text, &given.text)?;
+            put_words(out, file.text_words(), fronts.text, &given.text)?;
             put_key(out, "data")?;
-            put_words(out, linked.file.data_words(), fronts.data, &given.data)?;
+            put_words(out, file.data_words(), fronts.data, &given.data)?;
             out.push('}')?;
         }
         starts = starts.behind(header);
@@ -134,35 +139,32 @@ fn put_bases(out: &mut String, bases: &Bases) -> Result<(), AllocError> {
 fn put_table(
     alloc: Global,
     out: &mut String,
-    session: &Session,
-    linked: &Linked,
+    made: &Made<'_>,
     most: usize,
 ) -> Result<(), AllocError> {
-    let symbols = linked.file.symbols();
+    let symbols = made.linked.file.symbols();
     put_key(out, "names")?;
-    put_addresses(out, externals_of(session, symbols, most))?;
+    put_addresses(out, externals_of(made.session, symbols, most))?;
     put_key(out, "table")?;
     put_bytes(out, "", &nm_lines(alloc, symbols, most))?;
     put_key(out, "symbols")?;
     put_number(out, symbols.len() as u64)?;
     put_key(out, "report")?;
-    put_bytes(out, "", &report_lines(alloc, &linked.report))
+    put_bytes(out, "", &report_lines(alloc, &made.linked.report))
 }
 
 /// Adds what is in a link that is made.
 fn put_linked(
     alloc: Global,
     out: &mut String,
-    session: &Session,
-    bases: &Bases,
-    linked: &Linked,
+    made: &Made<'_>,
     shown: Shown<'_>,
 ) -> Result<(), AllocError> {
     put_key(out, "entries")?;
     begin(out, '[')?;
-    put_linked_entries(out, session, bases, linked, shown)?;
+    put_linked_entries(out, made, shown)?;
     out.push(']')?;
-    put_table(alloc, out, session, linked, shown.most)
+    put_table(alloc, out, made, shown.choice.most)
 }
 
 /// Adds a link, or why it is refused.
@@ -177,7 +179,14 @@ fn put_link(
     begin(out, '{')?;
     put_bases(out, &bases)?;
     match finish(alloc, session, options) {
-        Ok(linked) => put_linked(alloc, out, session, &bases, &linked, shown)?,
+        Ok(linked) => {
+            let made = Made {
+                session,
+                bases: &bases,
+                linked: &linked,
+            };
+            put_linked(alloc, out, &made, shown)?;
+        }
         Err(LinkFault::Memory) => return Err(AllocError),
         Err(fault) => put_refusal(alloc, out, fault)?,
     }

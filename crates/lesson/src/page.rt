@@ -1,6 +1,6 @@
 //! The page: all states of a session of some objects, and the script that shows them.
 use crate::files::bytes_at;
-use crate::given::{Given, choose_words, given_at, put_given};
+use crate::given::{Choice, Given, choose_words, given_at, put_given};
 use crate::json::{begin, put_key, put_number};
 use crate::states::put_states;
 use anyhow::{Result, anyhow};
@@ -67,11 +67,11 @@ fn choose(alloc: Global, givens: &mut [Given], most: usize) -> Result<()> {
 }
 
 /// Adds the objects, as a list.
-fn put_givens(alloc: Global, out: &mut String, givens: &[Given], most: usize) -> Result<()> {
+fn put_givens(alloc: Global, out: &mut String, choice: Choice<'_>) -> Result<()> {
     put_key(out, "objects")?;
     begin(out, '[')?;
-    for given in givens {
-        put_given(alloc, out, given, most)?;
+    for given in choice.givens {
+        put_given(alloc, out, given, choice.most)?;
     }
     out.push(']')?;
     Ok(())
@@ -93,15 +93,14 @@ fn put_data(
     alloc: Global,
     out: &mut String,
     session: &mut Session,
-    givens: &[Given],
-    most: usize,
+    choice: Choice<'_>,
 ) -> Result<()> {
     out.push('{')?;
     put_key(out, "most")?;
-    put_number(out, most as u64)?;
-    put_givens(alloc, out, givens, most)?;
+    put_number(out, choice.most as u64)?;
+    put_givens(alloc, out, choice)?;
     put_key(out, "states")?;
-    put_states(alloc, out, session, givens, most)?;
+    put_states(alloc, out, session, choice)?;
     out.push('}')?;
     Ok(())
 }
@@ -123,8 +122,12 @@ pub(crate) fn write_page(
     let mut givens = givens_at(rt, files)?;
     let most = most_shown(&givens);
     choose(rt.alloc(), &mut givens, most)?;
+    let choice = Choice {
+        givens: &givens,
+        most,
+    };
     let mut out = String::new(rt.alloc());
-    put_page(rt, &mut out, session, folder, &givens, most)?;
+    put_page(rt, &mut out, session, folder, choice)?;
     if PAGE_LIMIT < out.len() {
         return Err(anyhow!("the page would have more than {PAGE_LIMIT} bytes"));
     }
@@ -138,13 +141,12 @@ fn put_page(
     out: &mut String,
     session: &mut Session,
     folder: &str,
-    givens: &[Given],
-    most: usize,
+    choice: Choice<'_>,
 ) -> Result<()> {
     put_head(out)?;
     put_text_of(rt, out, folder, "lesson.css")?;
     out.push_str("</style>\n</head>\n<body>\n<script type=\"application/json\" id=\"lesson\">\n")?;
-    put_data(rt.alloc(), out, session, givens, most)?;
+    put_data(rt.alloc(), out, session, choice)?;
     out.push_str("</script>\n<script>\n")?;
     put_text_of(rt, out, folder, "lesson.js")?;
     out.push_str("</script>\n</body>\n</html>\n")?;

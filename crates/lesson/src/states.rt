@@ -1,13 +1,13 @@
 //! The states that a session can be in, as JSON.
 use crate::entries::put_entries;
 use crate::files::object_in;
-use crate::given::Given;
+use crate::given::{Choice, Given};
 use crate::json::{begin, put_key, put_number, put_numbers, put_text, put_word};
 use crate::links::{Shown, put_links};
 use crate::marks::put_marks;
 use crate::parts::{put_names, put_state};
 use crate::walk::Walk;
-use anyhow::Result;
+use anyhow::{Result, anyhow};
 use aout_core::Name;
 use link_session::{AddFault, Session};
 use std::alloc::{AllocError, Global};
@@ -59,11 +59,12 @@ fn put_session(
     put_numbers(out, shown.list)?;
     put_sizes(out, session)?;
     put_key(out, "entries")?;
-    put_entries(out, session, shown.givens, shown.list)?;
-    put_externals(out, session, shown.most)?;
-    put_multiples(out, session.multiples(), shown.most)?;
+    let most = shown.choice.most;
+    put_entries(out, session, shown.choice.givens, shown.list)?;
+    put_externals(out, session, most)?;
+    put_multiples(out, session.multiples(), most)?;
     put_key(out, "marks")?;
-    put_marks(out, session, shown.most)?;
+    put_marks(out, session, most)?;
     put_key(out, "markCount")?;
     put_number(out, session.last_marks().len() as u64)?;
     put_key(out, "links")?;
@@ -101,38 +102,29 @@ fn add(alloc: Global, session: &mut Session, given: &Given) -> Result<Option<Add
     }
 }
 
-/// Takes a step of the walk to a list that has one object more.
+/// Takes a step of the walk to a list that has one object more, and returns why it is refused, if it is.
 fn step_to(
     alloc: Global,
-    out: &mut String,
     session: &mut Session,
     walk: &mut Walk,
     givens: &[Given],
     object: usize,
-    most: usize,
-) -> Result<()> {
+) -> Result<Option<AddFault>> {
     let Some(given) = givens.get(object) else {
-        walk.pass(object);
-        return Ok(());
+        return Err(anyhow!("object {object} is not given"));
     };
-    match add(alloc, session, given)? {
-        None => {
-            walk.add(object)?;
-            put_session(alloc, out, session, shown_in(walk, givens, most))?;
-        }
-        Some(cause) => {
-            put_refused(alloc, out, walk.list(), object, cause)?;
-            walk.pass(object);
-        }
+    let refused = add(alloc, session, given)?;
+    match refused {
+        None => walk.add(object)?,
+        Some(_) => walk.pass(object),
     }
-    Ok(())
+    Ok(refused)
 }
 
-fn shown_in<'a>(walk: &'a Walk, givens: &'a [Given], most: usize) -> Shown<'a> {
+fn shown_in<'a>(walk: &'a Walk, choice: Choice<'a>) -> Shown<'a> {
     Shown {
-        givens,
+        choice,
         list: walk.list(),
-        most,
     }
 }
 
@@ -146,15 +138,17 @@ pub(crate) fn put_states(
     alloc: Global,
     out: &mut String,
     session: &mut Session,
-    givens: &[Given],
-    most: usize,
+    choice: Choice<'_>,
 ) -> Result<()> {
-    let mut walk = Walk::new(givens.len(), Vec::new(alloc));
+    let mut walk = Walk::new(choice.givens.len(), Vec::new(alloc));
     begin(out, '[')?;
-    put_session(alloc, out, session, shown_in(&walk, givens, most))?;
+    put_session(alloc, out, session, shown_in(&walk, choice))?;
     for _ in 0..walk.steps() {
         match walk.next() {
-            Some(object) => step_to(alloc, out, session, &mut walk, givens, object, most)?,
+            Some(object) => match step_to(alloc, session, &mut walk, choice.givens, object)? {
+                None => put_session(alloc, out, session, shown_in(&walk, choice))?,
+                Some(cause) => put_refused(alloc, out, walk.list(), object, cause)?,
+            },
             None if walk.withdraw() => {
                 let _ = withdraw(session);
             }

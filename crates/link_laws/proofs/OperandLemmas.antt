@@ -106,13 +106,13 @@ module _ (forced : List (List ℕ)) (os : List Contents) (o : Choices) (unkept :
   written_by : (name : List ℕ) (st : State) → (final_by p name st).address ≡ (final_by p name st).written
   written_by name (Defined segment offset) = refl
   written_by name (Wanted size) =
-      ap (λ (r : Bool). let f : Final = cond (eqb size 0) (cond o.relocatable (waiting 0) (reserved_or_waiting p.at name)) (cond (not r || o.force_commons) (bound_at BssSeg (plus p.at.data_end (common_offset p.said name))) (waiting size)) in f.address) unkept
+      ap (λ (r : Bool). let f : Final = cond (eqb size 0) (cond o.relocatable (waiting 0) (reserved_or_waiting p.at name)) (cond (not r || o.force_commons) (bound_at BssSeg (plus p.at.data_end (common_offset p.mentions name))) (waiting size)) in f.address) unkept
       ∙ by_tests (eqb size 0) o.relocatable
-      ∙ sym (ap (λ (r : Bool). let f : Final = cond (eqb size 0) (cond o.relocatable (waiting 0) (reserved_or_waiting p.at name)) (cond (not r || o.force_commons) (bound_at BssSeg (plus p.at.data_end (common_offset p.said name))) (waiting size)) in f.written) unkept)
+      ∙ sym (ap (λ (r : Bool). let f : Final = cond (eqb size 0) (cond o.relocatable (waiting 0) (reserved_or_waiting p.at name)) (cond (not r || o.force_commons) (bound_at BssSeg (plus p.at.data_end (common_offset p.mentions name))) (waiting size)) in f.written) unkept)
     where
       by_tests : (z r : Bool) →
-          (let f : Final = cond z (cond r (waiting 0) (reserved_or_waiting p.at name)) (bound_at BssSeg (plus p.at.data_end (common_offset p.said name))) in f.address)
-          ≡ (let f : Final = cond z (cond r (waiting 0) (reserved_or_waiting p.at name)) (bound_at BssSeg (plus p.at.data_end (common_offset p.said name))) in f.written)
+          (let f : Final = cond z (cond r (waiting 0) (reserved_or_waiting p.at name)) (bound_at BssSeg (plus p.at.data_end (common_offset p.mentions name))) in f.address)
+          ≡ (let f : Final = cond z (cond r (waiting 0) (reserved_or_waiting p.at name)) (bound_at BssSeg (plus p.at.data_end (common_offset p.mentions name))) in f.written)
       by_tests true true = refl
       by_tests true false = reserved_written p.at name
       by_tests false r = refl

@@ -1,5 +1,5 @@
 -- What defines a name among the same objects in two orders.
-use Rattle.std.proofs.Common.{◌≡◌, ℕ, ◌+◌, Bool, true, false, cond, eqb, List, [], ◌∷◌, ◌++◌, map, length, Option, Some, refl, sym, ◌∙◌, ap, subst, append_assoc, ◌⊎◌, inl, inr}
+use Rattle.std.proofs.Common.{◌≡◌, ℕ, ◌+◌, Bool, true, false, cond, eqb, eqb-true, List, [], ◌∷◌, ◌++◌, map, length, Option, Some, refl, sym, ◌∙◌, ap, subst, append_assoc, ◌⊎◌, inl, inr}
 use Rattle.std.specs.Prelude.{bytes_eq, filter, slice_get}
 use Rattle.std.specs.List.{AllByRecursion}
 use Rattle.std.specs.List.Sorted.{IsPermutation}
@@ -9,7 +9,7 @@ use Rattle.aout_core.specs.declared.symbol.Segment.{Segment}
 use Rattle.aout_core.specs.declared.symbol.Segment.TheVariants.{Undefined, Absolute, TextSeg, DataSeg, BssSeg, Other}
 use Rattle.aout_core.specs.Contents.{Contents}
 use Rattle.aout_core.specs.Words.{plus}
-use Rattle.aout_core.specs.WellFormed.{is_external, masked_type, segment_of}
+use Rattle.aout_core.specs.WellFormed.{is_external, masked_type, segment_of, segment_numbered}
 use Rattle.aout_core.proofs.AlikeLemmas.{slice_get_behind}
 use Rattle.link_session.specs.declared.state.State.{State}
 use Rattle.link_session.specs.declared.state.State.TheVariants.{Defined, Wanted}
@@ -135,7 +135,7 @@ defines os name segment n d = by_test (eqb (masked_type d.symbol) 0) refl
   where
     by_test : (t : Bool) → eqb (masked_type d.symbol) 0 ≡ t → t ≡ false
     by_test false e = refl
-    by_test true e = absurd (let zero : segment_of d.symbol ≡ Undefined = ap (λ (t : Bool). cond t Undefined (cond (eqb (masked_type d.symbol) 1) Absolute (cond (eqb (masked_type d.symbol) 2) TextSeg (cond (eqb (masked_type d.symbol) 3) DataSeg (cond (eqb (masked_type d.symbol) 4) BssSeg Other))))) e in
+    by_test true e = absurd (let zero : segment_of d.symbol ≡ Undefined = ap segment_numbered (eqb-true (masked_type d.symbol) 0 e) in
         let bad : Wanted d.symbol.value ≡ Defined segment n = sym (ap (λ (g : Segment). statement d.before d.k g d.symbol.value) zero) ∙ d.is in cc)
 
 -- where no name is multiply defined, it is the first definition of the name

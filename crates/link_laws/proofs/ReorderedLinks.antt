@@ -128,7 +128,7 @@ module _ (forced : List (List ℕ)) (os ps : List Contents) (o : Choices) (same 
             ∙ ap segment_if_defined (sym (state_is (mentions forced ps) name (Defined d.segment d.offset) d.first) ∙ te)
 
     same_bounds : (name : List ℕ) → (final p name).bound ≡ (final q name).bound
-    same_bounds name = same_bound p.at q.at (common_offset p.said name) (common_offset q.said name) name (state p.said name) (state q.said name) (same_wants forced os ps same name) (same_segments name)
+    same_bounds name = same_bound p.at q.at (common_offset p.mentions name) (common_offset q.mentions name) name (state p.mentions name) (state q.mentions name) (same_wants forced os ps same name) (same_segments name)
 
     same_entry : (entry : Option (List ℕ)) → entry_found_bad p entry ≡ entry_found_bad q entry
     same_entry None = refl

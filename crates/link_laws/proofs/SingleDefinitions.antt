@@ -6,9 +6,9 @@ use Rattle.std.specs.List.Sorted.{IsPermutation}
 use Rattle.std.proofs.lemmas.List.Sorted.{sum_by-IsPermutation}
 use Rattle.std.proofs.lemmas.List.Sums.{sum_by-append}
 use Rattle.aout_core.specs.declared.symbol.Symbol.{Symbol}
-use Rattle.aout_core.specs.declared.symbol.Segment.TheVariants.{Undefined, Absolute, TextSeg, DataSeg, BssSeg, Other}
 use Rattle.aout_core.specs.Contents.{Contents}
 use Rattle.aout_core.specs.WellFormed.{is_external, masked_type, segment_of, first_of}
+use Rattle.aout_core.proofs.SegmentLemmas.{by_number}
 use Rattle.link_session.specs.declared.state.State.{State}
 use Rattle.link_session.specs.declared.state.State.TheVariants.{Defined, Wanted}
 use Rattle.link_session.specs.Mentions.{Mention, statement, mention, mentions, mentions_in, forced_mention}
@@ -82,15 +82,7 @@ module _ (name : List ℕ) where
 
   -- a symbol of a type other than 0 defines its name
   defined_if : (before : List Contents) (k : Contents) (s : Symbol) → one_if_defined (statement before k (segment_of s) s.value) ≡ cond (not (eqb (masked_type s) 0)) 1 0
-  defined_if before k s = by_tests (eqb (masked_type s) 0) (eqb (masked_type s) 1) (eqb (masked_type s) 2) (eqb (masked_type s) 3) (eqb (masked_type s) 4)
-    where
-      by_tests : (a b c d f : Bool) → one_if_defined (statement before k (cond a Undefined (cond b Absolute (cond c TextSeg (cond d DataSeg (cond f BssSeg Other))))) s.value) ≡ cond (not a) 1 0
-      by_tests true b c d f = refl
-      by_tests false true c d f = refl
-      by_tests false false true d f = refl
-      by_tests false false false true f = refl
-      by_tests false false false false true = refl
-      by_tests false false false false false = refl
+  defined_if before k s = by_number (λ t segment. one_if_defined (statement before k segment s.value) ≡ cond (not t) 1 0) refl refl refl refl refl refl (masked_type s)
 
   object_definers : (before : List Contents) (k : Contents) (ss : List Symbol) → definers name (map (mention before k) (filter is_external ss)) ≡ length (filter (defines name) ss)
   object_definers before k [] = refl

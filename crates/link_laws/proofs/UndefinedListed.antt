@@ -1,5 +1,5 @@
 -- The symbols that nm -u shows of a linked file: some of the kept locals, and the names that are reported.
-use Rattle.std.proofs.Common.{◌≡◌, ◌≢◌, ◌⊎◌, ℕ, ◌-◌, Bool, true, false, cond, not, ◌&&◌, ◌||◌, eqb, List, [], ◌∷◌, ◌++◌, map, filter, IsPermutation, refl, sym, ◌∙◌, ap, subst, inl, inr}
+use Rattle.std.proofs.Common.{◌≡◌, ◌≢◌, ◌⊎◌, ℕ, ◌-◌, Bool, true, false, cond, not, ◌&&◌, ◌||◌, eqb, eqb-true, List, [], ◌∷◌, ◌++◌, map, filter, IsPermutation, refl, sym, ◌∙◌, ap, subst, inl, inr}
 use Rattle.std.specs.Prelude.{bytes_eq, Ok}
 use Rattle.std.specs.List.{flat_map, AllByRecursion}
 use Rattle.std.proofs.lemmas.List.Elements.{filter-append}
@@ -8,7 +8,7 @@ use Rattle.aout_core.specs.declared.symbol.Symbol.{Symbol}
 use Rattle.aout_core.specs.declared.symbol.Segment.TheVariants.{Undefined, Absolute, TextSeg, DataSeg, BssSeg, Other}
 use Rattle.aout_core.specs.Contents.{Contents}
 use Rattle.aout_core.specs.Words.{plus}
-use Rattle.aout_core.specs.WellFormed.{masked_type, is_external}
+use Rattle.aout_core.specs.WellFormed.{masked_type, is_external, segment_numbered}
 use Rattle.link_session.specs.declared.state.State.{State}
 use Rattle.link_session.specs.declared.state.State.TheVariants.{Defined, Wanted}
 use Rattle.link_session.specs.Earlier.{with_earlier}
@@ -72,7 +72,7 @@ module _ (b : Bases) (earlier : List Contents) (k : Contents) where
           filter is_shown_undefined (map (moved_local b earlier k) (s ∷ ss)) ≡ filter is_shown_undefined (s ∷ ss)
       by_test true e rest =
           let same : moved_local b earlier k s ≡ s =
-          ap (λ (z : Bool). let r : Symbol = record s { value = moved_value b earlier k (cond z Undefined (cond (eqb (masked_type s) 1) Absolute (cond (eqb (masked_type s) 2) TextSeg (cond (eqb (masked_type s) 3) DataSeg (cond (eqb (masked_type s) 4) BssSeg Other))))) s.value } in r) e in
+          ap (λ (n : ℕ). let r : Symbol = record s { value = moved_value b earlier k (segment_numbered n) s.value } in r) (eqb-true (masked_type s) 0 e) in
           λ i. cond (is_shown_undefined (same i)) (same i ∷ rest i) (rest i)
       by_test false e rest =
           ap (λ (u : Bool). cond u (moved_local b earlier k s ∷ filter is_shown_undefined (map (moved_local b earlier k) ss)) (filter is_shown_undefined (map (moved_local b earlier k) ss))) (typed_shown (moved_local b earlier k s) e)
@@ -101,7 +101,7 @@ told_by p name (Defined TextSeg offset) h r = inr (refl, refl)
 told_by p name (Defined DataSeg offset) h r = inr (refl, refl)
 told_by p name (Defined BssSeg offset) h r = inr (refl, refl)
 told_by p name (Wanted size) h r =
-    by_tests (plus p.at.data_end (common_offset p.said name)) (eqb size 0) p.choices.relocatable r p.choices.force_commons (bytes_eq name etext) (bytes_eq name edata) (bytes_eq name end_name)
+    by_tests (plus p.at.data_end (common_offset p.mentions name)) (eqb size 0) p.choices.relocatable r p.choices.force_commons (bytes_eq name etext) (bytes_eq name edata) (bytes_eq name end_name)
   where
     by_tests : (a : ℕ) (z r : Bool) → r ≡ false → (c t d e : Bool) → IsToldBy (z && not (t || (d || (e || false)))) name
         (cond z (cond r (waiting 0) (cond t (bound_at TextSeg p.at.text_end) (cond d (bound_at DataSeg p.at.data_end) (cond e (bound_at BssSeg p.at.bss_end) (waiting 0))))) (cond (not r || c) (bound_at BssSeg a) (waiting size)))

@@ -1,5 +1,5 @@
 -- Where no name is multiply defined, each definition of the objects holds in the linked file.
-use Rattle.std.proofs.Common.{◌≡◌, ◌≢◌, ℕ, Bool, true, false, cond, eqb, List, [], ◌∷◌, ◌++◌, Option, Some, refl, sym, ◌∙◌, ap, subst, arith}
+use Rattle.std.proofs.Common.{◌≡◌, ◌≢◌, ℕ, Bool, true, false, eqb, List, [], ◌∷◌, ◌++◌, Option, Some, refl, sym, ◌∙◌, ap, subst, arith}
 use Rattle.std.specs.Prelude.{slice_get, Ok}
 use Rattle.aout_core.specs.declared.symbol.Symbol.{Symbol}
 use Rattle.aout_core.specs.declared.symbol.Segment.{Segment}
@@ -7,6 +7,7 @@ use Rattle.aout_core.specs.declared.symbol.Segment.TheVariants.{Undefined, Absol
 use Rattle.aout_core.specs.Contents.{Contents}
 use Rattle.aout_core.specs.Words.{plus}
 use Rattle.aout_core.specs.WellFormed.{is_external, masked_type, segment_of, segment_numbered}
+use Rattle.aout_core.proofs.SegmentLemmas.{by_number}
 use Rattle.link_session.specs.declared.state.State.TheVariants.{Wanted}
 use Rattle.link_session.specs.Starts.{shift}
 use Rattle.link_session.specs.Mentions.{mention, statement, mentions, is_among, names_of, names_by_first_mention}
@@ -76,15 +77,7 @@ module _ (forced : List (List ℕ)) (os : List Contents) (o : Choices) (others :
   defined_by Undefined inner same h = absurd (undefined_type (masked_type s) inner same)
     where
       undefined_type : (n : ℕ) → eqb n 0 ≡ false → segment_numbered n ≡ Undefined → ⊥
-      undefined_type n z e = by_tests (eqb n 0) (eqb n 1) (eqb n 2) (eqb n 3) (eqb n 4) z e
-        where
-          by_tests : (a b c d f : Bool) → a ≡ false → cond a Undefined (cond b Absolute (cond c TextSeg (cond d DataSeg (cond f BssSeg Other)))) ≡ Undefined → ⊥
-          by_tests true b c d f z e = absurd (cc)
-          by_tests false true c d f z e = absurd (cc)
-          by_tests false false true d f z e = absurd (cc)
-          by_tests false false false true f z e = absurd (cc)
-          by_tests false false false false true z e = absurd (cc)
-          by_tests false false false false false z e = absurd (cc)
+      undefined_type = by_number (λ t segment. t ≡ false → segment ≡ Undefined → ⊥) (λ z e. absurd (cc)) (λ z e. absurd (cc)) (λ z e. absurd (cc)) (λ z e. absurd (cc)) (λ z e. absurd (cc)) (λ z e. absurd (cc))
   defined_by Absolute inner same h = defined_at Absolute (plus s.value (shift before k Absolute)) (ap external_type same) (move_at Absolute same (sum_placed s.value 0 0 0 refl)) (agrees_with (first_definition (mentions forced os) s.name) Absolute (plus s.value (shift before k Absolute)) h)
   defined_by Other inner same h = defined_at Absolute (plus s.value (shift before k Absolute)) (ap external_type same) (move_at Other same (sum_placed s.value 0 0 0 refl)) (agrees_with (first_definition (mentions forced os) s.name) Absolute (plus s.value (shift before k Absolute)) h)
   defined_by TextSeg inner same h = defined_at TextSeg (plus s.value (shift before k TextSeg)) (ap external_type same) (move_at TextSeg same (placed TextSeg)) (agrees_with (first_definition (mentions forced os) s.name) TextSeg (plus s.value (shift before k TextSeg)) h)

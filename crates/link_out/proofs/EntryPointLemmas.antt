@@ -23,7 +23,7 @@ use Rattle.link_out.proofs.ExternalLemmas.{entry_in_table}
 -- the address of a name in text is written
 text_written : (p : Plan) (name : List ℕ) (st : State) → eqb (type_of (final_by p name st).bound) 34 ≡ true → (final_by p name st).address ≡ (final_by p name st).written
 text_written p name (Defined segment offset) h = refl
-text_written p name (Wanted size) h = by_tests (plus p.at.data_end (common_offset p.said name)) (eqb size 0) p.choices.relocatable (lays_commons p.choices) h
+text_written p name (Wanted size) h = by_tests (plus p.at.data_end (common_offset p.mentions name)) (eqb size 0) p.choices.relocatable (lays_commons p.choices) h
   where
     reserved : (t d e : Bool) → (let f = cond t (bound_at TextSeg p.at.text_end) (cond d (bound_at DataSeg p.at.data_end) (cond e (bound_at BssSeg p.at.bss_end) (waiting 0))) in f.address ≡ f.written)
     reserved true d e = refl
@@ -37,10 +37,10 @@ text_written p name (Wanted size) h = by_tests (plus p.at.data_end (common_offse
     by_tests a false r true = λ h. refl
     by_tests a false r false = λ h. absurd (cc)
 
-pub entry_made : (p : Plan) (rows : List Symbol) → ((name : List ℕ) → entry_of rows name ≡ cond (is_among (names_by_first_mention p.said) name) (Some (external_row p name)) None) →
+pub entry_made : (p : Plan) (rows : List Symbol) → ((name : List ℕ) → entry_of rows name ≡ cond (is_among (names_by_first_mention p.mentions) name) (Some (external_row p name)) None) →
     (e : Option (List ℕ)) → IsEntry rows e (entry_word p e) (entry_found_bad p e)
 entry_made p rows there None = (refl, refl)
-entry_made p rows there (Some name) = by_tests (is_among (names_by_first_mention p.said) name) (there name) (eqb (type_of (final p name).bound) 34) refl
+entry_made p rows there (Some name) = by_tests (is_among (names_by_first_mention p.mentions) name) (there name) (eqb (type_of (final p name).bound) 34) refl
   where
     by_tests : (k : Bool) → entry_of rows name ≡ cond k (Some (external_row p name)) None → (t : Bool) → eqb (type_of (final p name).bound) 34 ≡ t →
         IsEntry rows (Some name) (cond (k && t) (final p name).address 0) (let r : Option (List ℕ) = cond (k && t) None (Some name) in r)
@@ -50,7 +50,7 @@ entry_made p rows there (Some name) = by_tests (is_among (names_by_first_mention
       where
         inside : (a b : Symbol) → Some a ≡ Some b → a ≡ b
         inside a b e = cc
-    by_tests true ke true te = inl (external_row p name, ke, eqb-true _ _ te, text_written p name (state p.said name) te, refl)
+    by_tests true ke true te = inl (external_row p name, ke, eqb-true _ _ te, text_written p name (state p.mentions name) te, refl)
 
 -- there is one entry word at most, and one name that is bad
 pub entry_once : (rows : List Symbol) (e : Option (List ℕ)) (w v : ℕ) (b c : Option (List ℕ)) → IsEntry rows e w b → IsEntry rows e v c → (w ≡ v) × (b ≡ c)

@@ -41,13 +41,13 @@ entry_among p (n ∷ ns) name = ap (λ (t : Bool). cond (t && bytes_eq name n) (
     by_test true e rest = let same : name ≡ n = (bytes_eq-Decides name n).0 e in ap (λ (m : List ℕ). let r : Option Symbol = Some (external_row p m) in r) (sym same)
     by_test false e rest = rest
 
-pub entry_in_table : (p : Plan) (os : List Contents) (name : List ℕ) → p.choices.keep ≢ Nothing → entry_of (table p os) name ≡ cond (is_among (names_by_first_mention p.said) name) (Some (external_row p name)) None
+pub entry_in_table : (p : Plan) (os : List Contents) (name : List ℕ) → p.choices.keep ≢ Nothing → entry_of (table p os) name ≡ cond (is_among (names_by_first_mention p.mentions) name) (Some (external_row p name)) None
 entry_in_table p os name others =
     ap (λ (rows : List Symbol). entry_of rows name) (rows_kept-others p.choices.keep (local_rows p os ++ external_rows p) others)
     ∙ entry_behind (local_rows p os) (external_rows p) name (local_rows_inner p os)
-    ∙ entry_among p (names_by_first_mention p.said) name
+    ∙ entry_among p (names_by_first_mention p.mentions) name
 
-pub entry_there : (p : Plan) (os : List Contents) (name : List ℕ) → p.choices.keep ≢ Nothing → is_among (names_by_first_mention p.said) name ≡ true → entry_of (table p os) name ≡ Some (external_row p name)
+pub entry_there : (p : Plan) (os : List Contents) (name : List ℕ) → p.choices.keep ≢ Nothing → is_among (names_by_first_mention p.mentions) name ≡ true → entry_of (table p os) name ≡ Some (external_row p name)
 entry_there p os name others known = entry_in_table p os name others ∙ ap (λ (t : Bool). let r : Option Symbol = cond t (Some (external_row p name)) None in r) known
 
 -- a row for this final name
@@ -71,7 +71,7 @@ row_address_by p name (Defined Absolute offset) h = refl
 row_address_by p name (Defined TextSeg offset) h = refl
 row_address_by p name (Defined DataSeg offset) h = refl
 row_address_by p name (Defined BssSeg offset) h = refl
-row_address_by p name (Wanted size) h = by_tests (plus p.at.data_end (common_offset p.said name)) (eqb size 0) p.choices.relocatable (lays_commons p.choices)
+row_address_by p name (Wanted size) h = by_tests (plus p.at.data_end (common_offset p.mentions name)) (eqb size 0) p.choices.relocatable (lays_commons p.choices)
   where
     by_tests : (a : ℕ) (z r c : Bool) →
         (let f = cond z (cond r (waiting 0) (reserved_or_waiting p.at name)) (cond c (bound_at BssSeg a) (waiting size)) in address_in (row_at name f) ≡ f.address)

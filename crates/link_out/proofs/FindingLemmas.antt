@@ -86,18 +86,18 @@ position-place name names =
     ∙ ap (λ (t : Bool). cond t (Some (place_of name names)) None) (sym (among-place name names))
 
 -- the address of a name in text, from the final names
-address-found : (p : Plan) (fs : List Final) (name : List ℕ) → fs ≡ finals p → text_address_at fs (position (bytes_eq name) (names_by_first_mention p.said)) ≡ cond (is_in_text p name) (Some (final p name).address) None
+address-found : (p : Plan) (fs : List Final) (name : List ℕ) → fs ≡ finals p → text_address_at fs (position (bytes_eq name) (names_by_first_mention p.mentions)) ≡ cond (is_in_text p name) (Some (final p name).address) None
 address-found p fs name same =
-    ap (λ (gs : List Final). text_address_at gs (position (bytes_eq name) (names_by_first_mention p.said))) same
-    ∙ ap (text_address_at (finals p)) (position-place name (names_by_first_mention p.said)) ∙ by_test (is_among (names_by_first_mention p.said) name) refl
+    ap (λ (gs : List Final). text_address_at gs (position (bytes_eq name) (names_by_first_mention p.mentions))) same
+    ∙ ap (text_address_at (finals p)) (position-place name (names_by_first_mention p.mentions)) ∙ by_test (is_among (names_by_first_mention p.mentions) name) refl
   where
-    by_test : (t : Bool) → is_among (names_by_first_mention p.said) name ≡ t →
-        text_address_at (finals p) (cond t (Some (place_of name (names_by_first_mention p.said))) None) ≡ cond (t && eqb (type_of (final p name).bound) 34) (Some (final p name).address) None
-    by_test true h = ap text_address (mapped_at_place (final p) (names_by_first_mention p.said) name h)
+    by_test : (t : Bool) → is_among (names_by_first_mention p.mentions) name ≡ t →
+        text_address_at (finals p) (cond t (Some (place_of name (names_by_first_mention p.mentions))) None) ≡ cond (t && eqb (type_of (final p name).bound) 34) (Some (final p name).address) None
+    by_test true h = ap text_address (mapped_at_place (final p) (names_by_first_mention p.mentions) name h)
     by_test false h = refl
 
 -- what is told of an entry point that has an address, and of one that has none
-pub entry_at : (p : Plan) (fs : List Final) (name : List ℕ) (address : ℕ) → fs ≡ finals p → Some address ≡ text_address_at fs (position (bytes_eq name) (names_by_first_mention p.said)) →
+pub entry_at : (p : Plan) (fs : List Final) (name : List ℕ) (address : ℕ) → fs ≡ finals p → Some address ≡ text_address_at fs (position (bytes_eq name) (names_by_first_mention p.mentions)) →
     (address ≡ entry_word p (Some name)) × (None ≡ entry_found_bad p (Some name))
 entry_at p fs name address same h = by_test (is_in_text p name) (h ∙ address-found p fs name same)
   where
@@ -105,7 +105,7 @@ entry_at p fs name address same h = by_test (is_in_text p name) (h ∙ address-f
     by_test true e = (cc, refl)
     by_test false e = absurd (cc)
 
-pub entry_nowhere : (p : Plan) (fs : List Final) (name : List ℕ) → fs ≡ finals p → None ≡ text_address_at fs (position (bytes_eq name) (names_by_first_mention p.said)) →
+pub entry_nowhere : (p : Plan) (fs : List Final) (name : List ℕ) → fs ≡ finals p → None ≡ text_address_at fs (position (bytes_eq name) (names_by_first_mention p.mentions)) →
     (0 ≡ entry_word p (Some name)) × (Some name ≡ entry_found_bad p (Some name))
 entry_nowhere p fs name same h = by_test (is_in_text p name) (h ∙ address-found p fs name same)
   where

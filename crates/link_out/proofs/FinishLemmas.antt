@@ -57,7 +57,7 @@ module _ (forced : List (List ℕ)) (os : List Contents) (o : Choices) where
       of_data : planned.at.data_end - planned.at.data_start ≡ total DataSeg os
       of_data = omega arith
 
-      of_bss : planned.at.bss_end - planned.at.data_end ≡ commons_laid o planned.said + total BssSeg os
+      of_bss : planned.at.bss_end - planned.at.data_end ≡ commons_laid o planned.mentions + total BssSeg os
       of_bss = omega arith
 
   pub words_planned : (segment : Segment) (b : Bases) (names : List Final) (cs : List Cell) → AllByRecursion IsObject os → b ≡ planned.at → names ≡ finals planned → cs ≡ cells (mentions forced os) segment os →

@@ -94,8 +94,8 @@ or_still : (a s x : Bool) → (a ≡ true → s ≡ true) → a ≡ true → (s 
 or_still a s x h e = let yes = h e in rw yes refl
 
 -- what becomes of the new names among these, where those before have so much room
-finals_new : (p : Plan) (seen before names : List (List ℕ)) → ((n : List ℕ) → is_among before n ≡ true → is_among seen n ≡ true) → before ++ new_names seen names ≡ names_by_first_mention p.said →
-    finals_from p.choices p.at (room_of p.said before) (named_by p.said (new_names seen names)) ≡ map (final p) (new_names seen names)
+finals_new : (p : Plan) (seen before names : List (List ℕ)) → ((n : List ℕ) → is_among before n ≡ true → is_among seen n ≡ true) → before ++ new_names seen names ≡ names_by_first_mention p.mentions →
+    finals_from p.choices p.at (room_of p.mentions before) (named_by p.mentions (new_names seen names)) ≡ map (final p) (new_names seen names)
 finals_new p seen before [] within all = refl
 finals_new p seen before (x ∷ xs) within all =
     by_test (is_among seen x) refl all
@@ -105,19 +105,19 @@ finals_new p seen before (x ∷ xs) within all =
     rest : List (List ℕ)
     rest = new_names (seen ++ x ∷ []) xs
 
-    by_test : (t : Bool) → is_among seen x ≡ t → before ++ cond t rest (x ∷ rest) ≡ names_by_first_mention p.said →
-        (before ++ rest ≡ names_by_first_mention p.said → finals_from p.choices p.at (room_of p.said before) (named_by p.said rest) ≡ map (final p) rest) →
-        ((before ++ x ∷ []) ++ rest ≡ names_by_first_mention p.said → finals_from p.choices p.at (room_of p.said (before ++ x ∷ [])) (named_by p.said rest) ≡ map (final p) rest) →
-        finals_from p.choices p.at (room_of p.said before) (named_by p.said (cond t rest (x ∷ rest))) ≡ map (final p) (cond t rest (x ∷ rest))
+    by_test : (t : Bool) → is_among seen x ≡ t → before ++ cond t rest (x ∷ rest) ≡ names_by_first_mention p.mentions →
+        (before ++ rest ≡ names_by_first_mention p.mentions → finals_from p.choices p.at (room_of p.mentions before) (named_by p.mentions rest) ≡ map (final p) rest) →
+        ((before ++ x ∷ []) ++ rest ≡ names_by_first_mention p.mentions → finals_from p.choices p.at (room_of p.mentions (before ++ x ∷ [])) (named_by p.mentions rest) ≡ map (final p) rest) →
+        finals_from p.choices p.at (room_of p.mentions before) (named_by p.mentions (cond t rest (x ∷ rest))) ≡ map (final p) (cond t rest (x ∷ rest))
     by_test true e all same more = same all
     by_test false e all same more =
-        let offset = offset_behind p.said before rest x (not_before seen before x (within x) e) all in
-        let head : final_at p.choices p.at (room_of p.said before) x (state p.said x) ≡ final p x =
-        ap (λ (k : ℕ). final_at p.choices p.at k x (state p.said x)) (sym offset) in
-        let tail : finals_from p.choices p.at (room_of p.said before + common_size (state p.said x)) (named_by p.said rest) ≡ map (final p) rest =
-        ap (λ (k : ℕ). finals_from p.choices p.at k (named_by p.said rest)) (sym (room_more p.said before x)) ∙ more (append_assoc before (x ∷ []) rest ∙ all) in
+        let offset = offset_behind p.mentions before rest x (not_before seen before x (within x) e) all in
+        let head : final_at p.choices p.at (room_of p.mentions before) x (state p.mentions x) ≡ final p x =
+        ap (λ (k : ℕ). final_at p.choices p.at k x (state p.mentions x)) (sym offset) in
+        let tail : finals_from p.choices p.at (room_of p.mentions before + common_size (state p.mentions x)) (named_by p.mentions rest) ≡ map (final p) rest =
+        ap (λ (k : ℕ). finals_from p.choices p.at k (named_by p.mentions rest)) (sym (room_more p.mentions before x)) ∙ more (append_assoc before (x ∷ []) rest ∙ all) in
         λ i. head i ∷ tail i
 
 -- what becomes of all names
-pub finals-in_order : (p : Plan) → finals_from p.choices p.at 0 (named_states p.said) ≡ finals p
-finals-in_order p = finals_new p [] [] (names_of p.said) (λ n h. h) refl
+pub finals-in_order : (p : Plan) → finals_from p.choices p.at 0 (named_states p.mentions) ≡ finals p
+finals-in_order p = finals_new p [] [] (names_of p.mentions) (λ n h. h) refl

@@ -70,7 +70,7 @@ final_place p name (Defined Absolute n) h = tt
 final_place p name (Defined TextSeg n) h = tt
 final_place p name (Defined DataSeg n) h = tt
 final_place p name (Defined BssSeg n) h = tt
-final_place p name (Wanted size) h = by_tests (plus p.at.data_end (common_offset p.said name)) (eqb size 0) p.choices.relocatable (lays_commons p.choices) (bytes_eq name etext) (bytes_eq name edata) (bytes_eq name end_name)
+final_place p name (Wanted size) h = by_tests (plus p.at.data_end (common_offset p.mentions name)) (eqb size 0) p.choices.relocatable (lays_commons p.choices) (bytes_eq name etext) (bytes_eq name edata) (bytes_eq name end_name)
   where
     by_tests : (a : ℕ) (z r c t d e : Bool) →
         IsPlace (cond z (cond r (waiting 0) (cond t (bound_at TextSeg p.at.text_end) (cond d (bound_at DataSeg p.at.data_end) (cond e (bound_at BssSeg p.at.bss_end) (waiting 0))))) (cond c (bound_at BssSeg a) (waiting size))).bound

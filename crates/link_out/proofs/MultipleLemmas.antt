@@ -6,7 +6,7 @@ use Rattle.std.proofs.lemmas.Bool.{and_parts}
 use Rattle.std.proofs.lemmas.Slice.Eq.{bytes_eq-Decides}
 use Rattle.aout_core.specs.declared.symbol.Segment.{Segment}
 use Rattle.aout_core.specs.declared.symbol.Segment.TheVariants.{Undefined, Absolute, TextSeg, DataSeg, BssSeg, Other}
-use Rattle.aout_core.specs.WellFormed.{segment_number, first_of}
+use Rattle.aout_core.specs.WellFormed.{segment_number, segment_numbered, first_of}
 use Rattle.link_session.specs.declared.state.State.{State}
 use Rattle.link_session.specs.declared.state.State.TheVariants.{Defined, Wanted}
 use Rattle.link_session.specs.Mentions.{Mention, is_among}
@@ -29,12 +29,9 @@ none_differ all (m ∷ ms) h = by_test (differs (first_definition all m.name) m.
     by_test false e h rest = (e, rest h)
 
 same_segment : (a b : Segment) → eqb (segment_number a) (segment_number b) ≡ true → a ≡ b
-same_segment a b e = back a ∙ ap numbered (eqb-true (segment_number a) (segment_number b) e) ∙ sym (back b)
+same_segment a b e = back a ∙ ap segment_numbered (eqb-true (segment_number a) (segment_number b) e) ∙ sym (back b)
   where
-    numbered : ℕ → Segment
-    numbered n = cond (eqb n 0) Undefined (cond (eqb n 1) Absolute (cond (eqb n 2) TextSeg (cond (eqb n 3) DataSeg (cond (eqb n 4) BssSeg Other))))
-
-    back : (s : Segment) → s ≡ numbered (segment_number s)
+    back : (s : Segment) → s ≡ segment_numbered (segment_number s)
     back Undefined = refl
     back Absolute = refl
     back TextSeg = refl

@@ -37,37 +37,37 @@ module _ (p : Plan) (kept : p.choices.relocatable ≡ true) where
     where
       by_tests : (t r l : Bool) → r ≡ true →
           cond (not t && l) (Some BssSeg) None
-          ≡ (if t then (if r then waiting 0 else reserved_or_waiting p.at name) else (if l then bound_at BssSeg (plus p.at.data_end (common_offset p.said name)) else waiting size)).bound
+          ≡ (if t then (if r then waiting 0 else reserved_or_waiting p.at name) else (if l then bound_at BssSeg (plus p.at.data_end (common_offset p.mentions name)) else waiting size)).bound
       by_tests true true l e = refl
       by_tests false r true e = refl
       by_tests false r false e = refl
       by_tests true false l e = absurd (cc)
 
   abbrev named : List ℕ → List ℕ × State
-  named n = (n, state p.said n)
+  named n = (n, state p.mentions n)
 
-  bound_at_place : (i : ℕ) → kept_bound_of (lays_commons p.choices) (slice_get (named_states p.said) i) ≡ bound_of (slice_get (finals p) i)
+  bound_at_place : (i : ℕ) → kept_bound_of (lays_commons p.choices) (slice_get (named_states p.mentions) i) ≡ bound_of (slice_get (finals p) i)
   bound_at_place i =
-      ap (kept_bound_of (lays_commons p.choices)) (slice_get-map named (names_by_first_mention p.said) i)
-      ∙ by_name (slice_get (names_by_first_mention p.said) i)
-      ∙ sym (ap bound_of (slice_get-map (final p) (names_by_first_mention p.said) i))
+      ap (kept_bound_of (lays_commons p.choices)) (slice_get-map named (names_by_first_mention p.mentions) i)
+      ∙ by_name (slice_get (names_by_first_mention p.mentions) i)
+      ∙ sym (ap bound_of (slice_get-map (final p) (names_by_first_mention p.mentions) i))
     where
       by_name : (o : Option (List ℕ)) → kept_bound_of (lays_commons p.choices) (option_map named o) ≡ bound_of (option_map (final p) o)
       by_name None = refl
-      by_name (Some n) = bound_by n (state p.said n)
+      by_name (Some n) = bound_by n (state p.mentions n)
 
-  out_far : (locals : ℕ) (t : Target) → is_out (named_states p.said) (lays_commons p.choices) locals t ≡ is_far (finals p) locals t
+  out_far : (locals : ℕ) (t : Target) → is_out (named_states p.mentions) (lays_commons p.choices) locals t ≡ is_far (finals p) locals t
   out_far locals targets.Absolute = refl
   out_far locals targets.TextSeg = refl
   out_far locals targets.DataSeg = refl
   out_far locals targets.BssSeg = refl
   out_far locals (targets.External i) = ap (λ (b : Option Segment). waits_far b (locals + i)) (bound_at_place i)
 
-  out_far_in : (os : List Contents) (segment : Segment) (locals : ℕ) → locals ≡ length (local_rows p os) → AllByRecursion (λ o. AllReferAmong (names_of p.said) o (words_of segment o)) os →
-      list_any (λ (c : Cell). is_out (named_states p.said) (lays_commons p.choices) locals c.target) (cells p.said segment os) ≡ has_far_in p os segment
+  out_far_in : (os : List Contents) (segment : Segment) (locals : ℕ) → locals ≡ length (local_rows p os) → AllByRecursion (λ o. AllReferAmong (names_of p.mentions) o (words_of segment o)) os →
+      list_any (λ (c : Cell). is_out (named_states p.mentions) (lays_commons p.choices) locals c.target) (cells p.mentions segment os) ≡ has_far_in p os segment
   out_far_in os segment locals many refer =
-      (λ i. list_any (λ (c : Cell). is_out (named_states p.said) (lays_commons p.choices) (many i) c.target) (cells p.said segment os))
-      ∙ (λ i. list_any (λ (c : Cell). out_far (length (local_rows p os)) c.target i) (cells p.said segment os))
+      (λ i. list_any (λ (c : Cell). is_out (named_states p.mentions) (lays_commons p.choices) (many i) c.target) (cells p.mentions segment os))
+      ∙ (λ i. list_any (λ (c : Cell). out_far (length (local_rows p os)) c.target i) (cells p.mentions segment os))
       ∙ has_far_in-cells p segment os refer
 
 -- the words of a session's objects, from its cells of text and of data

@@ -117,15 +117,15 @@ rows_put es fs i all rows behind so_far =
     ∙ sym so_far
 
 -- the externals with what becomes of them in a link
-pub finals_many : (p : Plan) → length (finals p) ≡ length (named_states p.said)
+pub finals_many : (p : Plan) → length (finals p) ≡ length (named_states p.mentions)
 finals_many p =
-    let names = names_by_first_mention p.said in
-    length-map names (final p) ∙ sym (length-map names (λ (n : List ℕ). let e : List ℕ × State = (n, state p.said n) in e))
+    let names = names_by_first_mention p.mentions in
+    length-map names (final p) ∙ sym (length-map names (λ (n : List ℕ). let e : List ℕ × State = (n, state p.mentions n) in e))
 
-pub rows_planned : (p : Plan) → rows_with (named_states p.said) (finals p) ≡ external_rows p
-rows_planned p = from (names_by_first_mention p.said)
+pub rows_planned : (p : Plan) → rows_with (named_states p.mentions) (finals p) ≡ external_rows p
+rows_planned p = from (names_by_first_mention p.mentions)
   where
-    from : (names : List (List ℕ)) → rows_with (map (λ n. (n, state p.said n)) names) (map (final p) names) ≡ map (external_row p) names
+    from : (names : List (List ℕ)) → rows_with (map (λ n. (n, state p.mentions n)) names) (map (final p) names) ≡ map (external_row p) names
     from [] = refl
     from (n ∷ ns) = ap (λ (l : List Symbol). external_row p n ∷ l) (from ns)
 
@@ -138,15 +138,15 @@ table_whole p os keep locals rows same others here put =
     ∙ sym (rows_kept-others p.choices.keep (local_rows p os ++ external_rows p) (λ e. others (sym same ∙ e)))
 
 -- how long the table is
-table_length : (p : Plan) (os : List Contents) (keep : Keep) (count : ℕ) → p.choices.keep ≡ keep → (keep ≡ keeps.Nothing → ⊥) → count ≡ length (names_by_first_mention p.said) →
+table_length : (p : Plan) (os : List Contents) (keep : Keep) (count : ℕ) → p.choices.keep ≡ keep → (keep ≡ keeps.Nothing → ⊥) → count ≡ length (names_by_first_mention p.mentions) →
     length (table p os) ≡ kept_count keep os + count
 table_length p os keep count same others names =
     ap (λ (l : List Symbol). length l) (rows_kept-others p.choices.keep (local_rows p os ++ external_rows p) (λ e. others (sym same ∙ e)))
     ∙ length-append (local_rows p os) (external_rows p)
-    ∙ (λ i. length-local_rows p os i + length-map (names_by_first_mention p.said) (external_row p) i)
+    ∙ (λ i. length-local_rows p os i + length-map (names_by_first_mention p.mentions) (external_row p) i)
     ∙ (λ i. kept_count (same i) os + sym names i)
 
-pub many_rows : (p : Plan) (os : List Contents) (keep : Keep) (count : ℕ) (r : Option ℕ) → p.choices.keep ≡ keep → (keep ≡ keeps.Nothing → ⊥) → count ≡ length (names_by_first_mention p.said) →
+pub many_rows : (p : Plan) (os : List Contents) (keep : Keep) (count : ℕ) (r : Option ℕ) → p.choices.keep ≡ keep → (keep ≡ keeps.Nothing → ⊥) → count ≡ length (names_by_first_mention p.mentions) →
     (IsNone r ↔ IsTrue (nat_lt 5461 (kept_count keep os + count))) → (IsNone r ↔ IsTrue (nat_lt 5461 (length (table p os))))
 many_rows p os keep count r same others names h = subst (λ (n : ℕ). IsNone r ↔ IsTrue (nat_lt 5461 n)) (sym (table_length p os keep count same others names)) h
 

@@ -51,7 +51,7 @@ bound_by p name (Defined Absolute offset) h r u = refl
 bound_by p name (Defined TextSeg offset) h r u = refl
 bound_by p name (Defined DataSeg offset) h r u = refl
 bound_by p name (Defined BssSeg offset) h r u = refl
-bound_by p name (Wanted size) h r u = by_tests (plus p.at.data_end (common_offset p.said name)) (eqb size 0) p.choices.relocatable r p.choices.force_commons u
+bound_by p name (Wanted size) h r u = by_tests (plus p.at.data_end (common_offset p.mentions name)) (eqb size 0) p.choices.relocatable r p.choices.force_commons u
   where
     by_tests : (a : ℕ) (z r : Bool) → r ≡ false → (d : Bool) → (z && not (is_among reserved_names name)) ≡ false →
         eqb (type_of (cond z (cond r (waiting 0) (reserved_or_waiting p.at name)) (cond (not r || d) (bound_at BssSeg a) (waiting size))).bound % 32) 0 ≡ false
@@ -100,7 +100,7 @@ filtered_among t (n ∷ ns) name h = by_tests (t n) refl (bytes_eq name n) refl 
 
 waiting_still : (p : Plan) (name : List ℕ) (st : State) → (is_undefined st && not (is_among reserved_names name)) ≡ true → final_by p name st ≡ waiting 0
 waiting_still p name (Defined segment offset) h = absurd (cc)
-waiting_still p name (Wanted size) h = by_tests (plus p.at.data_end (common_offset p.said name)) (eqb size 0) p.choices.relocatable (lays_commons p.choices) h
+waiting_still p name (Wanted size) h = by_tests (plus p.at.data_end (common_offset p.mentions name)) (eqb size 0) p.choices.relocatable (lays_commons p.choices) h
   where
     reserved : (t d e : Bool) → not (t || (d || (e || false))) ≡ true → cond t (bound_at TextSeg p.at.text_end) (cond d (bound_at DataSeg p.at.data_end) (cond e (bound_at BssSeg p.at.bss_end) (waiting 0))) ≡ waiting 0
     reserved true d e h = absurd (cc)

@@ -5,7 +5,7 @@ use Rattle.std.specs.Prelude.{◌≡◌, Result, Ok, Err, IsOk}
 use Rattle.link_out.specs.declared.linked.Report.{Report}
 use Rattle.link_out.specs.declared.linked.Linked.{Linked}
 use Rattle.link_out.specs.declared.linked.LinkFault.{LinkFault}
-use Rattle.link_out.specs.declared.linked.LinkFault.TheVariants.{DoesNotFit, TooManySymbols, SymbolNumber, Memory}
+use Rattle.link_out.specs.declared.linked.LinkFault.TheVariants.{Memory}
 use Rattle.link_out.specs.Results.{Findings, Outcome}
 
 abbrev pub findings_of : Report → Findings
@@ -23,6 +23,4 @@ outcome_of l = record { file = l.file; report = findings_of l.report }
 abbrev pub IsLinkOf : Result Linked LinkFault → Result Outcome LinkFault → Type 0
 IsLinkOf (Ok l) x = x ≡ Ok (outcome_of l)
 IsLinkOf (Err Memory) x = IsOk x
-IsLinkOf (Err DoesNotFit) x = x ≡ Err DoesNotFit
-IsLinkOf (Err TooManySymbols) x = x ≡ Err TooManySymbols
-IsLinkOf (Err SymbolNumber) x = x ≡ Err SymbolNumber
+IsLinkOf (Err fault) x = x ≡ Err fault

@@ -44,13 +44,10 @@ pub(crate) fn is_kept_local(keep: Keep, symbol: &Symbol) -> bool
 fn count_kept(keep: Keep, symbols: &[Symbol]) -> usize
     ensures { result ≡ count_in keep symbols.now }
 {
-    let mut count = 0;
-    for symbol in symbols {
-        if is_kept_local(keep, symbol) {
-            count += 1;
-        }
-    }
-    count
+    symbols
+        .iter()
+        .filter(|symbol| is_kept_local(keep, symbol))
+        .count()
 }
 
 /// How many locals of the objects are kept; `None` where these and the externals are too many for a table.

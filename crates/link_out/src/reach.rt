@@ -51,12 +51,9 @@ fn is_out(session: &Session, commons: bool, locals: u16, target: Target) -> bool
 fn is_any_out(session: &Session, commons: bool, locals: u16, cells: &[Cell]) -> bool
     ensures { result ≡ list_any (λ (c : Cell). is_out (image_of session.now).externals commons locals c.target) cells.now }
 {
-    for cell in cells {
-        if is_out(session, commons, locals, cell.target) {
-            return true;
-        }
-    }
-    false
+    cells
+        .iter()
+        .any(|cell| is_out(session, commons, locals, cell.target))
 }
 
 /// Whether a file with relocation would need a symbol number over 4,095; `locals` rows stand before the externals.

@@ -2,7 +2,7 @@
 --
 -- A session keeps forced names, objects with labels, and a journal. `add` appends an object and its marks, `withdraw` takes the
 -- last ones away. These records say so, and that the marks undo their addition.
-use Rattle.std.specs.Prelude.{◌≡◌, ℕ, ◌≤◌, List, [], ◌∷◌, ◌++◌, length, Option, Some, None, String, string_bytes}
+use Rattle.std.specs.Prelude.{◌≡◌, ℕ, ◌≤◌, List, [], ◌∷◌, ◌++◌, length, Option, Some, None, unwrap_or, String, string_bytes}
 use Rattle.std.specs.List.{AllByRecursion}
 use Rattle.std.specs.declared.alloc.Global.{Global}
 use Rattle.aout_core.specs.Contents.{Contents, Fits}
@@ -11,6 +11,7 @@ use Rattle.link_session.specs.declared.entry.AddFault.{AddFault}
 use Rattle.link_session.specs.declared.entry.AddFault.TheVariants.{Memory}
 use Rattle.link_session.specs.declared.mark.Mark.{Mark}
 use Rattle.link_session.specs.Labelled.{Labelled, objects}
+use Rattle.link_session.specs.Edits.{last_of}
 use Rattle.link_session.specs.Undo.{undo, IsInside, Kept, image_of}
 use Rattle.link_session.specs.Bounds.{most_marks}
 
@@ -51,6 +52,4 @@ IsCause (Some limit) cause = cause ≡ limit
 
 -- the marks of the object added last
 abbrev pub newest : List (List Mark) → List Mark
-newest [] = []
-newest (ks ∷ []) = ks
-newest (ks ∷ (ls ∷ more)) = newest (ls ∷ more)
+newest journal = unwrap_or (last_of journal) []

@@ -225,7 +225,6 @@ pub(crate) fn join(
         &mut image.multiples,
         &mut marks,
         &mut places,
-        sizes.externals,
         &table,
     );
     if let Err(refused) = bind_waiting(image, &places, &mut marks) {

@@ -30,12 +30,7 @@ fn is_mention_of(symbol: &Symbol, name: &Name) -> bool
 fn mentions(symbols: &[Symbol], name: &Name) -> bool
     ensures { result ≡ list_any (λ s. is_external s && bytes_eq name.now s.name) symbols.now }
 {
-    for symbol in symbols {
-        if is_mention_of(symbol, name) {
-            return true;
-        }
-    }
-    false
+    symbols.iter().any(|symbol| is_mention_of(symbol, name))
 }
 
 fn contains(externals: &Externals, name: &Name) -> bool

@@ -152,29 +152,20 @@ fn enter(
 
 /// How many of the symbols are external.
 pub(crate) fn count_external(symbols: &[Symbol]) -> usize
-    requires { 12 * length symbols.now < 2 ^ 16 }
     ensures { result ≡ length (filter is_external symbols.now) }
 {
-    let mut count = 0;
-    for symbol in symbols {
-        if symbol.is_external() {
-            count += 1;
-        }
-    }
-    count
+    symbols.iter().filter(|symbol| symbol.is_external()).count()
 }
 
 /// Enters all external symbols of an object, in order, and appends the place of each symbol's name. There is room for
-/// them; `kept` names were there before.
+/// them.
 pub(crate) fn enter_all(
     externals: &mut Externals,
     multiples: &mut Vec<Name>,
     marks: &mut Vec<Mark>,
     places: &mut Vec<u16>,
-    kept: usize,
     table: &Table<'_>,
 )
-    requires small { kept ≤ 65535 }
     requires names { length (with_mentions externals.old.entries (mentions_by table.now.shifts table.now.symbols.now)) ≤ 65535 }
     requires names_room { length (filter is_external table.now.symbols.now) ≤ spare externals.old }
     requires multiples_room { vec_len multiples.old + length (filter is_external table.now.symbols.now) ≤ vec_capacity multiples.old }
@@ -182,9 +173,10 @@ pub(crate) fn enter_all(
     requires places_room { vec_len places.old + length table.now.symbols.now ≤ vec_capacity places.old }
     ensures names { externals.new.entries ≡ with_mentions externals.old.entries (mentions_by table.now.shifts table.now.symbols.now) }
     ensures multiples { multiples.new.items ≡ multiples.old.items ++ all_clashes externals.old.entries (mentions_by table.now.shifts table.now.symbols.now) }
-    ensures marks { marks.new.items ≡ marks.old.items ++ state_marks kept externals.old.entries (mentions_by table.now.shifts table.now.symbols.now) }
+    ensures marks { marks.new.items ≡ marks.old.items ++ state_marks (length externals.old.entries) externals.old.entries (mentions_by table.now.shifts table.now.symbols.now) }
     ensures places { places.new.items ≡ places.old.items ++ all_places externals.new.entries table.now.symbols.now }
 {
+    let kept = externals.len();
     for symbol in table.symbols {
         let mut place = NO_PLACE;
         if symbol.is_external() {

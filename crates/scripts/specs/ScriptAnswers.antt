@@ -9,7 +9,7 @@ use Rattle.scripts.specs.declared.lines.Line.{Line}
 use Rattle.scripts.specs.declared.lines.Line.TheVariants as lines
 use Rattle.scripts.specs.declared.line_reader.Stop.{Stop}
 use Rattle.scripts.specs.declared.line_reader.Stop.TheVariants as stops
-use Rattle.scripts.specs.Scripts.{Asked, to_add, to_withdraw, for_externals, for_undefined, to_link, for_nothing, lines_in, long_line, many_lines, and_given, ends_with_fault, given_behind}
+use Rattle.scripts.specs.Scripts.{Asked, to_add, to_withdraw, for_externals, for_undefined, to_link, for_nothing, lines_in, ScriptFault, long_line, many_lines, and_given, given_behind}
 
 -- what a line that was given asks for
 abbrev pub asked_by : Line → Asked
@@ -84,29 +84,22 @@ NamesPath (to_add path) = Unit {0}
 NamesPath (to_link path) = Unit {0}
 NamesPath _ = ⊥
 
--- behind so many lines there is none
-abbrev pub TakesNone : ℕ → List ℕ → List ℕ → Type 0
-TakesNone n bytes left = (left ≡ []) × (given_behind n (lines_in bytes) ≡ record { lines = []; fault = None })
-
--- behind so many lines the next is too long, and it was taken up to the byte that is one too many
-abbrev pub StopsInLine : ℕ → List ℕ → List ℕ → Type 0
-StopsInLine n bytes left = (left ≡ drop 4097 bytes) × (given_behind n (lines_in bytes) ≡ ends_with_fault long_line)
-
--- behind so many lines there is one too many, of which one byte was taken
-abbrev pub StopsBehind : ℕ → List ℕ → List ℕ → Type 0
-StopsBehind n bytes left = (left ≡ drop 1 bytes) × (given_behind n (lines_in bytes) ≡ ends_with_fault many_lines)
+-- behind so many lines there is none, because of this fault or since the script is at its end
+abbrev pub GivesNone : ℕ → List ℕ → Option ScriptFault → Type 0
+GivesNone n bytes fault = given_behind n (lines_in bytes) ≡ record { lines = []; fault = fault }
 
 -- the reader failed within a line, of which these bytes were taken
 abbrev pub FailsInLine : List ℕ → List ℕ → Type 0
 FailsInLine bytes left = (front : List ℕ) × HasNone front × (length front ≤ 4096) × (bytes ≡ front ++ left)
 
 -- behind so many lines, the answer is the next that these bytes give, and leaves those behind it; with a last line that
--- lacks its newline, and with no other, the end is settled
+-- lacks its newline, and with no other, the end is settled; a line that is too long was taken up to the byte that is one too
+-- many, and of a line too many one byte
 abbrev pub IsNextOf : ℕ → List ℕ → List ℕ → Option Stop → Answer → Type 0
 IsNextOf n bytes left settled (Ok line) = TakesLine n bytes left (asked_by line) × (IsSome settled ↔ HasNone bytes)
-IsNextOf n bytes left settled (Err stops.End) = TakesNone n bytes left
-IsNextOf n bytes left settled (Err stops.LongLine) = StopsInLine n bytes left
-IsNextOf n bytes left settled (Err stops.ManyLines) = StopsBehind n bytes left
+IsNextOf n bytes left settled (Err stops.End) = (left ≡ []) × GivesNone n bytes None
+IsNextOf n bytes left settled (Err stops.LongLine) = (left ≡ drop 4097 bytes) × GivesNone n bytes (Some long_line)
+IsNextOf n bytes left settled (Err stops.ManyLines) = (left ≡ drop 1 bytes) × GivesNone n bytes (Some many_lines)
 IsNextOf n bytes left settled (Err stops.ReadFailed) = FailsInLine bytes left
 IsNextOf n bytes left settled (Err stops.Memory) = (asks : Asked) × NamesPath asks × TakesLine n bytes left asks
 

@@ -1,5 +1,5 @@
 //! The list of nm.
-ghost use Rattle.std.specs.Prelude.{◌≡◌, ◌≢◌, ◌↔◌, ◌++◌, ◌∷◌, [], false, if◌then◌else◌, IfErr, IfOk, IsOk, IsTrue, OnErr, OnOk, Err, filter};
+ghost use Rattle.std.specs.Prelude.{◌≡◌, ◌≢◌, ◌↔◌, ◌++◌, ◌∷◌, [], false, if◌then◌else◌, IfErr, IfOk, IsOk, IsTrue, OnErr, OnOk, Err, filter, string_bytes};
 ghost use Rattle.std.specs.List.{flat_map};
 ghost use Rattle.aout_core.specs.Wires.{Puts, Writes};
 ghost use Rattle.symtools.specs.Files.{by_bytes};
@@ -36,8 +36,8 @@ pub fn nm<W: Write>(
         return Err(ToolFault::Device);
     }
     let is_headed = !options.each_line && files.len() > 1;
-    for (path, file) in files {
-        list_file(alloc, path, file.symbols(), options, is_headed, out)?;
+    for file in files {
+        list_file(alloc, file, options, is_headed, out)?;
     }
     Ok(())
 }
@@ -45,8 +45,7 @@ pub fn nm<W: Write>(
 /// Writes the lines of one file, with its path above them or not.
 fn list_file<W: Write>(
     alloc: Global,
-    path: &str,
-    table: &[Symbol],
+    file: &(String, File),
     options: NmOptions,
     is_headed: bool,
     out: &mut Wire<W>,
@@ -54,12 +53,13 @@ fn list_file<W: Write>(
     requires { out.old.has_failed ≡ false }
     ensures device { (result ≡ Err Device) ↔ IsTrue out.new.has_failed }
     ensures memory { result ≡ Err Memory → (out.new ≡ out.old) }
-    ensures shows { result ≡ Err Memory → filter (is_shown options) table.now ≢ [] }
+    ensures shows { result ≡ Err Memory → filter (is_shown options) file.now.1.symbols ≢ [] }
     ensures bytes { Puts result (W.contents out.old.device) (W.contents out.new.device)
-        ((if is_headed then path.now ++ (58 ∷ 10 ∷ []) else [])
-        ++ flat_map (λ s. (if options.each_line then path.now ++ 58 ∷ [] else []) ++ symbol_line s) (arranged options (filter (is_shown options) table.now))) }
+        ((if is_headed then string_bytes file.now.0 ++ (58 ∷ 10 ∷ []) else [])
+        ++ flat_map (λ s. (if options.each_line then string_bytes file.now.0 ++ 58 ∷ [] else []) ++ symbol_line s) (arranged options (filter (is_shown options) file.now.1.symbols))) }
 {
-    let symbols = shown(alloc, table, options)?;
+    let (path, file) = file;
+    let symbols = shown(alloc, file.symbols(), options)?;
     put_heading(is_headed, path, b":\n", out)?;
     put_lines(&symbols, path, options.each_line, out)?;
     Ok(())

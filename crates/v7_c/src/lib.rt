@@ -139,7 +139,9 @@ pub extern "C" fn v7_take_apart(
         ≡ apart_left (Err Memory) text.old data_words.old symbols.old }
 {
     let parts = library_calls::take_apart(alloc, bytes);
-    leave_parts(parts, text, data_words, symbols, counts, answer)
+    let (status, there) = leave_parts(parts, text, data_words, symbols, answer);
+    *counts = there;
+    status
 }
 
 /// Runs the edits of a session, and links what is left.

@@ -61,42 +61,41 @@ pub(crate) fn leave_bytes(
     }
 }
 
-/// Writes two results into their rooms, where both fit.
-fn leave_both(
+/// Two results and a status.
+#[derive(Clone, Copy)]
+struct Both<'a> {
     status: u8,
-    bytes: &[u8],
-    more: &[u8],
-    room: &mut [u8],
-    report: &mut [u8],
-    answer: &mut Answer,
-) -> u32
+    bytes: &'a [u8],
+    more: &'a [u8],
+}
+
+/// Writes two results into their rooms, where both fit.
+fn leave_both(both: &Both<'_>, room: &mut [u8], report: &mut [u8], answer: &mut Answer) -> u32
     ensures { link_left result answer.new room.new report.new
-        ≡ output_left (Ok (record { status = status; file = bytes.now; report = more.now })) room.old report.old }
+        ≡ output_left (Ok (record { status = both.now.status; file = both.now.bytes.now; report = both.now.more.now })) room.old report.old }
 {
-    let size = bytes.len();
-    let report_size = more.len();
+    let size = both.bytes.len();
+    let report_size = both.more.len();
     if room.len() < size || report.len() < report_size {
         *answer = Answer::given(NO_ROOM, size, report_size);
         return 2;
     }
-    put(bytes, room);
-    put(more, report);
+    put(both.bytes, room);
+    put(both.more, report);
     *answer = Answer::given(0, size, report_size);
-    u32::from(status)
+    u32::from(both.status)
 }
 
 /// Writes the file of a link and its report into the rooms, where both fit.
 fn leave_program(program: &Program, room: &mut [u8], report: &mut [u8], answer: &mut Answer) -> u32
     ensures { link_left result answer.new room.new report.new ≡ output_left (Ok (outputs_of program.now)) room.old report.old }
 {
-    leave_both(
-        program.status,
-        &program.file,
-        &program.report,
-        room,
-        report,
-        answer,
-    )
+    let both = Both {
+        status: program.status,
+        bytes: &program.file,
+        more: &program.report,
+    };
+    leave_both(&both, room, report, answer)
 }
 
 /// Writes a link into the rooms, where there is one.
@@ -163,14 +162,12 @@ pub(crate) fn leave_session(
 fn leave_shown(shown: &Shown, room: &mut [u8], replies: &mut [u8], answer: &mut Answer) -> u32
     ensures { link_left result answer.new room.new replies.new ≡ told_left (Ok (told_of shown.now)) room.old replies.old }
 {
-    leave_both(
-        shown.status,
-        &shown.state,
-        &shown.replies,
-        room,
-        replies,
-        answer,
-    )
+    let both = Both {
+        status: shown.status,
+        bytes: &shown.state,
+        more: &shown.replies,
+    };
+    leave_both(&both, room, replies, answer)
 }
 
 /// Writes the state of a session and the replies into the rooms, where there is one.
@@ -228,31 +225,30 @@ fn leave_lists(
     0
 }
 
-/// Writes the parts of an object into the rooms, where there are some.
+/// Writes the parts of an object into the rooms, where there are some, and returns the status and their numbers.
 pub(crate) fn leave_parts(
     parts: Result<PartLists, Cause>,
     text: &mut [ObjectWord],
     data_words: &mut [ObjectWord],
     symbols: &mut [SymbolRow],
-    counts: &mut Counts,
     answer: &mut Answer,
-) -> u32
-    ensures { parts_left result answer.new counts.new text.new data_words.new symbols.new ≡ apart_left (pieces_or parts) text.old data_words.old symbols.old }
+) -> (u32, Counts)
+    ensures { parts_left result.0 answer.new result.1 text.new data_words.new symbols.new ≡ apart_left (pieces_or parts) text.old data_words.old symbols.old }
 {
     match parts {
         Ok(parts) => {
-            *counts = counts_of(&parts);
-            leave_lists(&parts, text, data_words, symbols, answer)
+            let status = leave_lists(&parts, text, data_words, symbols, answer);
+            (status, counts_of(&parts))
         }
         Err(cause) => {
-            *counts = Counts {
+            *answer = Answer::refused(Refusal::from(cause));
+            let none = Counts {
                 text: 0,
                 data: 0,
                 symbols: 0,
                 bss: 0,
             };
-            *answer = Answer::refused(Refusal::from(cause));
-            2
+            (2, none)
         }
     }
 }

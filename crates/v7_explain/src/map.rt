@@ -189,38 +189,45 @@ fn put_map(
     put_externals(alloc, text, names)
 }
 
+fn names_of<'x>(
+    gathered: &'x Gathered,
+    session: &'x Session,
+    outcome: Option<&'x Outcome>,
+) -> Names<'x> {
+    Names {
+        gathered,
+        session,
+        outcome,
+    }
+}
+
 /// Tells a map, and its status.
-fn tell_all<'x>(
+fn tell_names(
+    alloc: Global,
+    told: &mut Told,
+    names: &Names<'_>,
+    options: &Options,
+) -> Result<(), AllocError> {
+    put_map(alloc, &mut told.text, names, options)?;
+    told.status = status_of(names.outcome);
+    Ok(())
+}
+
+/// Tells the map of the objects that were taken.
+fn tell_map<'x>(
     alloc: Global,
     told: &mut Told,
     session: &'x Session,
     options: &Options,
     gathered: &'x Gathered,
-    outcome: Option<&'x Outcome>,
-) -> Result<(), AllocError> {
-    let names = Names {
-        gathered,
-        session,
-        outcome,
-    };
-    put_map(alloc, &mut told.text, &names, options)?;
-    told.status = status_of(outcome);
-    Ok(())
-}
-
-/// Tells the map of the objects that were taken.
-fn tell_map(
-    alloc: Global,
-    told: &mut Told,
-    session: &Session,
-    options: &Options,
-    gathered: &Gathered,
 ) -> Result<(), AllocError> {
     if gathered.refused.is_some() {
-        return tell_all(alloc, told, session, options, gathered, None);
+        let names = names_of(gathered, session, None);
+        return tell_names(alloc, told, &names, options);
     }
     let outcome = outcome_of(alloc, session, options)?;
-    tell_all(alloc, told, session, options, gathered, Some(&outcome))
+    let names = names_of(gathered, session, Some(&outcome));
+    tell_names(alloc, told, &names, options)
 }
 
 /// Tells the map of the link that a call of `ld` asks for.

@@ -1,6 +1,6 @@
 -- The inputs one after another, and the link of what is kept of them.
 use Rattle.std.specs.declared.alloc.Global.{Global}
-use Rattle.std.proofs.Common.{◌≡◌, ◌≢◌, ℕ, false, List, [], ◌∷◌, Option, Some, None, Result, Ok, Err, refl, sym, ap, ◌∙◌, subst, inl, inr}
+use Rattle.std.proofs.Common.{◌≡◌, ◌≢◌, ℕ, false, List, [], ◌∷◌, Option, Some, None, option_and_then, option_map, Result, Ok, Err, refl, sym, ap, ◌∙◌, subst, inl, inr}
 use Rattle.std.specs.Prelude.{String, string_bytes, IfSome, IsErrAnd}
 use Rattle.aout_core.specs.declared.file.ReadFault.TheVariants as reads
 use Rattle.aout_core.specs.Contents.{Contents}
@@ -20,7 +20,7 @@ use Rattle.v7tools.specs.declared.fault.CliFault.{CliFault}
 use Rattle.v7tools.specs.declared.fault.CliFault.TheVariants as faults
 use Rattle.v7tools.specs.FaultTexts.{fault_at, fault_of_link}
 use Rattle.v7tools.specs.Inputs.{Cause, cannot_open, bad_file, bad_object, not_added, Refusal, of_input, not_linked, object_in, kept_with, with_input, with_inputs, at_path, and_then, link_or_refusal, linked}
-use Rattle.v7tools.specs.LinkAnswers.{Input, Said, said_by, refuses, breaks, runs_out, never, Takes, Rejects, WantsMemory, StopsAt, TakesAll, StopsIn, HasNoLink, IsLinkOver, and_told, told, IsTrueOf, IsLinkOfBytes, IsLinkOf}
+use Rattle.v7tools.specs.LinkAnswers.{Input, Said, said_by, refuses, breaks, runs_out, never, Takes, Rejects, WantsMemory, StopsAt, TakesAll, StopsIn, HasNoLink, IsLinkOver, told, IsTrueOf, IsLinkOfBytes, IsLinkOf}
 use Rattle.v7tools.specs.internal.InputParts.{AreTaken, IsPossible}
 use Rattle.v7tools.specs.internal.StepParts.{IsAccepted, IsAddition, IsFound}
 
@@ -98,7 +98,7 @@ record FirstTold (i : Input) (is : List Input) (all : List (List ℕ × List ℕ
 first_told : (i : Input) (is : List Input) (all : List (List ℕ × List ℕ)) → told (i ∷ is) ≡ Some all → FirstTold i is all
 first_told i is all h = by_parts i.known (told is) refl refl h
   where
-    by_parts : (d : Option (List ℕ)) (t : Option (List (List ℕ × List ℕ))) → i.known ≡ d → told is ≡ t → and_told i.path d t ≡ Some all → FirstTold i is all
+    by_parts : (d : Option (List ℕ)) (t : Option (List (List ℕ × List ℕ))) → i.known ≡ d → told is ≡ t → option_and_then (λ bytes. option_map (λ rest. (i.path, bytes) ∷ rest) t) d ≡ Some all → FirstTold i is all
     by_parts None t e f h = absurd (cc)
     by_parts (Some bytes) None e f h = absurd (cc)
     by_parts (Some bytes) (Some later) e f h = record { bytes = bytes; later = later; known = e; others = f; split = cc }

@@ -12,8 +12,8 @@ use Rattle.link_options.specs.Choices.{Choices}
 use Rattle.v7tools.specs.Events.{History, Extends}
 use Rattle.scripts.specs.Scripts.{Asked, lines_in, Given, ScriptFault, long_line, many_lines, and_given, given_behind}
 use Rattle.scripts.specs.ScriptAnswers.{Answer, IfTold, IsNextOf, NamesPath, Progress, Settles, asked_by, lines_of}
-use Rattle.v7tools.specs.SessionRuns.{AreFirst, AreLines, Chains, IsSessionRun, Ran, StopsBehind, answers_of, events_of, given, lines_asked, worst}
-use Rattle.v7tools.specs.LineRuns.{IsLineRun, LineRun}
+use Rattle.v7tools.specs.SessionRuns.{AreFirst, AreLines, Chains, EndsBehind, IsSessionRun, Ran, StopsBehind, answers_of, events_of, given, lines_asked, worst}
+use Rattle.v7tools.specs.LineRuns.{IsLineOf, LineRun}
 use Rattle.v7tools.specs.internal.SessionParts.{AnswersLine}
 use Rattle.v7tools.specs.ScriptCalls.{returned}
 use Rattle.v7tools.specs.declared.fault.CliFault.{CliFault}
@@ -26,8 +26,8 @@ use Rattle.scripts.proofs.ScriptLemmas.{behind_last_line}
 
 -- ---- one more line
 
-chains_more : (o : Choices) (old mid new : Kept) (runs : List LineRun) (r : LineRun) → Chains o old runs mid → IsLineRun o mid r → r.kept ≡ new → Chains o old (runs ++ r ∷ []) new
-chains_more o old mid new [] r h is e = (subst (λ (k : Kept). IsLineRun o k r) h is, sym e)
+chains_more : (o : Choices) (old mid new : Kept) (runs : List LineRun) (r : LineRun) → Chains o old runs mid → IsLineOf o mid r r.line → r.kept ≡ new → Chains o old (runs ++ r ∷ []) new
+chains_more o old mid new [] r h is e = (subst (λ (k : Kept). IsLineOf o k r r.line) h is, sym e)
 chains_more o old mid new (s ∷ ss) r h is e = (h.0, chains_more o s.kept mid new ss r h.1 is e)
 
 worst_more : (runs : List LineRun) (r : LineRun) → worst (runs ++ r ∷ []) ≡ max (worst runs) r.status
@@ -250,25 +250,22 @@ module _ {R W : Type 0} (remaining : R → Option (List ℕ)) (contents : W → 
         runs = h.runs;
         kept = mid;
         ran = subst (λ (k : Kept). Ran contents o k mid h.runs old between before during) is h.ran;
-        all = subst (λ (known : Option (List ℕ)). AreLines known asked_so_far None) first_is all;
-        status = answer ∙ ap (λ (k : ℕ). let r : Result ℕ CliFault = Ok k in r) h.worst_so_far;
+        ends = subst (EndsBehind (remaining source.device) h.runs) (sym answer) (subst (λ (known : Option (List ℕ)). AreLines known asked_so_far None) first_is all, h.worst_so_far);
       }))
 
       pub run_up_to : (fault : CliFault) → StopsBehind (left_of remaining begun) asked_so_far fault → result ≡ Err fault → IsSessionRun contents forced o (remaining source.device) old between result before during
-      run_up_to fault stops answer = inr (inr (inl (record {
+      run_up_to fault stops answer = inr (inl (record {
         runs = h.runs;
         kept = mid;
         ran = subst (λ (k : Kept). Ran contents o k mid h.runs old between before during) is h.ran;
-        fault = fault;
-        stops = subst (λ (known : Option (List ℕ)). StopsBehind known asked_so_far fault) first_is stops;
-        refusal = answer;
-      })))
+        ends = subst (EndsBehind (remaining source.device) h.runs) (sym answer) (subst (λ (known : Option (List ℕ)). StopsBehind known asked_so_far fault) first_is stops);
+      }))
 
       pub broke_off : (next : Progress R) (it : Line) (left : Kept) (new : History) (after : Latched W) (fault : CliFault) → Reading (left_of remaining begun) (left_of remaining next) next.line_count next.settled (asked_so_far ++ asked_by it ∷ []) →
           AnswersLine contents o (asked_by it) mid left between new (Err fault) during after → (IsTrue during.has_failed → after ≡ during) → result ≡ Err fault → IsSessionRun contents forced o (remaining source.device) old new result before after
       broke_off next it left new after fault reading line stays answer =
           let (part, rest, split, sent) = line.bytes in
-          inr (inr (inr (record {
+          inr (inr (record {
             runs = h.runs;
             kept = mid;
             chain = subst (λ (k : Kept). Chains o k h.runs mid) is h.ran.chain;
@@ -286,7 +283,7 @@ module _ {R W : Type 0} (remaining : R → Option (List ℕ)) (contents : W → 
                 let (none, same) = h.ran.latched t in
                 (none, stays (subst (λ (w : Latched W). IsTrue w.has_failed) (sym same) t) ∙ same);
             refusal = answer ∙ ap (λ (f : CliFault). let r : Result ℕ CliFault = Err f in r) line.write_failed;
-          })))
+          }))
 
 -- memory is wanted before a line is read
 pub no_memory : {W : Type 0} (contents : W → Option (List ℕ)) (o : Choices) (forced : List (List ℕ)) (script : Option (List ℕ)) (old : History) (before : Latched W) (fault : CliFault) (result : Result ℕ CliFault) → fault ≡ faults.Memory → result ≡ Err fault →

@@ -9,7 +9,7 @@ use Rattle.symtools.specs.SizeLines.{size_text}
 use Rattle.command_words.specs.Calls.{IsAsked, IsWhole, dashes_in, files_of}
 use Rattle.command_words.specs.declared.words.Call.{Call}
 use Rattle.command_words.specs.declared.words.Call.TheVariants.{Ld, Nm, Size, Strip, Session}
-use Rattle.v7tools.specs.Calls.{AsksForNone, IsOfWords}
+use Rattle.v7tools.specs.Calls.{IsOfWords}
 use Rattle.v7tools.specs.Events.{History, Extends}
 use Rattle.v7tools.specs.Emits.{PutsUnless}
 use Rattle.v7tools.specs.FaultTexts.{fault_line}
@@ -41,8 +41,7 @@ pub record RunsCall {W : Type 0} (contents : W → Option (List ℕ)) (words : L
 -- the words ask for no call, or memory ran out while they were read: nothing is asked of the office, and nothing is written
 pub record RefusesWords {W : Type 0} (words : List (List ℕ)) (old new : History) (result : Result ℕ CliFault) (before after : Latched W) : Type 0 where
   pub fault : CliFault
-  pub of_words : IsOfWords fault
-  pub none : AsksForNone words fault
+  pub of_words : IsOfWords words fault
   pub asked : Extends old new []
   pub refuses : Refuses fault result before after
 

@@ -93,6 +93,3 @@ IsLineOf o old r for_externals = OnlyTells (step old.forced o old.entries listin
 IsLineOf o old r for_undefined = OnlyTells (step old.forced o old.entries listing_undefined) old r
 IsLineOf o old r (to_link path) = LinksNone o old r ⊎ LinksInto o old path r
 IsLineOf o old r for_nothing = OnlyTells (step old.forced o old.entries anything_else) old r
-
-abbrev pub IsLineRun : Choices → Kept → LineRun → Type 0
-IsLineRun o old r = IsLineOf o old r r.line

@@ -4,7 +4,7 @@
 -- refused, or whose device fails, or for which memory runs out. So where all bytes are known the result is the link of these bytes
 -- or the first refusal, unless a device fails or memory runs out.
 use Rattle.std.specs.declared.alloc.Global.{Global}
-use Rattle.std.specs.Prelude.{◌≡◌, ◌≢◌, ◌⊎◌, ℕ, Bool, false, List, [], ◌∷◌, map, Option, Some, None, Result, Ok, Err, IfSome, IsOk, String, string_bytes}
+use Rattle.std.specs.Prelude.{◌≡◌, ◌≢◌, ◌⊎◌, ℕ, Bool, false, List, [], ◌∷◌, map, Option, Some, option_and_then, option_map, Result, Ok, Err, IfSome, IsOk, String, string_bytes}
 use Rattle.aout_core.specs.declared.file.ReadFault.TheVariants as reads
 use Rattle.aout_core.specs.Contents.{Contents}
 use Rattle.aout_core.specs.Decoding.{decode}
@@ -119,16 +119,10 @@ IsLinkOver forced o inputs (Err fault) =
 
 -- ---- where all bytes are known
 
--- a path and its bytes before others, where they are told
-abbrev pub and_told : List ℕ → Option (List ℕ) → Option (List (List ℕ × List ℕ)) → Option (List (List ℕ × List ℕ))
-and_told path None rest = None
-and_told path (Some bytes) None = None
-and_told path (Some bytes) (Some rest) = Some ((path, bytes) ∷ rest)
-
 -- the paths of the inputs with their bytes, where all are known
 abbrev pub told : List Input → Option (List (List ℕ × List ℕ))
 told [] = Some []
-told (i ∷ is) = and_told i.path i.known (told is)
+told (i ∷ is) = option_and_then (λ bytes. option_map (λ rest. (i.path, bytes) ∷ rest) (told is)) i.known
 
 -- what is said is true where the bytes give this
 abbrev pub IsTrueOf : {A : Type 0} → Said → Result A Refusal → Type 0

@@ -2,8 +2,8 @@
 --
 -- All inputs are opened, whatever they hold, or the first that can't be is the fault. Only a link is stored, and only what was stored is reported.
 use Rattle.std.specs.declared.alloc.Global.{Global}
-use Rattle.std.specs.Prelude.{◌≡◌, ◌↔◌, ◌⊎◌, ℕ, List, [], ◌∷◌, ◌++◌, map, false, Option, None, Result, Ok, Err, IfErr, IfOk, IsErr, IsTrue, String, string_bytes}
-use Rattle.aout_core.specs.Wires.{Latched, Puts}
+use Rattle.std.specs.Prelude.{◌≡◌, ◌⊎◌, ℕ, List, [], ◌∷◌, ◌++◌, map, false, Option, None, Result, Ok, Err, IfErr, IfOk, String, string_bytes}
+use Rattle.aout_core.specs.Wires.{Latched, Writes}
 use Rattle.link_out.specs.declared.linked.Linked.{Linked}
 use Rattle.link_options.specs.Choices.{Choices}
 use Rattle.link_out.specs.Outcomes.{findings_of}
@@ -35,8 +35,7 @@ pub record IsLinkOfFiles (forced : List (List ℕ)) (o : Choices) (files : List 
 pub record Reports {W : Type 0} (contents : W → Option (List ℕ)) (f : Findings) (result : Result ℕ CliFault) (before after : Latched W) : Type 0 where
   pub status : IfOk result (λ status. status ≡ status_of f)
   pub write_failed : IfErr result (λ fault. fault ≡ faults.WriteFailed)
-  pub fault : IsErr result ↔ IsTrue after.has_failed
-  pub bytes : Puts result (contents before.device) (contents after.device) (report_text f)
+  pub writes : Writes contents result before after (report_text f)
 
 -- the report goes out only where the file is stored
 abbrev pub ReportsIf : {W : Type 0} → (W → Option (List ℕ)) → Stored → String Global → Findings → Result ℕ CliFault → Latched W → Latched W → Type 0

@@ -16,12 +16,12 @@ use Rattle.scripts.specs.Scripts.{Asked, lines_in, Given, ScriptFault, long_line
 use Rattle.scripts.specs.ScriptAnswers.{NamesPath}
 use Rattle.v7tools.specs.declared.fault.CliFault.{CliFault}
 use Rattle.v7tools.specs.declared.fault.CliFault.TheVariants as faults
-use Rattle.v7tools.specs.LineRuns.{LineRun, IsLineRun}
+use Rattle.v7tools.specs.LineRuns.{IsLineOf, LineRun}
 
 -- the lines were run in order, each on the session that the one before it left
 abbrev pub Chains : Choices → Kept → List LineRun → Kept → Type 0
 Chains o old [] new = new ≡ old
-Chains o old (r ∷ rs) new = IsLineRun o old r × Chains o r.kept rs new
+Chains o old (r ∷ rs) new = IsLineOf o old r r.line × Chains o r.kept rs new
 
 abbrev pub lines_asked : List LineRun → List Asked
 lines_asked runs = map (λ r. r.line) runs
@@ -65,22 +65,17 @@ StopsBehind known lines faults.ScriptFailed = AreFirst known lines
 StopsBehind known lines faults.Memory = IfSome known (λ bytes. (a : Asked) × (more : List Asked) × NamesPath a × ((given bytes).lines ≡ lines ++ a ∷ more))
 StopsBehind known lines _ = ⊥
 
--- all lines were run: the status is the largest of theirs
-pub record RunsAll {W : Type 0} (contents : W → Option (List ℕ)) (forced : List (List ℕ)) (o : Choices) (script : Option (List ℕ)) (old new : History) (result : Result ℕ CliFault) (before after : Latched W) : Type 0 where
-  pub runs : List LineRun
-  pub kept : Kept
-  pub ran : Ran contents o (nothing_kept forced) kept runs old new before after
-  pub all : AreLines script (lines_asked runs) None
-  pub status : result ≡ Ok (worst runs)
+-- the lines that were run are all, and the status is the largest of theirs; or behind them the script gave a fault
+abbrev pub EndsBehind : Option (List ℕ) → List LineRun → Result ℕ CliFault → Type 0
+EndsBehind script runs (Ok status) = AreLines script (lines_asked runs) None × (status ≡ worst runs)
+EndsBehind script runs (Err fault) = StopsBehind script (lines_asked runs) fault
 
--- the script gave a fault behind the lines that were run
-pub record RunsUpTo {W : Type 0} (contents : W → Option (List ℕ)) (forced : List (List ℕ)) (o : Choices) (script : Option (List ℕ)) (old new : History) (result : Result ℕ CliFault) (before after : Latched W) : Type 0 where
+-- all answers went out whole
+pub record RunsLines {W : Type 0} (contents : W → Option (List ℕ)) (forced : List (List ℕ)) (o : Choices) (script : Option (List ℕ)) (old new : History) (result : Result ℕ CliFault) (before after : Latched W) : Type 0 where
   pub runs : List LineRun
   pub kept : Kept
   pub ran : Ran contents o (nothing_kept forced) kept runs old new before after
-  pub fault : CliFault
-  pub stops : StopsBehind script (lines_asked runs) fault
-  pub refusal : result ≡ Err fault
+  pub ends : EndsBehind script runs result
 
 -- behind the lines whose answers went out whole one more was run, and of its answer a prefix went out; on a wire that had
 -- failed before it is the first, and nothing went out
@@ -89,7 +84,7 @@ pub record BreaksOff {W : Type 0} (contents : W → Option (List ℕ)) (forced :
   pub kept : Kept
   pub chain : Chains o (nothing_kept forced) runs kept
   pub last : LineRun
-  pub is_run : IsLineRun o kept last
+  pub is_run : IsLineOf o kept last last.line
   pub first : AreFirst script (lines_asked runs ++ last.line ∷ [])
   pub asked : Extends old new (events_of runs ++ last.events)
   pub part : List ℕ
@@ -101,10 +96,9 @@ pub record BreaksOff {W : Type 0} (contents : W → Option (List ℕ)) (forced :
   pub refusal : result ≡ Err faults.WriteFailed
 
 -- a session that begins with these forced names and no objects: memory runs out before a line is read, all lines are
--- run, those up to a fault of the script, or those up to one whose answer can't be written
+-- run or those up to a fault of the script, or those up to one whose answer can't be written
 abbrev pub IsSessionRun : {W : Type 0} → (W → Option (List ℕ)) → List (List ℕ) → Choices → Option (List ℕ) → History → History → Result ℕ CliFault → Latched W → Latched W → Type 0
 IsSessionRun contents forced o script old new result before after =
     (Extends old new [] × Refuses faults.Memory result before after)
-    ⊎ (RunsAll contents forced o script old new result before after
-    ⊎ (RunsUpTo contents forced o script old new result before after
-    ⊎ BreaksOff contents forced o script old new result before after))
+    ⊎ (RunsLines contents forced o script old new result before after
+    ⊎ BreaksOff contents forced o script old new result before after)

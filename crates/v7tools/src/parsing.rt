@@ -1,7 +1,7 @@
 //! The words of a command, for the program.
 ghost use Rattle.std.specs.Prelude.{◌≡◌, IfErr, IfOk, map, string_bytes};
 ghost use Rattle.command_words.specs.Calls.{IsAsked, IsWhole, dashes_in, files_of};
-ghost use Rattle.v7tools.specs.Calls.{AsksForNone, IsOfWords};
+ghost use Rattle.v7tools.specs.Calls.{IsOfWords};
 
 use crate::fault::CliFault;
 use command_words::Call;
@@ -26,8 +26,7 @@ pub fn parse(alloc: Global, words: Vec<String>) -> Result<Call, CliFault>
     ensures whole { IfOk result IsWhole }
     ensures asked { IfOk result (IsAsked (map string_bytes words.items)) }
     ensures dashes { IfOk result (λ call. dashes_in (map string_bytes words.items) ≡ dashes_in (files_of call)) }
-    ensures faults { IfErr result IsOfWords }
-    ensures none { IfErr result (AsksForNone (map string_bytes words.items)) }
+    ensures none { IfErr result (IsOfWords (map string_bytes words.items)) }
 {
     Ok(command_words::parse(alloc, words)?)
 }

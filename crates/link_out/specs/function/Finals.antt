@@ -45,10 +45,10 @@ final_at o b offset name (Wanted size) =
     else waiting size)
 
 abbrev pub final_by : Plan → List ℕ → State → Final
-final_by p name s = final_at p.choices p.at (common_offset p.said name) name s
+final_by p name s = final_at p.choices p.at (common_offset p.mentions name) name s
 
 abbrev pub final : Plan → List ℕ → Final
-final p name = final_by p name (state p.said name)
+final p name = final_by p name (state p.mentions name)
 
 -- 040 where the name is not bound, else 041 to 044
 abbrev pub type_of : Option Segment → ℕ

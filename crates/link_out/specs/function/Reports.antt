@@ -28,7 +28,7 @@ undefined_names ms = filter (λ n. is_missing n (state ms n)) (names_by_first_me
 
 -- the name is an external whose final type is text
 abbrev pub is_in_text : Plan → List ℕ → Bool
-is_in_text p name = is_among (names_by_first_mention p.said) name && eqb (type_of (final p name).bound) 0o42
+is_in_text p name = is_among (names_by_first_mention p.mentions) name && eqb (type_of (final p name).bound) 0o42
 
 abbrev pub entry_word : Plan → Option (List ℕ) → ℕ
 entry_word p None = 0
@@ -40,10 +40,10 @@ entry_found_bad p (Some name) = if is_in_text p name then None else Some name
 
 abbrev pub findings : Plan → Findings
 findings p = record {
-  multiples = multiple_names p.said;
-  reserved = reserved_taken p.said;
+  multiples = multiple_names p.mentions;
+  reserved = reserved_taken p.mentions;
   entry_bad = entry_found_bad p p.choices.entry;
-  undefined = cond p.choices.relocatable [] (undefined_names p.said);
+  undefined = cond p.choices.relocatable [] (undefined_names p.mentions);
 }
 
 abbrev pub line : List ℕ → List ℕ

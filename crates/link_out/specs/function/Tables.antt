@@ -40,7 +40,7 @@ external_row p name =
     record { name = name; type_bits = type_of (final p name).bound; value = (final p name).written }
 
 abbrev pub external_rows : Plan → List Symbol
-external_rows p = map (external_row p) (names_by_first_mention p.said)
+external_rows p = map (external_row p) (names_by_first_mention p.mentions)
 
 -- the kept locals, then the externals by first mention
 abbrev pub table : Plan → List Contents → List Symbol
@@ -48,7 +48,7 @@ table p os = rows_kept p.choices.keep (local_rows p os ++ external_rows p)
 
 -- the number of a name in the table
 abbrev pub row_of : Plan → List Contents → List ℕ → ℕ
-row_of p os name = length (local_rows p os) + place_of name (names_by_first_mention p.said)
+row_of p os name = length (local_rows p os) + place_of name (names_by_first_mention p.mentions)
 
 -- the kind of a segment in a relocation word, or 010 and the number of the name that is waited for
 abbrev pub segment_bits : Segment → ℕ

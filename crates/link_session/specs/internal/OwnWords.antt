@@ -9,12 +9,12 @@ use Rattle.link_session.specs.internal.Additions.{placed_cells, place_at}
 use Rattle.link_session.specs.internal.Chains.{Link, threaded}
 
 -- the cells of these words of a segment with this shift
-abbrev pub cells_moved : Scope → ℕ → List ℕ → List Reloc → List Cell
-cells_moved scope own_shift words relocs = placed_cells scope.externals.now.entries scope.places.now scope.shifts own_shift words relocs
+abbrev pub cells_in_scope : Scope → ℕ → List ℕ → List Reloc → List Cell
+cells_in_scope scope own_shift words relocs = placed_cells scope.externals.now.entries scope.places.now scope.shifts own_shift words relocs
 
 -- the cells of all the words
 abbrev pub own_placed : Scope → Words → List Cell
-own_placed scope own = cells_moved scope (shift_by scope.shifts own.segment) own.words.now own.relocs.now
+own_placed scope own = cells_in_scope scope (shift_by scope.shifts own.segment) own.words.now own.relocs.now
 
 -- the links of such cells, behind these links, and the heads then
 abbrev pub own_threaded : Words → List Cell → List Link → List Link → List Link × List Link

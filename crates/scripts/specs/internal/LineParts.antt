@@ -1,12 +1,12 @@
 -- What ends a line of a script, and what was taken of it.
-use Rattle.std.specs.Prelude.{◌≡◌, ◌↔◌, ℕ, Bool, true, List, [], ◌∷◌, ◌++◌, Option, Result, Ok, Err}
+use Rattle.std.specs.Prelude.{◌≡◌, ◌↔◌, ℕ, Bool, true, List, [], ◌∷◌, ◌++◌, drop, Option, Some, None, Result, Ok, Err}
 use Rattle.std.specs.Io.KnownBytes.{Consumes, IsAtEnd}
 use Rattle.scripts.specs.declared.line_reader.Ending.{Ending}
 use Rattle.scripts.specs.declared.line_reader.Ending.TheVariants as endings
 use Rattle.scripts.specs.declared.line_reader.Stop.{Stop}
 use Rattle.scripts.specs.declared.line_reader.Stop.TheVariants as stops
-use Rattle.scripts.specs.Scripts.{asked}
-use Rattle.scripts.specs.ScriptAnswers.{HasNone, TakesLine, TakesNone, StopsInLine, StopsBehind, FailsInLine}
+use Rattle.scripts.specs.Scripts.{asked, long_line, many_lines}
+use Rattle.scripts.specs.ScriptAnswers.{HasNone, TakesLine, GivesNone, FailsInLine}
 
 -- a line was read: what ended it, what was left before and after, and its bytes
 abbrev pub EndsLine : Ending → Option (List ℕ) → Option (List ℕ) → List ℕ → Type 0
@@ -17,9 +17,9 @@ EndsLine endings.Failed old new line = HasNone line × Consumes old new line
 
 -- behind so many lines these bytes give no further line
 abbrev pub IsStopOf : ℕ → List ℕ → List ℕ → Stop → Type 0
-IsStopOf n bytes left stops.End = TakesNone n bytes left
-IsStopOf n bytes left stops.LongLine = StopsInLine n bytes left
-IsStopOf n bytes left stops.ManyLines = StopsBehind n bytes left
+IsStopOf n bytes left stops.End = (left ≡ []) × GivesNone n bytes None
+IsStopOf n bytes left stops.LongLine = (left ≡ drop 4097 bytes) × GivesNone n bytes (Some long_line)
+IsStopOf n bytes left stops.ManyLines = (left ≡ drop 1 bytes) × GivesNone n bytes (Some many_lines)
 IsStopOf n bytes left stops.ReadFailed = FailsInLine bytes left
 IsStopOf n bytes left stops.Memory = ⊥
 

@@ -11,7 +11,7 @@ use Rattle.v7tools.specs.declared.commands.Command.{Command}
 use Rattle.v7tools.specs.declared.commands.Command.TheVariants.{Link}
 use Rattle.v7tools.specs.declared.fault.CliFault.{CliFault}
 use Rattle.v7tools.specs.declared.fault.CliFault.TheVariants as faults
-use Rattle.v7tools.specs.LineRuns.{LineRun, IsLineRun, status_after}
+use Rattle.v7tools.specs.LineRuns.{IsLineOf, LineRun, status_after}
 
 -- the file at a path was opened, on a wire that has not failed, or could not be
 abbrev pub IsOpenedAt : {R : Type 0} → (R → Option (List ℕ)) → History → History → List ℕ → Option (Latched R) → Type 0
@@ -40,7 +40,7 @@ pub record AnswersLine {W : Type 0} (contents : W → Option (List ℕ)) (o : Ch
   pub run : LineRun
   pub line : run.line ≡ asks
   pub leaves : run.kept ≡ left
-  pub is_run : IsLineRun o kept run
+  pub is_run : IsLineOf o kept run run.line
   pub asked : Extends old new run.events
   pub status : IfOk result (λ status. status ≡ run.status)
   pub write_failed : IfErr result (λ fault. fault ≡ faults.WriteFailed)

@@ -1,6 +1,5 @@
-use Rattle.std.proofs.Common.{◌≡◌, ◌+◌, ◌*◌, ◌/◌, ◌<◌, length, ap, sym, ◌∙◌, subst, arith}
+use Rattle.std.proofs.Common.{length, ap, sym, ◌∙◌, subst, arith}
 use Rattle.aout_core.specs.Contents.{Fits}
-use Rattle.aout_core.specs.Encoding.{symbols_at}
 use Rattle.gnu_objects.proofs.FitsLemmas.{length-symbols_from, contents_fit}
 use Rattle.gnu_objects.proofs.conversion.convert_with.Goals as goal
 

@@ -18,7 +18,7 @@ returns-clause-many c =
     let others : c.keep-keep.result ≡ keeps.Nothing → ⊥ = search rules in
     let h = c.count_locals.ensures.many in
     many_rows p (objects c.args.session.now.entries) c.keep-keep.result c.external_count.result c.count_locals.result (sym c.keep-keep.ensures.value) others
-    (c.external_count.ensures ∙ length-map (names_by_first_mention p.said) _)
+    (c.external_count.ensures ∙ length-map (names_by_first_mention p.mentions) _)
     (rw c.entries.ensures.value at h)
 
 pub returns-clause-count : goal.returns-clause-count

@@ -6,6 +6,11 @@ use Rattle.link_session.proofs.MentionedLemmas.{length-with_mentions}
 use Rattle.link_session.proofs.PlacedLemmas.{noted_places, noted-all}
 use Rattle.link_session.proofs.mention.enter_all.Goals as goal
 
+pub enter-place-requires-clause-small : goal.enter-place-requires-clause-small
+enter-place-requires-clause-small c =
+    let all = mentions_by c.args.table.now.shifts c.args.table.now.symbols.now in
+    omega (arith, c.loop-symbol.invariant.kept, length-with_mentions c.args.externals.now.entries all, c.requires.names)
+
 pub enter-place-requires-clause-names_room : goal.enter-place-requires-clause-names_room
 enter-place-requires-clause-names_room c = grind (arith, common_steps)
 

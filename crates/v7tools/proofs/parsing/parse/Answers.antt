@@ -10,8 +10,5 @@ returns-clause-asked c = c.in_ok-parse.ensures.asked
 pub returns-clause-dashes : goal.returns-clause-dashes
 returns-clause-dashes c = c.in_ok-parse.ensures.dashes
 
-pub returns-in_err-parse-clause-faults : goal.returns-in_err-parse-clause-faults
-returns-in_err-parse-clause-faults c = search rules
-
 pub returns-in_err-parse-clause-none : goal.returns-in_err-parse-clause-none
 returns-in_err-parse-clause-none c = search rules

@@ -14,4 +14,4 @@ pub returns-in_err-call-clause-run : goal.returns-in_err-call-clause-run
 returns-in_err-call-clause-run g c =
     let refused = c.in_err-call.ensures in
     let is = passed_on c.from_residual.result c.in_err-call.field-0.0 c.from_residual.ensures.1 in
-    inl (record { fault = c.in_err-call.field-0.0; of_words = refused.faults; none = refused.none; asked = nothing_asked _; refuses = record { refusal = is; silent = refl } })
+    inl (record { fault = c.in_err-call.field-0.0; of_words = refused.none; asked = nothing_asked _; refuses = record { refusal = is; silent = refl } })

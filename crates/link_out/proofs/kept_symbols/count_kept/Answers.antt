@@ -1,7 +1,0 @@
-use Rattle.std.proofs.Common.{arith}
-use Rattle.link_session.proofs.PlaceLemmas.{filter_le}
-use Rattle.link_out.specs.function.Tables.{is_kept_local}
-use Rattle.link_out.proofs.kept_symbols.count_kept.Goals as goal
-
-pub overflow_add-count : goal.overflow_add-count
-overflow_add-count c = omega (arith, c.loop-symbol.invariant, filter_le (is_kept_local c.args.keep) c.args.symbols.now)
