@@ -14,7 +14,7 @@ build/v7: crates/v7/out/v7
 # the libraries are proved side by side, where none waits for another; `rt run` proves the program, builds it and runs it
 # once: on one small object, into nothing. The gate leaves a proved program too, at the same place
 crates/v7/out/v7: $(SOURCES)
-	@echo 'Each function is proved: from nothing 11 minutes, on four cores elsewhere.'
+	@echo 'Each function is proved: from nothing 11 to 17 minutes, on four cores elsewhere.'
 	python3 tests/prove.py v7
 	cd crates/v7 && rt run -- ld -s -o /dev/null $(CURDIR)/examples/a.o
 	touch crates/v7/out/v7
