@@ -80,7 +80,7 @@ def bring(source, target):
 def proved(crate, libraries, lanes, copies):
     """Waits for what a library uses, and proves and builds it in a copy. Whether it could.
 
-    The libraries beside the longest chain take what processors it leaves.
+    On the longest chain `rt` chooses how many processors a library takes. Those beside it have an equal share each.
     """
     if not all([lanes[other].result() for other in libraries[crate]]):
         return False
@@ -94,7 +94,10 @@ def proved(crate, libraries, lanes, copies):
     bring(f"crates/{crate}/out", f"{copy}/crates/{crate}/out")
     print(f"{crate}: proving {functions(crate)} functions", flush=True)
     begun = time.monotonic()
-    words = ["rt", "lib"] if crate in longest_chain(libraries) else ["nice", "-n", "19", "rt", "lib"]
+    words = ["rt", "lib"]
+    if crate not in longest_chain(libraries):
+        ready = [it for it in libraries if not lanes[it].done() and all(lanes[other].done() for other in libraries[it])]
+        words += ["--jobs", str(max(1, os.cpu_count() // len(ready)))]
     run = subprocess.run(words, cwd=f"{copy}/crates/{crate}", stdout=subprocess.PIPE, stderr=subprocess.STDOUT)
     bring(f"{copy}/crates/{crate}/out", f"crates/{crate}/out")
     if run.returncode:
