@@ -1,4 +1,4 @@
-//! Tests of files: read, checked, stripped, written and listed.
+//! Tests of files: read, checked, stripped, written and listed; and of objects in GNU's form.
 #![tactic(auto)]
 
 #[cfg(test)]
@@ -7,6 +7,8 @@ mod fault_texts;
 mod files;
 #[cfg(test)]
 mod flushes;
+#[cfg(test)]
+mod gnu_files;
 #[cfg(test)]
 mod listings;
 #[cfg(test)]

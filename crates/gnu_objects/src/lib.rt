@@ -12,8 +12,6 @@ mod names;
 mod places;
 mod refusal;
 mod symbols;
-#[cfg(test)]
-mod tests;
 mod words;
 
 pub use conversion::convert;

@@ -3,17 +3,7 @@
 //! those that the calls make is refused. See tests/memory.sh.
 #![tactic(auto)]
 
-mod commands;
-mod files;
-mod links;
-mod outcome;
-mod programs;
-mod script_steps;
-mod sessions;
-#[cfg(test)]
-mod tests;
-
-use crate::outcome::Outcome;
+use memory_calls::{Outcome, commands, files, links, programs, script_steps, sessions};
 use std::alloc::Global;
 use std::io;
 

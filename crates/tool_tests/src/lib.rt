@@ -1,4 +1,5 @@
-//! Tests of the tools over memory: scripts, their steps and their answers, faults, and devices that fail.
+//! Tests of the tools over memory: scripts, their steps and their answers, faults, devices that fail, and the calls that
+//! may be refused memory, while none is.
 #![tactic(auto)]
 
 #[cfg(test)]
@@ -7,6 +8,8 @@ mod block_writes;
 mod failing_devices;
 #[cfg(test)]
 mod faults;
+#[cfg(test)]
+mod memory;
 #[cfg(test)]
 mod memory_office;
 #[cfg(test)]

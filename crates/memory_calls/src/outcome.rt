@@ -5,7 +5,7 @@ use v7tools::CliFault;
 
 /// How a call ended.
 #[derive(Clone, Copy, Debug, PartialEq, Eq)]
-pub(crate) enum Outcome {
+pub enum Outcome {
     /// It did what it should.
     Done,
     /// It was refused memory, said so, and left things as it should.
@@ -18,7 +18,7 @@ pub(crate) enum Outcome {
 
 impl Outcome {
     /// The end of a call that was not refused memory.
-    pub(crate) fn done(is_right: bool) -> Outcome {
+    pub fn done(is_right: bool) -> Outcome {
         if is_right {
             Outcome::Done
         } else {
@@ -35,7 +35,7 @@ impl Outcome {
     }
 
     /// The end of a call that was refused memory.
-    pub(crate) fn refused(is_right: bool) -> Outcome {
+    pub fn refused(is_right: bool) -> Outcome {
         if is_right {
             Outcome::Refused
         } else {

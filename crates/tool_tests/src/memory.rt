@@ -1,6 +1,5 @@
 //! The calls that may be refused memory, while none is.
-use crate::outcome::Outcome;
-use crate::{commands, files, links, programs, script_steps, sessions};
+use memory_calls::{Outcome, commands, files, links, programs, script_steps, sessions};
 
 #[test]
 fn memory_refused_reading(rt: HostRuntime) {

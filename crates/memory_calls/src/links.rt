@@ -50,12 +50,12 @@ fn add_and_link(alloc: Global, session: &mut Session) -> Outcome {
 }
 
 /// A session is linked.
-pub(crate) fn linking(alloc: Global) -> Outcome {
+pub fn linking(alloc: Global) -> Outcome {
     add_and_link(alloc, &mut Session::new(alloc))
 }
 
 /// A list of edits is run.
-pub(crate) fn running(alloc: Global) -> Outcome {
+pub fn running(alloc: Global) -> Outcome {
     let Some(edits) = there_and_back(alloc) else {
         return Outcome::Unready;
     };
@@ -80,7 +80,7 @@ fn is_reported(linked: &Linked) -> bool {
 }
 
 /// A report is written, which takes no memory.
-pub(crate) fn reporting(alloc: Global) -> Outcome {
+pub fn reporting(alloc: Global) -> Outcome {
     match two_linked(alloc) {
         Some(linked) => Outcome::done(is_reported(&linked)),
         None => Outcome::Unready,
@@ -114,7 +114,7 @@ fn is_told() -> bool {
 }
 
 /// A link and the line of a fault are written, which takes no memory.
-pub(crate) fn emitting(alloc: Global) -> Outcome {
+pub fn emitting(alloc: Global) -> Outcome {
     match two_linked(alloc) {
         Some(linked) => Outcome::done(is_emitted(&linked) && is_told()),
         None => Outcome::Unready,
@@ -127,7 +127,7 @@ fn is_laid_out(linked: &Linked) -> bool {
 }
 
 /// Options are told to lay commons out, which takes no memory.
-pub(crate) fn forcing_commons(alloc: Global) -> Outcome {
+pub fn forcing_commons(alloc: Global) -> Outcome {
     let Ok(options) = relocatable(Keep::All) else {
         return Outcome::Wrong;
     };

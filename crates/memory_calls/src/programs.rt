@@ -62,7 +62,7 @@ fn listed(status: u8, taken: &[u8], told: &[u8; 14]) -> Outcome {
 }
 
 /// Two files are listed by the program; refused memory for the second list, the first has reached the device.
-pub(crate) fn listing_behind(alloc: Global) -> Outcome {
+pub fn listing_behind(alloc: Global) -> Outcome {
     let (Ok(words), Ok(taken)) = (
         words(alloc, &["nm", "s.o", "d.o"]),
         Vec::with_capacity(alloc, 128),

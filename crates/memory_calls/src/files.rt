@@ -6,7 +6,7 @@ use std::alloc::Global;
 use v7tools::load;
 
 /// A file is read; refused memory, its reader is left right behind the header.
-pub(crate) fn reading(alloc: Global) -> Outcome {
+pub fn reading(alloc: Global) -> Outcome {
     let mut wire = Wire::new(TestReader::whole(&C_O));
     let answer = read_file(alloc, &mut wire);
     let left = wire.into_inner().left().len();
@@ -25,7 +25,7 @@ fn load_c_o(alloc: Global, path: String, wire: &mut Wire<TestReader<'_>>) -> Out
 }
 
 /// A file is read at a path; refused memory, its reader is left right behind the header, or before.
-pub(crate) fn loading(alloc: Global) -> Outcome {
+pub fn loading(alloc: Global) -> Outcome {
     let Ok(path) = String::from_str(alloc, "c.o") else {
         return Outcome::Unready;
     };
@@ -54,7 +54,7 @@ fn is_flushed(alloc: Global) -> bool {
 }
 
 /// A file is checked, written, stripped and taken apart, and a wire reads and is flushed, which takes no memory.
-pub(crate) fn handling(alloc: Global) -> Outcome {
+pub fn handling(alloc: Global) -> Outcome {
     let Ok(file) = read_file(alloc, &mut Wire::new(TestReader::whole(&C_O))) else {
         return Outcome::Unready;
     };

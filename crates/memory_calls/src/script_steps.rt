@@ -65,7 +65,7 @@ fn reading_all(script: &mut Script<TestReader<'_>>) -> Outcome {
 }
 
 /// A script is made, and read to its end.
-pub(crate) fn reading_lines(alloc: Global) -> Outcome {
+pub fn reading_lines(alloc: Global) -> Outcome {
     let reader = Wire::new(TestReader::whole(SCRIPT.as_bytes()));
     match Script::new(alloc, reader) {
         Ok(mut script) => reading_all(&mut script),
@@ -165,7 +165,7 @@ fn adding(alloc: Global, session: &mut Session, path: &str, bytes: &[u8], line: 
 }
 
 /// An object is added by a step of a session.
-pub(crate) fn adding_by_a_step(alloc: Global) -> Outcome {
+pub fn adding_by_a_step(alloc: Global) -> Outcome {
     adding(alloc, &mut Session::new(alloc), "c.o", &C_O, b"added c.o\n")
 }
 
@@ -178,7 +178,7 @@ fn add_both(alloc: Global, session: &mut Session) -> Outcome {
 }
 
 /// An object is added behind another by a step.
-pub(crate) fn adding_behind_by_a_step(alloc: Global) -> Outcome {
+pub fn adding_behind_by_a_step(alloc: Global) -> Outcome {
     add_both(alloc, &mut Session::new(alloc))
 }
 
@@ -194,7 +194,7 @@ fn add_and_link(alloc: Global, session: &mut Session) -> Outcome {
 }
 
 /// A session is linked by a step.
-pub(crate) fn linking_by_a_step(alloc: Global) -> Outcome {
+pub fn linking_by_a_step(alloc: Global) -> Outcome {
     add_and_link(alloc, &mut Session::new(alloc))
 }
 
@@ -226,7 +226,7 @@ fn step_through(alloc: Global, session: &mut Session, linked: &Linked) -> Outcom
 }
 
 /// Steps that take no memory, and the answer to a link.
-pub(crate) fn other_steps(alloc: Global) -> Outcome {
+pub fn other_steps(alloc: Global) -> Outcome {
     match linked_of(alloc, &[("c.o", &C_O)], &plain(Keep::All)) {
         Some(linked) => step_through(alloc, &mut Session::new(alloc), &linked),
         None => Outcome::Unready,

@@ -1,6 +1,6 @@
-//! Objects made by hand, byte by byte.
-use crate::{Refusal, Size, convert, place_of, whole_name};
+//! Objects in the form of GNU's assembler, made by hand, byte by byte.
 use aout_core::{Name, Object, ObjectFault, Reloc, Symbol};
+use gnu_objects::{Refusal, Size, convert, place_of, whole_name};
 
 /// Text that calls `_g`, a word of data, and three symbols; their names stand behind them.
 static OBJECT: [u8; 68] = [

@@ -30,7 +30,7 @@ fn is_link(call: Call, wanted: Options) -> bool {
 }
 
 /// The words of a link are read.
-pub(crate) fn parsing(alloc: Global) -> Outcome {
+pub fn parsing(alloc: Global) -> Outcome {
     let Ok(all) = words(alloc, &["ld", "-sx", "-o", "out", "a.o"]) else {
         return Outcome::Unready;
     };
@@ -47,7 +47,7 @@ fn is_two_objects(linked: &Linked) -> bool {
 }
 
 /// Two objects in memory are linked.
-pub(crate) fn linking_inputs(alloc: Global) -> Outcome {
+pub fn linking_inputs(alloc: Global) -> Outcome {
     let Ok(inputs) = wires(alloc, &[("a.o", &A_O), ("b.o", &B_O)]) else {
         return Outcome::Unready;
     };
@@ -67,7 +67,7 @@ fn output(rt: &HostRuntime) -> Option<Vec<u8>> {
 
 /// A link of two files is run as a command; refused memory, its status is 2 and no file is there. tests/memory.sh reads
 /// the line of its fault.
-pub(crate) fn commanding(rt: &HostRuntime) -> Outcome {
+pub fn commanding(rt: &HostRuntime) -> Outcome {
     let _ = fs::remove_file(rt, "out");
     let are_written = fs::write(rt, "a.o", A_O.as_slice()).is_ok()
         && fs::write(rt, "b.o", B_O.as_slice()).is_ok();
@@ -140,17 +140,17 @@ fn list(alloc: Global, by_value: bool, lines: &[u8]) -> Outcome {
 }
 
 /// A file is listed by name.
-pub(crate) fn listing(alloc: Global) -> Outcome {
+pub fn listing(alloc: Global) -> Outcome {
     list(alloc, false, BY_NAME)
 }
 
 /// A file is listed by value.
-pub(crate) fn listing_by_value(alloc: Global) -> Outcome {
+pub fn listing_by_value(alloc: Global) -> Outcome {
     list(alloc, true, BY_VALUE)
 }
 
 /// Sizes are written, which takes no memory.
-pub(crate) fn sizing(alloc: Global) -> Outcome {
+pub fn sizing(alloc: Global) -> Outcome {
     let (Some(files), Ok(taken)) = (s_o(alloc), Vec::with_capacity(alloc, 64)) else {
         return Outcome::Unready;
     };
@@ -161,7 +161,7 @@ pub(crate) fn sizing(alloc: Global) -> Outcome {
 }
 
 /// The line of a symbol is written, which takes no memory.
-pub(crate) fn showing(alloc: Global) -> Outcome {
+pub fn showing(alloc: Global) -> Outcome {
     let Ok(taken) = Vec::with_capacity(alloc, 16) else {
         return Outcome::Unready;
     };

@@ -7,7 +7,7 @@ use link_session::{AddFault, AddRefused, Cell, Forced, Session, State, Target};
 use std::alloc::Global;
 
 /// A session with a forced name is made.
-pub(crate) fn forcing(alloc: Global) -> Outcome {
+pub fn forcing(alloc: Global) -> Outcome {
     match Session::with_forced(alloc, &forced("_z")) {
         Ok(session) => Outcome::done(session.external_count() == 1),
         Err(_) => Outcome::refused(true),
@@ -135,22 +135,22 @@ fn add_behind(alloc: Global, forced: &Forced, first: &[u8], second: &[u8]) -> Ou
 }
 
 /// An object is added that defines what another waits for.
-pub(crate) fn adding(alloc: Global) -> Outcome {
+pub fn adding(alloc: Global) -> Outcome {
     add_behind(alloc, &Forced::none(), &K_O, &L_O)
 }
 
 /// An object is added that wants another name.
-pub(crate) fn adding_a_name(alloc: Global) -> Outcome {
+pub fn adding_a_name(alloc: Global) -> Outcome {
     add_behind(alloc, &Forced::none(), &C_O, &G_O)
 }
 
 /// An object is added behind a forced name.
-pub(crate) fn adding_behind_forced(alloc: Global) -> Outcome {
+pub fn adding_behind_forced(alloc: Global) -> Outcome {
     add_behind(alloc, &forced("_z"), &K_O, &L_O)
 }
 
 /// An object is added that wants another name, behind a forced one.
-pub(crate) fn adding_a_name_behind_forced(alloc: Global) -> Outcome {
+pub fn adding_a_name_behind_forced(alloc: Global) -> Outcome {
     add_behind(alloc, &forced("_z"), &C_O, &G_O)
 }
 
@@ -179,7 +179,7 @@ fn fill_and_empty(alloc: Global, session: &mut Session) -> Outcome {
 }
 
 /// Objects are taken out of a session and it is looked at, which takes no memory.
-pub(crate) fn withdrawing(alloc: Global) -> Outcome {
+pub fn withdrawing(alloc: Global) -> Outcome {
     match Session::with_forced(alloc, &forced("_z")) {
         Ok(mut session) => fill_and_empty(alloc, &mut session),
         Err(_) => Outcome::Unready,
@@ -200,7 +200,7 @@ fn empty_and_ask(alloc: Global, session: &mut Session) -> Outcome {
 
 /// Objects are taken out of a session, and then memory is asked for: the next request behind those that add the objects,
 /// since to take them out takes no memory. tests/memory.sh looks whether it is the next.
-pub(crate) fn asking_behind_withdrawals(alloc: Global) -> Outcome {
+pub fn asking_behind_withdrawals(alloc: Global) -> Outcome {
     empty_and_ask(alloc, &mut Session::new(alloc))
 }
 
@@ -256,6 +256,6 @@ fn fill_and_look(alloc: Global, session: &mut Session) -> Outcome {
 }
 
 /// A session is looked at, which takes no memory.
-pub(crate) fn looking(alloc: Global) -> Outcome {
+pub fn looking(alloc: Global) -> Outcome {
     fill_and_look(alloc, &mut Session::new(alloc))
 }
