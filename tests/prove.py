@@ -48,22 +48,30 @@ def functions(crate):
 
 
 def longest_chain(libraries):
-    """The libraries that wait longest, each for the one before it, by their functions."""
+    """The libraries that wait longest, lowest first, each for the one before it, by their functions."""
     length, last = {None: 0}, {}
     for crate, uses in libraries.items():
         last[crate] = max(uses, key=length.get, default=None)
         length[crate] = length[last[crate]] + functions(crate)
     chain, crate = [], max(libraries, key=length.get)
     while crate:
-        chain.append(crate)
+        chain.insert(0, crate)
         crate = last[crate]
     return chain
+
+
+def can_wait(crate, libraries):
+    """Whether two libraries of the longest chain or more are proved between the time when a library could be and the time when it is needed."""
+    chain = longest_chain(libraries)
+    level = {it: max((chain.index(below) for below in uses if below in chain), default=-1) + 1 for it, uses in libraries.items()}
+    needed = [level[it] for it, uses in libraries.items() if crate in uses]
+    return crate not in chain and min(needed, default=len(chain)) - level[crate] >= 2
 
 
 def link_or_copy(source, target):
     """Gives a file a second name where nothing writes into it, and else copies it."""
     try:
-        if source.endswith(".oantt"):
+        if "/rlib/" in source or source.endswith(".oantt"):
             return os.link(source, target)
     except OSError:
         pass
@@ -77,29 +85,37 @@ def bring(source, target):
         shutil.copytree(source, target, copy_function=link_or_copy)
 
 
-def proved(crate, libraries, lanes, copies):
-    """Waits for what a library uses, and proves and builds it in a copy. Whether it could.
+def words_of(crate, libraries, lanes):
+    """The words that prove and build a library.
 
-    On the longest chain `rt` chooses how many processors a library takes. Those beside it have an equal share each.
+    On the longest chain `rt` chooses how many processors a library takes. Those beside it have an equal share each, and one
+    that is not needed soon only what the others leave.
     """
-    if not all([lanes[other].result() for other in libraries[crate]]):
-        return False
+    if crate in longest_chain(libraries):
+        return ["rt", "lib"]
+    ready = [it for it in libraries if not lanes[it].done() and all(lanes[other].done() for other in libraries[it])]
+    words = ["rt", "lib", "--jobs", str(max(1, os.cpu_count() // len(ready)))]
+    return ["nice", "-n", "19", *words] if can_wait(crate, libraries) else words
+
+
+def proved(crate, libraries, lanes, copies):
+    """Proves and builds a library in a copy, as soon as those that it uses are there. Whether it could."""
     copy = f"{copies}/{crate}"
     shutil.copytree("crates", f"{copy}/crates", ignore=shutil.ignore_patterns("out"))
     for file in ("crates.txt", "HANDLES"):
         shutil.copy(file, copy)
+    bring(f"crates/{crate}/out", f"{copy}/crates/{crate}/out")
+    if not all([lanes[other].result() for other in libraries[crate]]):
+        return False
     for other in list(libraries)[: list(libraries).index(crate)]:
         if lanes[other].done():
             bring(f"crates/{other}/out/rlib", f"{copy}/crates/{other}/out/rlib")
-    bring(f"crates/{crate}/out", f"{copy}/crates/{crate}/out")
     print(f"{crate}: proving {functions(crate)} functions", flush=True)
     begun = time.monotonic()
-    words = ["rt", "lib"]
-    if crate not in longest_chain(libraries):
-        ready = [it for it in libraries if not lanes[it].done() and all(lanes[other].done() for other in libraries[it])]
-        words += ["--jobs", str(max(1, os.cpu_count() // len(ready)))]
-    run = subprocess.run(words, cwd=f"{copy}/crates/{crate}", stdout=subprocess.PIPE, stderr=subprocess.STDOUT)
-    bring(f"{copy}/crates/{crate}/out", f"crates/{crate}/out")
+    run = subprocess.run(words_of(crate, libraries, lanes), cwd=f"{copy}/crates/{crate}", stdout=subprocess.PIPE, stderr=subprocess.STDOUT)
+    if os.path.isdir(f"{copy}/crates/{crate}/out"):
+        shutil.rmtree(f"crates/{crate}/out", ignore_errors=True)
+        shutil.move(f"{copy}/crates/{crate}/out", f"crates/{crate}/out")
     if run.returncode:
         sys.stdout.buffer.write(run.stdout)
     print(f"{crate}: {'not proved' if run.returncode else 'proved'}, {time.monotonic() - begun:.0f} seconds", flush=True)
