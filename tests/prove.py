@@ -94,8 +94,9 @@ def words_of(crate, libraries, lanes):
     if crate in longest_chain(libraries):
         return ["rt", "lib"]
     ready = [it for it in libraries if not lanes[it].done() and all(lanes[other].done() for other in libraries[it])]
-    words = ["rt", "lib", "--jobs", str(max(1, os.cpu_count() // len(ready)))]
-    return ["nice", "-n", "19", *words] if can_wait(crate, libraries) else words
+    urgent = [it for it in ready if not can_wait(it, libraries)]
+    words = ["rt", "lib", "--jobs", str(max(1, os.cpu_count() // max(1, len(urgent))))]
+    return words if crate in urgent else ["nice", "-n", "19", *words]
 
 
 def proved(crate, libraries, lanes, copies):
