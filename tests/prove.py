@@ -61,11 +61,14 @@ def longest_chain(libraries):
 
 
 def can_wait(crate, libraries):
-    """Whether two libraries of the longest chain or more are proved between the time when a library could be and the time when it is needed."""
+    """Whether two libraries of the longest chain, or more, are proved from the time when this one could be until it is needed."""
     chain = longest_chain(libraries)
-    level = {it: max((chain.index(below) for below in uses if below in chain), default=-1) + 1 for it, uses in libraries.items()}
-    needed = [level[it] for it, uses in libraries.items() if crate in uses]
-    return crate not in chain and min(needed, default=len(chain)) - level[crate] >= 2
+
+    def begins(other):
+        return 1 + max((chain.index(it) for it in libraries[other] if it in chain), default=-1)
+
+    needed = min((begins(it) for it, uses in libraries.items() if crate in uses), default=len(chain))
+    return crate not in chain and needed - begins(crate) >= 2
 
 
 def link_or_copy(source, target):
@@ -94,9 +97,9 @@ def words_of(crate, libraries, lanes):
     if crate in longest_chain(libraries):
         return ["rt", "lib"]
     ready = [it for it in libraries if not lanes[it].done() and all(lanes[other].done() for other in libraries[it])]
-    urgent = [it for it in ready if not can_wait(it, libraries)]
-    words = ["rt", "lib", "--jobs", str(max(1, os.cpu_count() // max(1, len(urgent))))]
-    return words if crate in urgent else ["nice", "-n", "19", *words]
+    sharing = [it for it in ready if not can_wait(it, libraries)]
+    words = ["rt", "lib", "--jobs", str(max(1, os.cpu_count() // max(1, len(sharing))))]
+    return words if crate in sharing else ["nice", "-n", "19", *words]
 
 
 def proved(crate, libraries, lanes, copies):
@@ -113,7 +116,8 @@ def proved(crate, libraries, lanes, copies):
             bring(f"crates/{other}/out/rlib", f"{copy}/crates/{other}/out/rlib")
     print(f"{crate}: proving {functions(crate)} functions", flush=True)
     begun = time.monotonic()
-    run = subprocess.run(words_of(crate, libraries, lanes), cwd=f"{copy}/crates/{crate}", stdout=subprocess.PIPE, stderr=subprocess.STDOUT)
+    words = words_of(crate, libraries, lanes)
+    run = subprocess.run(words, cwd=f"{copy}/crates/{crate}", stdout=subprocess.PIPE, stderr=subprocess.STDOUT)
     if os.path.isdir(f"{copy}/crates/{crate}/out"):
         shutil.rmtree(f"crates/{crate}/out", ignore_errors=True)
         shutil.move(f"{copy}/crates/{crate}/out", f"crates/{crate}/out")
