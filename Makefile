@@ -11,21 +11,20 @@ build/v7: crates/v7/out/v7
 	mkdir -p build
 	cp crates/v7/out/v7 build/v7
 
-# the libraries are proved side by side, where none waits for another; `rt run` proves the program, builds it and runs it
-# once: on one small object, into nothing. The gate leaves a proved program too, at the same place
+# tests/prove.py proves a program with the libraries under it, side by side where none waits for another, and builds it. The
+# gate leaves a proved program too, at the same place
 crates/v7/out/v7: $(SOURCES)
-	@echo 'Each function is proved: from nothing 11 to 17 minutes, on four cores elsewhere.'
-	python3 tests/prove.py v7
-	cd crates/v7 && rt run -- ld -s -o /dev/null $(CURDIR)/examples/a.o
-	touch crates/v7/out/v7
+	@echo 'Each function is proved: from nothing 10 to 15 minutes, on four cores elsewhere.'
+	python3 tests/prove.py v7 $@
+	touch $@
 
 build/v7-from-gnu: crates/v7_from_gnu/out/v7_from_gnu
 	mkdir -p build
 	cp crates/v7_from_gnu/out/v7_from_gnu build/v7-from-gnu
 
 crates/v7_from_gnu/out/v7_from_gnu: crates.txt $(shell find crates/aout_core crates/gnu_objects crates/v7_from_gnu -name out -prune -o -type f -print)
-	cd crates/v7_from_gnu && rt run -- $(CURDIR)/examples/squares.gnu /dev/null
-	touch crates/v7_from_gnu/out/v7_from_gnu
+	python3 tests/prove.py v7_from_gnu $@
+	touch $@
 
 build/v7-explain: crates/v7_explain/out/v7_explain
 	mkdir -p build
@@ -33,8 +32,8 @@ build/v7-explain: crates/v7_explain/out/v7_explain
 
 EXPLAIN_CRATES := $(addprefix crates/,aout_core link_session link_options link_out symtools command_words gnu_objects v7_explain)
 crates/v7_explain/out/v7_explain: crates.txt $(shell find $(EXPLAIN_CRATES) -name out -prune -o -type f -print)
-	cd crates/v7_explain && rt run -- $(CURDIR)/examples/a.o
-	touch crates/v7_explain/out/v7_explain
+	python3 tests/prove.py v7_explain $@
+	touch $@
 
 # the linker as a library, for C and for what can call C: include/v7.h. Of the C library it calls no more than
 # `malloc`, `realloc` and `free`, through the kit's c/liblibc_c.a, which libv7.so holds
@@ -51,8 +50,8 @@ build/libv7.so: build/libv7.a
 
 LIBRARY_CRATES := $(addprefix crates/,aout_core link_session link_options link_out symtools session_text library_calls v7_c)
 crates/v7_c/out/libv7_c.a: crates.txt $(shell find $(LIBRARY_CRATES) -name out -prune -o -type f -print)
-	cd crates/v7_c && rt lib
-	touch crates/v7_c/out/libv7_c.a
+	python3 tests/prove.py v7_c $@
+	touch $@
 
 # compiles the examples in C and Rust, runs them and that in Python, and compares what they link with what v7 links
 check-lib: lib build/v7
@@ -133,8 +132,8 @@ build/lesson: crates/lesson/out/lesson
 
 LESSON_CRATES := $(addprefix crates/,aout_core link_session link_options link_out symtools session_text lesson)
 crates/lesson/out/lesson: crates.txt $(shell find $(LESSON_CRATES) -name out -prune -o -type f -print)
-	cd crates/lesson && rt run -- data/k.o data/l.o
-	touch crates/lesson/out/lesson
+	python3 tests/prove.py lesson $@
+	touch $@
 
 # the manual pages: mandoc finds nothing to say of them, and their examples, and those of the documents, come out as shown
 check-manual: check-examples

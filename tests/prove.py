@@ -1,19 +1,23 @@
 #!/usr/bin/env python3
-"""Proves the libraries under a program, side by side where none waits for another, and says when one begins and ends.
+"""Proves a program or a library for C with the libraries under it, and builds it: `prove.py NAME FILE`.
 
-One `rt` at a time works in the folder of a crate, and in those below it. So each library is proved in a copy of the sources,
-with what was proved of it before and of those below it, and what comes of it is brought here.
+Libraries that do not wait for each other are proved side by side. Each is proved from nothing, by the kit's `rattle` with the
+words of the gate, and the crates above it read its statements and not its proofs. These are kept in build/proved, packed, since
+the gate refuses folders with sources that no crate lists. A library is proved again where its sources, or those of one below
+it, have changed.
 """
+import hashlib
 import os
 import re
-import shutil
 import subprocess
 import sys
+import tarfile
 import tempfile
 import time
 from concurrent.futures import ThreadPoolExecutor
 
-os.chdir(os.path.join(os.path.dirname(os.path.abspath(__file__)), ".."))
+ROOT = os.path.abspath(os.path.join(os.path.dirname(os.path.abspath(__file__)), ".."))
+KEPT = "build/proved"
 
 
 def read(path):
@@ -21,122 +25,189 @@ def read(path):
         return file.read()
 
 
-def below(program):
-    """The libraries of the repository under a program, lowest first, each with those that it uses."""
-    uses = {}
+def asked(*words):
+    """The line that a command prints."""
+    return subprocess.run(words, stdout=subprocess.PIPE, check=True, text=True).stdout.strip()
+
+
+class Crate:
+    """A crate, with all that it uses, and the crates of the repository that it waits for."""
+
+    def __init__(self, name, head, uses, crates):
+        self.name, self.uses = name, uses
+        self.is_static = "staticlib" in head
+        self.is_program = os.path.exists(f"crates/{name}/src/main.rt")
+        self.waits = [crates[other] for other in uses if other in crates]
+        self.below = {it for other in self.waits for it in (other, *other.below)}
+        parts = [f"crates/{name}/{part}" for part in ("src", "specs", "proofs")]
+        self.files = sorted(f"{at}/{file}" for part in parts for at, _, files in os.walk(part) for file in files)
+
+    def functions(self):
+        """How many functions its sources have."""
+        pattern = re.compile(r"^ *(?:pub(?:\(crate\))? )?fn ", re.M)
+        return sum(len(pattern.findall(read(file))) for file in self.files if file.endswith(".rt"))
+
+    def behind(self):
+        """How many functions the longest chain has that ends with it."""
+        return self.functions() + max((it.behind() for it in self.waits), default=0)
+
+
+def crates_under(name):
+    """The crate of a name and those below it, lowest first."""
+    lines, crates = {}, {}
     for line in read("crates.txt").split("\n"):
         if line.strip() and not line.startswith("#"):
-            head, _, names = line.partition(":")
-            uses[head.split()[0]] = names.split()
-    found = {}
+            head, _, uses = line.partition(":")
+            lines[head.split()[0]] = head.split()[1:], uses.split()
 
     def add(name):
-        for other in uses[name]:
-            if other in uses and other not in found:
+        head, uses = lines[name]
+        for other in uses:
+            if other in lines and other not in crates:
                 add(other)
-        found[name] = [other for other in uses[name] if other in uses]
+        crates[name] = Crate(name, head, uses, crates)
 
-    add(program)
-    del found[program]
-    return found
-
-
-def functions(crate):
-    """How many functions the sources of a crate have."""
-    folder = f"crates/{crate}/src"
-    return sum(len(re.findall(r"^ *(?:pub(?:\(crate\))? )?fn ", read(f"{folder}/{file}"), re.M)) for file in os.listdir(folder))
+    add(name)
+    return [*crates.values()]
 
 
-def longest_chain(libraries):
-    """The libraries that wait longest, lowest first, each for the one before it, by their functions."""
-    length, last = {None: 0}, {}
-    for crate, uses in libraries.items():
-        last[crate] = max(uses, key=length.get, default=None)
-        length[crate] = length[last[crate]] + functions(crate)
-    chain, crate = [], max(libraries, key=length.get)
-    while crate:
-        chain.insert(0, crate)
-        crate = last[crate]
-    return chain
+class Kit:
+    """The kit's commands, and the words that they take. What libraries leave for the crates above stands in a folder."""
+
+    def __init__(self, place):
+        self.place = place
+        self.version, self.folder = asked("rt", "version"), os.path.dirname(asked("rt", "doc"))
+        self.rattle = f"{self.folder}/bin/rattle"
+        self.toolchain = ["--toolchain", f"{self.folder}/toolchain"]
+        self.logic = ["--logic-built", f"{self.folder}/logic_built"]
+
+    def words(self, crate):
+        """What names a crate, the libraries that it uses and the logic."""
+        words = ["--crate-name", crate.name, f"src/{'main' if crate.is_program else 'lib'}.rt"]
+        own = [it.name for it in crate.waits]
+        for name in sorted({"std", *crate.uses}):
+            words += ["--extern", f"{name}={self.place if name in own else self.folder + '/rlibs'}/{name}.rlib"]
+        for place in (f"{self.folder}/rlibs", self.place):
+            words += ["-L", f"dependency={place}"]
+        return words + ["--antt-project", f"{self.folder}/rattle/logic/antt-project.json"]
+
+    def library(self, crate, jobs):
+        """The commands that prove a library and write it for the crates above."""
+        words = [*self.words(crate), *self.logic, "--jobs", str(jobs)]
+        return [[self.rattle, "build", *words, "--statements", "-o", f"{self.place}/{crate.name}.rlib"]]
+
+    def for_c(self, crate, jobs, file):
+        """The commands that prove a library for C and compile it."""
+        words = [*self.words(crate), *self.logic, "--jobs", str(jobs), *self.toolchain]
+        return [[self.rattle, "build", *words, "--crate-type", "staticlib", "--backend", "llvm", "-o", file]]
+
+    def program(self, crate, jobs, file):
+        """The commands that prove a program, compile what was proved and link it."""
+        checked, made = f"{self.place}/{crate.name}.checked", f"{self.place}/{crate.name}.o"
+        system = [f"{self.folder}/c/{name}_c.a" for name in ("libos", "liblibc")]
+        target = ["--target", "x86_64-unknown-linux-gnu"]
+        return [
+            [self.rattle, "check", *self.words(crate), *self.logic, "--jobs", str(jobs), "-o", checked],
+            [self.rattle, "build", *self.words(crate), *self.toolchain, "--crate-checked", checked, "--backend", "llvm", "-o", made],
+            [f"{self.rattle}-link", *target, *self.toolchain, "-o", file, made, *system],
+        ]
 
 
-def can_wait(crate, libraries):
-    """Whether two libraries of the longest chain, or more, are proved from the time when this one could be until it is needed."""
-    chain = longest_chain(libraries)
+class Proving:
+    """What is proved of a crate and of those below it."""
 
-    def begins(other):
-        return 1 + max((chain.index(it) for it in libraries[other] if it in chain), default=-1)
+    def __init__(self, name, file, place):
+        self.kit, self.crates, self.file = Kit(place), crates_under(name), file
+        self.lanes = {}
 
-    needed = min((begins(it) for it, uses in libraries.items() if crate in uses), default=len(chain))
-    return crate not in chain and needed - begins(crate) >= 2
+    def stamp(self, crate):
+        """What a proof rests on: the kit, the sources of the crate and those of the crates below it."""
+        whole = hashlib.sha256((self.kit.version + read("crates.txt")).encode())
+        for file in sorted(file for it in (crate, *crate.below) for file in it.files):
+            whole.update(f"{file}\n{read(file)}\n".encode())
+        return whole.hexdigest()
+
+    def spare(self, crate):
+        """How many functions more the chain has that each crate above it waits for besides."""
+        above = [other for other in self.crates if crate in other.waits]
+        return min((max(it.behind() for it in other.waits) - crate.behind() for other in above), default=0)
+
+    def commands(self, crate):
+        """The commands that prove a crate. Where it is not waited for, it takes fewer processors, or what others leave."""
+        jobs = os.cpu_count()
+        if crate.is_program:
+            return self.kit.program(crate, jobs, self.file)
+        if crate.is_static:
+            return self.kit.for_c(crate, jobs, self.file)
+        spare = self.spare(crate)
+        nice = ["nice", "-n", "19"] if spare >= 100 else []
+        return [[*nice, *words] for words in self.kit.library(crate, max(1, jobs // 2) if spare else jobs)]
+
+    def run(self, crate):
+        """Runs the commands of a crate in its folder, and prints what the first that fails says. Whether all succeed."""
+        how = {"cwd": f"crates/{crate.name}", "stdin": subprocess.DEVNULL, "stdout": subprocess.PIPE, "stderr": subprocess.STDOUT}
+        for words in self.commands(crate):
+            ran = subprocess.run(words, **how)
+            if ran.returncode:
+                sys.stdout.buffer.write(ran.stdout)
+                return False
+        return True
+
+    def is_kept(self, crate, stamp):
+        """Whether the crate is proved already. What it left is unpacked."""
+        kept, top = f"{KEPT}/{crate.name}", crate is self.crates[-1]
+        if not os.path.exists(self.file if top else f"{kept}.tar") or not os.path.exists(f"{kept}.stamp"):
+            return False
+        if read(f"{kept}.stamp") != stamp:
+            return False
+        if not top:
+            with tarfile.open(f"{kept}.tar") as packed:
+                packed.extractall(self.kit.place)
+        return True
+
+    def keep(self, crate, stamp):
+        """Keeps what a crate left, packed, and what its proof rests on."""
+        kept = f"{KEPT}/{crate.name}"
+        if crate is not self.crates[-1]:
+            with tarfile.open(f"{kept}.tar", "w") as packed:
+                packed.add(f"{self.kit.place}/{crate.name}.rlib", f"{crate.name}.rlib")
+        with open(f"{kept}.stamp", "w", encoding="utf-8") as file:
+            file.write(stamp)
+
+    def prove(self, crate):
+        """Proves a crate once those that it waits for are proved, unless it is proved already. Whether it is."""
+        if not all([self.lanes[other].result() for other in crate.waits]):
+            return False
+        stamp = self.stamp(crate)
+        if self.is_kept(crate, stamp):
+            return True
+        print(f"{crate.name}: proving {crate.functions()} functions", flush=True)
+        begun = time.monotonic()
+        is_proved = self.run(crate)
+        print(f"{crate.name}: {'proved' if is_proved else 'not proved'}, {time.monotonic() - begun:.0f} seconds", flush=True)
+        if is_proved:
+            self.keep(crate, stamp)
+        return is_proved
+
+    def whole(self):
+        """Proves all, lowest first. Whether all is proved."""
+        below = self.crates[:-1]
+        count = sum(it.functions() for it in below)
+        print(f"{len(below)} libraries of {count} functions, and then {self.crates[-1].name}", flush=True)
+        with ThreadPoolExecutor(len(self.crates)) as pool:
+            for crate in self.crates:
+                self.lanes[crate] = pool.submit(self.prove, crate)
+        return all(lane.result() for lane in self.lanes.values())
 
 
-def link_or_copy(source, target):
-    """Gives a file a second name where nothing writes into it, and else copies it."""
-    try:
-        if "/rlib/" in source or source.endswith(".oantt"):
-            return os.link(source, target)
-    except OSError:
-        pass
-    return shutil.copy2(source, target)
+def main(name, file):
+    file = os.path.abspath(file)
+    os.chdir(ROOT)
+    for folder in (KEPT, os.path.dirname(file)):
+        os.makedirs(folder, exist_ok=True)
+    with tempfile.TemporaryDirectory() as place:
+        return 0 if Proving(name, file, place).whole() else 1
 
 
-def bring(source, target):
-    """Brings what `rt` keeps of a crate, where it keeps anything, into the place of what is there."""
-    if os.path.isdir(source):
-        shutil.rmtree(target, ignore_errors=True)
-        shutil.copytree(source, target, copy_function=link_or_copy)
-
-
-def words_of(crate, libraries, lanes):
-    """The words that prove and build a library.
-
-    On the longest chain `rt` chooses how many processors a library takes. Those beside it have an equal share each, and one
-    that is not needed soon only what the others leave.
-    """
-    if crate in longest_chain(libraries):
-        return ["rt", "lib"]
-    ready = [it for it in libraries if not lanes[it].done() and all(lanes[other].done() for other in libraries[it])]
-    sharing = [it for it in ready if not can_wait(it, libraries)]
-    words = ["rt", "lib", "--jobs", str(max(1, os.cpu_count() // max(1, len(sharing))))]
-    return words if crate in sharing else ["nice", "-n", "19", *words]
-
-
-def proved(crate, libraries, lanes, copies):
-    """Proves and builds a library in a copy, as soon as those that it uses are there. Whether it could."""
-    copy = f"{copies}/{crate}"
-    shutil.copytree("crates", f"{copy}/crates", ignore=shutil.ignore_patterns("out"))
-    for file in ("crates.txt", "HANDLES"):
-        shutil.copy(file, copy)
-    bring(f"crates/{crate}/out", f"{copy}/crates/{crate}/out")
-    if not all([lanes[other].result() for other in libraries[crate]]):
-        return False
-    for other in list(libraries)[: list(libraries).index(crate)]:
-        if lanes[other].done():
-            bring(f"crates/{other}/out/rlib", f"{copy}/crates/{other}/out/rlib")
-    print(f"{crate}: proving {functions(crate)} functions", flush=True)
-    begun = time.monotonic()
-    words = words_of(crate, libraries, lanes)
-    run = subprocess.run(words, cwd=f"{copy}/crates/{crate}", stdout=subprocess.PIPE, stderr=subprocess.STDOUT)
-    if os.path.isdir(f"{copy}/crates/{crate}/out"):
-        shutil.rmtree(f"crates/{crate}/out", ignore_errors=True)
-        shutil.move(f"{copy}/crates/{crate}/out", f"crates/{crate}/out")
-    if run.returncode:
-        sys.stdout.buffer.write(run.stdout)
-    print(f"{crate}: {'not proved' if run.returncode else 'proved'}, {time.monotonic() - begun:.0f} seconds", flush=True)
-    return run.returncode == 0
-
-
-def main(program):
-    libraries = below(program)
-    count = sum(map(functions, libraries))
-    print(f"{len(libraries)} libraries of {count} functions, and then the program {program}", flush=True)
-    with tempfile.TemporaryDirectory() as copies:
-        lanes = {}
-        with ThreadPoolExecutor(len(libraries)) as pool:
-            for crate in libraries:
-                lanes[crate] = pool.submit(proved, crate, libraries, lanes, copies)
-    return 0 if all(lane.result() for lane in lanes.values()) else 1
-
-
-sys.exit(main(sys.argv[1]))
+if __name__ == "__main__":
+    sys.exit(main(*sys.argv[1:]))

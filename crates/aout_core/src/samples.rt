@@ -255,7 +255,14 @@ impl Model for TestWriter {
 
     ghost Value = { Taking };
 
-    ghost view = { λ a. record { taken = a.taken.items; most = a.most; before_failure = a.before_failure; failure = a.failure; calls = a.calls; flushes = a.flushes } };
+    ghost view = { λ a. record {
+      taken = a.taken.items;
+      most = a.most;
+      before_failure = a.before_failure;
+      failure = a.failure;
+      calls = a.calls;
+      flushes = a.flushes;
+    } };
 }
 
 impl TestWriter {

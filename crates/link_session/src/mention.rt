@@ -173,7 +173,8 @@ pub(crate) fn enter_all(
     requires places_room { vec_len places.old + length table.now.symbols.now ≤ vec_capacity places.old }
     ensures names { externals.new.entries ≡ with_mentions externals.old.entries (mentions_by table.now.shifts table.now.symbols.now) }
     ensures multiples { multiples.new.items ≡ multiples.old.items ++ all_clashes externals.old.entries (mentions_by table.now.shifts table.now.symbols.now) }
-    ensures marks { marks.new.items ≡ marks.old.items ++ state_marks (length externals.old.entries) externals.old.entries (mentions_by table.now.shifts table.now.symbols.now) }
+    ensures marks { marks.new.items ≡ marks.old.items
+        ++ state_marks (length externals.old.entries) externals.old.entries (mentions_by table.now.shifts table.now.symbols.now) }
     ensures places { places.new.items ≡ places.old.items ++ all_places externals.new.entries table.now.symbols.now }
 {
     let kept = externals.len();

@@ -4,7 +4,7 @@ ghost use Rattle.std.specs.List.{flat_map};
 ghost use Rattle.aout_core.specs.Wires.{Puts, Writes};
 ghost use Rattle.symtools.specs.Files.{by_bytes};
 ghost use Rattle.symtools.specs.SymbolLines.{symbol_line};
-ghost use Rattle.symtools.specs.NmLists.{is_shown, name_before, value_before, in_order, arranged, nm_text, ListsUpTo};
+ghost use Rattle.symtools.specs.NmLists.{is_shown, name_before, value_before, in_order, arranged, line_heading, shown, nm_text, ListsUpTo};
 ghost use Rattle.symtools.specs.declared.fault.ToolFault.TheVariants.{Memory, Device};
 
 use crate::fault::ToolFault;
@@ -56,7 +56,7 @@ fn list_file<W: Write>(
     ensures shows { result ≡ Err Memory → filter (is_shown options) file.now.1.symbols ≢ [] }
     ensures bytes { Puts result (W.contents out.old.device) (W.contents out.new.device)
         ((if is_headed then string_bytes file.now.0 ++ (58 ∷ 10 ∷ []) else [])
-        ++ flat_map (λ s. (if options.each_line then string_bytes file.now.0 ++ 58 ∷ [] else []) ++ symbol_line s) (arranged options (filter (is_shown options) file.now.1.symbols))) }
+        ++ flat_map (λ s. line_heading options (string_bytes file.now.0) ++ symbol_line s) (shown options file.now.1)) }
 {
     let (path, file) = file;
     let symbols = shown(alloc, file.symbols(), options)?;

@@ -121,7 +121,10 @@ impl<R: Abort + AllocGlobal> Office for MemoryOffice<'_, R> {
 
     type Source = TestReader<'static>;
 
-    ghost history = { λ office. Some (map (λ asked. elim asked [ Opened path found ↦ opened (string_bytes path) (option_map (λ bytes. Some bytes.now) found) | Stored path file what ↦ stored (string_bytes path) file what ]) office.asked.items) };
+    ghost history = { λ office. Some (map (λ asked. elim asked [
+      | Opened path found ↦ opened (string_bytes path) (option_map (λ bytes. Some bytes.now) found)
+      | Stored path file what ↦ stored (string_bytes path) file what
+    ]) office.asked.items) };
 
     fn open(&mut self, path: &str) -> Option<TestReader<'static>> {
         let found = bytes_at(path);
