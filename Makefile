@@ -1,6 +1,8 @@
 # v7: see README.md. The command `rt` of the Rattle kit has to be on the PATH.
 PREFIX ?= /usr/local
 
+# tests/prove.py uses all processors by itself
+.NOTPARALLEL:
 .PHONY: all try demo lib check-lib test wrong-bodies memory room bench instructions simulate lesson page check-page check-manual check-examples check-explain check-streams install clean
 
 all: build/v7 build/v7-from-gnu build/v7-explain
@@ -95,14 +97,17 @@ room: build/v7
 	python3 tests/room.py build/v7
 
 # times of the session and of ld on a large input; and the instructions of a heavy link, where valgrind is installed
-bench: build/v7
-	cd crates/bench && rt run -- full
+bench: build/v7 crates/bench/out/bench
+	crates/bench/out/bench full
 	python3 tests/heavy.py build/v7
 
 # instructions of adding an object and withdrawing it, on an empty session and on a full one; needs valgrind
-instructions:
-	cd crates/bench && rt run -- referring 0 1
+instructions: crates/bench/out/bench
 	sh tests/instructions.sh crates/bench/out/bench
+
+crates/bench/out/bench: $(SOURCES)
+	python3 tests/prove.py bench $@
+	touch $@
 
 # links a program of five files, runs it on SIMH's PDP-11, and compares what it prints
 simulate: build/v7

@@ -9,6 +9,7 @@ it, have changed.
 import hashlib
 import os
 import re
+import shutil
 import subprocess
 import sys
 import tarfile
@@ -18,6 +19,8 @@ from concurrent.futures import ThreadPoolExecutor
 
 ROOT = os.path.abspath(os.path.join(os.path.dirname(os.path.abspath(__file__)), ".."))
 KEPT = "build/proved"
+# more jobs of one check seldom help
+MOST_JOBS = 8
 
 
 def read(path):
@@ -134,7 +137,7 @@ class Proving:
 
     def commands(self, crate):
         """The commands that prove a crate. Where it is not waited for, it takes fewer processors, or what others leave."""
-        jobs = os.cpu_count()
+        jobs = min(os.cpu_count(), MOST_JOBS)
         if crate.is_program:
             return self.kit.program(crate, jobs, self.file)
         if crate.is_static:
@@ -168,6 +171,8 @@ class Proving:
     def keep(self, crate, stamp):
         """Keeps what a crate left, packed, and what its proof rests on."""
         kept = f"{KEPT}/{crate.name}"
+        if os.path.exists(f"{kept}.stamp"):
+            os.remove(f"{kept}.stamp")
         if crate is not self.crates[-1]:
             with tarfile.open(f"{kept}.tar", "w") as packed:
                 packed.add(f"{self.kit.place}/{crate.name}.rlib", f"{crate.name}.rlib")
@@ -201,6 +206,9 @@ class Proving:
 
 
 def main(name, file):
+    if not shutil.which("rt"):
+        print("rt, the command of the Rattle kit, is not on the PATH", file=sys.stderr)
+        return 1
     file = os.path.abspath(file)
     os.chdir(ROOT)
     for folder in (KEPT, os.path.dirname(file)):
