@@ -16,7 +16,7 @@ build/v7: crates/v7/out/v7
 # tests/prove.py proves a program with the libraries under it, side by side where none waits for another, and builds it. The
 # gate leaves a proved program too, at the same place
 crates/v7/out/v7: $(SOURCES)
-	@echo 'Each function is proved: from nothing 10 to 13 minutes, on four cores elsewhere.'
+	@echo 'Each function is proved: from nothing 10 minutes, on four cores elsewhere.'
 	python3 tests/prove.py v7 $@
 	touch $@
 
