@@ -1,9 +1,18 @@
 # v7: see README.md. The command `rt` of the Rattle kit has to be on the PATH.
 PREFIX ?= /usr/local
 
+# the kits that the gate has passed with; any: another one too
+KITS ?= rattle-kit-13b rattle-kit-13f
+ifneq ($(filter-out clean install,$(or $(MAKECMDGOALS),all)),)
+ifneq ($(shell sh tests/kit.sh $(KITS) && echo yes),yes)
+$(error stopped)
+endif
+endif
+
 # tests/prove.py uses all processors by itself
 .NOTPARALLEL:
-.PHONY: all try demo lib check-lib test wrong-bodies memory room bench instructions simulate lesson page check-page check-manual check-examples check-explain check-streams install clean
+.PHONY: all try demo lib check-lib test recheck wrong-bodies memory room bench instructions simulate lesson page check-page \
+	check-manual check-examples check-explain check-streams install clean
 
 all: build/v7 build/v7-from-gnu build/v7-explain
 
@@ -83,6 +92,10 @@ test:
 	python3 tests/edits.py
 	python3 tests/index.py
 	rt ci
+
+# one claim proved again, and a broken line refused: docs/TRUST.md
+recheck:
+	@sh tests/recheck.sh
 
 # further wrong bodies, which the prover has to refuse as well; NAMES are the crates whose are tried
 wrong-bodies:

@@ -84,6 +84,7 @@ count=0
 for file in "$@"; do
     commands "$file"
     run "$file"
+    echo "$file: $ran commands"
     count=$((count + ran))
 done
 echo "$count commands of $# files were run"
