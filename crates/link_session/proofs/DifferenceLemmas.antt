@@ -54,7 +54,7 @@ cell_held f cs own new marked e i was is there then h =
 
 -- States.
 
-own_state : (s : State) → same_state s s ≡ true
+pub own_state : (s : State) → same_state s s ≡ true
 own_state (Defined segment offset) = own_definition segment offset
 own_state (Wanted size) = eq-eqb size size refl
 

@@ -32,6 +32,7 @@ pub mod ChainBackLemmas
 pub mod ThreadLemmas
 pub mod MarkedLemmas
 pub mod DifferenceLemmas
+pub mod ChangedLemmas
 pub mod RestoreLemmas
 pub mod NamesLemmas
 pub mod CoverLemmas

@@ -54,5 +54,6 @@ pub record TakesBack (m : Image) (o : Contents) (heads : List Link) (marks : Lis
   pub heads_are : heads_back marks (bound_heads m o heads) ≡ heads
   pub inside : AllByRecursion (IsInside m) marks
   pub few : length marks ≤ length (to_bind (next_named m o) m.text_cells) + (length (to_bind (next_named m o) m.data_cells) + length (externals_in o))
-  pub cells_are : (place : Place) → HoldBound (cell_at m.text_cells m.data_cells place) (cell_at (settled_by_next m o m.text_cells) (settled_by_next m o m.data_cells) place) (cells_marked place marks)
+  pub cells_are : (place : Place) →
+      HoldBound (cell_at m.text_cells m.data_cells place) (cell_at (settled_by_next m o m.text_cells) (settled_by_next m o m.data_cells) place) (cells_marked place marks)
   pub states_are : (i : ℕ) → states_marked i marks ≡ states_marked i (state_marks (length m.externals) m.externals (next_mentions m o))
