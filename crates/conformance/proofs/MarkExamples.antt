@@ -1,10 +1,8 @@
 -- The marks of one addition, and lists of marks near them that are not its marks.
-use Rattle.std.proofs.Common.{◌≡◌, ◌≢◌, ℕ, ◌<◌, List, [], ◌∷◌, ◌++◌, false, true, refl, ap, arith}
+use Rattle.std.proofs.Common.{◌≡◌, ◌≢◌, ℕ, ◌<◌, List, [], ◌∷◌, ◌++◌, false, true, refl, sym, ap, ◌∙◌, arith, eqb, eq-eqb}
 use Rattle.aout_core.specs.Contents.{Contents}
 use Rattle.link_session.specs.declared.cell.Cell.{Cell}
-use Rattle.link_session.specs.declared.cell.Target.{Target}
 use Rattle.link_session.specs.declared.cell.Target.TheVariants.{Absolute, DataSeg, External}
-use Rattle.link_session.specs.declared.state.State.{State}
 use Rattle.link_session.specs.declared.state.State.TheVariants.{Wanted}
 use Rattle.link_session.specs.declared.mark.Mark.{Mark}
 use Rattle.link_session.specs.declared.mark.Mark.TheVariants.{CellWas, StateWas}
@@ -13,14 +11,14 @@ use Rattle.link_session.specs.Image.{image}
 use Rattle.link_session.specs.Marks.{IsDifference, states_changed}
 use Rattle.link_session.specs.Mentions.{mentions, mentions_in}
 use Rattle.link_session.specs.Undo.{undo, AreMarksOf}
-use Rattle.conformance.specs.Samples.{sym, object, _f, _x, c_o, k_o}
+use Rattle.conformance.specs.Samples.{sym as entry_of, object, _f, _x, c_o, k_o}
 
 -- `_x` is wanted at 4 bytes, and two words wait for it; the object wants it at 10 bytes, and then defines it
 abbrev earlier : List Contents
 earlier = c_o ∷ k_o ∷ []
 
 abbrev grows_o : Contents
-grows_o = object [] [] (1 ∷ 2 ∷ []) (0 ∷ 0 ∷ []) 0 (sym _x 0o40 10 ∷ sym _x 0o43 2 ∷ [])
+grows_o = object [] [] (1 ∷ 2 ∷ []) (0 ∷ 0 ∷ []) 0 (entry_of _x 0o40 10 ∷ entry_of _x 0o43 2 ∷ [])
 
 abbrev first_was : Cell
 first_was = record { value = 2; target = External 1; pc = false }
@@ -70,6 +68,9 @@ unchanged_name_undoes = refl
 unchanged_name_marked : AreExact (StateWas 0 (Wanted 0) ∷ its_marks) → ⊥
 unchanged_name_marked d = let bad : Wanted 0 ∷ [] ≡ [] = d.names 0 _f refl in absurd (cc)
 
+other_size : (a b : ℕ) → eqb a b ≡ false → a ≡ b → ⊥
+other_size a b t e = let bad : true ≡ false = sym (eq-eqb a b e) ∙ t in absurd (cc)
+
 -- A cell that is marked twice, and a state in between that never was.
 
 cell_twice_undoes : Undo (CellWas (InText 2) first_was ∷ its_marks)
@@ -85,7 +86,7 @@ made_up_state_undoes : Undo (StateWas 1 (Wanted 4) ∷ StateWas 1 (Wanted 7) ∷
 made_up_state_undoes = refl
 
 made_up_state : AreExact (StateWas 1 (Wanted 4) ∷ StateWas 1 (Wanted 7) ∷ cell_marks) → ⊥
-made_up_state d = let bad : Wanted 4 ∷ Wanted 7 ∷ [] ≡ Wanted 4 ∷ Wanted 10 ∷ [] = d.names 1 _x refl in absurd (let numbers : 7 ≡ 10 = cc in omega arith)
+made_up_state d = let bad : Wanted 4 ∷ Wanted 7 ∷ [] ≡ Wanted 4 ∷ Wanted 10 ∷ [] = d.names 1 _x refl in other_size 7 10 refl (cc)
 
 -- A mark that is missing, which may be one that a withdrawal does without.
 
@@ -106,7 +107,7 @@ content_after d =
     first_changed (cc)
 
 wrong_order : AreExact (StateWas 1 (Wanted 10) ∷ StateWas 1 (Wanted 4) ∷ cell_marks) → ⊥
-wrong_order d = let bad : Wanted 10 ∷ Wanted 4 ∷ [] ≡ Wanted 4 ∷ Wanted 10 ∷ [] = d.names 1 _x refl in absurd (let numbers : 10 ≡ 4 = cc in omega arith)
+wrong_order d = let bad : Wanted 10 ∷ Wanted 4 ∷ [] ≡ Wanted 4 ∷ Wanted 10 ∷ [] = d.names 1 _x refl in other_size 10 4 refl (cc)
 
 -- A mark of a name that was not there: it is not inside.
 
