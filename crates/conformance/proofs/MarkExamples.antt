@@ -10,8 +10,8 @@ use Rattle.link_session.specs.declared.mark.Place.TheVariants.{InText}
 use Rattle.link_session.specs.Image.{image}
 use Rattle.link_session.specs.Marks.{IsDifference, states_changed}
 use Rattle.link_session.specs.Mentions.{mentions, mentions_in}
-use Rattle.link_session.specs.Undo.{undo, AreMarksOf}
-use Rattle.conformance.specs.Samples.{sym as entry_of, object, _f, _x, c_o, k_o}
+use Rattle.link_session.specs.Undo.{undo, AreMarksOf, IsJournal}
+use Rattle.conformance.specs.Samples.{sym as entry_of, object, _f, _x, c_o, e_o, k_o}
 
 -- `_x` is wanted at 4 bytes, and two words wait for it; the object wants it at 10 bytes, and then defines it
 abbrev earlier : List Contents
@@ -113,3 +113,13 @@ wrong_order d = let bad : Wanted 10 ∷ Wanted 4 ∷ [] ≡ Wanted 4 ∷ Wanted 
 
 new_name_marked : AreMarksOf [] earlier grows_o (StateWas 2 (Wanted 0) ∷ its_marks) → ⊥
 new_name_marked are = let bad : 2 < 2 = are.inside.0 in omega (arith, bad)
+
+-- A journal in which the marks of an object that changes nothing are not empty.
+
+idle_mark_undoes : undo (CellWas (InText 0) untouched ∷ []) (image [] (c_o ∷ e_o ∷ [])) (image [] (c_o ∷ [])) ≡ image [] (c_o ∷ [])
+idle_mark_undoes = refl
+
+idle_mark_in_journal : IsJournal [] (c_o ∷ e_o ∷ []) ([] ∷ (CellWas (InText 0) untouched ∷ []) ∷ []) → ⊥
+idle_mark_in_journal j =
+    let are = j.undoes 1 (omega arith) e_o refl in
+    let bad : untouched ∷ [] ≡ [] = (are.difference.text 0 untouched untouched refl refl).same refl in absurd (cc)
