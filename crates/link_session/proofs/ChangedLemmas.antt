@@ -24,7 +24,7 @@ never_back (Wanted size) (Defined segment offset) later e = absurd (cc)
 never_back (Wanted size) (Wanted more) (Defined segment offset) e = absurd (cc)
 never_back (Wanted size) (Wanted more) (Wanted last) e = let most : max (max size more) last ≡ size = cc in ap (λ (n : ℕ). Wanted n) (omega arith)
 
--- one mention, and those behind it
+-- one mention, and those after it
 one_by_one : (earlier : List Mention) (m : Mention) (ms : List Mention) (name : List ℕ) → state (earlier ++ (m ∷ ms)) name ≡ state ((earlier ++ m ∷ []) ++ ms) name
 one_by_one earlier m ms name = ap (λ (l : List Mention). state l name) (sym (append_assoc earlier (m ∷ []) ms))
 

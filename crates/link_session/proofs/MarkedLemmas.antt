@@ -1,4 +1,4 @@
--- What marks hold of one place: those of chains and of mentions, and marks behind marks.
+-- What marks hold of one place: those of chains and of mentions, and of two lists of marks together.
 use Rattle.std.proofs.Common.{◌≡◌, ◌≤◌, ℕ, zero, suc, Bool, true, false, not, ◌||◌, ◌&&◌, cond, List, [], ◌∷◌, ◌++◌, map, length, slice_index_or, nat_eq, nat_lt, refl, sym, ap, ◌∙◌, subst, arith}
 use Rattle.std.proofs.lemmas.Bool.Decides.{nat_tests}
 use Rattle.aout_core.specs.declared.symbol.Segment.{Segment}
@@ -18,7 +18,7 @@ use Rattle.link_session.specs.internal.Chains.{is_on, AreApart, bound_to, bound_
 use Rattle.link_session.specs.internal.Restores.{HoldBound, gets_bound, is_waiting}
 use Rattle.link_session.proofs.CountLemmas.{waits_is}
 
--- Marks behind marks.
+-- Two lists of marks together.
 
 pub cells_marked-append : (p : Place) (ks ls : List Mark) → cells_marked p (ks ++ ls) ≡ cells_marked p ks ++ cells_marked p ls
 cells_marked-append p [] ls = refl
@@ -110,7 +110,7 @@ one_held k segment offset c = by_test (waits_at k c.target) refl
         let binds : gets_bound c (bound_to segment offset c) ≡ true = λ i. waits i && not (segment_ready segment i) in
         record { holds = ap (λ (t : Bool). cond t (c ∷ []) []) (sym binds); stays = λ no. absurd (let bad : true ≡ false = sym binds ∙ no in cc) }
 
--- one change behind another
+-- one change after another
 pub held_then : (a b c : Cell) (ks ls : List Cell) → HoldBound a b ks → HoldBound b c ls → HoldBound a c (ks ++ ls)
 held_then a b c ks ls r s = by_first (is_waiting a.target) refl (is_waiting b.target) refl
   where

@@ -44,7 +44,7 @@ same_state (Defined segment offset) (Defined again place) = is_definition again 
 same_state (Wanted size) (Wanted more) = eqb size more
 same_state _ _ = false
 
--- the state of a name behind earlier mentions, if one more mention changes it
+-- the state of a name after the earlier mentions, if one more mention changes it
 abbrev pub state_changed : List Mention → Mention → List ℕ → List State
 state_changed earlier m name = cond (same_state (state earlier name) (state (earlier ++ m ∷ []) name)) [] (state earlier name ∷ [])
 
@@ -53,7 +53,7 @@ abbrev pub states_changed : List Mention → List Mention → List ℕ → List 
 states_changed earlier [] name = []
 states_changed earlier (m ∷ ms) name = state_changed earlier m name ++ states_changed (earlier ++ m ∷ []) ms name
 
--- the marks are the difference that the object makes behind these: for each cell and each name that was there
+-- the marks are the difference that the object makes when it is added after these: for each cell and each name that was there
 pub record IsDifference (forced : List (List ℕ)) (os : List Contents) (o : Contents) (marks : List Mark) : Type 0 where
   pub text : (i : ℕ) (was is : Cell) → slice_get (image forced os).text_cells i ≡ Some was → slice_get (image forced (os ++ o ∷ [])).text_cells i ≡ Some is →
       HoldCell was is (cells_marked (InText i) marks)
