@@ -127,10 +127,12 @@ uint32_t v7_session(uint32_t options, const unsigned char *entry, size_t entry_s
 /* Runs EDITS as v7_session does, and writes what the session then shows, without a link. ROOM gets it as lines, each with its
  * newline, or as one JSON object: the words of the merged text and data, each with its offset in bytes, its value and what it
  * refers to or waits for; the size of bss in bytes; the external names with what is known of each; the names that are multiply
- * defined; and the marks of the last object that is kept: what its addition overwrote, in order. Lines have offsets and
- * values in octal and sizes in decimal; a byte of a name that does not print, a blank and a backslash are \ooo there. JSON has
- * all numbers in decimal; a byte of a name that does not print, a quote and a backslash are \u00xx there. v7(3) lists the
- * members of the JSON object. REPLIES are those of v7_session; `report_size` is how many there are. The status is 1 where an
+ * defined; and the marks of the last object that is kept: what its addition overwrote, in order, and nothing else. A name may
+ * appear more than once, as a common that grows several times: its first mark has what was known of it before the addition, and
+ * each later one what the change before it led to. A word appears at most once. Lines have offsets and values in octal and
+ * sizes in decimal; a byte of a name that does not print, a blank and a backslash are \ooo there. JSON has all numbers in
+ * decimal; a byte of a name that does not print, a quote and a backslash are \u00xx there. v7(3) lists the members of the JSON
+ * object. REPLIES are those of v7_session; `report_size` is how many there are. The status is 1 where an
  * edit was not made. State and replies are both written, or neither is. Faults, the first that applies: V7_NO_OPTION for FORM;
  * 4 and 5; then for each edit in turn those of v7_session; V7_NO_MEMORY at any time; and V7_NO_ROOM. */
 enum v7_form { V7_LINES = 0, V7_JSON = 1 };

@@ -1,6 +1,7 @@
 mod FileExamples
 mod LinkExamples
 mod SessionExamples
+mod MarkExamples
 mod ToolExamples
 mod LawExamples
 mod ClauseLemmas

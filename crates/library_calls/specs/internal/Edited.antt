@@ -19,7 +19,7 @@ pub record AreEdited (old new : Kept) (changes : List Change) (numbers : List �
   pub kept : new.entries ≡ survivors_from old.forced old.entries changes
   pub replies : numbers ≡ map reply_number (answers_from old.forced old.entries changes)
 
--- the state of a session, whose marks take its objects back
+-- the state of a session, with the marks of its objects
 pub record ShowsFrom (form : Form) (s : Kept) (state : List ℕ) : Type 0 where
   pub undoes : IsJournal s.forced (objects s.entries) s.journal
   pub encoded : state ≡ encoded_in form s
