@@ -2,7 +2,7 @@
 ghost use Rattle.link_laws.specs.CoreLaws.{SegmentsLieApart, SpacesAreOne, AddressesFit, WordsAreLoaded, StrippedIsLoaded, BssIsZero, CommonsAreZero, NothingElse};
 ghost use Rattle.link_laws.specs.Operands.{NamesAreFound, SegmentsAreFound, CallsArrive};
 ghost use Rattle.link_laws.specs.Listings.{UndefinedAreListed, UndefinedLines, RowLines, ExternalsAreListed, SizesAreSums};
-ghost use Rattle.link_laws.specs.Orders.{OrderRefusesAlike, OrderKeepsSizes, OrderReportsAlike, OrderFindsEntry, OrderKeepsMeanings, OrderKeepsReferents, OnceInAnyOrder};
+ghost use Rattle.link_laws.specs.Orders.{OrderAddsAlike, OrderLinksAlike, OrderRefusesAlike, OrderKeepsSizes, OrderReportsAlike, OrderFindsEntry, OrderKeepsMeanings, OrderKeepsReferents, OnceInAnyOrder};
 
 /// What stands at which address when a linked file is loaded: `core` of specs/Core, for the spaces of instructions and of
 /// data, which are one but for split spaces. (exec(2), a.out(5))
@@ -65,7 +65,10 @@ pub fn listing_law()
 /// The order of objects changes where things lie, and not what a program means: the law is of the same objects in any two
 /// orders. (ld(1))
 ///
-/// - `refuses`: without relocation, what is refused in one order is refused in the other, with the same fault.
+/// - `adds`: all objects are added in both orders, or in neither. The object that is refused first, and the limit that it
+///   passes, may differ.
+/// - `links`: if all are added, without `-r` there is a link in both orders, or the same fault.
+/// - `refuses`: without `-r`, the link of all of them is refused in both orders with the same fault, or in neither.
 /// - `sizes`: text, data, bss and the table are as large, so the headers differ at most in the entry point.
 /// - `reports`: the same reserved names are reported, and the same undefined ones, in some order.
 /// - `entry`: where no name is multiply defined, the entry point is found in both orders or in neither.
@@ -74,6 +77,8 @@ pub fn listing_law()
 /// - `referents`: so each word refers to the same: to a segment of its own object, or to what its name means.
 /// - `single`: where no two symbols of the objects define one name, no name is multiply defined in any order.
 pub fn order_law()
+    ensures adds { OrderAddsAlike }
+    ensures links { OrderLinksAlike }
     ensures refuses { OrderRefusesAlike }
     ensures sizes { OrderKeepsSizes }
     ensures reports { OrderReportsAlike }
