@@ -29,9 +29,8 @@ use Rattle.link_out.specs.function.Plans.{Plan, plan, common_offset}
 use Rattle.link_out.specs.function.Finals.{Final, final_by, bound_at, waiting, reserved_or_waiting, etext, edata, end_name}
 use Rattle.link_out.specs.function.Tables.{external_row}
 use Rattle.link_out.specs.function.Link.{link}
-use Rattle.link_out.specs.relation.Relocated.{data_base_in, move_in, entry_of, address_in, IsAddressOf, IsAdded, base_in, external_type, IsRelocated, HoldsObjects}
+use Rattle.link_out.specs.relation.Relocated.{data_base_in, move_in, entry_of, address_in, IsAddressOf, IsAdded, base_in, external_type, HoldsObjects}
 use Rattle.link_out.proofs.RelocatedLemmas.{objects_fill}
-use Rattle.link_out.specs.relation.LinkedFrom.{IsLinkedFrom}
 use Rattle.link_out.specs.laws.WordsAndNames.{IsDefined}
 use Rattle.link_out.proofs.OutcomeLemmas.{made_file}
 use Rattle.link_out.proofs.ExternalLemmas.{entry_in_table, row_address}
@@ -42,7 +41,7 @@ use Rattle.link_laws.specs.Core.{Space, is_in}
 use Rattle.link_laws.specs.CoreLaws.{IsPlace, IsLoaded}
 use Rattle.link_laws.specs.Operands.{operand, FindsMore, FindsName, segment_meant, Calls, Defines, is_usable_in, Arrives}
 use Rattle.link_laws.proofs.CoreLemmas.{within_back}
-use Rattle.link_laws.proofs.LoadedLemmas.{address_of, place_at, loaded_word, words_loaded}
+use Rattle.link_laws.proofs.LoadedLemmas.{address_of, place_at, words_there, words_loaded, words_of_rows}
 
 -- sums
 
@@ -79,15 +78,6 @@ module _ (file : Contents) (rows : List Symbol) (os before : List Contents) (k :
   loaded_finds Absolute has i w r l = absurd has
   loaded_finds BssSeg has i w r l = absurd has
   loaded_finds Other has i w r l = absurd has
-
--- words stand only in text and data
-words_there : (segment : Segment) (k : Contents) (i w : ℕ) → slice_get (segment_words segment k) i ≡ Some w → HasWords segment
-words_there TextSeg k i w e = tt
-words_there DataSeg k i w e = tt
-words_there Undefined k i w e = absurd (cc)
-words_there Absolute k i w e = absurd (cc)
-words_there BssSeg k i w e = absurd (cc)
-words_there Other k i w e = absurd (cc)
 
 -- names
 
@@ -179,16 +169,6 @@ meant_added h rows os before k kinds.DataSeg meant number a e is = is ∙ ap (λ
 meant_added h rows os before k kinds.BssSeg meant number a e is = is ∙ ap (λ (s : Segment). move_in h os before k s) (same_Some BssSeg meant e)
 meant_added h rows os before k kinds.External meant number a e is = absurd (cc)
 
--- each word of a link stands relocated by the rows of its relation
-relocated_in : (forced : List (List ℕ)) (os : List Contents) (o : Choices) (x : Outcome) (l : IsLinkedFrom forced os o x) (before : List Contents) (k : Contents) (after : List Contents) → os ≡ before ++ k ∷ after →
-    (segment : Segment) (i w : ℕ) (r : Reloc) → slice_get (segment_words segment k) i ≡ Some w → slice_get (segment_relocs segment k) i ≡ Some r → IsRelocated x.file l.rows os before k segment i w r
-relocated_in forced os o x l before k after all TextSeg i w r ew er = l.text before k after all i w r ew er
-relocated_in forced os o x l before k after all DataSeg i w r ew er = l.data before k after all i w r ew er
-relocated_in forced os o x l before k after all Undefined i w r ew er = absurd (cc)
-relocated_in forced os o x l before k after all Absolute i w r ew er = absurd (cc)
-relocated_in forced os o x l before k after all BssSeg i w r ew er = absurd (cc)
-relocated_in forced os o x l before k after all Other i w r ew er = absurd (cc)
-
 pub segments_found : (forced : List (List ℕ)) (before : List Contents) (k : Contents) (after : List Contents) (o : Choices) (x : Outcome) →
     AllByRecursion IsObject (before ++ k ∷ after) → link forced (before ++ k ∷ after) o ≡ Ok x →
     (segment : Segment) (i w : ℕ) (r : Reloc) → slice_get (segment_words segment k) i ≡ Some w → slice_get (segment_relocs segment k) i ≡ Some r →
@@ -197,11 +177,10 @@ pub segments_found : (forced : List (List ℕ)) (before : List Contents) (k : Co
 segments_found forced before k after o x good linked segment i w r ew er kind meant e m =
     let os = before ++ k ∷ after in
     let from = (linked_exactly forced os o x good).0 linked in
-    let has = words_there segment k i w ew in
-    let l = loaded_word forced os o x good linked before k after refl from.rows segment has i w r (relocated_in forced os o x from before k after refl segment i w r ew er) in
+    let l = words_of_rows forced before k after o x good from segment i w r ew er in
     let is : IsAdded x.file.header from.rows os before k (Some kind) (symbol_number r) l.added = subst (λ (n : Option Kind). IsAdded x.file.header from.rows os before k n (symbol_number r) l.added) e l.is in
     subst (λ (a : ℕ). FindsMore x.file os before k segment i w r a) (meant_added x.file.header from.rows os before k kind meant (symbol_number r) l.added m is)
-    (loaded_finds x.file from.rows os before k segment has i w r l)
+    (loaded_finds x.file from.rows os before k segment (words_there segment k i w ew) i w r l)
 
 -- calls
 
