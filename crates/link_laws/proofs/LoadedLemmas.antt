@@ -1,6 +1,6 @@
 -- What a link puts into the core: words, zeros, and nothing else.
 use Rattle.std.proofs.Common.{◌≡◌, ◌≢◌, ℕ, zero, suc, ◌+◌, ◌-◌, ◌*◌, ◌/◌, ◌%◌, ◌<◌, ◌≤◌, ◌⊎◌, inl, inr, Bool, true, false, cond, eqb, List, [], ◌∷◌, ◌++◌, length, Some, refl, sym, ◌∙◌, ap, subst, arith}
-use Rattle.std.specs.Prelude.{slice_get, nat_lt, Result, Ok}
+use Rattle.std.specs.Prelude.{slice_get, nat_lt, Ok}
 use Rattle.std.specs.List.{AllByRecursion}
 use Rattle.std.proofs.lemmas.List.Sums.{sum_by-append}
 use Rattle.std.proofs.lemmas.Option.{slice_get_within, same_Some}
@@ -13,17 +13,16 @@ use Rattle.aout_core.specs.declared.reloc.Reloc.{Reloc}
 use Rattle.aout_core.specs.Contents.{Contents}
 use Rattle.aout_core.specs.Words.{plus, minus}
 use Rattle.aout_core.specs.WellFormed.{is_pc_relative}
-use Rattle.aout_core.specs.Strip.{stripped}
 use Rattle.link_session.specs.Starts.{size_of, total, own}
 use Rattle.link_session.specs.Sessions.{IsObject}
 use Rattle.link_session.specs.Mentions.{mentions}
 use Rattle.link_session.proofs.ListLemmas.{all_split}
 use Rattle.link_session.specs.Cells.{segment_words, segment_relocs}
+use Rattle.link_options.specs.declared.options.Keep.{Keep}
 use Rattle.link_options.specs.declared.options.Keep.TheVariants.{Nothing}
 use Rattle.link_options.specs.declared.options.Layout.{Layout}
 use Rattle.link_options.specs.declared.options.Layout.TheVariants.{Plain, Pure, Split}
 use Rattle.link_options.specs.Choices.{Choices, lays_commons}
-use Rattle.link_out.specs.declared.linked.LinkFault.{LinkFault}
 use Rattle.link_out.specs.Layouts.{magic_of, data_base}
 use Rattle.link_out.specs.Results.{Outcome}
 use Rattle.link_out.specs.function.Plans.{plan, commons_laid}
@@ -37,7 +36,6 @@ use Rattle.link_out.proofs.RelocatedLemmas.{words_relocated, objects_fill}
 use Rattle.link_out.proofs.MoveLemmas.{data_begun}
 use Rattle.link_out.proofs.CommonLemmas.{commons_have_room}
 use Rattle.link_out.proofs.LinkedTheorem.{linked_exactly}
-use Rattle.link_out.proofs.StripLemmas.{strip_law}
 use Rattle.link_laws.specs.Core.{Space, of_instructions, of_data, has_one_space, has_segment, first_address, bytes_of, segment_byte, is_in, core, IsWordAt}
 use Rattle.link_laws.specs.CoreLaws.{space_of, IsPlace, IsLoaded, IsZero, IsOfWord}
 use Rattle.link_laws.proofs.ByteLemmas.{low_byte, high_byte}
@@ -411,10 +409,9 @@ words_of_rows forced before k after o x good l segment i w r ew er =
     let os = before ++ k ∷ after in
     loaded_word forced os o x good ((linked_exactly forced os o x good).1 l) before k after refl l.rows segment (words_there segment k i w ew) i w r (relocated_in forced os o x l before k after refl segment i w r ew er)
 
--- a link that keeps no symbols is the one that keeps them, stripped
-pub unkept_loaded : (forced : List (List ℕ)) (os : List Contents) (o : Choices) (x y : Outcome) → o.relocatable ≡ false →
-    link forced os o ≡ Ok x → link forced os (record o { keep = Nothing }) ≡ Ok y → (space : Space) (address : ℕ) → core y.file space address ≡ core x.file space address
-unkept_loaded forced os o x y plain linked unkept space address =
-    let e : (let one : Result Outcome LinkFault = Ok y in one) ≡ Ok (record x { file = stripped x.file }) = sym unkept ∙ strip_law forced os o x plain linked in
-    let same : y ≡ record x { file = stripped x.file } = cc in
-    ap (λ (z : Outcome). core z.file space address) same
+-- neither magic, sizes nor words depend on the symbols that are kept
+pub kept_loaded : (forced : List (List ℕ)) (os : List Contents) (o : Choices) (keep : Keep) (x y : Outcome) →
+    link forced os o ≡ Ok x → link forced os (record o { keep = keep }) ≡ Ok y → (space : Space) (address : ℕ) → core y.file space address ≡ core x.file space address
+kept_loaded forced os o keep x y linked other space address =
+    sym (ap (λ (f : Contents). core f space address) (made_file (plan forced os (record o { keep = keep })) os y other))
+    ∙ ap (λ (f : Contents). core f space address) (made_file (plan forced os o) os x linked)

@@ -2,8 +2,8 @@
 --
 -- The words of each object are, relocated, where a symbol of their place says. Its bss and the commons are zeros. The core has
 -- nothing else, and no two segments of it share an address. A link that keeps no symbols has no table to look names up in; its
--- words follow the rows of the relation of linking, and are those of the link that keeps symbols.
-use Rattle.std.specs.Prelude.{◌≡◌, ◌≢◌, ℕ, ◌+◌, ◌*◌, ◌%◌, ◌<◌, ◌≤◌, ◌⊎◌, true, false, cond, List, ◌∷◌, ◌++◌, Some, Ok, slice_get}
+-- words follow the rows of the relation of linking, and are those of a link that keeps symbols.
+use Rattle.std.specs.Prelude.{◌≡◌, ◌≢◌, ℕ, ◌+◌, ◌*◌, ◌%◌, ◌<◌, ◌≤◌, ◌⊎◌, true, cond, List, ◌∷◌, ◌++◌, Some, Ok, slice_get}
 use Rattle.std.specs.List.{AllByRecursion}
 use Rattle.aout_core.specs.declared.header.Header.{Header}
 use Rattle.aout_core.specs.declared.symbol.Symbol.{Symbol}
@@ -17,6 +17,7 @@ use Rattle.aout_core.specs.Strip.{stripped}
 use Rattle.link_session.specs.Starts.{total, own}
 use Rattle.link_session.specs.Sessions.{IsObject}
 use Rattle.link_session.specs.Cells.{segment_words, segment_relocs}
+use Rattle.link_options.specs.declared.options.Keep.{Keep}
 use Rattle.link_options.specs.declared.options.Keep.TheVariants.{Nothing}
 use Rattle.link_options.specs.declared.options.Layout.TheVariants.{Split}
 use Rattle.link_options.specs.Choices.{Choices, lays_commons}
@@ -74,10 +75,10 @@ WordsOfRowsAreLoaded = (forced : List (List ℕ)) (before : List Contents) (k : 
     (segment : Segment) (i w : ℕ) (r : Reloc) → slice_get (segment_words segment k) i ≡ Some w → slice_get (segment_relocs segment k) i ≡ Some r →
     IsLoaded x.file l.rows (before ++ k ∷ after) before k segment i w r
 
--- a link that keeps no symbols loads the same as one that keeps them, without relocation
-abbrev pub UnkeptIsLoaded : Type 0
-UnkeptIsLoaded = (forced : List (List ℕ)) (os : List Contents) (o : Choices) (x y : Outcome) → o.relocatable ≡ false →
-    link forced os o ≡ Ok x → link forced os (record o { keep = Nothing }) ≡ Ok y → (space : Space) (address : ℕ) → core y.file space address ≡ core x.file space address
+-- links that differ only in the symbols that they keep load the same
+abbrev pub KeepChangesNothing : Type 0
+KeepChangesNothing = (forced : List (List ℕ)) (os : List Contents) (o : Choices) (keep : Keep) (x y : Outcome) →
+    link forced os o ≡ Ok x → link forced os (record o { keep = keep }) ≡ Ok y → (space : Space) (address : ℕ) → core y.file space address ≡ core x.file space address
 
 -- a file loads the same if it is stripped
 abbrev pub StrippedIsLoaded : Type 0

@@ -94,9 +94,10 @@ pub record Defines (c : Contents) (name : List ℕ) (segment : Segment) (n : ℕ
 
 -- the spaces of a program in which a definition may be used: those that have its segment, and any for an absolute one
 abbrev pub is_usable_in : ℕ → Segment → Space → Bool
-is_usable_in magic segments.Absolute space = true
-is_usable_in magic segments.Other space = true
-is_usable_in magic segment space = has_segment magic segment space
+is_usable_in magic segments.TextSeg space = has_segment magic segments.TextSeg space
+is_usable_in magic segments.DataSeg space = has_segment magic segments.DataSeg space
+is_usable_in magic segments.BssSeg space = has_segment magic segments.BssSeg space
+is_usable_in magic _ space = true
 
 -- word i of a segment of k finds n bytes after the start of a segment of c, or the address n; a byte there is that segment's in
 -- this space

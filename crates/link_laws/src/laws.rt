@@ -1,5 +1,5 @@
 //! Laws of loaded programs, lists and orders: each is the contract of a function with an empty body.
-ghost use Rattle.link_laws.specs.CoreLaws.{SegmentsLieApart, SpacesAreOne, AddressesFit, WordsAreLoaded, WordsOfRowsAreLoaded, UnkeptIsLoaded, StrippedIsLoaded, BssIsZero, CommonsAreZero, NothingElse};
+ghost use Rattle.link_laws.specs.CoreLaws.{SegmentsLieApart, SpacesAreOne, AddressesFit, WordsAreLoaded, WordsOfRowsAreLoaded, KeepChangesNothing, StrippedIsLoaded, BssIsZero, CommonsAreZero, NothingElse};
 ghost use Rattle.link_laws.specs.Operands.{NamesAreFound, SegmentsAreFound, CallsArrive};
 ghost use Rattle.link_laws.specs.Listings.{UndefinedAreListed, UndefinedLines, RowLines, ExternalsAreListed, SizesAreSums};
 ghost use Rattle.link_laws.specs.Orders.{OrderAddsAlike, OrderLinksAlike, OrderRefusesAlike, OrderKeepsSizes, OrderReportsAlike, OrderFindsEntry, OrderKeepsMeanings, OrderKeepsReferents, OnceInAnyOrder};
@@ -13,7 +13,7 @@ ghost use Rattle.link_laws.specs.Orders.{OrderAddsAlike, OrderLinksAlike, OrderR
 /// - `words`: in a link that keeps symbols, each word of each object is loaded, relocated by the linked file's own table, the
 ///   low byte first, after those of the objects before it. There a symbol of that place in the object would be.
 /// - `rows`: in any link, with `-s` too, the same by the rows of the relation of linking.
-/// - `unkept`: without `-r`, a link by `-s` loads the same as the link that keeps symbols.
+/// - `kept`: links that differ only in the symbols that they keep load the same, so `-s` changes nothing.
 /// - `stripped`: a stripped file loads the same.
 /// - `bss`: each byte of each object's bss is a zero, where a symbol of that place would be.
 /// - `commons`: in a link that keeps symbols, so is each byte of a common that is laid out, from the value of its symbol on.
@@ -24,7 +24,7 @@ pub fn core_law()
     ensures fit { AddressesFit }
     ensures words { WordsAreLoaded }
     ensures rows { WordsOfRowsAreLoaded }
-    ensures unkept { UnkeptIsLoaded }
+    ensures kept { KeepChangesNothing }
     ensures stripped { StrippedIsLoaded }
     ensures bss { BssIsZero }
     ensures commons { CommonsAreZero }
