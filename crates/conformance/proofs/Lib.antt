@@ -7,6 +7,7 @@ mod LawExamples
 mod ClauseLemmas
 mod NeededClauses
 mod DerivedLinks
+mod DerivedOrders
 mod NearLaws
 mod NeededPremises
 mod ListingExamples
