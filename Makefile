@@ -64,7 +64,8 @@ crates/v7_c/out/libv7_c.a: crates.txt $(shell find $(LIBRARY_CRATES) -name out -
 	python3 tests/prove.py v7_c $@
 	touch $@
 
-# compiles the examples in C and Rust, runs them and that in Python, and compares what they link with what v7 links
+# calls the library with an input for each fault of each call, and compares what the examples in C, Python and Rust link with
+# what v7 links
 check-lib: lib build/v7
 	CC='$(CC)' sh tests/library.sh $(KIT)c/liblibc_c.a
 
@@ -161,14 +162,16 @@ check-manual: check-examples
 check-streams: build/v7
 	sh tests/streams.sh
 
-# listings of the examples and of 1,000 made objects are turned back, and maps compared with what v7 says of the links;
-# DAMAGED files are tried besides
+# listings of the examples and of 1,000 made objects are turned back, notes compared with computed ones, and maps with what v7
+# says of the links; DAMAGED files are tried besides
 DAMAGED ?= 0
 check-explain: build/v7 build/v7-explain
 	python3 tests/explain.py build/v7-explain build/v7 $(DAMAGED)
+	python3 tests/notes.py build/v7-explain
 	python3 tests/map.py build/v7 build/v7-explain
 
-# the examples of the manual pages and of the documents come out as shown; the gate leaves the programs that they need
+# the examples of the manual pages and of the documents come out as shown, and so do the faults of v7-from-gnu and the steps of
+# lesson; the gate leaves the programs that they need
 check-examples: build/v7 build/v7-from-gnu build/v7-explain build/lesson
 	cmp crates/write_object/stdout examples/main.o
 	cmp crates/lesson/data/k.o examples/k.o
@@ -176,6 +179,7 @@ check-examples: build/v7 build/v7-from-gnu build/v7-explain build/lesson
 	cmp crates/v7_from_gnu/data/squares.gnu examples/squares.gnu
 	sh tests/heads.sh
 	sh tests/manual.sh
+	python3 tests/statuses.py build/v7-from-gnu build/lesson
 
 # the programs, their manual pages, the documents and the examples; and the library, where `make lib` made it
 SHARE = $(DESTDIR)$(PREFIX)/share
