@@ -12,7 +12,7 @@ endif
 # tests/prove.py uses all processors by itself
 .NOTPARALLEL:
 .PHONY: all try demo lib check-lib test recheck wrong-bodies memory room bench instructions simulate lesson page check-page \
-	check-manual check-examples check-explain check-streams install clean
+	check-manual check-examples check-explain check-model check-streams install clean
 
 all: build/v7 build/v7-from-gnu build/v7-explain
 
@@ -169,6 +169,10 @@ check-explain: build/v7 build/v7-explain
 	python3 tests/explain.py build/v7-explain build/v7 $(DAMAGED)
 	python3 tests/notes.py build/v7-explain
 	python3 tests/map.py build/v7 build/v7-explain
+
+# compares v7 with a second linker, tests/model.py, on 3,000 random cases, always the same
+check-model: build/v7
+	python3 tests/agree.py build/v7
 
 # the examples of the manual pages and of the documents come out as shown, and so do the faults of v7-from-gnu and the steps of
 # lesson; the gate leaves the programs that they need
