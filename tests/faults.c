@@ -9,6 +9,7 @@
 enum { MOST_WORDS = 32767, MOST_BYTES = 65534, MOST_SYMBOLS = 5461 };
 
 static unsigned char objects[ROOM];
+static const struct span nothing = {"", 0}, letters = {"aaaaaaaaaaaaaa", 14};
 
 /* ---- what is asked for: a row has what is wrong in it, and 0 for what is not */
 
@@ -126,8 +127,8 @@ static void put_damaged(const struct damage *d, unsigned char *bytes)
         bytes[d->change[n].at] = (unsigned char)d->change[n].byte;
 }
 
-/* A damaged file alone. A file that is no object is good enough for v7_strip, v7_nm and v7_size. Before a file can be truncated
- * no memory is wanted. */
+/* A damaged file alone. A file that is not an object is good enough for v7_strip, v7_nm and v7_size. No memory is wanted before
+ * the file is known to be whole. */
 static void check_file(const struct damage *d, enum call kind)
 {
     struct request r = good[kind];
@@ -136,12 +137,26 @@ static void check_file(const struct damage *d, enum call kind)
     if (d->fault >= V7_NOT_AN_OBJECT && (kind == STRIP || kind == NM || kind == SIZE)) {
         r.room[0].size = 256;
         if (status_of(&r) != 0)
-            expect_fault("a file that is no object", &r, V7_NO_FAULT, 0, 0);
+            expect_fault("a file that is not an object", &r, V7_NO_FAULT, 0, 0);
         return;
     }
     expect_fault("a file", &r, d->fault, d->word, 0);
-    if (d->fault <= V7_ODD_SIZE)
+    if (d->fault <= V7_TRUNCATED)
         expect_fault_without_memory("a file without memory", &r, d->fault, d->word, 0);
+}
+
+/* A damaged object, the first of a list, without forced names. */
+static void check_first(const struct damage *d, enum call kind, int list)
+{
+    struct request r = good[kind];
+
+    r.in[kind == STATE ? 0 : 1] = nothing;
+    if (kind != LINK)
+        r.in[list - 1] = (struct span){letters.at, 1};
+    r.in[list] = (struct span){objects, d->size};
+    expect_fault("the first object", &r, d->fault, d->word, 0);
+    if (d->fault <= V7_TRUNCATED)
+        expect_fault_without_memory("the first object without memory", &r, d->fault, d->word, 0);
 }
 
 /* A damaged object after one that is taken. */
@@ -162,6 +177,9 @@ static void check_damages(void)
         put_damaged(d, objects);
         for (kind = CHECK; kind <= TAKE_APART; kind++)
             check_file(d, (enum call)kind);
+        check_first(d, LINK, 2);
+        check_first(d, SESSION, 3);
+        check_first(d, STATE, 2);
         memcpy(objects, object, sizeof object);
         put_damaged(d, objects + sizeof object);
         check_list(d, LINK, 2, 1);
@@ -194,8 +212,6 @@ static const struct limit {
     {V7_TOO_MANY_SYMBOLS, V7_RELOCATABLE, {{1, 0, 0, 0, 1366, 1, 0}, {1, 1, 0, 0, 4096, 040, 0177770}}},
     {V7_SYMBOL_NUMBER, V7_RELOCATABLE, {{1, 0, 0, 0, 1, 1, 0}, {1, 1, 0, 0, 4096, 040, 0177770}}},
 };
-
-static const struct span nothing = {"", 0}, letters = {"aaaaaaaaaaaaaa", 14};
 
 static void put_word(unsigned char *at, unsigned word)
 {
