@@ -12,7 +12,7 @@ use Rattle.link_out.specs.Results.{Outcome}
 use Rattle.library_calls.specs.declared.cause.Cause.{Cause}
 use Rattle.library_calls.specs.declared.cause.Refusal.{Refusal}
 use Rattle.library_calls.specs.Causes.{at, and_then}
-use Rattle.library_calls.specs.LinkAnswers.{linked_in, linked_or, with_objects}
+use Rattle.library_calls.specs.LinkAnswers.{linked_or, with_objects}
 use Rattle.library_calls.specs.LinkWanted.{choices_in, forced_in}
 use Rattle.library_calls.specs.MemoryWanted.{MayRunOutInLink, MayRunOutInRun, MayRunOutInSession, SessionMayRunOut}
 use Rattle.library_calls.specs.SessionAnswers.{changes_in}

@@ -1,5 +1,5 @@
 -- No refusal of the definitions has the number of no memory.
-use Rattle.std.proofs.Common.{◌≡◌, ◌≢◌, ℕ, zero, suc, ◌+◌, Bool, true, false, cond, if◌then◌else◌, nat_lt, eqb, not, ◌&&◌, List, [], ◌∷◌, ◌++◌, map, length, take, drop, ◌/◌, ◌%◌, Option, Some, None, Result, Ok, Err, refl, sym, ap, ◌∙◌, arith}
+use Rattle.std.proofs.Common.{◌≡◌, ℕ, zero, suc, ◌+◌, Bool, true, false, cond, if◌then◌else◌, nat_lt, eqb, not, ◌&&◌, List, [], ◌∷◌, ◌++◌, map, length, take, drop, ◌/◌, ◌%◌, Option, Some, None, Result, Ok, Err, refl, ap}
 use Rattle.std.specs.Prelude.{IfErr}
 use Rattle.aout_core.specs.declared.header.Header.{Header}
 use Rattle.aout_core.specs.declared.object.ObjectFault.{ObjectFault}
@@ -10,7 +10,7 @@ use Rattle.aout_core.specs.Decoding.{contents_in, header_in}
 use Rattle.aout_core.specs.Encoding.{encoding, file_length}
 use Rattle.aout_core.specs.WellFormed.{first_object_fault}
 use Rattle.library_calls.specs.declared.cause.Cause.{Cause}
-use Rattle.library_calls.specs.declared.cause.Cause.TheVariants.{NoOption, Excluded, LongName, CutNames, ManyNames, TooLong, NoEdit, BadFile, BadObject, NotAdded, NotLinked, Memory}
+use Rattle.library_calls.specs.declared.cause.Cause.TheVariants.{NoOption, LongName, CutNames, ManyNames, TooLong, NoEdit, BadFile}
 use Rattle.library_calls.specs.declared.cause.Refusal.{Refusal}
 use Rattle.library_calls.specs.Causes.{at, and_then, number_of}
 use Rattle.link_session.specs.declared.entry.AddFault.TheVariants as adds
@@ -25,18 +25,19 @@ use Rattle.aout_core.specs.declared.symbol.Segment.TheVariants.{TextSeg, DataSeg
 use Rattle.link_options.specs.Choices.{Choices, option_fault}
 use Rattle.link_options.specs.declared.options.Layout.{Layout}
 use Rattle.link_options.specs.declared.options.OptionFault.{OptionFault}
-use Rattle.link_out.specs.declared.linked.LinkFault.{LinkFault}
 use Rattle.link_out.specs.declared.linked.LinkFault.TheVariants as links
 use Rattle.link_out.specs.function.Link.{link, linked_file}
 use Rattle.link_out.specs.function.Plans.{plan}
 use Rattle.link_out.specs.function.Reports.{findings}
 use Rattle.link_out.specs.function.Tables.{has_far_word, table}
 use Rattle.link_out.specs.Results.{Outcome}
+use Rattle.aout_core.specs.Strip.{stripped}
 use Rattle.symtools.specs.NmLists.{nm_text}
-use Rattle.library_calls.specs.FileAnswers.{behind_file, file_in, file_of, has_bit, names_in, nm_options_in, nm_options_of, object_in, object_of, object_unless}
+use Rattle.symtools.specs.SizeLines.{size_text}
+use Rattle.library_calls.specs.FileAnswers.{behind_file, checked_in, file_in, file_of, has_bit, names_in, nm_options_in, nm_options_of, object_in, object_of, object_unless, sizes_in, stripped_in}
 use Rattle.library_calls.specs.LinkAnswers.{added_unless, linked_in, linked_or, objects_in, output_in, output_of, with_first, with_most, with_object}
 use Rattle.library_calls.specs.LinkWanted.{choices_by, choices_in, choices_with, forced_in, keep_of, layout_by, name_of, short_entry, unless, with_names}
-use Rattle.library_calls.specs.ObjectParts.{Pieces, contents_for, file_for, header_for, header_of, made_of, too_long}
+use Rattle.library_calls.specs.ObjectParts.{Pieces, contents_for, file_for, header_for, header_of, made_of, parts_in, pieces_of, too_long}
 use Rattle.library_calls.specs.SessionAnswers.{behind_edit, change_in, changes_in, output_with, reply_number, run_of, session_in, with_edit, with_edits}
 use Rattle.library_calls.specs.declared.state_call.Form.{Form}
 use Rattle.library_calls.specs.StateAnswers.{Asked, asked_in, form_in}
@@ -51,15 +52,15 @@ IsTold r = IfErr r (λ refusal. number_of refusal.cause ≡ 50 → ⊥)
 other : (n : ℕ) → (eqb n 50 ≡ false) → n ≡ 50 → ⊥
 other n differs is = let same : eqb n 50 ≡ true = ap (λ m. eqb m 50) is in absurd (cc)
 
-pub told_then : {A B : Type 0} (r : Result A Cause) (f : A → Result B Cause) → Told r → ((x : A) → Told (f x)) → Told (and_then r f)
+told_then : {A B : Type 0} (r : Result A Cause) (f : A → Result B Cause) → Told r → ((x : A) → Told (f x)) → Told (and_then r f)
 told_then (Ok x) f first next = next x
 told_then (Err cause) f first next = first
 
-pub is_told_then : {A B : Type 0} (r : Result A Refusal) (f : A → Result B Refusal) → IsTold r → ((x : A) → IsTold (f x)) → IsTold (and_then r f)
+is_told_then : {A B : Type 0} (r : Result A Refusal) (f : A → Result B Refusal) → IsTold r → ((x : A) → IsTold (f x)) → IsTold (and_then r f)
 is_told_then (Ok x) f first next = next x
 is_told_then (Err refusal) f first next = first
 
-pub is_told_at : {A : Type 0} (place : ℕ) (r : Result A Cause) → Told r → IsTold (at place r)
+is_told_at : {A : Type 0} (place : ℕ) (r : Result A Cause) → Told r → IsTold (at place r)
 is_told_at place (Ok x) h = tt
 is_told_at place (Err cause) h = h
 
@@ -71,7 +72,7 @@ told_file_by false false true cut c = other 13 refl
 told_file_by false false false true c = other 14 refl
 told_file_by false false false false c = tt
 
-pub told_file : (bytes : List ℕ) → Told (file_in bytes)
+told_file : (bytes : List ℕ) → Told (file_in bytes)
 told_file bytes =
     told_file_by (nat_lt (length bytes) 16) (not (is_magic (header_in bytes).magic)) (not (has_whole_sizes (header_in bytes))) (nat_lt (length bytes) (file_length (header_in bytes))) (contents_in (header_in bytes) bytes)
 
@@ -82,13 +83,25 @@ told_object_unless (Some faults.NoRelocation) c = other 22 refl
 told_object_unless (Some (faults.BadRelocation index)) c = other 23 refl
 told_object_unless (Some (faults.BadSymbolNumber index)) c = other 24 refl
 
-pub told_object_of : (c : Contents) → Told (object_of c)
+told_object_of : (c : Contents) → Told (object_of c)
 told_object_of c = told_object_unless (first_object_fault c) c
 
-pub told_object : (bytes : List ℕ) → Told (object_in bytes)
+told_object : (bytes : List ℕ) → Told (object_in bytes)
 told_object bytes = told_then (file_in bytes) object_of (told_file bytes) told_object_of
 
--- ---- lists of symbols, and objects made of parts
+-- ---- one file, and objects made of parts
+
+pub told_checked : (bytes : List ℕ) → Told (checked_in bytes)
+told_checked bytes = told_then (object_in bytes) (λ c. Ok (file_length c.header)) (told_object bytes) (λ c. tt)
+
+pub told_stripped : (bytes : List ℕ) → Told (stripped_in bytes)
+told_stripped bytes = told_then (file_in bytes) (λ c. Ok (encoding (stripped c))) (told_file bytes) (λ c. tt)
+
+pub told_sizes : (bytes : List ℕ) → Told (sizes_in bytes)
+told_sizes bytes = told_then (file_in bytes) (λ c. Ok (size_text (([], c) ∷ []))) (told_file bytes) (λ c. tt)
+
+pub told_apart : (bytes : List ℕ) → Told (parts_in bytes)
+told_apart bytes = told_then (object_in bytes) (λ c. Ok (pieces_of c)) (told_object bytes) (λ c. tt)
 
 told_nm_options_by : (b : Bool) (bits : ℕ) → Told (if b then Err NoOption else Ok (nm_options_of bits))
 told_nm_options_by true bits = other 1 refl

@@ -91,7 +91,8 @@ fn file_for(alloc: Global, parts: &ObjectParts<'_>) -> Result<File, Cause>
     ensures ok { IfOk result (λ file. file_for (pieces parts.now.text.now parts.now.data.now parts.now.bss parts.now.symbols.now) ≡ Ok file) }
     ensures err { IfErr result (λ cause. cause ≢ Memory
         → file_for (pieces parts.now.text.now parts.now.data.now parts.now.bss parts.now.symbols.now) ≡ Err cause) }
-    ensures memory { IfErr result (λ cause. cause ≡ Memory → IsOk (file_for (pieces parts.now.text.now parts.now.data.now parts.now.bss parts.now.symbols.now))) }
+    ensures memory { IfErr result (λ cause. cause ≡ Memory
+        → IsOk (file_for (pieces parts.now.text.now parts.now.data.now parts.now.bss parts.now.symbols.now))) }
 {
     let header = header_for(parts)?;
     let lists = parts_with(alloc, header, parts)?;
@@ -108,7 +109,8 @@ pub fn make(alloc: Global, parts: &ObjectParts<'_>) -> Result<Vec<u8>, Cause>
     ensures ok { IfOk result (λ written. made_of (pieces parts.now.text.now parts.now.data.now parts.now.bss parts.now.symbols.now) ≡ Ok written.items) }
     ensures err { IfErr result (λ cause. cause ≢ Memory
         → made_of (pieces parts.now.text.now parts.now.data.now parts.now.bss parts.now.symbols.now) ≡ Err cause) }
-    ensures memory { IfErr result (λ cause. cause ≡ Memory → IsOk (file_for (pieces parts.now.text.now parts.now.data.now parts.now.bss parts.now.symbols.now))) }
+    ensures memory { IfErr result (λ cause. cause ≡ Memory
+        → IsOk (file_for (pieces parts.now.text.now parts.now.data.now parts.now.bss parts.now.symbols.now))) }
 {
     let file = file_for(alloc, parts)?;
     let object = object_of(file)?;
