@@ -18,3 +18,4 @@ mod StepRuns
 mod StepExamples
 mod StripExamples
 mod MemoryExamples
+mod MemoryOfCalls

@@ -15,7 +15,7 @@ use Rattle.library_calls.specs.LinkWanted.{choices_in, forced_in}
 use Rattle.library_calls.specs.SessionAnswers.{behind_edit, change_in, changes_in}
 use Rattle.library_calls.specs.StateAnswers.{form_in}
 
--- the bytes begin with a whole file, and it has more than its header
+-- the bytes begin with a whole file, and it has more than its header: it is read before its words are checked
 pub record HasBody (bytes : List ℕ) : Type 0 where
   pub whole : IsOk (file_in bytes)
   pub more : 16 < file_length (header_in bytes)
