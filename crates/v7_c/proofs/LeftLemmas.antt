@@ -1,13 +1,13 @@
 -- What a call leaves, by what the library returned.
 use Rattle.std.proofs.Common.{◌≡◌, ◌≢◌, ℕ, Bool, true, false, cond, nat_lt, ◌||◌, List, [], length, Result, Ok, Err, IfOk, IfErr, inl, inr, refl, sym, ap, subst, ◌∙◌, arith}
-use Rattle.std.specs.Prelude.{◌⊎◌, IsErrAnd, MatchResult, Vec}
+use Rattle.std.specs.Prelude.{◌⊎◌, IsErrAnd, IsOk, MatchResult, Vec}
 use Rattle.std.specs.declared.alloc.Global.{Global}
 use Rattle.aout_core.specs.declared.object.ObjectFault.TheVariants as objects
 use Rattle.library_calls.specs.declared.cause.Cause.{Cause}
 use Rattle.library_calls.specs.declared.cause.Cause.TheVariants.{NoOption, Excluded, LongName, CutNames, ManyNames, TooLong, NoEdit, BadFile, BadObject, NotAdded, NotLinked, Memory}
 use Rattle.library_calls.specs.declared.cause.Refusal.{Refusal}
 use Rattle.library_calls.specs.declared.link_call.Program.{Program}
-use Rattle.library_calls.proofs.NumberLemmas.{IsTold, Told}
+use Rattle.library_calls.proofs.NumberLemmas.{IsTold, Told, told_made}
 use Rattle.library_calls.specs.declared.parts.ObjectWord.{ObjectWord}
 use Rattle.library_calls.specs.declared.parts.PartLists.{PartLists}
 use Rattle.library_calls.specs.declared.parts.SymbolRow.{SymbolRow}
@@ -15,7 +15,7 @@ use Rattle.library_calls.specs.declared.session_call.Ran.{Ran}
 use Rattle.library_calls.specs.declared.state_call.Shown.{Shown}
 use Rattle.library_calls.specs.Causes.{number_of, word_of}
 use Rattle.library_calls.specs.LinkAnswers.{Output, outputs_of}
-use Rattle.library_calls.specs.ObjectParts.{pieces_in}
+use Rattle.library_calls.specs.ObjectParts.{Pieces, file_for, made_of, pieces_in}
 use Rattle.library_calls.specs.StateAnswers.{Asked, IsShown, told_of}
 use Rattle.v7_c.specs.declared.answer.Answer.{Answer}
 use Rattle.v7_c.specs.declared.answer.Counts.{Counts}
@@ -204,3 +204,8 @@ module _ (status : ℕ) (answer : Answer) (counts : Counts) (text_old text_new d
       (parts_left 0 (given 0 0 0) (counts_of (pieces_in p)) (put_in text_old p.text.items) (put_in data_old p.«data».items) (put_in symbols_old p.symbols.items))
       refl refl (sym (ap (λ (l : PartsLeft). l.answer.fault) is) ∙ h))
   parts_fault (Err cause) is h = sym (ap (λ (l : PartsLeft). l.answer.fault) is) ∙ h
+
+-- memory ran out for an object that is made of parts
+pub made_memory : (p : Pieces) (status : ℕ) (answer : Answer) (old new : List ℕ) (r : Result (Vec ℕ Global) Cause) → left status answer new ≡ left_by (items_of r) old →
+    IfErr r (λ cause. cause ≢ Memory → made_of p ≡ Err cause) → IfErr r (λ cause. cause ≡ Memory → IsOk (file_for p)) → answer.fault ≡ 50 → IsOk (file_for p)
+made_memory p status answer old new r is err memory fault = is_memory (made_of p) r (told_made p) err memory (bytes_fault status answer old new r is fault)

@@ -105,6 +105,7 @@ pub extern "C" fn v7_link(
 }
 
 /// Makes an object of its parts.
+#[tactic(auto, using(crate::proofs::LeftLemmas::made_memory))]
 #[unsafe(no_mangle)]
 pub extern "C" fn v7_make(
     alloc: Global,
