@@ -15,3 +15,4 @@ mod OrderExamples
 mod StepRuns
 mod StepExamples
 mod StripExamples
+mod TextExamples
