@@ -12,7 +12,7 @@ endif
 # tests/prove.py uses all processors by itself
 .NOTPARALLEL:
 .PHONY: all try demo lib check-lib test recheck wrong-bodies memory room bench instructions simulate lesson page check-page \
-	check-manual check-examples check-explain check-streams install clean
+	check-manual check-examples check-explain check-model check-streams install clean
 
 all: build/v7 build/v7-from-gnu build/v7-object build/v7-explain
 
@@ -72,7 +72,8 @@ crates/v7_c/out/libv7_c.a: crates.txt $(shell find $(LIBRARY_CRATES) -name out -
 	python3 tests/prove.py v7_c $@
 	touch $@
 
-# compiles the examples in C and Rust, runs them and that in Python, and compares what they link with what v7 links
+# calls the library with an input for each fault of each call, and compares what the examples in C, Python and Rust link with
+# what v7 links
 check-lib: lib build/v7
 	CC='$(CC)' sh tests/library.sh $(KIT)c/liblibc_c.a
 
@@ -170,14 +171,20 @@ check-streams: build/v7
 	sh tests/streams.sh
 
 # listings of the examples and of 1,000 made objects are turned back, and so are those of other files; 2,000 damaged listings
-# are tried, and maps compared with what v7 says of the links; DAMAGED files are tried besides
+# are tried, notes compared with computed ones, and maps with what v7 says of the links; DAMAGED files are tried besides
 DAMAGED ?= 0
 check-explain: build/v7 build/v7-explain build/v7-object
 	python3 tests/explain.py build/v7-explain build/v7-object build/v7 $(DAMAGED)
 	python3 tests/listings.py build/v7-explain build/v7-object
+	python3 tests/notes.py build/v7-explain
 	python3 tests/map.py build/v7 build/v7-explain
 
-# the examples of the manual pages and of the documents come out as shown; the gate leaves the programs that they need
+# compares v7 with a second linker, tests/model.py, on 3,000 random cases, always the same
+check-model: build/v7
+	python3 tests/agree.py build/v7
+
+# the examples of the manual pages and of the documents come out as shown, and so do the faults of v7-from-gnu and the steps of
+# lesson; the gate leaves the programs that they need
 check-examples: build/v7 build/v7-from-gnu build/v7-object build/v7-explain build/lesson
 	cmp crates/write_object/stdout examples/main.o
 	cmp crates/lesson/data/k.o examples/k.o
@@ -187,6 +194,7 @@ check-examples: build/v7 build/v7-from-gnu build/v7-object build/v7-explain buil
 	cmp crates/v7_object/stdout examples/main.o
 	sh tests/heads.sh
 	sh tests/manual.sh
+	python3 tests/statuses.py build/v7-from-gnu build/lesson
 
 # the programs, their manual pages, the documents and the examples; and the library, where `make lib` made it
 SHARE = $(DESTDIR)$(PREFIX)/share

@@ -14,6 +14,12 @@
  *
  * Each call returns a status as the program v7 does: 0; 1 where a link was made and there is something to report; 2 where
  * there is a fault, and so no result. *ANSWER is always filled. docs/LIMITS.md has all limits on one page.
+ *
+ * V7_NO_MEMORY comes only at a stage at which nothing is refused. A call takes memory after it has accepted the options, the
+ * form, the names and the sizes of parts, and for a file only if it is whole. So V7_NO_MEMORY never comes in place of 1 to 6, or
+ * of 11 to 14 for a file or for the first edit. v7_link enters forced names before it reads an object: without them,
+ * V7_NO_MEMORY never comes in place of 11 to 14 for the first object either. Once an object or an edit is accepted, memory may
+ * run out there, and V7_NO_MEMORY may come in place of any later fault: the answer does not say which request failed.
  */
 #ifndef V7_H
 #define V7_H
@@ -63,7 +69,8 @@ struct v7_answer {
     uint32_t fault;     /* of enum v7_fault */
     uint32_t word;      /* V7_BAD_RELOCATION, V7_BAD_SYMBOL_NUMBER: the index of the word, text before data, from 0; else 0 */
     size_t place;       /* of v7_link, 11 to 34: the number of the object; of v7_session and v7_state, 7 to 24: that of the edit;
-                         * V7_MANY_NAMES: that of the name; all from 0; V7_NO_MEMORY: where it ran out, or 0; else 0 */
+                         * V7_MANY_NAMES: that of the name; all from 0; V7_NO_MEMORY: that of an object or edit which the call
+                         * reached, or 0; else 0 */
     size_t size;        /* the size of the result; of v7_take_apart 0 */
     size_t report_size; /* v7_link, v7_session: the size of the report; v7_state: the number of replies; else 0 */
 };
@@ -94,7 +101,7 @@ uint32_t v7_size(const unsigned char *bytes, size_t size, unsigned char *room, s
  * written or neither. ENTRY is the name of the entry point, at most 8 bytes, or of size 0 where there is none. FORCED are
  * names that are mentioned before all objects, 8 bytes each, filled up with NULs. Without objects the program is empty. Bytes
  * after an object are the next object: of a file with other bytes after its end, pass as many bytes as v7_check says. Faults,
- * the first that applies: 1 to 3, 4, 5, then for each object in turn 11 to 34, then 41 to 43; V7_NO_MEMORY at any time; and
+ * the first that applies: 1 to 3, 4, 5, then for each object in turn 11 to 34, then 41 to 43; V7_NO_MEMORY as said above; and
  * V7_NO_ROOM. */
 enum v7_link_option {
     V7_RELOCATABLE = 1,   /* -r: keeps relocation, so that the result is an object */
@@ -115,7 +122,7 @@ uint32_t v7_link(uint32_t options, const unsigned char *entry, size_t entry_size
  * V7_DONE, V7_NOTHING where there was nothing to withdraw, or 31 to 34 where the object was not added. An edit that was not
  * made leaves the session as it was, and the status is 1. REPLIES, file and report are all written, or none is; REPLIES needs
  * as many bytes as there are edits. Faults, the first that applies: 1 to 5 as for v7_link; then for each edit in turn
- * V7_NO_EDIT, 11 to 14 (also where there is no further object), and 21 to 24; then 41 to 43; V7_NO_MEMORY at any time; and
+ * V7_NO_EDIT, 11 to 14 (also where there is no further object), and 21 to 24; then 41 to 43; V7_NO_MEMORY as said above; and
  * V7_NO_ROOM. */
 enum v7_edit { V7_ADD = 'a', V7_WITHDRAW = 'w' };
 enum v7_reply { V7_DONE = 0, V7_NOTHING = 35 };
@@ -127,12 +134,14 @@ uint32_t v7_session(uint32_t options, const unsigned char *entry, size_t entry_s
 /* Runs EDITS as v7_session does, and writes what the session then shows, without a link. ROOM gets it as lines, each with its
  * newline, or as one JSON object: the words of the merged text and data, each with its offset in bytes, its value and what it
  * refers to or waits for; the size of bss in bytes; the external names with what is known of each; the names that are multiply
- * defined; and the marks of the last object that is kept: what its addition overwrote, in order. Lines have offsets and
- * values in octal and sizes in decimal; a byte of a name that does not print, a blank and a backslash are \ooo there. JSON has
- * all numbers in decimal; a byte of a name that does not print, a quote and a backslash are \u00xx there. v7(3) lists the
- * members of the JSON object. REPLIES are those of v7_session; `report_size` is how many there are. The status is 1 where an
+ * defined; and the marks of the last object that is kept: what its addition overwrote, in order, and nothing else. A name may
+ * appear more than once, as a common that grows several times: its first mark has what was known of it before the addition, and
+ * each later one what the change before it led to. A word appears at most once. Lines have offsets and values in octal and
+ * sizes in decimal; a byte of a name that does not print, a blank and a backslash are \ooo there. JSON has all numbers in
+ * decimal; a byte of a name that does not print, a quote and a backslash are \u00xx there. v7(3) lists the members of the JSON
+ * object. REPLIES are those of v7_session; `report_size` is how many there are. The status is 1 where an
  * edit was not made. State and replies are both written, or neither is. Faults, the first that applies: V7_NO_OPTION for FORM;
- * 4 and 5; then for each edit in turn those of v7_session; V7_NO_MEMORY at any time; and V7_NO_ROOM. */
+ * 4 and 5; then for each edit in turn those of v7_session; V7_NO_MEMORY as said above; and V7_NO_ROOM. */
 enum v7_form { V7_LINES = 0, V7_JSON = 1 };
 uint32_t v7_state(uint32_t form, const unsigned char *forced, size_t forced_size, const unsigned char *edits, size_t edit_count,
                   const unsigned char *objects, size_t objects_size, unsigned char *replies, size_t replies_size,

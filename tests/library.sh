@@ -1,8 +1,8 @@
 #!/bin/sh
-# The examples that call libv7, in C, Python and Rust: compiles them, links objects of examples/ by them and by the program,
-# and compares file, report and status; runs the sessions, which compare by themselves; and links the objects of the large
-# benchmark by the library and the program. Those in C run under AddressSanitizer and valgrind too. What is not there is
-# left out, and named.
+# The faults of libv7 and its examples. tests/faults.c calls the library with an input for each fault of each call. The examples
+# in C, Python and Rust are compiled, link objects of examples/ as the program does, with the same file, report and status,
+# and run sessions, which compare by themselves. The library and the program link the objects of the large benchmark. What is
+# in C runs under AddressSanitizer and valgrind too. What is missing of Python, Rust and these two is skipped, and named.
 #
 # usage: CC=cc tests/library.sh HEAP       HEAP is the archive of the kit that calls malloc
 set -u
@@ -55,26 +55,51 @@ session() {
         echo "$name: a session compared"
     else
         cat session.txt
-        fail "$name: the session is another"
+        fail "$name: the session differs"
     fi
 }
 
+# compiles the calls with each fault, with these further words for the compiler, as a program of this name
+faults() {
+    to=$1
+    shift
+    $CC -std=c99 -Wall -Wextra -Werror "$@" -o "$to" -I"$top/include" "$top/tests/faults.c" "$top/tests/calls.c" \
+        -Wl,--wrap=malloc -Wl,--wrap=realloc -Wl,--wrap=free "$top/build/libv7.a" "$heap" || exit 1
+}
+
+# runs them
+faulty() {
+    name=$1
+    shift
+    if "$@" >faulty.txt 2>&1; then
+        echo "$name: each fault: $(cat faulty.txt)"
+    else
+        cat faulty.txt
+        fail "$name: an answer differs"
+    fi
+}
+
+faults faults -O2
+faulty C ./faults
 $CC -O2 -Wall -o by_c -I"$top/include" "$top/examples/c/link.c" "$top/build/libv7.a" "$heap" || exit 1
 $CC -O2 -Wall -o ran_by_c -I"$top/include" "$top/examples/c/session.c" "$top/build/libv7.a" "$heap" || exit 1
 links C ./by_c
 session C ./ran_by_c
 if $CC -g -fsanitize=address -o by_asan -I"$top/include" "$top/examples/c/link.c" "$top/build/libv7.a" "$heap" 2>/dev/null; then
     $CC -g -fsanitize=address -o ran_by_asan -I"$top/include" "$top/examples/c/session.c" "$top/build/libv7.a" "$heap" || exit 1
+    faults faults_asan -g -fsanitize=address
+    faulty "C with AddressSanitizer" ./faults_asan
     links "C with AddressSanitizer" ./by_asan
     session "C with AddressSanitizer" ./ran_by_asan
 else
-    echo "AddressSanitizer is not there"
+    echo "skipped: AddressSanitizer is not there"
 fi
 if command -v valgrind >/dev/null; then
+    faulty "C with valgrind" valgrind -q --error-exitcode=9 --leak-check=full ./faults
     links "C with valgrind" "valgrind -q --error-exitcode=9 --leak-check=full ./by_c"
     session "C with valgrind" valgrind -q --error-exitcode=9 --leak-check=full ./ran_by_c
 else
-    echo "valgrind is not there"
+    echo "skipped: valgrind is not there"
 fi
 if command -v python3 >/dev/null; then
     LIBV7=$top/build/libv7.so
@@ -85,7 +110,7 @@ if command -v python3 >/dev/null; then
     mkdir heavy
     PYTHONPATH=$top/examples/python python3 "$top/tests/heavy_library.py" "$top/build/v7" heavy || fail "the large benchmark"
 else
-    echo "python3 is not there"
+    echo "skipped: python3 is not there"
 fi
 if command -v rustc >/dev/null; then
     rustc -O -o by_rust -C link-arg="$top/build/libv7.a" -C link-arg="$heap" "$top/examples/rust/link.rs" || exit 1
@@ -93,6 +118,6 @@ if command -v rustc >/dev/null; then
     links Rust ./by_rust
     session Rust ./ran_by_rust
 else
-    echo "rustc is not there"
+    echo "skipped: rustc is not there"
 fi
 exit $failed

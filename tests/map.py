@@ -5,7 +5,8 @@ usage: tests/map.py V7 V7-EXPLAIN
 
 The links are those of a few lists of objects in examples/, and 200 that are made, the same in each run: objects of some
 words, with names that are defined, wanted as commons and referred to. Who defines a name, who wants it and how often
-an object refers to it are known from the objects as they were made. Further links are refused.
+an object refers to it are known from the objects as they were made. What is used of each limit is counted in the objects
+and in the linked file. Further links are refused, some because a file can't be read.
 """
 import os
 import random
@@ -135,6 +136,51 @@ def check_report(what, found, report):
     return undefined
 
 
+class File:
+    """An object or a linked file, as far as limits need it."""
+
+    def __init__(self, data):
+        _, self.text, self.data, self.bss, table, _, _, flag = struct.unpack("<8H", data[:16])
+        segments = 0 if flag else self.text + self.data
+        at = 16 + self.text + self.data
+        self.relocation = struct.unpack_from(f"<{segments // 2}H", data, at)
+        symbols = (struct.unpack_from("<8sHH", data, at + segments + place) for place in range(0, table, 12))
+        self.symbols = [(name.split(b"\0")[0], kind) for name, kind, _ in symbols]
+
+
+def file_at(path):
+    with open(path, "rb") as file:
+        return File(file.read())
+
+
+def limit(label, used, most):
+    """A line of the limits; docs/LIMITS.md has them all."""
+    left = f"{most - used:>8}" if used <= most else f"{used - most:>8} over"
+    return f"  {label:<14}{used:>8}{most:>8}{left}"
+
+
+def sum_limits(objects):
+    """The limits of all objects together."""
+    sums = [sum(sizes) for sizes in zip(*((o.text, o.data, o.bss) for o in objects))]
+    return [limit(label, used, 65534) for label, used in zip(("text", "data", "bss"), sums)]
+
+
+def end_of(options, sizes):
+    """Where a link ends: with -n data begins at the next multiple of 020000, and with -i at 0."""
+    text = sizes["text"]
+    data = -(-text // 8192) * 8192 if "-n" in options else 0 if "-i" in options else text
+    return data + sizes["data"] + sizes["commons"] + sizes["bss"]
+
+
+def limits_of(options, paths, linked, end):
+    """The limits of a link that is made: of its objects, of its end, of the linked file, and of its names."""
+    objects = [file_at(path) for path in paths]
+    names = {name for o in objects for name, kind in o.symbols if kind & 0o40} | ({b"_forced"} if "-u" in options else set())
+    number = max((reloc >> 4 for reloc in linked.relocation if reloc & 0o16 == 0o10), default=0)
+    lines = [*sum_limits(objects), limit("end of bss", end, 65535), limit("symbols", len(linked.symbols), 5461)]
+    return lines + [limit("symbol number", number, 4095)] * ("-r" in options) + [limit("externals", len(names), 65535)]
+
+
 def check_map(what, options, paths):
     """The map of a link that is made agrees with the link. Returns its externals."""
     status, text, errors = run(EXPLAIN, "-m", *options, *paths)
@@ -152,6 +198,7 @@ def check_map(what, options, paths):
     sizes = {name: int(row[2]) for name, row in segments.items()}
     check(f"{what}: sizes", [sizes["text"], sizes["data"], sizes["commons"] + sizes["bss"]], [text_size, data_size, bss_size])
     run(V7, "ld", *[word for word in options if word not in ("-s", "-X")], "-x", "-o", "bare", *paths)
+    check(f"{what}: limits", found["Limits"], limits_of(options, paths, file_at("out"), end_of(options, sizes)))
     names = names_in(found.get("Externals", []))
     check(f"{what}: externals", [line for line, _ in names.values()], run(V7, "nm", "-g", "bare")[1].split("\n")[:-1])
     return names, found
@@ -209,6 +256,50 @@ def check_refused(what, objects, fault, lines):
         check(f"{what}: {line}", line in text, True)
 
 
+def largest_of(objects):
+    """The lines of the ten largest objects, the largest first, and of equal ones the first."""
+    rows = []
+    for place, made in enumerate(objects):
+        sizes = [2 * made.text, 2 * made.data, 2 * made.bss]
+        rows.append((sum(sizes), place, [*sizes, sum(sizes), len(made.symbols)]))
+    rows.sort(key=lambda row: (-row[0], row[1]))
+    return ["     text    data     bss     all  symbols"] + [
+        f"  {row[0]:>7}{row[1]:>8}{row[2]:>8}{row[3]:>8}{row[4]:>9}  {place}.o" for _, place, row in rows[:10]]
+
+
+def check_sizes(what, objects):
+    """The limits of objects whose link is refused, and the largest of them."""
+    found = parts(run(EXPLAIN, "-m", *[f"{place}.o" for place in range(len(objects))])[1])
+    sizes = [File(struct.pack("<8H", 0o407, 2 * o.text, 2 * o.data, 2 * o.bss, 0, 0, 0, 1) + bytes(2 * (o.text + o.data)))
+             for o in objects]
+    check(f"{what}: limits", found["Limits"][:3], sum_limits(sizes))
+    check(f"{what}: largest objects", found["Largest objects"], largest_of(objects))
+
+
+def check_many_refused():
+    """Twelve objects of other sizes, but for two that are equal, with too much text, data and bss in turn."""
+    for segment in range(3):
+        objects = []
+        for place in range(12):
+            sizes = [3 * place % 11, 5 * place % 13, 7 * place % 17]
+            sizes[segment] += 4000 + 100 * (place % 11)
+            objects.append(Made(*sizes, [("_x", 0o40, 0)] * (place % 3), []))
+        what = "twelve objects"
+        check_refused(what, objects, ["text full", "data full", "bss full"][segment], [])
+        check_sizes(what, objects)
+
+
+def check_unread():
+    """Files that are no objects have status 1; with one that can't be opened, the status is 2."""
+    with open("short.o", "wb") as file:
+        file.write(b"\7\1")
+    Made(1, 0, 0, [], []).write("0.o")
+    short, missing = "v7-explain: short.o: short header\n", "v7-explain: missing.o: cannot open\n"
+    check("no file", run(EXPLAIN, "-m", "short.o", "0.o"), (1, "", short))
+    check("a missing file", run(EXPLAIN, "-m", "0.o", "missing.o"), (2, "", missing))
+    check("a missing file first", run(EXPLAIN, "-m", "missing.o", "short.o"), (2, "", missing + short))
+
+
 def all_refused():
     half = Made(16000, 0, 0, [("_x", 0o40, 0)], [(0, 0)])
     data = Made(0, 16000, 10, [("_x", 0o40, 7)], [])
@@ -227,7 +318,9 @@ def all_refused():
     symbols = Made(0, 0, 0, [(f"L{number}", 1, 0) for number in range(5461)], [])
     check_refused("too many symbols", [symbols, Made(0, 0, 0, [("_x", 0o41, 8)], [])], "too many symbols",
                   ["000010 A _x\n    defined in  1.o\n"])
-    return 3
+    check_many_refused()
+    check_unread()
+    return 9
 
 
 with tempfile.TemporaryDirectory() as room:

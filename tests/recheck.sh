@@ -27,12 +27,19 @@ verdicts <"$room/right"
 old=$(sed -n 's/^old: //p' $edit)
 new=$(sed -n 's/^new: //p' $edit)
 file=$(sed -n 's/^file: //p' $edit)
-echo "With one line of crates/link_session/$file broken:"
-printf '%s\n' "$old" | sed 's/^ */- /'
-printf '%s\n' "$new" | sed 's/^ */+ /'
 OLD=$old NEW=$new awk '$0 == ENVIRON["OLD"] { $0 = ENVIRON["NEW"]; changed++ } { print } END { exit changed != 1 }' \
     "crates/link_session/$file" >"$room/broken" || { echo "$edit does not fit the code"; exit 1; }
 cp "$room/broken" "$room/crates/link_session/$file"
 (cd "$room/crates/link_session" && rt check --only session::Session::withdraw) >"$room/wrong" 2>&1 && { echo 'not refused'; exit 1; }
-sed -n 's/^\.\/\(proofs[^:]*\):.* error: \(.*\)no proof of .*$/\1: error: \2no proof/p' "$room/wrong"
-verdicts <"$room/wrong" | grep -v ': proved$' || { cat "$room/wrong"; exit 1; }
+{
+    echo "With one line of crates/link_session/$file broken:"
+    printf '%s\n' "$old" | sed 's/^ */- /'
+    printf '%s\n' "$new" | sed 's/^ */+ /'
+    sed -n 's/^\.\/\(proofs[^:]*\):.* error: \(.*\)no proof of .*$/\1: error: \2no proof/p' "$room/wrong"
+    verdicts <"$room/wrong" | grep -v ': proved$'
+} | tee "$room/shown"
+sed 's/^/    /' "$room/shown" >"$room/block"
+grep -cFx -f "$room/block" docs/TRUST.md | grep -qFx "$(wc -l <"$room/block")" || {
+    echo 'docs/TRUST.md shows something else'
+    exit 1
+}

@@ -1,4 +1,4 @@
-//! Links of objects, one behind another.
+//! Links of objects, one after another.
 use aout_core::ReadFault;
 use aout_core::samples::{A_O, B_O, C_O, G_O};
 use fixtures::{TWO_OBJECTS, UNDEFINED};
@@ -12,7 +12,7 @@ pub(crate) const PLAIN: Wanted<'static> = Wanted {
     forced: &[],
 };
 
-/// Two objects, one behind the other.
+/// Two objects, one after the other.
 pub(crate) fn both(alloc: Global, first: &[u8], second: &[u8]) -> Result<Vec<u8>, AllocError> {
     let mut objects = first.to_vec(alloc)?;
     objects.extend_from_slice(second)?;
@@ -61,6 +61,7 @@ fn wishes_refused(rt: HostRuntime) {
     let alloc = rt.alloc();
     let split = Wanted {
         options: 48,
+        entry: b"_too_long",
         ..PLAIN
     };
     let cause = Cause::Excluded;

@@ -2,8 +2,10 @@
 use crate::links::both;
 use aout_core::ReadFault;
 use aout_core::samples::{C_O, D_O};
+use fixtures::sized;
 use library_calls::{Cause, Refusal, Shown, show_session};
 use std::alloc::Global;
+use std::test::Fail;
 
 const LINES: u32 = 0;
 
@@ -23,6 +25,13 @@ const FIRST_JSON: &str =
 
 const BOTH_JSON: &str =
     "{\"objects\":2,\"text\":[{\"offset\":0,\"value\":2551,\"pc\":false,\"target\":\"number\"},{\"offset\":2,\"value\":2,\"pc\":true,\"target\":\"text\"},{\"offset\":4,\"value\":160,\"pc\":false,\"target\":\"number\"},{\"offset\":6,\"value\":135,\"pc\":false,\"target\":\"number\"}],\"data\":[],\"bss\":0,\"externals\":[{\"name\":\"_f\",\"state\":\"text\",\"value\":6}],\"multiples\":[],\"marks\":[{\"name\":\"_f\",\"was\":{\"state\":\"undefined\",\"value\":0}},{\"segment\":\"text\",\"offset\":2,\"was\":{\"value\":65532,\"pc\":true,\"target\":\"external\",\"name\":\"_f\"}}]}";
+
+/// The last line of 65,534 bytes of text.
+const LAST_LINE: &str = "  text 177774  000000     a number\n";
+
+/// What follows the text with them.
+const LAST_JSON: &str =
+    "{\"offset\":65532,\"value\":0,\"pc\":false,\"target\":\"number\"}],\"data\":[],\"bss\":0,\"externals\":[],\"multiples\":[],\"marks\":[]}";
 
 /// What is shown behind the edits with `c.o` and `d.o`.
 fn shown(alloc: Global, form: u32, forced: &[u8], edits: &[u8]) -> Result<Shown, Refusal> {
@@ -108,4 +117,20 @@ fn states_refused(rt: HostRuntime) {
     assert!(rt; shown(alloc, LINES, b"", b"ax").err() == Some(Refusal { cause, place: 1 }));
     let cause = Cause::BadFile(ReadFault::ShortHeader);
     assert!(rt; shown(alloc, JSON, b"", b"aaa").err() == Some(Refusal { cause, place: 2 }));
+}
+
+/// Whether the state of 65,534 bytes of text has this size, and ends with this.
+fn ends(alloc: Global, form: u32, size: usize, end: &str) -> Result<bool, Fail> {
+    let large = sized(alloc, 65_534, 0, 0, &[])?;
+    Ok(match show_session(alloc, form, b"", b"a", &large) {
+        Ok(shown) => shown.state.len() == size && shown.state.as_slice().ends_with(end.as_bytes()),
+        Err(_) => false,
+    })
+}
+
+#[test]
+fn large_state_shown(rt: HostRuntime) -> Result<(), Fail> {
+    assert!(rt; ends(rt.alloc(), LINES, 32_767 * 35, LAST_LINE)?);
+    assert!(rt; ends(rt.alloc(), JSON, 1_829_478, LAST_JSON)?);
+    Ok(())
 }

@@ -1,5 +1,7 @@
 -- Laws of commands: a link in two steps is a link in one, and a program that is stripped is one linked with `-s`. (ld(1), strip(1))
 --
+-- The first of two links is a partial link: with `-r`, without `-d`, it drops no local that the second keeps and forces no name
+-- that the second does not force, and its objects define no name that is multiply defined among all.
 -- Two commands, the second of which opens what the first one stored, and one command that gives the same. Nothing is said of what
 -- else happens between the two, but that the file between them is left as it was. The objects are the same for the two and the one.
 use Rattle.std.specs.declared.alloc.Global.{Global}
@@ -66,7 +68,7 @@ module _ {W E : Type 0} (out_contents : W → Option (List ℕ)) (error_contents
     pub asks : AsksToStrip r.words path
     pub ends : EndsWell out_contents error_contents r
 
-  -- some parts linked by `-r` into m, and m linked among others, give what all of them give in one link
+  -- some parts linked by `-r` into m, and m linked among others, give what all of them give in one link, if m is such a partial link
   abbrev pub LinkStepsLaw : Type 0
   LinkStepsLaw = (first second whole : Run W E) (own forced : List (List ℕ)) (by o : Choices) (m p q : List ℕ) (before parts after : List (List ℕ)) (bs os cs : List Contents) →
       Links own by m parts first → Links forced o p (before ++ m ∷ after) second → Links forced o q (before ++ (parts ++ after)) whole →

@@ -81,6 +81,7 @@ abbrev pub fault_of_words : ErrorKind → WordsFault
 fault_of_words OutOfMemory = faults.Memory
 fault_of_words kind = faults.Usage
 
--- words that ask for a call fail only where there is no memory
+-- words that ask for a call fail only if memory runs out. Other words may fail so too: memory is requested for the tools and their
+-- options before a word is read, so `Memory` is ruled out for no words
 abbrev pub AsksForNone : List (List ℕ) → WordsFault → Type 0
 AsksForNone words fault = (call : Call) → IsWhole call → IsAsked words call → dashes_in words ≡ dashes_in (files_of call) → fault ≡ faults.Memory

@@ -1,11 +1,13 @@
 mod FileExamples
 mod LinkExamples
 mod SessionExamples
+mod MarkExamples
 mod ToolExamples
 mod LawExamples
 mod ClauseLemmas
 mod NeededClauses
 mod DerivedLinks
+mod DerivedOrders
 mod NearLaws
 mod NeededPremises
 mod ListingExamples
@@ -15,4 +17,6 @@ mod OrderExamples
 mod StepRuns
 mod StepExamples
 mod StripExamples
+mod MemoryExamples
+mod MemoryOfCalls
 mod TextExamples

@@ -1,16 +1,16 @@
 -- The laws of loaded programs at samples: bytes at addresses, and what instructions find there.
-use Rattle.std.proofs.Common.{◌≡◌, ℕ, true, List, [], ◌∷◌, Some, None, refl, arith}
+use Rattle.std.proofs.Common.{◌≡◌, ℕ, true, false, List, [], ◌∷◌, Some, None, refl}
 use Rattle.std.specs.Prelude.{map}
-use Rattle.aout_core.specs.declared.symbol.Segment.TheVariants.{TextSeg}
+use Rattle.aout_core.specs.declared.symbol.Segment.TheVariants.{TextSeg, DataSeg}
 use Rattle.aout_core.specs.Contents.{Contents}
 use Rattle.link_session.specs.Sessions.{IsObject}
 use Rattle.link_options.specs.declared.options.Layout.TheVariants.{Pure, Split}
 use Rattle.link_options.specs.Choices.{Choices}
 use Rattle.link_out.specs.function.Link.{link}
-use Rattle.link_laws.specs.Core.{of_instructions, of_data, core}
-use Rattle.link_laws.specs.Operands.{operand, Calls, Defines, Arrives}
+use Rattle.link_laws.specs.Core.{Space, of_instructions, of_data, core}
+use Rattle.link_laws.specs.Operands.{operand, Calls, Defines, is_usable_in, Arrives}
 use Rattle.link_laws.proofs.OperandLemmas.{calls_arrive}
-use Rattle.conformance.specs.Samples.{sym as entry, _twice, main_o, twice_o, count_o, i_o, plain, with_layout}
+use Rattle.conformance.specs.Samples.{sym as entry, _twice, _count, main_o, twice_o, count_o, i_o, plain, with_layout}
 use Rattle.conformance.proofs.LawExamples.{outcome_of}
 use Rattle.conformance.proofs.ClauseLemmas.{as_object}
 use Rattle.conformance.proofs.NeededPremises.{all_kept}
@@ -75,17 +75,17 @@ main_calls : Calls main_o TextSeg 3 _twice
 main_calls = record { w = 65528; r = record { 0 = 25 }; symbol = entry _twice 32 0; word = refl; reloc = refl; pc = refl; kind = refl; named = refl; names = refl; just = refl }
 
 twice_defined : Defines twice_o _twice TextSeg 0
-twice_defined = record { number = 0; symbol = entry _twice 34 0; stands = refl; outer = refl; names = refl; is = refl; value = refl; inside = omega arith }
+twice_defined = record { number = 0; symbol = entry _twice 34 0; stands = refl; outer = refl; inner = refl; names = refl; is = refl; value = refl }
 
-forward_call : Arrives (file_of forward plain) forward [] main_o TextSeg 3 (main_o ∷ []) twice_o TextSeg 0
+forward_call : Arrives (file_of forward plain) of_instructions forward [] main_o TextSeg 3 (main_o ∷ []) twice_o TextSeg 0
 forward_call =
     calls_arrive [] forward plain (outcome_of (link [] forward plain)) (main_good, (twice_good, (count_good, tt))) all_kept refl refl
-    [] main_o (twice_o ∷ count_o ∷ []) refl (main_o ∷ []) twice_o (count_o ∷ []) refl TextSeg TextSeg 3 0 _twice main_calls twice_defined
+    [] main_o (twice_o ∷ count_o ∷ []) refl (main_o ∷ []) twice_o (count_o ∷ []) refl TextSeg TextSeg 3 0 _twice main_calls twice_defined of_instructions refl
 
-back_call : Arrives (file_of back plain) back (twice_o ∷ []) main_o TextSeg 3 [] twice_o TextSeg 0
+back_call : Arrives (file_of back plain) of_instructions back (twice_o ∷ []) main_o TextSeg 3 [] twice_o TextSeg 0
 back_call =
     calls_arrive [] back plain (outcome_of (link [] back plain)) (twice_good, (main_good, (count_good, tt))) all_kept refl refl
-    (twice_o ∷ []) main_o (count_o ∷ []) refl [] twice_o (main_o ∷ count_o ∷ []) refl TextSeg TextSeg 3 0 _twice main_calls twice_defined
+    (twice_o ∷ []) main_o (count_o ∷ []) refl [] twice_o (main_o ∷ count_o ∷ []) refl TextSeg TextSeg 3 0 _twice main_calls twice_defined of_instructions refl
 
 -- it arrives at 012 in the one link, and at 0 in the other
 forward_target : forward_call.target ≡ 10
@@ -93,3 +93,26 @@ forward_target = forward_call.there.behind
 
 back_target : back_call.target ≡ 0
 back_target = back_call.there.behind
+
+-- with split spaces the call arrives too, and the number is found in the space of data alone
+split_call : Arrives (file_of forward (with_layout Split plain)) of_instructions forward [] main_o TextSeg 3 (main_o ∷ []) twice_o TextSeg 0
+split_call =
+    calls_arrive [] forward (with_layout Split plain) (outcome_of (link [] forward (with_layout Split plain))) (main_good, (twice_good, (count_good, tt))) all_kept refl refl
+    [] main_o (twice_o ∷ count_o ∷ []) refl (main_o ∷ []) twice_o (count_o ∷ []) refl TextSeg TextSeg 3 0 _twice main_calls twice_defined of_instructions refl
+
+main_fetches : Calls main_o TextSeg 1 _count
+main_fetches = record { w = 65532; r = record { 0 = 41 }; symbol = entry _count 32 2; word = refl; reloc = refl; pc = refl; kind = refl; named = refl; names = refl; just = refl }
+
+count_defined : Defines count_o _count DataSeg 0
+count_defined = record { number = 0; symbol = entry _count 35 0; stands = refl; outer = refl; inner = refl; names = refl; is = refl; value = refl }
+
+split_fetch : Arrives (file_of forward (with_layout Split plain)) of_data forward [] main_o TextSeg 1 (main_o ∷ twice_o ∷ []) count_o DataSeg 0
+split_fetch =
+    calls_arrive [] forward (with_layout Split plain) (outcome_of (link [] forward (with_layout Split plain))) (main_good, (twice_good, (count_good, tt))) all_kept refl refl
+    [] main_o (twice_o ∷ count_o ∷ []) refl (main_o ∷ twice_o ∷ []) count_o [] refl TextSeg DataSeg 1 0 _count main_fetches count_defined of_data refl
+
+split_target : split_fetch.target ≡ 0
+split_target = split_fetch.there.behind
+
+found_in_data_alone : map (λ (space : Space). is_usable_in 0o411 DataSeg space) (of_instructions ∷ of_data ∷ []) ≡ false ∷ true ∷ []
+found_in_data_alone = refl

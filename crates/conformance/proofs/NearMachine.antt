@@ -11,12 +11,13 @@ use Rattle.aout_core.specs.declared.reloc.Kind.{Kind}
 use Rattle.aout_core.specs.declared.reloc.Kind.TheVariants as kinds
 use Rattle.aout_core.specs.Contents.{Contents}
 use Rattle.aout_core.specs.Words.{plus}
-use Rattle.aout_core.specs.WellFormed.{kind_of, symbol_number}
-use Rattle.link_session.specs.Starts.{total, own}
+use Rattle.aout_core.specs.WellFormed.{is_external, segment_of, kind_of, symbol_number}
+use Rattle.link_session.specs.Starts.{size_of, total, own}
 use Rattle.link_session.specs.Sessions.{IsObject}
 use Rattle.link_session.specs.Cells.{segment_words, segment_relocs}
 use Rattle.link_options.specs.declared.options.Layout.TheVariants.{Split}
-use Rattle.link_options.specs.declared.options.Keep.TheVariants.{Nothing}
+use Rattle.link_options.specs.declared.options.Keep.{Keep}
+use Rattle.link_options.specs.declared.options.Keep.TheVariants.{All, Nothing}
 use Rattle.link_options.specs.Choices.{Choices, lays_commons}
 use Rattle.link_out.specs.Results.{Outcome}
 use Rattle.link_out.specs.function.Link.{link}
@@ -24,11 +25,12 @@ use Rattle.link_out.specs.relation.Relocated.{base_in, entry_of}
 use Rattle.link_out.specs.laws.CommonsAndLayouts.{IsCommon}
 use Rattle.link_laws.specs.Core.{Space, of_instructions, of_data, has_segment, first_address, bytes_of, is_in, core}
 use Rattle.link_laws.specs.CoreLaws.{IsLoaded, IsZero, IsOfWord, NothingElse}
-use Rattle.link_laws.specs.Operands.{FindsMore, FindsName, segment_meant, Calls, Defines, Arrives}
+use Rattle.link_laws.specs.Operands.{FindsMore, FindsName, segment_meant, Calls, Defines, is_usable_in, Arrives, CallsArrive}
+use Rattle.link_laws.proofs.OperandLemmas.{calls_arrive}
 use Rattle.link_laws.proofs.LoadedLemmas.{words_loaded}
 use Rattle.conformance.specs.Samples.{sym as entry, object, sized, _f, _x, _twice, a_o, b_o, c_o, d_o, d2_o, k_o, x4_o, main_o, twice_o, plain, plain_s, relocatable, with_layout}
 use Rattle.conformance.proofs.LawExamples.{outcome_of}
-use Rattle.conformance.proofs.ClauseLemmas.{as_object, one_of_two, only_object, only_wanted}
+use Rattle.conformance.proofs.ClauseLemmas.{at_most_so, less_so, as_object, one_of_two, only_object, only_wanted}
 use Rattle.conformance.proofs.NearLaws.{different}
 use Rattle.conformance.proofs.NeededPremises.{all_kept, no_object, c_good, d_good}
 use Rattle.conformance.proofs.MachineExamples.{file_of, forward, main_good, twice_good}
@@ -319,19 +321,122 @@ c_calls : Calls c_o TextSeg 1 _f
 c_calls = record { w = 65532; r = record { 0 = 9 }; symbol = entry _f 32 0; word = refl; reloc = refl; pc = refl; kind = refl; named = refl; names = refl; just = refl }
 
 d2_defines : Defines d2_o _f TextSeg 0
-d2_defines = record { number = 0; symbol = entry _f 34 0; stands = refl; outer = refl; names = refl; is = refl; value = refl; inside = omega arith }
+d2_defines = record { number = 0; symbol = entry _f 34 0; stands = refl; outer = refl; inner = refl; names = refl; is = refl; value = refl }
 
 calls_of_multiples : ((forced : List (List ℕ)) (os : List Contents) (o : Choices) (x : Outcome) → AllByRecursion IsObject os → o.keep ≢ Nothing → link forced os o ≡ Ok x →
     (before : List Contents) (k : Contents) (after : List Contents) → os ≡ before ++ k ∷ after → (front : List Contents) (c : Contents) (back : List Contents) → os ≡ front ++ c ∷ back →
-    (from to : Segment) (i n : ℕ) (name : List ℕ) → Calls k from i name → Defines c name to n → Arrives x.file os before k from i front c to n) → ⊥
+    (from to : Segment) (i n : ℕ) (name : List ℕ) → Calls k from i name → Defines c name to n →
+    (space : Space) → is_usable_in x.file.header.magic to space ≡ true → Arrives x.file space os before k from i front c to n) → ⊥
 calls_of_multiples law =
     let os : List Contents = c_o ∷ d_o ∷ d2_o ∷ [] in
     let f : Contents = file_of os plain in
     let h = law [] os plain (outcome os plain)
     (c_good, (d_good, (as_object d2_o refl refl refl refl refl refl refl refl, tt))) all_kept refl
-    [] c_o (d_o ∷ d2_o ∷ []) refl (c_o ∷ d_o ∷ []) d2_o [] refl TextSeg TextSeg 1 0 _f c_calls d2_defines in
+    [] c_o (d_o ∷ d2_o ∷ []) refl (c_o ∷ d_o ∷ []) d2_o [] refl TextSeg TextSeg 1 0 _f c_calls d2_defines of_instructions refl in
     let at : h.address ≡ 2 = h.place.behind in
     let word : h.word ≡ 2 + 256 * 0 = word_is 2 0 h.word (ap (λ (a : ℕ). core f of_instructions a) (sym at) ∙ h.stands.low) (ap (λ (a : ℕ). core f of_instructions (a + 1)) (sym at) ∙ h.stands.high) in
     let target : h.target ≡ 8 = h.there.behind in
     let arrives : plus (h.address + 2) h.word ≡ h.target % 65536 = h.arrives in
     different 6 8 refl ((λ i. plus (sym at i + 2) (sym word i)) ∙ arrives ∙ ap (λ (t : ℕ). t % 65536) target)
+
+-- calls: in the other space, to the end of a segment as if a byte were there, to an absolute definition as if it were moved, and
+-- to a common as if its size were an address
+
+-- calls of names that objects define so, in spaces that are such, arrive so
+abbrev CallsGive : (Contents → List ℕ → Segment → ℕ → Type 0) → (ℕ → Segment → Space → Type 0) → (Contents → Space → List Contents → List Contents → Contents → Segment → ℕ → List Contents → Contents → Segment → ℕ → Type 0) → Type 0
+CallsGive DefinesSo IsSuch Found = (forced : List (List ℕ)) (os : List Contents) (o : Choices) (x : Outcome) → AllByRecursion IsObject os → o.keep ≢ Nothing → link forced os o ≡ Ok x → x.report.multiples ≡ [] →
+    (before : List Contents) (k : Contents) (after : List Contents) → os ≡ before ++ k ∷ after → (front : List Contents) (c : Contents) (back : List Contents) → os ≡ front ++ c ∷ back →
+    (from to : Segment) (i n : ℕ) (name : List ℕ) → Calls k from i name → DefinesSo c name to n → (space : Space) → IsSuch x.file.header.magic to space → Found x.file space os before k from i front c to n
+
+abbrev IsUsable : ℕ → Segment → Space → Type 0
+IsUsable magic to space = is_usable_in magic to space ≡ true
+
+law_of_calls : CallsArrive → CallsGive Defines IsUsable Arrives
+law_of_calls law = law
+
+-- an object with one word of text, or of data, and one symbol
+abbrev f_data : Contents
+f_data = object [] [] (1 ∷ []) (0 ∷ []) 0 (entry _f 0o43 0 ∷ [])
+
+abbrev text_and : Symbol → Contents
+text_and s = object (0o207 ∷ []) (0 ∷ []) [] [] 0 (s ∷ [])
+
+calls_in_any_space : CallsGive Defines (λ magic to space. Unit {0}) Arrives → ⊥
+calls_in_any_space law =
+    let os : List Contents = c_o ∷ f_data ∷ [] in
+    let defined : Defines f_data _f DataSeg 0 = record { number = 0; symbol = entry _f 35 0; stands = refl; outer = refl; inner = refl; names = refl; is = refl; value = refl } in
+    let h = law [] os split (outcome os split) (c_good, (as_object f_data refl refl refl refl refl refl refl refl, tt)) all_kept refl refl
+    [] c_o (f_data ∷ []) refl (c_o ∷ []) f_data [] refl TextSeg DataSeg 1 0 _f c_calls defined of_instructions tt in
+    let bad : false ≡ true = h.loaded (less_so 0 2 refl) in
+    absurd (cc)
+
+-- the call of a definition in the other of two objects
+call_of : (s : Symbol) (to : Segment) (n : ℕ) → IsObject (text_and s) → Defines (text_and s) _f to n → (space : Space) (x : Outcome) → link [] (c_o ∷ text_and s ∷ []) plain ≡ Ok x → x.report.multiples ≡ [] → is_usable_in x.file.header.magic to space ≡ true →
+    Arrives x.file space (c_o ∷ text_and s ∷ []) [] c_o TextSeg 1 (c_o ∷ []) (text_and s) to n
+call_of s to n good defined space x linked once usable =
+    calls_arrive [] (c_o ∷ text_and s ∷ []) plain x (c_good, (good, tt)) all_kept linked once [] c_o (text_and s ∷ []) refl (c_o ∷ []) (text_and s) [] refl TextSeg to 1 n _f c_calls defined space usable
+
+abbrev at_end : Symbol
+at_end = entry _f 34 2
+
+end_defined : Defines (text_and at_end) _f TextSeg 2
+end_defined = record { number = 0; symbol = at_end; stands = refl; outer = refl; inner = refl; names = refl; is = refl; value = refl }
+
+end_good : IsObject (text_and at_end)
+end_good = as_object (text_and at_end) refl refl refl refl refl refl refl refl
+
+calls_past_the_end : CallsGive Defines IsUsable (λ file space os before k from i front c to n. (a : Arrives file space os before k from i front c to n) → n ≤ size_of to c → is_in file.header space to a.target ≡ true) → ⊥
+calls_past_the_end law =
+    let os : List Contents = c_o ∷ text_and at_end ∷ [] in
+    let a = call_of at_end TextSeg 2 end_good end_defined of_instructions (outcome os plain) refl refl refl in
+    let at : a.target ≡ 6 = a.there.behind in
+    let bad : false ≡ true =
+    ap (λ (n : ℕ). is_in (file_of os plain).header of_instructions TextSeg n) (sym at)
+    ∙ law [] os plain (outcome os plain) (c_good, (end_good, tt)) all_kept refl refl [] c_o (text_and at_end ∷ []) refl (c_o ∷ []) (text_and at_end) [] refl TextSeg TextSeg 1 2 _f c_calls end_defined of_instructions refl a (at_most_so 2 2 refl) in
+    absurd (cc)
+
+abbrev absolute : Symbol
+absolute = entry _f 33 64
+
+absolute_defined : Defines (text_and absolute) _f Absolute 64
+absolute_defined = record { number = 0; symbol = absolute; stands = refl; outer = refl; inner = refl; names = refl; is = refl; value = refl }
+
+absolute_good : IsObject (text_and absolute)
+absolute_good = as_object (text_and absolute) refl refl refl refl refl refl refl refl
+
+absolute_moved : CallsGive Defines IsUsable (λ file space os before k from i front c to n. (a : Arrives file space os before k from i front c to n) → a.target ≡ total TextSeg front + n) → ⊥
+absolute_moved law =
+    let os : List Contents = c_o ∷ text_and absolute ∷ [] in
+    let a = call_of absolute Absolute 64 absolute_good absolute_defined of_data (outcome os plain) refl refl refl in
+    let at : a.target ≡ 64 = a.there.behind in
+    different 64 68 refl (sym at ∙ law [] os plain (outcome os plain) (c_good, (absolute_good, tt)) all_kept refl refl [] c_o (text_and absolute ∷ []) refl (c_o ∷ []) (text_and absolute) [] refl TextSeg Absolute 1 64 _f c_calls absolute_defined of_data refl a)
+
+-- a symbol that may be of no type
+record Mentions (c : Contents) (name : List ℕ) (segment : Segment) (n : ℕ) : Type 0 where
+  number : ℕ
+  symbol : Symbol
+  stands : slice_get c.symbols number ≡ Some symbol
+  outer : is_external symbol ≡ true
+  names : symbol.name ≡ name
+  is : segment_of symbol ≡ segment
+  value : symbol.value ≡ own c segment + n
+
+calls_of_references : CallsGive Mentions IsUsable Arrives → ⊥
+calls_of_references law =
+    let wanted : Symbol = entry _f 32 10 in
+    let os : List Contents = c_o ∷ text_and wanted ∷ [] in
+    let f : Contents = file_of os plain in
+    let h = law [] os plain (outcome os plain) (c_good, (as_object (text_and wanted) refl refl refl refl refl refl refl refl, tt)) all_kept refl refl
+    [] c_o (text_and wanted ∷ []) refl (c_o ∷ []) (text_and wanted) [] refl TextSeg Undefined 1 10 _f c_calls
+    (record { number = 0; symbol = wanted; stands = refl; outer = refl; names = refl; is = refl; value = refl }) of_data refl in
+    let at : h.address ≡ 2 = h.place.behind in
+    let word : h.word ≡ 2 + 256 * 0 = word_is 2 0 h.word (ap (λ (a : ℕ). core f of_instructions a) (sym at) ∙ h.stands.low) (ap (λ (a : ℕ). core f of_instructions (a + 1)) (sym at) ∙ h.stands.high) in
+    let target : h.target ≡ 10 = h.there.behind in
+    let arrives : plus (h.address + 2) h.word ≡ h.target % 65536 = h.arrives in
+    different 6 10 refl ((λ i. plus (sym at i + 2) (sym word i)) ∙ arrives ∙ ap (λ (t : ℕ). t % 65536) target)
+
+-- what is kept: relocation too
+
+kept_and_relocated : ((forced : List (List ℕ)) (os : List Contents) (o : Choices) (keep : Keep) (x y : Outcome) → link forced os o ≡ Ok x → link forced os (record o { keep = keep; relocatable = true }) ≡ Ok y →
+    (space : Space) (address : ℕ) → core y.file space address ≡ core x.file space address) → ⊥
+kept_and_relocated law = no_byte 0 (law [] (x4_o ∷ []) plain All (outcome (x4_o ∷ []) plain) (outcome (x4_o ∷ []) relocatable) refl refl of_data 0)

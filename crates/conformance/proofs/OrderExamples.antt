@@ -1,14 +1,18 @@
 -- The law of order at the objects of docs/BLACKBOARD.md, and statements near it that do not hold.
-use Rattle.std.proofs.Common.{◌≡◌, ◌≢◌, ℕ, ◌≤◌, true, false, List, [], ◌∷◌, ◌++◌, length, Option, Some, None, refl, sym, ◌∙◌, ap, arith}
-use Rattle.std.specs.Prelude.{Bool, not, ◌&&◌, eqb, replicate, filter, sum_by, slice_get, bytes_eq, Ok, Err}
+use Rattle.std.proofs.Common.{◌≡◌, ◌≢◌, ◌↔◌, ℕ, ◌≤◌, true, false, List, [], ◌∷◌, ◌++◌, length, Option, Some, None, refl, sym, ◌∙◌, ap, arith}
+use Rattle.std.specs.Prelude.{Bool, not, ◌&&◌, eqb, replicate, filter, sum_by, slice_get, bytes_eq, codes, Ok, Err}
 use Rattle.std.specs.List.Sorted.{IsPermutation}
-use Rattle.std.proofs.lemmas.List.Sorted.{IsPermutation-refl}
+use Rattle.std.proofs.lemmas.List.Sorted.{IsPermutation-refl, sum_by-IsPermutation}
 use Rattle.aout_core.specs.declared.symbol.Symbol.{Symbol}
 use Rattle.aout_core.specs.declared.symbol.Segment.{Segment}
 use Rattle.aout_core.specs.declared.symbol.Segment.TheVariants.{Undefined, Absolute, TextSeg, DataSeg, BssSeg, Other}
 use Rattle.aout_core.specs.declared.reloc.Reloc.{Reloc}
 use Rattle.aout_core.specs.Contents.{Contents}
 use Rattle.aout_core.specs.WellFormed.{is_external, masked_type, segment_of}
+use Rattle.link_session.specs.declared.entry.AddFault.{AddFault}
+use Rattle.link_session.specs.declared.entry.AddFault.TheVariants.{TextFull, DataFull}
+use Rattle.link_session.specs.Labelled.{Labelled}
+use Rattle.link_session.specs.Edits.{Answer, added, refused, answers, survivors}
 use Rattle.link_session.specs.Mentions.{externals, is_among}
 use Rattle.link_session.specs.Cells.{segment_words, segment_relocs}
 use Rattle.link_out.specs.declared.linked.LinkFault.{LinkFault}
@@ -17,9 +21,10 @@ use Rattle.link_options.specs.declared.options.Keep.TheVariants.{Nothing}
 use Rattle.link_options.specs.Choices.{Choices}
 use Rattle.link_out.specs.Results.{Outcome}
 use Rattle.link_out.specs.function.Link.{link}
+use Rattle.link_out.specs.Runs.{link_after}
 use Rattle.link_out.specs.relation.Relocated.{entry_of as row_of, external_type}
-use Rattle.link_laws.specs.Orders.{AreOrders, Meaning, definition, common, missing, Means, MeansTheSame, RefersAlike, OrderKeepsSizes, OrderReportsAlike, OrderFindsEntry, OrderKeepsMeanings, defines, OnceInAnyOrder}
-use Rattle.conformance.specs.Samples.{sym as entry, object, d_o, _f, _g, _x, L1, _main, _twice, main_o, twice_o, count_o, g_o, x4_o, plain, plain_s, relocatable, with_entry}
+use Rattle.link_laws.specs.Orders.{additions, AreAdded, OrderAddsAlike, AreAlike, OrderLinksAlike, AreOrders, Meaning, definition, common, missing, Means, MeansTheSame, RefersAlike, OrderKeepsSizes, OrderReportsAlike, OrderFindsEntry, OrderKeepsMeanings, defines, OnceInAnyOrder}
+use Rattle.conformance.specs.Samples.{sym as entry, object, sized, d_o, _f, _g, _x, L1, _main, _twice, main_o, twice_o, count_o, g_o, x4_o, plain, plain_s, relocatable, with_entry}
 use Rattle.conformance.proofs.ClauseLemmas.{at_most_so}
 use Rattle.conformance.proofs.NeededPremises.{counts, all_kept, link_of, no_object}
 
@@ -295,3 +300,96 @@ referents_beside_others law =
     let os = no_object ∷ d_o ∷ [] in
     let x = link_of os plain in
     nothing_there (law [] os os plain x x (record { same = IsPermutation-refl os; one = refl; other = refl }) all_kept refl refl (no_object ∷ []) d_o [] refl (no_object ∷ []) [] refl TextSeg 0 0o240 (record { 0 = 0 }) refl refl).one.word
+
+-- ---- additions
+
+abbrev labelled : List ℕ → Contents → Labelled
+labelled label object = record { label = label; object = object }
+
+-- two texts that do not fit together, and two pieces of data
+abbrev ta : Labelled
+ta = labelled (codes "ta.o") (sized 65534 0 0 [])
+
+abbrev tb : Labelled
+tb = labelled (codes "tb.o") (sized 2 0 0 [])
+
+abbrev da : Labelled
+da = labelled (codes "da.o") (sized 0 65534 0 [])
+
+abbrev db : Labelled
+db = labelled (codes "db.o") (sized 0 2 0 [])
+
+abbrev texts_first : List Labelled
+texts_first = ta ∷ tb ∷ da ∷ db ∷ []
+
+abbrev data_first : List Labelled
+data_first = da ∷ db ∷ ta ∷ tb ∷ []
+
+texts_and_data : IsPermutation texts_first data_first
+texts_and_data = record { moves = (0, 2) ∷ (1, 3) ∷ []; below = (omega arith, omega arith, (omega arith, omega arith, tt)); is = refl }
+
+answers_of_texts : answers [] (additions texts_first) ≡ added ∷ refused TextFull ∷ added ∷ refused DataFull ∷ []
+answers_of_texts = refl
+
+answers_of_data : answers [] (additions data_first) ≡ added ∷ refused DataFull ∷ added ∷ refused TextFull ∷ []
+answers_of_data = refl
+
+-- by the law alone: what is refused in one order is not all added in the other
+refused_in_both : OrderAddsAlike → AreAdded [] data_first → ⊥
+refused_in_both law told = let bad : refused TextFull ≡ added = ((law [] texts_first data_first texts_and_data).1 told).1.0 in cc
+
+-- the first that is refused, by its label, and its limit
+abbrev first_refused : List Labelled → List Answer → List ℕ
+first_refused (e ∷ es) (refused fault ∷ told) = e.label
+first_refused (e ∷ es) (_ ∷ told) = first_refused es told
+first_refused _ _ = []
+
+abbrev first_limit : List Answer → Option AddFault
+first_limit [] = None
+first_limit (refused fault ∷ told) = Some fault
+first_limit (_ ∷ told) = first_limit told
+
+-- additions in two orders agree so
+abbrev AdditionsGive : (List (List ℕ) → List Labelled → List Labelled → Type 0) → Type 0
+AdditionsGive Agree = (forced : List (List ℕ)) (es ds : List Labelled) → IsPermutation es ds → Agree forced es ds
+
+law_of_additions : OrderAddsAlike → AdditionsGive (λ forced es ds. AreAdded forced es ↔ AreAdded forced ds)
+law_of_additions law = law
+
+same_object_refused : AdditionsGive (λ forced es ds. first_refused es (answers forced (additions es)) ≡ first_refused ds (answers forced (additions ds))) → ⊥
+same_object_refused law = counts (λ (n : List ℕ). sum_by (λ (b : ℕ). b) n) (codes "tb.o") (codes "db.o") refl (law [] texts_first data_first texts_and_data)
+
+same_limit : AdditionsGive (λ forced es ds. first_limit (answers forced (additions es)) ≡ first_limit (answers forced (additions ds))) → ⊥
+same_limit law =
+    let e : Some TextFull ≡ Some DataFull = law [] texts_first data_first texts_and_data in
+    let bad : TextFull ≡ DataFull = cc in
+    absurd (cc)
+
+same_objects_left : AdditionsGive (λ forced es ds. IsPermutation (survivors forced (additions es)) (survivors forced (additions ds))) → ⊥
+same_objects_left law =
+    counts (λ (n : ℕ). n) 2 65534 refl
+    (sum_by-IsPermutation (λ (e : Labelled). e.object.header.text_size) (ta ∷ []) (tb ∷ []) (law [] (ta ∷ tb ∷ []) (tb ∷ ta ∷ []) (first_two ta tb [])))
+
+added_with_others : ((forced : List (List ℕ)) (es ds : List Labelled) → AreAdded forced es ↔ AreAdded forced ds) → ⊥
+added_with_others law = let bad : refused TextFull ≡ added = ((law [] [] (ta ∷ tb ∷ [])).0 tt).1.0 in cc
+
+-- ---- links of what was added
+
+-- the links of what is left agree, where this is so
+abbrev LinkedAlikeWhere : (List (List ℕ) → List Labelled → Choices → Type 0) → Type 0
+LinkedAlikeWhere IsSo = (forced : List (List ℕ)) (es ds : List Labelled) (o : Choices) → IsPermutation es ds → IsSo forced es o → AreAlike (link_after forced (additions es) o) (link_after forced (additions ds) o)
+
+law_of_links : OrderLinksAlike → LinkedAlikeWhere (λ forced es o. (o.relocatable ≡ false) × AreAdded forced es)
+law_of_links law forced es ds o same h = law forced es ds o same h.0 h.1
+
+-- data beside the one text fits, and beside the other it does not
+linked_where_one_is_refused : LinkedAlikeWhere (λ forced es o. o.relocatable ≡ false) → ⊥
+linked_where_one_is_refused law =
+    let d = labelled (codes "d.o") (sized 0 60000 0 []) in
+    law [] (tb ∷ ta ∷ d ∷ []) (ta ∷ tb ∷ d ∷ []) plain (first_two tb ta (d ∷ [])) refl
+
+linked_with_relocation : LinkedAlikeWhere (λ forced es o. AreAdded forced es) → ⊥
+linked_with_relocation law =
+    let many = labelled (codes "many.o") many_locals in
+    let g = labelled (codes "g.o") g_o in
+    law [] (many ∷ g ∷ []) (g ∷ many ∷ []) relocatable (first_two many g []) (refl, (refl, tt))

@@ -5,6 +5,7 @@
 use Rattle.std.specs.Prelude.{ℕ, ◌+◌, ◌/◌, ◌%◌, Bool, false, ◌&&◌, ◌||◌, ◌==◌, not, nat_eq, nat_lt, nat_le, if◌then◌else◌, List, [], ◌∷◌, take, length, slice_get, Option, Some, None}
 use Rattle.std.specs.Cmp.Lexicographic.{pointwise}
 use Rattle.aout_core.specs.declared.header.Header.{Header}
+use Rattle.aout_core.specs.Decoding.{header_in}
 use Rattle.aout_core.specs.Encoding.{file_length}
 use Rattle.gnu_objects.specs.declared.refusal.Refusal.{Refusal}
 use Rattle.gnu_objects.specs.declared.refusal.Refusal.TheVariants.{ShortHeader, BadMagic, OddSize, Truncated, BadStrings, Overlay, BadPlace, Stab, TooManySymbols, AlikeNames, StabWord}
@@ -41,6 +42,13 @@ strings_refusal bytes h =
     else (if nat_lt (long_at bytes (file_length h)) 4 then Some BadStrings
     else (if nat_lt (length bytes) (file_length h + long_at bytes (file_length h)) then Some Truncated
     else None)))
+
+-- what is wrong with the header, the sizes and the strings, which is known before any memory is requested
+abbrev pub sizes_refusal_under : List ℕ → Header → Option Refusal
+sizes_refusal_under bytes h = refused_first (header_refusal (length bytes) h) (strings_refusal bytes h)
+
+abbrev pub sizes_refusal : List ℕ → Option Refusal
+sizes_refusal bytes = sizes_refusal_under bytes (header_in (take 16 bytes))
 
 -- what is wrong with symbol n: an overlay, a name that is not in the strings, or a symbol for a debugger that is not to be dropped
 abbrev pub symbol_refusal : List ℕ → Bool → ℕ → GnuSymbol → Option Refusal

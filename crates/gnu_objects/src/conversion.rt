@@ -1,11 +1,11 @@
 //! The object of the Seventh Edition that an object in GNU's form is.
-ghost use Rattle.std.specs.Prelude.{◌≡◌, ◌≢◌, ◌+◌, ◌*◌, ◌/◌, ◌%◌, ◌≤◌, ◌<◌, ◌^◌, IfOk, Some, None, length, map, replicate, take};
+ghost use Rattle.std.specs.Prelude.{◌≡◌, ◌≢◌, ◌+◌, ◌*◌, ◌/◌, ◌%◌, ◌≤◌, ◌<◌, ◌^◌, IfOk, IfSome, Err, None, length, map, replicate, take};
 ghost use Rattle.aout_core.specs.Decoding.{header_in};
 ghost use Rattle.aout_core.specs.Contents.{Fits};
 ghost use Rattle.aout_core.specs.Parts.{contents_of};
 ghost use Rattle.aout_core.specs.Encoding.{relocation_at, symbols_at, file_length};
 ghost use Rattle.gnu_objects.specs.GnuForm.{strings_of, symbols_of, relocation_of, kept};
-ghost use Rattle.gnu_objects.specs.GnuRefusals.{header_refusal, strings_refusal, table_refusal};
+ghost use Rattle.gnu_objects.specs.GnuRefusals.{header_refusal, sizes_refusal, strings_refusal, table_refusal};
 ghost use Rattle.gnu_objects.specs.internal.Sizes.{IsObjectHeader};
 ghost use Rattle.gnu_objects.specs.Converted.{converted, converted_header, converted_symbol, converted_with, contents_with, object_of};
 
@@ -142,6 +142,29 @@ fn object_of(file: File) -> Result<Object, Refusal>
     }
 }
 
+/// The object of these tables. A refusal comes before any request for memory.
+fn object_with(
+    alloc: Global,
+    drops: bool,
+    bytes: &[u8],
+    header: &Header,
+    tables: &Tables<'_>,
+) -> Result<Object, Refusal>
+    requires header { IsObjectHeader (length bytes.now) header.now }
+    requires symbols { length tables.now.symbols.now < 2 ^ 16 }
+    requires words { length tables.now.words.now ≡ header.now.text_size / 2 + header.now.data_size / 2 }
+    requires few { length tables.now.words.now ≤ 2 ^ 16 }
+    ensures value { result ≢ Err Refusal.Memory → result ≡ converted_with drops bytes.now header.now tables.now.strings.now
+        tables.now.symbols.now tables.now.words.now }
+    ensures refused { IfSome (table_refusal tables.now.strings.now drops tables.now.symbols.now tables.now.words.now) (λ refusal. result ≡ Err refusal) }
+{
+    if let Some(refusal) = table_refusal(tables.strings, drops, tables.symbols, tables.words) {
+        return Err(refusal);
+    }
+    let parts = parts_with(alloc, bytes, header, tables)?;
+    object_of(File::from_parts(parts))
+}
+
 /// The object of these strings, symbols and relocation words.
 fn convert_with(
     alloc: Global,
@@ -157,16 +180,12 @@ fn convert_with(
     let count = usize::from(header.symbol_size / 8);
     let symbols = symbols_from(alloc, bytes, symbols_at(header), count)?;
     let words = relocation_of(alloc, bytes, header)?;
-    if let Some(refusal) = table_refusal(strings, drops, &symbols, &words) {
-        return Err(refusal);
-    }
     let tables = Tables {
         strings,
         symbols: &symbols,
         words: &words,
     };
-    let parts = parts_with(alloc, bytes, header, &tables)?;
-    object_of(File::from_parts(parts))
+    object_with(alloc, drops, bytes, header, &tables)
 }
 
 /// The object of the Seventh Edition that the bytes are, which begin with an object in GNU's form. Symbols for a
@@ -175,9 +194,10 @@ fn convert_with(
 /// Errors, the first that applies: `ShortHeader`, 1, `BadMagic`, 2, `OddSize`, 3, `Truncated`, 4, and `BadStrings`, 5,
 /// for the header and the sizes; for the first bad symbol `Overlay`, 6, `BadPlace`, 7, or `Stab`, 8; `TooManySymbols`,
 /// 9, where over 5,461 stay; `AlikeNames`, 10, for the first two; `StabWord`, 11, for the first; `BadWord`, 12, as
-/// `Object::from_file` says; and `Memory`, 13, where memory runs out.
+/// `Object::from_file` says; and `Memory`, 13, if memory runs out, but never in place of the first five.
 pub fn convert(alloc: Global, bytes: &[u8], drops: bool) -> Result<Object, Refusal>
-    ensures { result ≢ Err Refusal.Memory → result ≡ converted drops bytes.now }
+    ensures value { result ≢ Err Refusal.Memory → result ≡ converted drops bytes.now }
+    ensures refused { IfSome (sizes_refusal bytes.now) (λ refusal. result ≡ Err refusal) }
 {
     if bytes.len() < 16 {
         return Err(Refusal::ShortHeader);

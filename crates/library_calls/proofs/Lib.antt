@@ -2,3 +2,5 @@ pub mod TakingLemmas
 pub mod PartLemmas
 pub mod EditLemmas
 pub mod StateLemmas
+pub mod MemoryLemmas
+pub mod NumberLemmas

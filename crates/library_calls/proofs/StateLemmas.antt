@@ -1,5 +1,5 @@
 -- Edits that are made one by one, and what a session shows behind them.
-use Rattle.std.proofs.Common.{◌≡◌, ℕ, Result, Ok, None, List, [], ◌∷◌, ◌++◌, map, length, append_assoc, append-nil, arith, sym, ap, ◌∙◌, subst, String}
+use Rattle.std.proofs.Common.{◌≡◌, ◌≢◌, ℕ, Result, Ok, None, List, [], ◌∷◌, ◌++◌, map, length, append_assoc, append-nil, arith, sym, ap, ◌∙◌, subst, String}
 use Rattle.std.specs.declared.alloc.Global.{Global}
 use Rattle.aout_core.specs.Contents.{Contents}
 use Rattle.link_session.specs.declared.entry.AddFault.{AddFault}
@@ -66,6 +66,11 @@ module _ (old now new : Kept) (all : List Change) (numbers : List ℕ) where
             ∙ ap (λ (es : List Edit). numbers ++ map reply_number (answers_from now.forced now.entries (map change_of es))) (sym split)
             ∙ so_far.replies;
       }
+
+-- there are changes, since there are edits
+pub some_changes : (edits later : List Edit) (edit : Edit) → edits ≡ edit ∷ later → map change_of edits ≢ []
+some_changes [] later edit split none = absurd (cc)
+some_changes (e ∷ es) later edit split none = absurd (cc)
 
 -- no edit is left
 pub all_edited : (old now : Kept) (all : List Change) (numbers : List ℕ) (edits : List Edit) → length edits ≡ 0 → AreBegun old now all (map change_of edits) numbers → AreEdited old now all numbers

@@ -1,6 +1,7 @@
 -- Objects taken from their bytes, one by one.
-use Rattle.std.proofs.Common.{◌≡◌, ◌≢◌, ℕ, zero, suc, ◌+◌, ◌-◌, ◌<◌, true, cond, List, [], ◌∷◌, length, take, drop, Result, Ok, Err, refl, sym, ap, ◌∙◌, arith}
+use Rattle.std.proofs.Common.{◌≡◌, ◌≢◌, ℕ, zero, suc, ◌+◌, ◌-◌, ◌<◌, true, cond, List, [], ◌∷◌, length, take, drop, Result, Ok, Err, refl, sym, ap, ◌∙◌, subst, inl, inr, arith}
 use Rattle.std.proofs.lemmas.List.{length-map}
+use Rattle.std.specs.Prelude.{IsOkAnd}
 use Rattle.aout_core.specs.Contents.{Contents}
 use Rattle.link_session.specs.ForcedNames.{takes, with_name}
 use Rattle.link_session.specs.Labelled.{Labelled, objects}
@@ -12,6 +13,7 @@ use Rattle.library_calls.specs.Causes.{at, and_then}
 use Rattle.library_calls.specs.FileAnswers.{behind_file}
 use Rattle.library_calls.specs.LinkAnswers.{with_first, with_most}
 use Rattle.library_calls.specs.LinkWanted.{name_of, with_names}
+use Rattle.library_calls.specs.MemoryWanted.{MayRunOutForObject, MayRunOutInMost}
 
 -- one object more was taken
 pub one_more : (n : ℕ) (forced : List (List ℕ)) (os more : List Contents) (bytes behind : List ℕ) → bytes ≢ [] → with_first forced os bytes ≡ Ok more → behind ≡ behind_file bytes →
@@ -25,6 +27,20 @@ pub one_refused : (n : ℕ) (forced : List (List ℕ)) (os : List Contents) (byt
     with_most (suc n) forced os bytes ≡ Err (record { cause = cause; place = length os })
 one_refused n forced os [] cause some first = absurd (some refl)
 one_refused n forced os (b ∷ bs) cause some first = ap (λ r. and_then (at (length os) r) (λ next. with_most n forced next (behind_file (b ∷ bs)))) first
+
+-- memory may run out for an object after the first, which was taken
+out_after : (n : ℕ) (forced : List (List ℕ)) (os more : List Contents) (bytes after : List ℕ) (place : ℕ) → bytes ≢ [] → with_first forced os bytes ≡ Ok more → after ≡ behind_file bytes →
+    MayRunOutInMost n forced more after place → MayRunOutInMost (suc n) forced os bytes place
+out_after n forced os more [] after place some first is h = absurd (some refl)
+out_after n forced os more (b ∷ bs) after place some first is h =
+    inr (subst (λ (r : Result (List Contents) Cause). IsOkAnd r (λ next. MayRunOutInMost n forced next (behind_file (b ∷ bs)) place)) (sym first)
+    (subst (λ (rest : List ℕ). MayRunOutInMost n forced more rest place) is h))
+
+-- memory may run out for the first object
+out_here : (n : ℕ) (forced : List (List ℕ)) (os : List Contents) (bytes : List ℕ) (place : ℕ) → bytes ≢ [] → place ≡ length os → MayRunOutForObject forced os bytes →
+    MayRunOutInMost (suc n) forced os bytes place
+out_here n forced os [] place some is h = absurd (some refl)
+out_here n forced os (b ∷ bs) place some is h = inl (is, h)
 
 -- no bytes are left
 pub none_left : (n : ℕ) (forced : List (List ℕ)) (os : List Contents) → with_most n forced os [] ≡ Ok os
@@ -57,6 +73,23 @@ module _ (whole : Result (List Contents) Refusal) (n i : ℕ) (k new : Kept) (re
       ∙ ap (λ m. with_most m k.forced (objects k.entries) rest) (one_step n i inside)
       ∙ one_refused (n - (i + 1)) k.forced (objects k.entries) rest cause (not_empty rest some) first
       ∙ ap (λ m. Err (record { cause = cause; place = m })) (length-map k.entries (λ (e : Labelled). e.object) ∙ ap (λ (x : Kept). length x.entries) (sym same) ∙ ap length (sym is))
+
+module _ (n i : ℕ) (k new : Kept) (rest : List ℕ) (place : ℕ) where
+  -- memory may run out for an object after that with which the rest begins, which was taken
+  pub out_later : (after : List ℕ) → i < n → (length rest ≡ 0 → ⊥) → with_first k.forced (objects k.entries) rest ≡ Ok (objects new.entries) → after ≡ behind_file rest → new.forced ≡ k.forced →
+      MayRunOutInMost (n - (i + 1)) new.forced (objects new.entries) after place → MayRunOutInMost (n - i) k.forced (objects k.entries) rest place
+  out_later after inside some first is same h =
+      subst (λ m. MayRunOutInMost m k.forced (objects k.entries) rest place) (sym (one_step n i inside))
+      (out_after (n - (i + 1)) k.forced (objects k.entries) (objects new.entries) rest after place (not_empty rest some) first is
+      (subst (λ (f : List (List ℕ)). MayRunOutInMost (n - (i + 1)) f (objects new.entries) after place) same h))
+
+  -- memory may run out for the object with which the rest begins
+  pub out_now : (entries : List Labelled) → i < n → (length rest ≡ 0 → ⊥) → MayRunOutForObject k.forced (objects k.entries) rest → new ≡ k → entries ≡ new.entries → place ≡ length entries →
+      MayRunOutInMost (n - i) k.forced (objects k.entries) rest place
+  out_now entries inside some h same is number =
+      subst (λ m. MayRunOutInMost m k.forced (objects k.entries) rest place) (sym (one_step n i inside))
+      (out_here (n - (i + 1)) k.forced (objects k.entries) rest place (not_empty rest some)
+      (number ∙ sym (length-map k.entries (λ (e : Labelled). e.object) ∙ ap (λ (x : Kept). length x.entries) (sym same) ∙ ap length (sym is))) h)
 
 nil_of : (bytes : List ℕ) → length bytes ≡ 0 → bytes ≡ []
 nil_of [] h = refl

@@ -9,8 +9,6 @@ use Rattle.link_session.specs.declared.entry.AddFault.{AddFault}
 use Rattle.link_session.specs.declared.entry.AddFault.TheVariants as adds
 use Rattle.link_out.specs.declared.linked.LinkFault.{LinkFault}
 use Rattle.link_out.specs.declared.linked.LinkFault.TheVariants as links
-use Rattle.link_out.specs.declared.edit.RunFault.{RunFault}
-use Rattle.link_out.specs.declared.edit.RunFault.TheVariants as runs
 use Rattle.library_calls.specs.declared.cause.Cause.{Cause}
 use Rattle.library_calls.specs.declared.cause.Cause.TheVariants.{NoOption, Excluded, LongName, CutNames, ManyNames, TooLong, NoEdit, BadFile, BadObject, NotAdded, NotLinked, Memory}
 use Rattle.library_calls.specs.declared.cause.Refusal.{Refusal}
@@ -27,10 +25,6 @@ cause_of_addition fault = NotAdded fault
 abbrev pub cause_of_link : LinkFault → Cause
 cause_of_link links.Memory = Memory
 cause_of_link fault = NotLinked fault
-
-abbrev pub cause_of_run : RunFault → Cause
-cause_of_run runs.Memory = Memory
-cause_of_run (runs.Link fault) = cause_of_link fault
 
 abbrev pub number_of : Cause → ℕ
 number_of NoOption = 1

@@ -5,4 +5,5 @@ pub mod LinkAnswers
 pub mod ObjectParts
 pub mod SessionAnswers
 pub mod StateAnswers
+pub mod MemoryWanted
 pub mod internal

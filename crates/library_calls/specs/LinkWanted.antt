@@ -52,11 +52,15 @@ abbrev pub choices_by : ℕ → List ℕ → Result Layout Cause → Result Choi
 choices_by bits entry (Ok layout) = unless (option_fault layout (has_bit bits 1) (keep_of bits)) (choices_with bits entry layout)
 choices_by bits entry (Err cause) = Err cause
 
+abbrev pub short_entry : List ℕ → Result Choices Cause → Result Choices Cause
+short_entry entry (Ok o) = if nat_lt 8 (length entry) then Err LongName else Ok o
+short_entry entry (Err cause) = Err cause
+
+-- first the bits, then options that exclude each other, then the name
 abbrev pub choices_in : ℕ → List ℕ → Result Choices Cause
 choices_in bits entry =
     if nat_lt 127 bits then Err NoOption
-    else (if nat_lt 8 (length entry) then Err LongName
-    else choices_by bits entry (layout_by (has_bit bits 16) (has_bit bits 32)))
+    else short_entry entry (choices_by bits entry (layout_by (has_bit bits 16) (has_bit bits 32)))
 
 -- so many names of eight bytes each appended to those before them, where they are not there already; the next one has this number
 abbrev pub with_names : ℕ → ℕ → List (List ℕ) → List ℕ → Result (List (List ℕ)) Refusal

@@ -1,7 +1,7 @@
 -- What a call shows of a session: the replies to its edits, and the state that they leave. (own choice)
 --
--- The edits are read and run as those of a session that is linked. What the last addition overwrote is told by marks, which take
--- that addition back.
+-- The edits are read and run as those of a session that is linked. What the last addition overwrote, and nothing else, is told by
+-- its marks, which take it back.
 use Rattle.std.specs.Prelude.{◌≡◌, ℕ, zero, suc, List, map, Result, Ok, Err}
 use Rattle.link_session.specs.declared.mark.Mark.{Mark}
 use Rattle.link_session.specs.Edits.{Change, answers, survivors}
@@ -49,7 +49,7 @@ pub record Told : Type 0 where
 abbrev pub told_of : Shown → Told
 told_of s = record { status = s.status; replies = s.replies.items; state = s.state.items }
 
--- the replies to the edits, the status by them, and the state of a session of what is left, with marks that take its objects back
+-- the replies to the edits, the status by them, and the state of a session of what is left, with the marks of its objects
 pub record Shows (x : Asked) (told : Told) : Type 0 where
   pub replies : told.replies ≡ map reply_number (answers x.forced x.changes)
   pub status : told.status ≡ session_status told.replies 0

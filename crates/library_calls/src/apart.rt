@@ -1,5 +1,6 @@
 //! Objects taken apart.
-ghost use Rattle.std.specs.Prelude.{◌≡◌, ◌≢◌, map, length, Ok, Err, IfOk, IfErr};
+ghost use Rattle.std.specs.Prelude.{◌≡◌, ◌≢◌, ◌⊎◌, map, length, Ok, Err, IsOk, IfOk, IfErr};
+ghost use Rattle.library_calls.specs.MemoryWanted.{HasBody};
 ghost use Rattle.library_calls.specs.ObjectParts.{parts_in, pieces_in, pieces_of, row_of, words_with};
 ghost use Rattle.library_calls.specs.declared.cause.Cause.TheVariants.{Memory};
 
@@ -63,13 +64,14 @@ fn parts_of(alloc: Global, file: &File) -> Result<PartLists, AllocError>
 }
 
 /// The parts of the object that the bytes begin with; its entry point and the word without a meaning are left out. What
-/// is behind it is not looked at. (a.out(5))
+/// is after it is not looked at. (a.out(5))
 ///
-/// Errors: `BadFile`, 11 to 14, where the bytes begin with no file; `BadObject`, 21 to 24, where the file is no object;
-/// `Memory`, 50, where memory runs out.
+/// Errors: `BadFile`, 11 to 14, if the bytes do not begin with a file; `BadObject`, 21 to 24, if it is not an object;
+/// `Memory`, 50, if memory runs out for a whole file that has more than its header, or for the parts of an object.
 pub fn take_apart(alloc: Global, bytes: &[u8]) -> Result<PartLists, Cause>
     ensures ok { IfOk result (λ parts. parts_in bytes.now ≡ Ok (pieces_in parts)) }
     ensures err { IfErr result (λ cause. cause ≢ Memory → parts_in bytes.now ≡ Err cause) }
+    ensures memory { IfErr result (λ cause. cause ≡ Memory → HasBody bytes.now ⊎ IsOk (parts_in bytes.now)) }
 {
     let (object, _) = first_object(alloc, bytes)?;
     Ok(parts_of(alloc, object.file())?)

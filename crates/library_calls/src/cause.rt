@@ -1,10 +1,10 @@
 //! Why a call has no answer.
 ghost use Rattle.std.specs.Prelude.{◌≡◌};
-ghost use Rattle.library_calls.specs.Causes.{cause_of_addition, cause_of_link, cause_of_read, cause_of_run, number_of, word_of};
+ghost use Rattle.library_calls.specs.Causes.{cause_of_addition, cause_of_link, cause_of_read, number_of, word_of};
 ghost use Rattle.library_calls.specs.declared.cause.Cause.TheVariants.{Memory};
 
 use aout_core::{DeviceFault, ObjectFault, ReadFault};
-use link_out::{LinkFault, RunFault};
+use link_out::LinkFault;
 use link_session::AddFault;
 use std::alloc::AllocError;
 use symtools::ToolFault;
@@ -30,7 +30,7 @@ pub enum Cause {
     BadFile(ReadFault),
     /// 21 to 24: the file is no object.
     BadObject(ObjectFault),
-    /// 31 to 34: the object has no room behind those before it.
+    /// 31 to 34: the object has no room after those before it.
     NotAdded(AddFault),
     /// 41 to 43: the objects can't be linked.
     NotLinked(LinkFault),
@@ -88,17 +88,6 @@ impl From<LinkFault> for Cause {
     }
 }
 
-impl From<RunFault> for Cause {
-    ghost from_gives = { λ fault cause. cause ≡ cause_of_run fault };
-
-    fn from(fault: RunFault) -> Cause {
-        match fault {
-            RunFault::Memory => Cause::Memory,
-            RunFault::Link(fault) => Cause::from(fault),
-        }
-    }
-}
-
 // what is written to lies in memory, so that a fault of it is that memory ran out
 impl From<DeviceFault> for Cause {
     ghost from_gives = { λ _ cause. cause ≡ Memory };
@@ -120,6 +109,14 @@ impl From<AllocError> for Cause {
     ghost from_gives = { λ _ cause. cause ≡ Memory };
 
     fn from(_error: AllocError) -> Cause {
+        Cause::Memory
+    }
+}
+
+impl From<link_session::Memory> for Cause {
+    ghost from_gives = { λ _ cause. cause ≡ Memory };
+
+    fn from(_error: link_session::Memory) -> Cause {
         Cause::Memory
     }
 }

@@ -1,35 +1,28 @@
 //! What is said of one file that comes as bytes.
-ghost use Rattle.std.specs.Prelude.{◌≡◌, ◌≢◌, [], ◌∷◌, Ok, Err, IfOk, IfErr};
-ghost use Rattle.aout_core.specs.Encoding.{file_length, encoding};
+ghost use Rattle.std.specs.Prelude.{◌≡◌, ◌≢◌, [], ◌∷◌, Ok, Err, IsOk, IfOk, IfErr};
+ghost use Rattle.aout_core.specs.Encoding.{encoding};
 ghost use Rattle.symtools.specs.NmLists.{nm_text};
 ghost use Rattle.symtools.specs.SizeLines.{size_text};
 ghost use Rattle.library_calls.specs.FileAnswers.{checked_in, names_in, sizes_in, stripped_in};
+ghost use Rattle.library_calls.specs.MemoryWanted.{HasBody};
 ghost use Rattle.library_calls.specs.declared.cause.Cause.TheVariants.{Memory};
 
 use crate::cause::Cause;
-use crate::first::{first_file, first_object};
+use crate::first::{file_length, first_file, first_object};
 use crate::wanted::nm_options;
-use aout_core::{File, Header, Wire, strip_file, write_file};
+use aout_core::{File, Wire, strip_file, write_file};
 use std::alloc::Global;
 use symtools::{NmOptions, nm, size};
 
-/// How many bytes a file with this header takes.
-fn file_length(header: &Header) -> usize
-    ensures { result ≡ file_length header.now }
-{
-    let segments = header.text_size as usize + header.data_size as usize;
-    let relocation = if header.flag == 0 { segments } else { 0 };
-    16 + segments + relocation + header.symbol_size as usize
-}
-
-/// Checks that the bytes begin with an object, and returns how many bytes it takes. What is behind it is not looked at.
+/// Checks that the bytes begin with an object, and returns how many bytes it takes. What is after it is not looked at.
 /// (a.out(5))
 ///
-/// Errors: `BadFile`, 11 to 14, where the bytes begin with no file; `BadObject`, 21 to 24, where the file is no object;
-/// `Memory`, 50, where memory runs out.
+/// Errors: `BadFile`, 11 to 14, if the bytes do not begin with a file; `BadObject`, 21 to 24, if it is not an object;
+/// `Memory`, 50, if memory runs out for a whole file that has more than its header.
 pub fn check(alloc: Global, bytes: &[u8]) -> Result<usize, Cause>
     ensures ok { IfOk result (λ count. checked_in bytes.now ≡ Ok count) }
     ensures err { IfErr result (λ cause. cause ≢ Memory → checked_in bytes.now ≡ Err cause) }
+    ensures memory { IfErr result (λ cause. cause ≡ Memory → HasBody bytes.now) }
 {
     let (object, _) = first_object(alloc, bytes)?;
     Ok(file_length(object.file().header()))
@@ -45,13 +38,14 @@ pub(crate) fn bytes_of(alloc: Global, file: &File) -> Result<Vec<u8>, Cause>
     Ok(out.into_inner())
 }
 
-/// The bytes of the file that the bytes begin with, without relocation and symbols. What is behind it is not looked at.
+/// The bytes of the file that the bytes begin with, without relocation and symbols. What is after it is not looked at.
 /// (strip(1))
 ///
-/// Errors: `BadFile`, 11 to 14, where the bytes begin with no file; `Memory`, 50, where memory runs out.
+/// Errors: `BadFile`, 11 to 14, if the bytes do not begin with a file; else `Memory`, 50, if memory runs out.
 pub fn strip(alloc: Global, bytes: &[u8]) -> Result<Vec<u8>, Cause>
     ensures ok { IfOk result (λ written. stripped_in bytes.now ≡ Ok written.items) }
     ensures err { IfErr result (λ cause. cause ≢ Memory → stripped_in bytes.now ≡ Err cause) }
+    ensures memory { IfErr result (λ cause. cause ≡ Memory → IsOk (stripped_in bytes.now)) }
 {
     let (file, _) = first_file(alloc, bytes)?;
     bytes_of(alloc, &strip_file(file))
@@ -69,10 +63,11 @@ fn sizes_of(alloc: Global, file: File) -> Result<Vec<u8>, Cause>
 
 /// The line of size, without a path, of the file that the bytes begin with. (size(1))
 ///
-/// Errors: `BadFile`, 11 to 14, where the bytes begin with no file; `Memory`, 50, where memory runs out.
+/// Errors: `BadFile`, 11 to 14, if the bytes do not begin with a file; else `Memory`, 50, if memory runs out.
 pub fn show_sizes(alloc: Global, bytes: &[u8]) -> Result<Vec<u8>, Cause>
     ensures ok { IfOk result (λ text. sizes_in bytes.now ≡ Ok text.items) }
     ensures err { IfErr result (λ cause. cause ≢ Memory → sizes_in bytes.now ≡ Err cause) }
+    ensures memory { IfErr result (λ cause. cause ≡ Memory → IsOk (sizes_in bytes.now)) }
 {
     let (file, _) = first_file(alloc, bytes)?;
     sizes_of(alloc, file)
@@ -91,11 +86,12 @@ fn names_of(alloc: Global, options: NmOptions, file: File) -> Result<Vec<u8>, Ca
 /// The lines of nm, without a path, of the file that the bytes begin with. The options are bits: 1 for `-g`, 2 `-n`,
 /// 4 `-p`, 8 `-r`, 16 `-u`. (nm(1))
 ///
-/// Errors, the first that applies: `NoOption`, 1, where a bit stands for no option; `BadFile`, 11 to 14, where the bytes
-/// begin with no file; `Memory`, 50, where memory runs out.
+/// Errors, the first that applies: `NoOption`, 1, if a bit is not an option; `BadFile`, 11 to 14, if the bytes do not
+/// begin with a file; `Memory`, 50, if memory runs out.
 pub fn list_symbols(alloc: Global, options: u32, bytes: &[u8]) -> Result<Vec<u8>, Cause>
     ensures ok { IfOk result (λ text. names_in options bytes.now ≡ Ok text.items) }
     ensures err { IfErr result (λ cause. cause ≢ Memory → names_in options bytes.now ≡ Err cause) }
+    ensures memory { IfErr result (λ cause. cause ≡ Memory → IsOk (names_in options bytes.now)) }
 {
     let wanted = nm_options(options)?;
     let (file, _) = first_file(alloc, bytes)?;

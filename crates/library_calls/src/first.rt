@@ -1,19 +1,103 @@
 //! The file and the object that bytes begin with.
-ghost use Rattle.std.specs.Prelude.{◌≡◌, ◌≢◌, Ok, Err, IfOk, IfErr};
-ghost use Rattle.aout_core.specs.Decoding.{decode};
+ghost use Rattle.std.specs.Prelude.{◌≡◌, ◌≢◌, ◌≤◌, ℕ, List, length, Ok, Err, IfOk, IfErr, IsTrue};
+ghost use Rattle.aout_core.specs.Contents.{has_whole_sizes, is_magic};
+ghost use Rattle.aout_core.specs.Decoding.{contents_in, decode, header_in};
+ghost use Rattle.aout_core.specs.Encoding.{file_length};
 ghost use Rattle.library_calls.specs.FileAnswers.{behind_file, file_in, object_in, object_of};
+ghost use Rattle.library_calls.specs.MemoryWanted.{HasBody};
 ghost use Rattle.library_calls.specs.declared.cause.Cause.TheVariants.{Memory};
 
 use crate::cause::Cause;
-use aout_core::{File, Object, Wire, read_file};
+use aout_core::{File, Header, Object, Parts, ReadFault, Wire, read_file};
 use std::alloc::Global;
 
-/// The file that the bytes begin with, and the bytes behind it.
+/// How many bytes a file with this header takes.
+pub(crate) fn file_length(header: &Header) -> usize
+    ensures { result ≡ file_length header.now }
+{
+    let segments = header.text_size as usize + header.data_size as usize;
+    let relocation = if header.flag == 0 { segments } else { 0 };
+    16 + segments + relocation + header.symbol_size as usize
+}
+
+/// The header in the first 16 bytes.
+fn header_in(bytes: &[u8]) -> Header
+    requires { 16 ≤ length bytes.now }
+    ensures { result ≡ header_in bytes.now }
+{
+    let mut start = [0; 16];
+    start.copy_from_slice(&bytes[..16]);
+    Header::read(&start)
+}
+
+fn is_magic(magic: u16) -> bool
+    ensures { result ≡ is_magic magic }
+{
+    magic == 0o405 || magic == 0o407 || magic == 0o410 || magic == 0o411
+}
+
+/// Whether the segments have whole words, and the symbol table whole symbols.
+fn has_whole_sizes(header: &Header) -> bool
+    ensures { result ≡ has_whole_sizes header.now }
+{
+    header.text_size % 2 == 0
+        && header.data_size % 2 == 0
+        && header.bss_size % 2 == 0
+        && header.symbol_size % 12 == 0
+}
+
+/// The header of the file that the bytes begin with, if the whole file is there.
+fn whole_header(bytes: &[u8]) -> Result<Header, Cause>
+    ensures header { IfOk result (λ header. header ≡ header_in bytes.now) }
+    ensures whole { IfOk result (λ header. decode bytes.now ≡ Ok (contents_in header bytes.now)) }
+    ensures err { IfErr result (λ cause. file_in bytes.now ≡ Err cause) }
+    ensures memory { IfErr result (λ cause. cause ≢ Memory) }
+{
+    if bytes.len() < 16 {
+        return Err(Cause::BadFile(ReadFault::ShortHeader));
+    }
+    let header = header_in(bytes);
+    if !is_magic(header.magic) {
+        return Err(Cause::BadFile(ReadFault::BadMagic));
+    }
+    if !has_whole_sizes(&header) {
+        return Err(Cause::BadFile(ReadFault::OddSize));
+    }
+    if bytes.len() < file_length(&header) {
+        return Err(Cause::BadFile(ReadFault::Truncated));
+    }
+    Ok(header)
+}
+
+/// The file that is this header alone. It requests no memory.
+fn header_alone(alloc: Global, header: Header) -> File
+    requires magic { IsTrue (is_magic header.magic) }
+    requires sizes { IsTrue (has_whole_sizes header) }
+    requires alone { file_length header ≡ 16 }
+    ensures { (bytes : List ℕ) → result ≡ contents_in header bytes }
+{
+    File::from_parts(Parts {
+        header,
+        text_words: Vec::new(alloc),
+        data_words: Vec::new(alloc),
+        text_reloc: Vec::new(alloc),
+        data_reloc: Vec::new(alloc),
+        symbols: Vec::new(alloc),
+    })
+}
+
+/// The file that the bytes begin with, and the bytes after it. Memory is requested only for what a whole file has after
+/// its header.
 pub(crate) fn first_file(alloc: Global, bytes: &[u8]) -> Result<(File, &[u8]), Cause>
     ensures file { IfOk result (λ read. decode bytes.now ≡ Ok read.0) }
-    ensures behind { IfOk result (λ read. read.1.now ≡ behind_file bytes.now) }
+    ensures after { IfOk result (λ read. read.1.now ≡ behind_file bytes.now) }
     ensures err { IfErr result (λ cause. cause ≢ Memory → file_in bytes.now ≡ Err cause) }
+    ensures memory { IfErr result (λ cause. cause ≡ Memory → HasBody bytes.now) }
 {
+    let header = whole_header(bytes)?;
+    if file_length(&header) == 16 {
+        return Ok((header_alone(alloc, header), &bytes[16..]));
+    }
     let mut wire = Wire::new(bytes);
     let file = read_file(alloc, &mut wire)?;
     Ok((file, wire.into_inner()))
@@ -23,6 +107,7 @@ pub(crate) fn first_file(alloc: Global, bytes: &[u8]) -> Result<(File, &[u8]), C
 pub(crate) fn object_of(file: File) -> Result<Object, Cause>
     ensures ok { IfOk result (λ object. object_of file ≡ Ok object) }
     ensures err { IfErr result (λ cause. object_of file ≡ Err cause) }
+    ensures memory { IfErr result (λ cause. cause ≢ Memory) }
 {
     match Object::from_file(file) {
         Ok(object) => Ok(object),
@@ -30,12 +115,13 @@ pub(crate) fn object_of(file: File) -> Result<Object, Cause>
     }
 }
 
-/// The object that the bytes begin with, and the bytes behind it.
+/// The object that the bytes begin with, and the bytes after it.
 pub(crate) fn first_object(alloc: Global, bytes: &[u8]) -> Result<(Object, &[u8]), Cause>
     ensures object { IfOk result (λ read. object_in bytes.now ≡ Ok read.0) }
-    ensures behind { IfOk result (λ read. read.1.now ≡ behind_file bytes.now) }
+    ensures after { IfOk result (λ read. read.1.now ≡ behind_file bytes.now) }
     ensures err { IfErr result (λ cause. cause ≢ Memory → object_in bytes.now ≡ Err cause) }
+    ensures memory { IfErr result (λ cause. cause ≡ Memory → HasBody bytes.now) }
 {
-    let (file, behind) = first_file(alloc, bytes)?;
-    Ok((object_of(file)?, behind))
+    let (file, after) = first_file(alloc, bytes)?;
+    Ok((object_of(file)?, after))
 }

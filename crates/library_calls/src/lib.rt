@@ -1,11 +1,12 @@
 //! What a library for other languages answers: bytes of files in, bytes of files and text out.
 //!
-//! Nothing is kept between two calls. Objects come as the bytes of their files, one behind another: how long a file is
+//! Nothing is kept between two calls. Objects come as the bytes of their files, one after another: how long a file is
 //! follows from its header.
 #![tactic(auto)]
 
 mod apart;
 mod cause;
+mod edits;
 mod file_calls;
 mod first;
 mod link_call;

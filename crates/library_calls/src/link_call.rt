@@ -1,10 +1,11 @@
 //! The link of objects that come as bytes.
-ghost use Rattle.std.specs.Prelude.{◌≡◌, ◌≢◌, true, Ok, Err, IfOk, IfErr};
+ghost use Rattle.std.specs.Prelude.{◌≡◌, ◌≢◌, true, Ok, Err, IsOk, IfOk, IfErr};
 ghost use Rattle.aout_core.specs.WellFormed.{IsWellFormed};
 ghost use Rattle.link_session.specs.Labelled.{objects};
 ghost use Rattle.link_out.specs.function.Link.{link};
 ghost use Rattle.link_out.specs.Outcomes.{outcome_of};
 ghost use Rattle.library_calls.specs.LinkAnswers.{linked_in, linked_or, output_in, output_of, outputs_of};
+ghost use Rattle.library_calls.specs.MemoryWanted.{LinkMayRunOut, MayRunOutInLink};
 ghost use Rattle.library_calls.specs.declared.cause.Cause.TheVariants.{Memory};
 
 use crate::cause::{Cause, Refusal};
@@ -38,15 +39,21 @@ pub struct Program {
 }
 
 /// The link of the objects in a session.
-fn link_kept(alloc: Global, session: &Session, options: &Options) -> Result<Linked, Cause>
+pub(crate) fn link_kept(
+    alloc: Global,
+    session: &Session,
+    options: &Options,
+) -> Result<Linked, Cause>
     ensures ok { IfOk result (λ linked. linked_or (link session.now.forced (objects session.now.entries) options.now) ≡ Ok (outcome_of linked)) }
     ensures err { IfErr result (λ cause. cause ≢ Memory → linked_or (link session.now.forced (objects session.now.entries) options.now) ≡ Err cause) }
+    ensures memory { IfErr result (λ cause. cause ≡ Memory → IsOk (link session.now.forced (objects session.now.entries) options.now)) }
     ensures object { options.now.relocatable ≡ true → IfOk result (λ linked. IsWellFormed linked.file) }
 {
     Ok(finish(alloc, session, options)?)
 }
 
 /// The link of the objects that the bytes hold.
+#[tactic(auto, using(crate::proofs::MemoryLemmas::link_without_memory))]
 fn link_objects(
     alloc: Global,
     objects: &[u8],
@@ -54,7 +61,8 @@ fn link_objects(
     options: &Options,
 ) -> Result<Linked, Refusal>
     ensures ok { IfOk result (λ linked. linked_in forced.now options.now objects.now ≡ Ok (outcome_of linked)) }
-    ensures err { IfErr result (λ refusal. refusal.cause ≢ Memory → linked_in forced.now options.now objects.now ≡ Err refusal) }
+    ensures err { IfErr result (λ r. r.cause ≢ Memory → linked_in forced.now options.now objects.now ≡ Err r) }
+    ensures memory { IfErr result (λ r. r.cause ≡ Memory → MayRunOutInLink forced.now options.now objects.now r.place) }
     ensures object { options.now.relocatable ≡ true → IfOk result (λ linked. IsWellFormed linked.file) }
 {
     let mut session = Session::with_forced(alloc, forced)?;
@@ -78,17 +86,19 @@ pub(crate) fn program_of(alloc: Global, linked: &Linked) -> Result<Program, Caus
     })
 }
 
-/// Links the objects that the bytes hold, one behind another, in their order. Each is read, checked and added before
+/// Links the objects that the bytes hold, one after another, in their order. Each is read, checked and added before
 /// the next one is read, and a refusal ends the link. Without bytes there are no objects. (ld(1))
 ///
 /// Errors, the first that applies: `NoOption`, 1, `Excluded`, 2, and `LongName`, 3, where the options or the name of the
 /// entry point are wrong; `CutNames`, 4, and `ManyNames`, 5, where the forced names are; for the first object that is not
 /// taken, with its number, `BadFile`, 11 to 14, where it is no file, `BadObject`, 21 to 24, where it is no object, or
-/// `NotAdded`, 31 to 34, where it passes a limit; behind the last object `NotLinked`, 41 to 43, where there is no link;
-/// `Memory`, 50, wherever memory runs out.
+/// `NotAdded`, 31 to 34, where it passes a limit; after the last object `NotLinked`, 41 to 43, where there is no link;
+/// `Memory`, 50, if memory runs out for forced names, for a whole file, for an object that is accepted, or for a link.
 pub fn link(alloc: Global, wanted: &Wanted<'_>, objects: &[u8]) -> Result<Program, Refusal>
     ensures ok { IfOk result (λ program. output_in wanted.now.options wanted.now.entry.now wanted.now.forced.now objects.now ≡ Ok (outputs_of program)) }
     ensures err { IfErr result (λ r. r.cause ≢ Memory → output_in wanted.now.options wanted.now.entry.now wanted.now.forced.now objects.now ≡ Err r) }
+    ensures memory { IfErr result (λ r. r.cause ≡ Memory
+        → LinkMayRunOut wanted.now.options wanted.now.entry.now wanted.now.forced.now objects.now r.place) }
 {
     let options = link_options(wanted.options, wanted.entry)?;
     let forced = forced_names(wanted.forced)?;

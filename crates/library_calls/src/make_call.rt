@@ -1,5 +1,5 @@
 //! Objects made of their parts.
-ghost use Rattle.std.specs.Prelude.{◌≡◌, ◌≢◌, map, Ok, Err, IfOk, IfErr};
+ghost use Rattle.std.specs.Prelude.{◌≡◌, ◌≢◌, map, Ok, Err, IsOk, IfOk, IfErr};
 ghost use Rattle.aout_core.specs.Contents.{Fits};
 ghost use Rattle.aout_core.specs.Parts.{contents_of};
 ghost use Rattle.library_calls.specs.ObjectParts.{contents_for, file_for, header_for, made_of, pieces, reloc_of, symbol_of};
@@ -91,6 +91,8 @@ fn file_for(alloc: Global, parts: &ObjectParts<'_>) -> Result<File, Cause>
     ensures ok { IfOk result (λ file. file_for (pieces parts.now.text.now parts.now.data.now parts.now.bss parts.now.symbols.now) ≡ Ok file) }
     ensures err { IfErr result (λ cause. cause ≢ Memory
         → file_for (pieces parts.now.text.now parts.now.data.now parts.now.bss parts.now.symbols.now) ≡ Err cause) }
+    ensures memory { IfErr result (λ cause. cause ≡ Memory
+        → IsOk (file_for (pieces parts.now.text.now parts.now.data.now parts.now.bss parts.now.symbols.now))) }
 {
     let header = header_for(parts)?;
     let lists = parts_with(alloc, header, parts)?;
@@ -101,12 +103,14 @@ fn file_for(alloc: Global, parts: &ObjectParts<'_>) -> Result<File, Cause>
 ///
 /// Errors, the first that applies: `TooLong`, 6, where text or data have more than 32,767 words, bss more than 65,535
 /// bytes, or there are more than 5,461 symbols; `BadFile`, 13, where the size of bss is odd; `BadObject`, 23 and 24,
-/// where a relocation word has no kind, or not the number of an undefined external; `Memory`, 50, where memory runs
-/// out.
+/// where a relocation word has no kind, or not the number of an undefined external; `Memory`, 50, if memory runs out for
+/// parts that are not too long and whose bss is not odd.
 pub fn make(alloc: Global, parts: &ObjectParts<'_>) -> Result<Vec<u8>, Cause>
     ensures ok { IfOk result (λ written. made_of (pieces parts.now.text.now parts.now.data.now parts.now.bss parts.now.symbols.now) ≡ Ok written.items) }
     ensures err { IfErr result (λ cause. cause ≢ Memory
         → made_of (pieces parts.now.text.now parts.now.data.now parts.now.bss parts.now.symbols.now) ≡ Err cause) }
+    ensures memory { IfErr result (λ cause. cause ≡ Memory
+        → IsOk (file_for (pieces parts.now.text.now parts.now.data.now parts.now.bss parts.now.symbols.now))) }
 {
     let file = file_for(alloc, parts)?;
     let object = object_of(file)?;

@@ -1,18 +1,16 @@
 //! What a session of objects that come as bytes shows, by its edits.
 ghost use Rattle.std.specs.Prelude.{◌≡◌, ◌≢◌, [], map, Ok, Err, IfOk, IfErr};
-ghost use Rattle.link_session.specs.Edits.{addition, withdrawal};
-ghost use Rattle.link_session.specs.Sessions.{labelled};
 ghost use Rattle.link_out.specs.Runs.{change_of};
+ghost use Rattle.library_calls.specs.MemoryWanted.{StateMayRunOut};
 ghost use Rattle.library_calls.specs.StateAnswers.{asked_in, form_in, told_of, IsShown, Shows};
-ghost use Rattle.library_calls.specs.internal.Edited.{AreEdited, IsEdited, ShowsFrom};
+ghost use Rattle.library_calls.specs.internal.Edited.{ShowsFrom};
 ghost use Rattle.library_calls.specs.declared.cause.Cause.TheVariants.{Memory};
 
-use crate::cause::{Cause, Refusal, addition_number};
-use crate::session_call::{read_edits, session_status};
+use crate::cause::{Cause, Refusal};
+use crate::edits::{make_edits, read_edits, session_status};
 use crate::wanted::forced_names;
-use aout_core::Object;
 use link_out::Edit;
-use link_session::{AddFault, Session};
+use link_session::Session;
 use session_text::{state_json, state_lines};
 use std::alloc::Global;
 
@@ -44,58 +42,6 @@ fn form_in(form: u32) -> Result<Form, Cause>
         1 => Ok(Form::Json),
         _ => Err(Cause::NoOption),
     }
-}
-
-/// Adds an object, and returns the number of the limit that it passes, or 0.
-#[tactic(auto, using(crate::proofs::StateLemmas::by_edit))]
-fn make_addition(session: &mut Session, label: String, object: Object) -> Result<u8, Cause>
-    ensures ok { IfOk result (λ number. IsEdited session.old session.new (addition (labelled label object)) number) }
-    ensures err { IfErr result (λ cause. cause ≡ Memory) }
-{
-    let Err(refused) = session.add(label, object) else {
-        return Ok(0);
-    };
-    match refused.cause {
-        AddFault::Memory => Err(Cause::Memory),
-        limit => Ok(addition_number(limit)),
-    }
-}
-
-/// Withdraws the last object, and returns 0, or 35 where there is none.
-#[tactic(auto, using(crate::proofs::StateLemmas::by_edit))]
-fn make_withdrawal(session: &mut Session) -> u8
-    ensures { IsEdited session.old session.new withdrawal result }
-{
-    match session.withdraw() {
-        Some(_) => 0,
-        None => 35,
-    }
-}
-
-/// Makes an edit, and returns its reply.
-fn make_edit(session: &mut Session, edit: Edit) -> Result<u8, Cause>
-    ensures ok { IfOk result (λ number. IsEdited session.old session.new (change_of edit) number) }
-    ensures err { IfErr result (λ cause. cause ≡ Memory) }
-{
-    match edit {
-        Edit::Add(label, object) => make_addition(session, label, object),
-        Edit::Withdraw => Ok(make_withdrawal(session)),
-    }
-}
-
-/// Makes the edits in order, and returns their replies.
-fn make_edits(alloc: Global, session: &mut Session, edits: Vec<Edit>) -> Result<Vec<u8>, Cause>
-    ensures ok { IfOk result (λ numbers. AreEdited session.old session.new (map change_of edits.items) numbers.items) }
-    ensures err { IfErr result (λ cause. cause ≡ Memory) }
-{
-    let mut numbers = Vec::new(alloc);
-    for edit in edits {
-        let number = make_edit(session, edit)?;
-        if numbers.push(number).is_err() {
-            return Err(Cause::Memory);
-        }
-    }
-    Ok(numbers)
 }
 
 /// The state of a session, in this form.
@@ -135,7 +81,8 @@ fn edit_and_show(
 ///
 /// Errors, the first that applies: `NoOption`, 1, where the form is another number; `CutNames`, 4, and `ManyNames`, 5, as
 /// `link`; for the first edit that can't be read, with its number, `NoEdit`, 7, `BadFile`, 11 to 14, or `BadObject`, 21 to
-/// 24, as `run_session`; `Memory`, 50, wherever memory runs out.
+/// 24, as `run_session`; `Memory`, 50, if memory runs out for a whole file, for an edit that is accepted, for forced
+/// names, or for the state.
 pub fn show_session(
     alloc: Global,
     form: u32,
@@ -145,6 +92,7 @@ pub fn show_session(
 ) -> Result<Shown, Refusal>
     ensures ok { IfOk result (λ shown. IsShown (asked_in form forced.now letters.now objects.now) (Ok (told_of shown))) }
     ensures err { IfErr result (λ r. r.cause ≢ Memory → asked_in form forced.now letters.now objects.now ≡ Err r) }
+    ensures memory { IfErr result (λ r. r.cause ≡ Memory → StateMayRunOut form forced.now letters.now objects.now r.place) }
 {
     let form = form_in(form)?;
     let forced = forced_names(forced)?;

@@ -1,8 +1,10 @@
 //! Objects taken into a session from their bytes.
-ghost use Rattle.std.specs.Prelude.{◌≡◌, ◌≢◌, Ok, Err, IfOk, IfErr, OnErr};
+ghost use Rattle.std.specs.Prelude.{◌≡◌, ◌≢◌, None, Ok, Err, IfOk, IfErr, OnErr};
 ghost use Rattle.link_session.specs.Labelled.{objects};
+ghost use Rattle.link_session.specs.Limits.{refusal};
 ghost use Rattle.library_calls.specs.FileAnswers.{behind_file};
 ghost use Rattle.library_calls.specs.LinkAnswers.{with_first, with_object, with_objects};
+ghost use Rattle.library_calls.specs.MemoryWanted.{MayRunOutForObject, MayRunOutInObjects};
 ghost use Rattle.library_calls.specs.declared.cause.Cause.TheVariants.{Memory};
 
 use crate::cause::{Cause, Refusal};
@@ -16,6 +18,7 @@ fn add(alloc: Global, session: &mut Session, object: Object) -> Result<(), Cause
     ensures forced { session.new.forced ≡ session.old.forced }
     ensures ok { IfOk result (λ _. with_object session.old.forced (objects session.old.entries) object ≡ Ok (objects session.new.entries)) }
     ensures err { IfErr result (λ cause. cause ≢ Memory → with_object session.old.forced (objects session.old.entries) object ≡ Err cause) }
+    ensures memory { IfErr result (λ cause. cause ≡ Memory → refusal session.old.forced (objects session.old.entries) object ≡ None) }
     ensures unchanged { OnErr result (session.new ≡ session.old) }
 {
     match session.add(String::new(alloc), object) {
@@ -24,20 +27,21 @@ fn add(alloc: Global, session: &mut Session, object: Object) -> Result<(), Cause
     }
 }
 
-/// Adds the object that the bytes begin with, and returns the bytes behind it.
+/// Adds the object that the bytes begin with, and returns the bytes after it.
 fn take_first<'a>(alloc: Global, session: &mut Session, bytes: &'a [u8]) -> Result<&'a [u8], Cause>
     ensures forced { session.new.forced ≡ session.old.forced }
     ensures ok { IfOk result (λ _. with_first session.old.forced (objects session.old.entries) bytes.now ≡ Ok (objects session.new.entries)) }
-    ensures behind { IfOk result (λ behind. behind.now ≡ behind_file bytes.now) }
+    ensures after { IfOk result (λ after. after.now ≡ behind_file bytes.now) }
     ensures err { IfErr result (λ cause. cause ≢ Memory → with_first session.old.forced (objects session.old.entries) bytes.now ≡ Err cause) }
+    ensures memory { IfErr result (λ cause. cause ≡ Memory → MayRunOutForObject session.old.forced (objects session.old.entries) bytes.now) }
     ensures unchanged { OnErr result (session.new ≡ session.old) }
 {
-    let (object, behind) = first_object(alloc, bytes)?;
+    let (object, after) = first_object(alloc, bytes)?;
     add(alloc, session, object)?;
-    Ok(behind)
+    Ok(after)
 }
 
-/// Adds the objects of the bytes, one behind another, up to the first that is not taken.
+/// Adds the objects of the bytes, one after another, up to the first that is not taken.
 pub(crate) fn take_objects(
     alloc: Global,
     session: &mut Session,
@@ -45,7 +49,8 @@ pub(crate) fn take_objects(
 ) -> Result<(), Refusal>
     ensures forced { session.new.forced ≡ session.old.forced }
     ensures ok { IfOk result (λ _. with_objects session.old.forced (objects session.old.entries) bytes.now ≡ Ok (objects session.new.entries)) }
-    ensures err { IfErr result (λ refusal. refusal.cause ≢ Memory → with_objects session.old.forced (objects session.old.entries) bytes.now ≡ Err refusal) }
+    ensures err { IfErr result (λ r. r.cause ≢ Memory → with_objects session.old.forced (objects session.old.entries) bytes.now ≡ Err r) }
+    ensures memory { IfErr result (λ r. r.cause ≡ Memory → MayRunOutInObjects session.old.forced (objects session.old.entries) bytes.now r.place) }
 {
     let mut rest = bytes;
     for _ in 0..bytes.len() {
@@ -53,7 +58,7 @@ pub(crate) fn take_objects(
             break;
         }
         match take_first(alloc, session, rest) {
-            Ok(behind) => rest = behind,
+            Ok(after) => rest = after,
             Err(cause) => {
                 let place = session.entries().len();
                 return Err(Refusal { cause, place });

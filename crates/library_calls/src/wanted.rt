@@ -1,7 +1,8 @@
 //! What is asked of a link.
-ghost use Rattle.std.specs.Prelude.{◌≡◌, ◌<◌};
+ghost use Rattle.std.specs.Prelude.{◌≡◌, ◌≢◌, ◌<◌, IfErr};
 ghost use Rattle.library_calls.specs.FileAnswers.{has_bit, nm_options_in};
 ghost use Rattle.library_calls.specs.LinkWanted.{choices_in, entry_of, forced_in, keep_of, layout_by};
+ghost use Rattle.library_calls.specs.declared.cause.Cause.TheVariants.{Memory};
 
 use crate::cause::{Cause, Refusal};
 use aout_core::Name;
@@ -62,13 +63,13 @@ pub(crate) fn link_options(bits: u32, entry_name: &[u8]) -> Result<Options, Caus
     if bits > 127 {
         return Err(Cause::NoOption);
     }
-    if entry_name.len() > 8 {
-        return Err(Cause::LongName);
-    }
     let layout = layout(bits)?;
     let Ok(options) = Options::new(layout, has_bit(bits, 1), keep(bits), entry(entry_name)) else {
         return Err(Cause::Excluded);
     };
+    if entry_name.len() > 8 {
+        return Err(Cause::LongName);
+    }
     if has_bit(bits, 64) {
         Ok(options.force_commons())
     } else {
@@ -78,7 +79,8 @@ pub(crate) fn link_options(bits: u32, entry_name: &[u8]) -> Result<Options, Caus
 
 /// The forced names, of eight bytes each.
 pub(crate) fn forced_names(bytes: &[u8]) -> Result<Forced, Refusal>
-    ensures { result ≡ forced_in bytes.now }
+    ensures value { result ≡ forced_in bytes.now }
+    ensures memory { IfErr result (λ r. r.cause ≢ Memory) }
 {
     if bytes.len() % 8 != 0 {
         return Err(Refusal {
@@ -89,14 +91,14 @@ pub(crate) fn forced_names(bytes: &[u8]) -> Result<Forced, Refusal>
     let mut forced = Forced::none();
     let mut rest = bytes;
     for i in 0..bytes.len() / 8 {
-        let (slot, behind) = rest.split_at(8);
+        let (slot, after) = rest.split_at(8);
         if !forced.push(Name::from_bytes(slot)) {
             return Err(Refusal {
                 cause: Cause::ManyNames,
                 place: i,
             });
         }
-        rest = behind;
+        rest = after;
     }
     Ok(forced)
 }

@@ -1,5 +1,5 @@
 -- The rows of the externals, as the relation of linking tells them, stand once each among the symbols that nm lists.
-use Rattle.std.proofs.Common.{◌≡◌, ◌≢◌, ℕ, ◌+◌, Bool, true, false, cond, not, ◌&&◌, ◌||◌, eqb, List, [], ◌∷◌, ◌++◌, map, filter, Some, refl, sym, ◌∙◌, ap, subst}
+use Rattle.std.proofs.Common.{◌≡◌, ◌≢◌, ℕ, ◌+◌, Bool, true, false, cond, not, ◌&&◌, ◌||◌, eqb, List, [], ◌∷◌, ◌++◌, map, filter, Some, refl, sym, ◌∙◌, ap, subst, arith}
 use Rattle.std.specs.Prelude.{bytes_eq}
 use Rattle.std.specs.List.{flat_map, AllByRecursion}
 use Rattle.std.proofs.lemmas.Bool.{and_parts}
@@ -24,6 +24,7 @@ use Rattle.link_out.specs.Results.{Outcome}
 use Rattle.link_out.specs.relation.NameStates.{HasState}
 use Rattle.link_out.specs.relation.Relocated.{data_base_in, base_in, entry_of}
 use Rattle.link_out.specs.relation.LinkedTable.{shown as row_of_name, row_for, room_for, AreRows, moved_local_in, moved_locals_in}
+use Rattle.link_out.specs.relation.Refusals.{CommonsTake}
 use Rattle.link_out.specs.relation.LinkedFrom.{IsLinkedFrom}
 use Rattle.link_out.proofs.RowLemmas.{rows_kept-others}
 use Rattle.symtools.specs.declared.options.NmOptions.{NmOptions}
@@ -158,22 +159,34 @@ module _ (h : Header) (bss : ℕ) (o : Choices) (ms : List Mention) where
   rows_outer [] at end are = tt
   rows_outer (r ∷ rs) at end are = (ap is_external are.2 ∙ row_outer h bss o at r.name are.0, rows_outer rs (at + room_for o are.0) end are.3)
 
-  record IsRowOf (rows : List Symbol) (name : List ℕ) : Type 0 where
+  -- one of these rows, the first of which would have a common at the start
+  record IsRowOf (rows : List Symbol) (start : ℕ) (name : List ℕ) : Type 0 where
     row : Symbol
     once : filter (is_named name) rows ≡ row ∷ []
     state : State
     has : HasState ms name state
-    at : ℕ
-    is : row ≡ row_for h bss o at name state
+    earlier : List (List ℕ)
+    later : List (List ℕ)
+    order : map (λ s. s.name) rows ≡ earlier ++ name ∷ later
+    taken : ℕ
+    take : CommonsTake o ms earlier taken
+    is : row ≡ row_for h bss o (start + taken) name state
 
-  one_row : (rows : List Symbol) (at end : ℕ) → AreRows h bss o ms at rows end → AreApart (map (λ s. s.name) rows) → (name : List ℕ) → is_among (map (λ s. s.name) rows) name ≡ true → IsRowOf rows name
+  here : (start : ℕ) → start ≡ start + 0
+  here start = omega arith
+
+  further : (start room taken : ℕ) → start + room + taken ≡ start + (room + taken)
+  further start room taken = omega arith
+
+  one_row : (rows : List Symbol) (at end : ℕ) → AreRows h bss o ms at rows end → AreApart (map (λ s. s.name) rows) → (name : List ℕ) → is_among (map (λ s. s.name) rows) name ≡ true → IsRowOf rows at name
   one_row [] at end are lie name known = absurd (cc)
   one_row (r ∷ rs) at end are lie name known = by_test (bytes_eq name r.name) refl known (one_row rs (at + room_for o are.0) end are.3 lie.1 name)
     where
       outer : is_external r ≡ true
       outer = ap is_external are.2 ∙ row_outer h bss o at r.name are.0
 
-      by_test : (t : Bool) → bytes_eq name r.name ≡ t → (t || is_among (map (λ s. s.name) rs) name) ≡ true → (is_among (map (λ s. s.name) rs) name ≡ true → IsRowOf rs name) → IsRowOf (r ∷ rs) name
+      by_test : (t : Bool) → bytes_eq name r.name ≡ t → (t || is_among (map (λ s. s.name) rs) name) ≡ true → (is_among (map (λ s. s.name) rs) name ≡ true → IsRowOf rs (at + room_for o are.0) name) →
+          IsRowOf (r ∷ rs) at name
       by_test true e known rest =
           let same : name ≡ r.name = (bytes_eq-Decides name r.name).0 e in
           let none : filter (is_named name) rs ≡ [] = none_named rs name (ap (is_among (map (λ s. s.name) rs)) same ∙ lie.0) in
@@ -182,18 +195,26 @@ module _ (h : Header) (bss : ℕ) (o : Choices) (ms : List Mention) where
             once = λ i. cond (outer i && e i) (r ∷ none i) (none i);
             state = are.0;
             has = subst (λ (m : List ℕ). HasState ms m are.0) (sym same) are.1;
-            at = at;
-            is = are.2 ∙ ap (λ (m : List ℕ). row_for h bss o at m are.0) (sym same);
+            earlier = [];
+            later = map (λ s. s.name) rs;
+            order = λ i. sym same i ∷ map (λ s. s.name) rs;
+            taken = 0;
+            take = refl;
+            is = are.2 ∙ (λ i. row_for h bss o (here at i) (sym same i) are.0);
           }
       by_test false e known rest =
-          let found : IsRowOf rs name = rest known in
+          let found : IsRowOf rs (at + room_for o are.0) name = rest known in
           record {
             row = found.row;
             once = (λ i. cond (outer i && e i) (r ∷ filter (is_named name) rs) (filter (is_named name) rs)) ∙ found.once;
             state = found.state;
             has = found.has;
-            at = found.at;
-            is = found.is;
+            earlier = r.name ∷ found.earlier;
+            later = found.later;
+            order = ap (λ (ns : List (List ℕ)). r.name ∷ ns) found.order;
+            taken = room_for o are.0 + found.taken;
+            take = (are.0, are.1, (found.taken, refl, found.take));
+            is = found.is ∙ ap (λ (a : ℕ). row_for h bss o a name found.state) (further at (room_for o are.0) found.taken);
           }
 
 -- the table of a link
@@ -240,9 +261,10 @@ module _ (forced : List (List ℕ)) (os : List Contents) (o : Choices) (x : Outc
         once = arranged_one n (filter (is_shown n) x.file.symbols) (is_named name) r.row (ap (filter (is_named name)) (passed n u) ∙ named_behind (listed_locals n locals) name (listed_inner n.external) ∙ r.once);
         state = r.state;
         has = r.has;
-        at = r.at;
+        at = at + r.taken;
+        place = record { earlier = r.earlier; later = r.later; order = sym l.names ∙ r.order; taken = r.taken; take = r.take; after = refl };
         is = r.is;
-        shows = λ plain. ap letter r.is ∙ row_letter x.file.header bss o r.at name r.state plain;
+        shows = λ plain. ap letter r.is ∙ row_letter x.file.header bss o (at + r.taken) name r.state plain;
       }
 
 pub externals_are_listed : (forced : List (List ℕ)) (os : List Contents) (o : Choices) (x : Outcome) → o.keep ≢ Nothing → IsLinkedFrom forced os o x →

@@ -12,5 +12,6 @@ pub mod NameListLemmas
 pub mod ReorderedMentions
 pub mod ReorderedDefinitions
 pub mod ReorderedLinks
+pub mod ReorderedAdditions
 pub mod ReorderedMeanings
 pub mod SingleDefinitions

@@ -18,6 +18,7 @@ use Rattle.link_session.specs.Sessions.{IsObject}
 use Rattle.link_session.specs.Mentions.{mentions}
 use Rattle.link_session.proofs.ListLemmas.{all_split}
 use Rattle.link_session.specs.Cells.{segment_words, segment_relocs}
+use Rattle.link_options.specs.declared.options.Keep.{Keep}
 use Rattle.link_options.specs.declared.options.Keep.TheVariants.{Nothing}
 use Rattle.link_options.specs.declared.options.Layout.{Layout}
 use Rattle.link_options.specs.declared.options.Layout.TheVariants.{Plain, Pure, Split}
@@ -27,12 +28,14 @@ use Rattle.link_out.specs.Results.{Outcome}
 use Rattle.link_out.specs.function.Plans.{plan, commons_laid}
 use Rattle.link_out.specs.function.Link.{link, linked_file}
 use Rattle.link_out.specs.relation.Relocated.{data_base_in, base_in, move_in, entry_of, IsRelocated, HoldsObjects}
+use Rattle.link_out.specs.relation.LinkedFrom.{IsLinkedFrom}
 use Rattle.link_out.specs.laws.CommonsAndLayouts.{IsCommon, HasRoom}
 use Rattle.link_out.proofs.OutcomeLemmas.{made_file, made_fits}
 use Rattle.link_out.proofs.SegmentLemmas.{HasWords, made_length}
 use Rattle.link_out.proofs.RelocatedLemmas.{words_relocated, objects_fill}
 use Rattle.link_out.proofs.MoveLemmas.{data_begun}
 use Rattle.link_out.proofs.CommonLemmas.{commons_have_room}
+use Rattle.link_out.proofs.LinkedTheorem.{linked_exactly}
 use Rattle.link_laws.specs.Core.{Space, of_instructions, of_data, has_one_space, has_segment, first_address, bytes_of, segment_byte, is_in, core, IsWordAt}
 use Rattle.link_laws.specs.CoreLaws.{space_of, IsPlace, IsLoaded, IsZero, IsOfWord}
 use Rattle.link_laws.proofs.ByteLemmas.{low_byte, high_byte}
@@ -378,3 +381,37 @@ words_loaded forced before k after o x good others linked TextSeg i w r ew er =
     loaded_word forced (before ++ k ∷ after) o x good linked before k after refl x.file.symbols TextSeg tt i w r (words_relocated forced before k after o x good others linked TextSeg i w r ew er)
 words_loaded forced before k after o x good others linked DataSeg i w r ew er =
     loaded_word forced (before ++ k ∷ after) o x good linked before k after refl x.file.symbols DataSeg tt i w r (words_relocated forced before k after o x good others linked DataSeg i w r ew er)
+
+-- only text and data have words
+pub words_there : (segment : Segment) (k : Contents) (i w : ℕ) → slice_get (segment_words segment k) i ≡ Some w → HasWords segment
+words_there TextSeg k i w e = tt
+words_there DataSeg k i w e = tt
+words_there Undefined k i w e = absurd (cc)
+words_there Absolute k i w e = absurd (cc)
+words_there BssSeg k i w e = absurd (cc)
+words_there Other k i w e = absurd (cc)
+
+-- each word of a link is relocated by the rows of its relation
+relocated_in : (forced : List (List ℕ)) (os : List Contents) (o : Choices) (x : Outcome) (l : IsLinkedFrom forced os o x) (before : List Contents) (k : Contents) (after : List Contents) → os ≡ before ++ k ∷ after →
+    (segment : Segment) (i w : ℕ) (r : Reloc) → slice_get (segment_words segment k) i ≡ Some w → slice_get (segment_relocs segment k) i ≡ Some r → IsRelocated x.file l.rows os before k segment i w r
+relocated_in forced os o x l before k after all TextSeg i w r ew er = l.text before k after all i w r ew er
+relocated_in forced os o x l before k after all DataSeg i w r ew er = l.data before k after all i w r ew er
+relocated_in forced os o x l before k after all Undefined i w r ew er = absurd (cc)
+relocated_in forced os o x l before k after all Absolute i w r ew er = absurd (cc)
+relocated_in forced os o x l before k after all BssSeg i w r ew er = absurd (cc)
+relocated_in forced os o x l before k after all Other i w r ew er = absurd (cc)
+
+pub words_of_rows : (forced : List (List ℕ)) (before : List Contents) (k : Contents) (after : List Contents) (o : Choices) (x : Outcome) →
+    AllByRecursion IsObject (before ++ k ∷ after) → (l : IsLinkedFrom forced (before ++ k ∷ after) o x) →
+    (segment : Segment) (i w : ℕ) (r : Reloc) → slice_get (segment_words segment k) i ≡ Some w → slice_get (segment_relocs segment k) i ≡ Some r →
+    IsLoaded x.file l.rows (before ++ k ∷ after) before k segment i w r
+words_of_rows forced before k after o x good l segment i w r ew er =
+    let os = before ++ k ∷ after in
+    loaded_word forced os o x good ((linked_exactly forced os o x good).1 l) before k after refl l.rows segment (words_there segment k i w ew) i w r (relocated_in forced os o x l before k after refl segment i w r ew er)
+
+-- neither magic, sizes nor words depend on the symbols that are kept
+pub kept_loaded : (forced : List (List ℕ)) (os : List Contents) (o : Choices) (keep : Keep) (x y : Outcome) →
+    link forced os o ≡ Ok x → link forced os (record o { keep = keep }) ≡ Ok y → (space : Space) (address : ℕ) → core y.file space address ≡ core x.file space address
+kept_loaded forced os o keep x y linked other space address =
+    sym (ap (λ (f : Contents). core f space address) (made_file (plan forced os (record o { keep = keep })) os y other))
+    ∙ ap (λ (f : Contents). core f space address) (made_file (plan forced os o) os x linked)

@@ -1,8 +1,8 @@
 -- What words of a linked program find, beside what they find in their objects.
-use Rattle.std.proofs.Common.{◌≡◌, ◌≢◌, ℕ, ◌+◌, ◌*◌, ◌%◌, ◌<◌, Bool, true, false, cond, not, ◌||◌, eqb, List, [], ◌∷◌, ◌++◌, Option, Some, None, refl, sym, ◌∙◌, ap, subst, arith}
+use Rattle.std.proofs.Common.{◌≡◌, ◌≢◌, ℕ, ◌+◌, ◌*◌, ◌-◌, ◌%◌, ◌<◌, ◌≤◌, Bool, true, false, cond, not, ◌||◌, eqb, List, [], ◌∷◌, ◌++◌, Option, Some, None, refl, sym, ◌∙◌, ap, subst, arith}
 use Rattle.std.specs.Prelude.{slice_get, bytes_eq, Ok}
 use Rattle.std.specs.List.{AllByRecursion}
-use Rattle.std.proofs.lemmas.Bool.{false_from_ne_true, eqb-true}
+use Rattle.std.proofs.lemmas.List.Sums.{sum_by-append}
 use Rattle.std.proofs.lemmas.Option.{same_Some}
 use Rattle.aout_core.specs.declared.header.Header.{Header}
 use Rattle.aout_core.specs.declared.symbol.Symbol.{Symbol}
@@ -13,7 +13,7 @@ use Rattle.aout_core.specs.declared.reloc.Kind.{Kind}
 use Rattle.aout_core.specs.declared.reloc.Kind.TheVariants as kinds
 use Rattle.aout_core.specs.Contents.{Contents}
 use Rattle.aout_core.specs.Words.{plus, minus}
-use Rattle.aout_core.specs.WellFormed.{masked_type, segment_of, segment_numbered, kind_of, is_pc_relative, symbol_number}
+use Rattle.aout_core.specs.WellFormed.{kind_of, is_pc_relative, symbol_number}
 use Rattle.link_session.specs.declared.state.State.{State}
 use Rattle.link_session.specs.declared.state.State.TheVariants.{Defined, Wanted}
 use Rattle.link_session.specs.Starts.{size_of, total, own}
@@ -29,17 +29,19 @@ use Rattle.link_out.specs.function.Plans.{Plan, plan, common_offset}
 use Rattle.link_out.specs.function.Finals.{Final, final_by, bound_at, waiting, reserved_or_waiting, etext, edata, end_name}
 use Rattle.link_out.specs.function.Tables.{external_row}
 use Rattle.link_out.specs.function.Link.{link}
-use Rattle.link_out.specs.relation.Relocated.{move_in, entry_of, address_in, IsAddressOf, IsAdded, base_in, external_type, IsRelocated}
-use Rattle.link_out.specs.relation.LinkedFrom.{IsLinkedFrom}
+use Rattle.link_out.specs.relation.Relocated.{data_base_in, move_in, entry_of, address_in, IsAddressOf, IsAdded, base_in, external_type, HoldsObjects}
+use Rattle.link_out.proofs.RelocatedLemmas.{objects_fill}
 use Rattle.link_out.specs.laws.WordsAndNames.{IsDefined}
 use Rattle.link_out.proofs.OutcomeLemmas.{made_file}
 use Rattle.link_out.proofs.ExternalLemmas.{entry_in_table, row_address}
 use Rattle.link_out.proofs.SegmentLemmas.{HasWords}
 use Rattle.link_out.proofs.DefinedLemmas.{definitions_hold}
 use Rattle.link_out.proofs.LinkedTheorem.{linked_exactly}
+use Rattle.link_laws.specs.Core.{Space, is_in}
 use Rattle.link_laws.specs.CoreLaws.{IsPlace, IsLoaded}
-use Rattle.link_laws.specs.Operands.{operand, FindsMore, FindsName, segment_meant, Calls, Defines, Arrives}
-use Rattle.link_laws.proofs.LoadedLemmas.{HasPlace, address_of, place_at, loaded_word, words_loaded}
+use Rattle.link_laws.specs.Operands.{operand, FindsMore, FindsName, segment_meant, Calls, Defines, is_usable_in, Arrives}
+use Rattle.link_laws.proofs.CoreLemmas.{within_back}
+use Rattle.link_laws.proofs.LoadedLemmas.{address_of, place_at, words_there, words_loaded, words_of_rows}
 
 -- sums
 
@@ -76,15 +78,6 @@ module _ (file : Contents) (rows : List Symbol) (os before : List Contents) (k :
   loaded_finds Absolute has i w r l = absurd has
   loaded_finds BssSeg has i w r l = absurd has
   loaded_finds Other has i w r l = absurd has
-
--- words stand only in text and data
-words_there : (segment : Segment) (k : Contents) (i w : ℕ) → slice_get (segment_words segment k) i ≡ Some w → HasWords segment
-words_there TextSeg k i w e = tt
-words_there DataSeg k i w e = tt
-words_there Undefined k i w e = absurd (cc)
-words_there Absolute k i w e = absurd (cc)
-words_there BssSeg k i w e = absurd (cc)
-words_there Other k i w e = absurd (cc)
 
 -- names
 
@@ -176,16 +169,6 @@ meant_added h rows os before k kinds.DataSeg meant number a e is = is ∙ ap (λ
 meant_added h rows os before k kinds.BssSeg meant number a e is = is ∙ ap (λ (s : Segment). move_in h os before k s) (same_Some BssSeg meant e)
 meant_added h rows os before k kinds.External meant number a e is = absurd (cc)
 
--- each word of a link stands relocated by the rows of its relation
-relocated_in : (forced : List (List ℕ)) (os : List Contents) (o : Choices) (x : Outcome) (l : IsLinkedFrom forced os o x) (before : List Contents) (k : Contents) (after : List Contents) → os ≡ before ++ k ∷ after →
-    (segment : Segment) (i w : ℕ) (r : Reloc) → slice_get (segment_words segment k) i ≡ Some w → slice_get (segment_relocs segment k) i ≡ Some r → IsRelocated x.file l.rows os before k segment i w r
-relocated_in forced os o x l before k after all TextSeg i w r ew er = l.text before k after all i w r ew er
-relocated_in forced os o x l before k after all DataSeg i w r ew er = l.data before k after all i w r ew er
-relocated_in forced os o x l before k after all Undefined i w r ew er = absurd (cc)
-relocated_in forced os o x l before k after all Absolute i w r ew er = absurd (cc)
-relocated_in forced os o x l before k after all BssSeg i w r ew er = absurd (cc)
-relocated_in forced os o x l before k after all Other i w r ew er = absurd (cc)
-
 pub segments_found : (forced : List (List ℕ)) (before : List Contents) (k : Contents) (after : List Contents) (o : Choices) (x : Outcome) →
     AllByRecursion IsObject (before ++ k ∷ after) → link forced (before ++ k ∷ after) o ≡ Ok x →
     (segment : Segment) (i w : ℕ) (r : Reloc) → slice_get (segment_words segment k) i ≡ Some w → slice_get (segment_relocs segment k) i ≡ Some r →
@@ -194,59 +177,97 @@ pub segments_found : (forced : List (List ℕ)) (before : List Contents) (k : Co
 segments_found forced before k after o x good linked segment i w r ew er kind meant e m =
     let os = before ++ k ∷ after in
     let from = (linked_exactly forced os o x good).0 linked in
-    let has = words_there segment k i w ew in
-    let l = loaded_word forced os o x good linked before k after refl from.rows segment has i w r (relocated_in forced os o x from before k after refl segment i w r ew er) in
+    let l = words_of_rows forced before k after o x good from segment i w r ew er in
     let is : IsAdded x.file.header from.rows os before k (Some kind) (symbol_number r) l.added = subst (λ (n : Option Kind). IsAdded x.file.header from.rows os before k n (symbol_number r) l.added) e l.is in
     subst (λ (a : ℕ). FindsMore x.file os before k segment i w r a) (meant_added x.file.header from.rows os before k kind meant (symbol_number r) l.added m is)
-    (loaded_finds x.file from.rows os before k segment has i w r l)
+    (loaded_finds x.file from.rows os before k segment (words_there segment k i w ew) i w r l)
 
 -- calls
 
--- a byte is inside a segment that has a place
-place_there : (segment : Segment) (c : Contents) (n : ℕ) → n < size_of segment c → HasPlace segment
-place_there TextSeg c n h = tt
-place_there DataSeg c n h = tt
-place_there BssSeg c n h = tt
-place_there Undefined c n h = absurd (omega arith)
-place_there Absolute c n h = absurd (omega arith)
-place_there Other c n h = absurd (omega arith)
+-- segments without bytes take no room
+no_room : (segment : Segment) → ((k : Contents) → size_of segment k ≡ 0) → (os : List Contents) → total segment os ≡ 0
+no_room segment none [] = refl
+no_room segment none (k ∷ ks) = sum_by-append (size_of segment) (k ∷ []) ks ∙ (λ i. 0 + none k i + no_room segment none ks i)
 
--- a symbol of such a segment is a definition
-is_definition : (s : Symbol) (segment : Segment) → segment_of s ≡ segment → HasPlace segment → eqb (masked_type s) 0 ≡ false
-is_definition s segment e has = false_from_ne_true (eqb (masked_type s) 0) (λ t. no_place segment (sym (by_zero t) ∙ e) has)
+-- each definition has a place; an absolute one is its own
+module _ (h : Header) (os before : List Contents) (k : Contents) where
+  unmoved : (total n : ℕ) → total ≡ 0 → plus (0 + n) 0 ≡ (0 + total + n) % 65536
+  unmoved total n e = omega arith
+
+  any_place : (segment : Segment) (n : ℕ) → IsPlace h os before k segment n (address_of h os before k segment n)
+  any_place TextSeg n = place_at h os before k TextSeg tt n
+  any_place DataSeg n = place_at h os before k DataSeg tt n
+  any_place BssSeg n = place_at h os before k BssSeg tt n
+  any_place Undefined n = record { behind = refl; symbol = unmoved (total Undefined before) n (no_room Undefined (λ c. refl) before) }
+  any_place Absolute n = record { behind = refl; symbol = unmoved (total Absolute before) n (no_room Absolute (λ c. refl) before) }
+  any_place Other n = record { behind = refl; symbol = unmoved (total Other before) n (no_room Other (λ c. refl) before) }
+
+-- a definition gives its value
+defined_address : (row : Symbol) (segment : Segment) → row.type_bits ≡ external_type segment → address_in row ≡ row.value
+defined_address row TextSeg e = ap (λ (t : ℕ). cond (eqb (t % 32) 0) 0 row.value) e
+defined_address row DataSeg e = ap (λ (t : ℕ). cond (eqb (t % 32) 0) 0 row.value) e
+defined_address row BssSeg e = ap (λ (t : ℕ). cond (eqb (t % 32) 0) 0 row.value) e
+defined_address row Undefined e = ap (λ (t : ℕ). cond (eqb (t % 32) 0) 0 row.value) e
+defined_address row Absolute e = ap (λ (t : ℕ). cond (eqb (t % 32) 0) 0 row.value) e
+defined_address row Other e = ap (λ (t : ℕ). cond (eqb (t % 32) 0) 0 row.value) e
+
+-- a byte of an object is in its segment of the program
+byte_in : (forced : List (List ℕ)) (os : List Contents) (o : Choices) (x : Outcome) → AllByRecursion IsObject os → link forced os o ≡ Ok x →
+    (front : List Contents) (c : Contents) (back : List Contents) → os ≡ front ++ c ∷ back → (space : Space) (segment : Segment) → is_usable_in x.file.header.magic segment space ≡ true → (n : ℕ) → n < size_of segment c →
+    is_in x.file.header space segment (address_of x.file.header os front c segment n) ≡ true
+byte_in forced os o x good linked front c back all space segment there n inside = by_segment segment there inside
   where
-    by_zero : eqb (masked_type s) 0 ≡ true → segment_of s ≡ Undefined
-    by_zero t = ap segment_numbered (eqb-true (masked_type s) 0 t)
+    full : HoldsObjects x.file os
+    full = objects_fill forced os o x good linked
 
-    no_place : (segment : Segment) → Undefined ≡ segment → HasPlace segment → ⊥
-    no_place Undefined e has = has
-    no_place Absolute e has = has
-    no_place Other e has = has
-    no_place TextSeg e has = cc
-    no_place DataSeg e has = cc
-    no_place BssSeg e has = cc
+    sum : (segment : Segment) → total segment os ≡ total segment front + (0 + size_of segment c + total segment back)
+    sum segment =
+        ap (λ (ys : List Contents). total segment ys) all ∙ sum_by-append (size_of segment) front (c ∷ back) ∙ ap (λ (m : ℕ). total segment front + m) (sum_by-append (size_of segment) (c ∷ []) back)
 
--- a definition there gives its value
-defined_address : (row : Symbol) (segment : Segment) → HasPlace segment → row.type_bits ≡ external_type segment → address_in row ≡ row.value
-defined_address row TextSeg has e = ap (λ (t : ℕ). cond (eqb (t % 32) 0) 0 row.value) e
-defined_address row DataSeg has e = ap (λ (t : ℕ). cond (eqb (t % 32) 0) 0 row.value) e
-defined_address row BssSeg has e = ap (λ (t : ℕ). cond (eqb (t % 32) 0) 0 row.value) e
-defined_address row Undefined has e = absurd has
-defined_address row Absolute has e = absurd has
-defined_address row Other has e = absurd has
+    over : (b t n : ℕ) → b ≤ b + t + n
+    over b t n = omega arith
+
+    under : (b s all t m more n : ℕ) → s ≡ all → all ≡ t + (0 + m + more) → n < m → b + t + n < b + s
+    under b s all t m more n e f h = omega arith
+
+    over_commons : (e c t n : ℕ) → e ≤ e + c + t + n
+    over_commons e c t n = omega arith
+
+    under_commons : (e b all t m more n : ℕ) → all ≡ t + (0 + m + more) → all ≤ b → n < m → e + (b - all) + t + n < e + b
+    under_commons e b all t m more n f g h = omega arith
+
+    by_segment : (segment : Segment) → is_usable_in x.file.header.magic segment space ≡ true → n < size_of segment c → is_in x.file.header space segment (address_of x.file.header os front c segment n) ≡ true
+    by_segment TextSeg has h = within_back x.file.header space TextSeg (address_of x.file.header os front c TextSeg n) (record {
+      has = has;
+      from = over 0 (total TextSeg front) n;
+      before = under 0 x.file.header.text_size (total TextSeg os) (total TextSeg front) c.header.text_size (total TextSeg back) n full.text (sum TextSeg) h;
+    })
+    by_segment DataSeg has h = within_back x.file.header space DataSeg (address_of x.file.header os front c DataSeg n) (record {
+      has = has;
+      from = over (data_base_in x.file.header) (total DataSeg front) n;
+      before = under (data_base_in x.file.header) x.file.header.data_size (total DataSeg os) (total DataSeg front) c.header.data_size (total DataSeg back) n full.data (sum DataSeg) h;
+    })
+    by_segment BssSeg has h = within_back x.file.header space BssSeg (address_of x.file.header os front c BssSeg n) (record {
+      has = has;
+      from = over_commons (data_base_in x.file.header + x.file.header.data_size) (x.file.header.bss_size - total BssSeg os) (total BssSeg front) n;
+      before = under_commons (data_base_in x.file.header + x.file.header.data_size) x.file.header.bss_size (total BssSeg os) (total BssSeg front) c.header.bss_size (total BssSeg back) n (sum BssSeg) full.bss h;
+    })
+    by_segment Undefined has h = absurd (omega arith)
+    by_segment Absolute has h = absurd (omega arith)
+    by_segment Other has h = absurd (omega arith)
 
 pub calls_arrive : (forced : List (List ℕ)) (os : List Contents) (o : Choices) (x : Outcome) → AllByRecursion IsObject os → o.keep ≢ Nothing → link forced os o ≡ Ok x → x.report.multiples ≡ [] →
     (before : List Contents) (k : Contents) (after : List Contents) → os ≡ before ++ k ∷ after → (front : List Contents) (c : Contents) (back : List Contents) → os ≡ front ++ c ∷ back →
-    (from to : Segment) (i n : ℕ) (name : List ℕ) → Calls k from i name → Defines c name to n → Arrives x.file os before k from i front c to n
-calls_arrive forced os o x good others linked once before k after all front c back other from to i n name call d =
-    let has : HasPlace to = place_there to c n d.inside in
+    (from to : Segment) (i n : ℕ) (name : List ℕ) → Calls k from i name → Defines c name to n →
+    (space : Space) → is_usable_in x.file.header.magic to space ≡ true → Arrives x.file space os before k from i front c to n
+calls_arrive forced os o x good others linked once before k after all front c back other from to i n name call d space usable =
     let finds : FindsAddress x.file os before k from i call.w call.r =
     subst (λ (ys : List Contents). FindsAddress x.file ys before k from i call.w call.r) (sym all)
     (address_found forced before k after o x (subst (λ (ys : List Contents). AllByRecursion IsObject ys) all good) others (ap (λ (ys : List Contents). link forced ys o) (sym all) ∙ linked) from i call.w call.r call.word call.reloc call.kind) in
     let is : IsDefined x.file os front c d.symbol =
     subst (λ (ys : List Contents). IsDefined x.file ys front c d.symbol) (sym other)
-    (definitions_hold forced front c back o x others (ap (λ (ys : List Contents). link forced ys o) (sym other) ∙ linked) once d.number d.symbol d.stands d.outer (is_definition d.symbol to d.is has)) in
-    let there : IsPlace x.file.header os front c to n (address_of x.file.header os front c to n) = place_at x.file.header os front c to has n in
+    (definitions_hold forced front c back o x others (ap (λ (ys : List Contents). link forced ys o) (sym other) ∙ linked) once d.number d.symbol d.stands d.outer d.inner) in
+    let there : IsPlace x.file.header os front c to n (address_of x.file.header os front c to n) = any_place x.file.header os front c to n in
     let same : finds.symbol ≡ call.symbol = same_Some finds.symbol call.symbol (sym finds.named ∙ call.named) in
     let row : finds.row ≡ is.row = same_Some finds.row is.row (sym finds.found ∙ ap (λ (m : List ℕ). entry_of x.file.symbols m) (ap (λ (s : Symbol). s.name) same ∙ call.names ∙ sym d.names) ∙ is.found) in
     let value : is.row.value ≡ address_of x.file.header os front c to n % 65536 =
@@ -258,10 +279,11 @@ calls_arrive forced os o x good others linked once before k after all front c ba
       stands = finds.more.stands;
       target = address_of x.file.header os front c to n;
       there = there;
+      loaded = byte_in forced os o x good linked front c back other space to usable n;
       arrives =
           ap (λ (t : Bool). operand t finds.more.address finds.more.word) (sym call.pc)
           ∙ finds.more.finds
-          ∙ (λ j. plus ((ap address_in row ∙ defined_address is.row to has (is.type_bits ∙ ap external_type d.is) ∙ value) j) ((ap (λ (t : Bool). operand t (own k from + 2 * i) call.w) call.pc ∙ call.just) j))
+          ∙ (λ j. plus ((ap address_in row ∙ defined_address is.row to (is.type_bits ∙ ap external_type d.is) ∙ value) j) ((ap (λ (t : Bool). operand t (own k from + 2 * i) call.w) call.pc ∙ call.just) j))
           ∙ wrapped (address_of x.file.header os front c to n);
     }
   where

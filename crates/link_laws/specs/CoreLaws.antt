@@ -1,7 +1,8 @@
 -- What a link puts at which address of the core. (exec(2), ld(1))
 --
--- The words of each object stand, relocated, where a symbol of their place says. Its bss and the commons are zeros. The core has
--- nothing else, and no two segments of it share an address.
+-- The words of each object are, relocated, where a symbol of their place says. Its bss and the commons are zeros. The core has
+-- nothing else, and no two segments of it share an address. A link that keeps no symbols has no table to look names up in; its
+-- words follow the rows of the relation of linking, and are those of a link that keeps symbols.
 use Rattle.std.specs.Prelude.{◌≡◌, ◌≢◌, ℕ, ◌+◌, ◌*◌, ◌%◌, ◌<◌, ◌≤◌, ◌⊎◌, true, cond, List, ◌∷◌, ◌++◌, Some, Ok, slice_get}
 use Rattle.std.specs.List.{AllByRecursion}
 use Rattle.aout_core.specs.declared.header.Header.{Header}
@@ -16,12 +17,14 @@ use Rattle.aout_core.specs.Strip.{stripped}
 use Rattle.link_session.specs.Starts.{total, own}
 use Rattle.link_session.specs.Sessions.{IsObject}
 use Rattle.link_session.specs.Cells.{segment_words, segment_relocs}
+use Rattle.link_options.specs.declared.options.Keep.{Keep}
 use Rattle.link_options.specs.declared.options.Keep.TheVariants.{Nothing}
 use Rattle.link_options.specs.declared.options.Layout.TheVariants.{Split}
 use Rattle.link_options.specs.Choices.{Choices, lays_commons}
 use Rattle.link_out.specs.Results.{Outcome}
 use Rattle.link_out.specs.function.Link.{link}
 use Rattle.link_out.specs.relation.Relocated.{base_in, move_in, entry_of, IsAdded}
+use Rattle.link_out.specs.relation.LinkedFrom.{IsLinkedFrom}
 use Rattle.link_out.specs.laws.CommonsAndLayouts.{IsCommon}
 use Rattle.link_laws.specs.Core.{Space, of_instructions, of_data, has_segment, is_in, core, IsWordAt}
 
@@ -58,11 +61,24 @@ pub record IsLoaded (file : Contents) (rows : List Symbol) (os before : List Con
   pub is : IsAdded file.header rows os before k (kind_of r) (symbol_number r) added
   pub word : IsWordAt file (space_of segment) address (minus (plus w added) (cond (is_pc_relative r) (move_in file.header os before k segment) 0))
 
+-- in a link that keeps symbols, by its own table
 abbrev pub WordsAreLoaded : Type 0
 WordsAreLoaded = (forced : List (List ℕ)) (before : List Contents) (k : Contents) (after : List Contents) (o : Choices) (x : Outcome) →
     AllByRecursion IsObject (before ++ k ∷ after) → o.keep ≢ Nothing → link forced (before ++ k ∷ after) o ≡ Ok x →
     (segment : Segment) (i w : ℕ) (r : Reloc) → slice_get (segment_words segment k) i ≡ Some w → slice_get (segment_relocs segment k) i ≡ Some r →
     IsLoaded x.file x.file.symbols (before ++ k ∷ after) before k segment i w r
+
+-- in any link, by the rows of the relation of linking
+abbrev pub WordsOfRowsAreLoaded : Type 0
+WordsOfRowsAreLoaded = (forced : List (List ℕ)) (before : List Contents) (k : Contents) (after : List Contents) (o : Choices) (x : Outcome) →
+    AllByRecursion IsObject (before ++ k ∷ after) → (l : IsLinkedFrom forced (before ++ k ∷ after) o x) →
+    (segment : Segment) (i w : ℕ) (r : Reloc) → slice_get (segment_words segment k) i ≡ Some w → slice_get (segment_relocs segment k) i ≡ Some r →
+    IsLoaded x.file l.rows (before ++ k ∷ after) before k segment i w r
+
+-- links that differ only in the symbols that they keep load the same
+abbrev pub KeepChangesNothing : Type 0
+KeepChangesNothing = (forced : List (List ℕ)) (os : List Contents) (o : Choices) (keep : Keep) (x y : Outcome) →
+    link forced os o ≡ Ok x → link forced os (record o { keep = keep }) ≡ Ok y → (space : Space) (address : ℕ) → core y.file space address ≡ core x.file space address
 
 -- a file loads the same if it is stripped
 abbrev pub StrippedIsLoaded : Type 0

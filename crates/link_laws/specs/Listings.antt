@@ -19,7 +19,7 @@ use Rattle.link_options.specs.Choices.{Choices}
 use Rattle.link_out.specs.ReservedNames.{etext, edata, end_name}
 use Rattle.link_out.specs.function.Link.{Outcome, link}
 use Rattle.link_out.specs.relation.NameStates.{HasState}
-use Rattle.link_out.specs.relation.Relocated.{entry_of}
+use Rattle.link_out.specs.relation.Relocated.{data_base_in, entry_of}
 use Rattle.link_out.specs.relation.LinkedTable.{row_for, moved_locals_in}
 use Rattle.link_out.specs.relation.Refusals.{CommonsTake, kept_locals}
 use Rattle.link_out.specs.relation.LinkedFrom.{IsLinkedFrom}
@@ -79,8 +79,17 @@ state_letter name (Wanted size) =
     else letter_of (codes "U"))))
     else letter_of (codes "B")
 
--- the external symbol of a name stands once among the symbols that are listed; it is the row of the name's state, with a common at
--- an address of its own, and has that state's letter
+-- an address after data and the commons of the names that are mentioned before this one
+pub record IsAfterCommons (forced : List (List ℕ)) (os : List Contents) (o : Choices) (h : Header) (name : List ℕ) (at : ℕ) : Type 0 where
+  pub earlier : List (List ℕ)
+  pub later : List (List ℕ)
+  pub order : externals forced os ≡ earlier ++ name ∷ later
+  pub taken : ℕ
+  pub take : CommonsTake o (mentions forced os) earlier taken
+  pub after : at ≡ data_base_in h + h.data_size + taken
+
+-- the external symbol of a name stands once among the symbols that are listed; it is the row of the name's state, and has that
+-- state's letter; a common that is laid out has an address of its own
 pub record IsListedOnce (forced : List (List ℕ)) (os : List Contents) (o : Choices) (file : Contents) (listed : List Symbol) (name : List ℕ) : Type 0 where
   pub row : Symbol
   pub found : entry_of file.symbols name ≡ Some row
@@ -88,6 +97,7 @@ pub record IsListedOnce (forced : List (List ℕ)) (os : List Contents) (o : Cho
   pub state : State
   pub has : HasState (mentions forced os) name state
   pub at : ℕ
+  pub place : IsAfterCommons forced os o file.header name at
   pub is : row ≡ row_for file.header (total BssSeg os) o at name state
   pub shows : o.relocatable ≡ false → letter row ≡ state_letter name state
 

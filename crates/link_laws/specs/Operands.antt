@@ -2,8 +2,9 @@
 --
 -- A word that is relative to the pc is fetched with the pc behind it, so the machine adds the address behind the word to it. In
 -- the object it finds so many bytes beyond a name or a place there; in the program it finds as many beyond the name's value, or
--- beyond where that place is now.
-use Rattle.std.specs.Prelude.{◌≡◌, ◌≢◌, ℕ, ◌+◌, ◌*◌, ◌%◌, ◌<◌, Bool, true, false, cond, List, [], ◌∷◌, ◌++◌, Option, Some, None, Ok, slice_get}
+-- beyond where that place is now. A call uses the address that it finds in the space of instructions, and an instruction that
+-- fetches or stores uses it in that of data.
+use Rattle.std.specs.Prelude.{◌≡◌, ◌≢◌, ℕ, ◌+◌, ◌*◌, ◌%◌, ◌<◌, Bool, true, false, cond, eqb, List, [], ◌∷◌, ◌++◌, Option, Some, None, Ok, slice_get}
 use Rattle.std.specs.List.{AllByRecursion}
 use Rattle.aout_core.specs.declared.symbol.Symbol.{Symbol}
 use Rattle.aout_core.specs.declared.symbol.Segment.{Segment}
@@ -13,7 +14,7 @@ use Rattle.aout_core.specs.declared.reloc.Kind.{Kind}
 use Rattle.aout_core.specs.declared.reloc.Kind.TheVariants as kinds
 use Rattle.aout_core.specs.Contents.{Contents}
 use Rattle.aout_core.specs.Words.{plus}
-use Rattle.aout_core.specs.WellFormed.{is_external, segment_of, kind_of, is_pc_relative, symbol_number}
+use Rattle.aout_core.specs.WellFormed.{is_external, masked_type, segment_of, kind_of, is_pc_relative, symbol_number}
 use Rattle.link_session.specs.Starts.{size_of, own}
 use Rattle.link_session.specs.Sessions.{IsObject}
 use Rattle.link_session.specs.Cells.{segment_words, segment_relocs}
@@ -22,7 +23,7 @@ use Rattle.link_options.specs.Choices.{Choices}
 use Rattle.link_out.specs.Results.{Outcome}
 use Rattle.link_out.specs.function.Link.{link}
 use Rattle.link_out.specs.relation.Relocated.{move_in, entry_of}
-use Rattle.link_laws.specs.Core.{IsWordAt}
+use Rattle.link_laws.specs.Core.{Space, has_segment, is_in, IsWordAt}
 use Rattle.link_laws.specs.CoreLaws.{space_of, IsPlace}
 
 -- what the machine computes of a word at an address, modulo 65,536
@@ -80,29 +81,40 @@ pub record Calls (k : Contents) (segment : Segment) (i : ℕ) (name : List ℕ) 
   pub names : symbol.name ≡ name
   pub just : operand true (own k segment + 2 * i) w ≡ 0
 
--- an object defines a name at byte n of one of its segments
+-- an object defines a name n bytes after the start of one of its segments, which may be the segment's end, or as the address n
 pub record Defines (c : Contents) (name : List ℕ) (segment : Segment) (n : ℕ) : Type 0 where
   pub number : ℕ
   pub symbol : Symbol
   pub stands : slice_get c.symbols number ≡ Some symbol
   pub outer : is_external symbol ≡ true
+  pub inner : eqb (masked_type symbol) 0 ≡ false
   pub names : symbol.name ≡ name
   pub is : segment_of symbol ≡ segment
   pub value : symbol.value ≡ own c segment + n
-  pub inside : n < size_of segment c
 
--- word i of a segment of k finds byte n of a segment of c
-pub record Arrives (file : Contents) (os before : List Contents) (k : Contents) (from : Segment) (i : ℕ) (front : List Contents) (c : Contents) (to : Segment) (n : ℕ) : Type 0 where
+-- the spaces of a program in which a definition may be used: those that have its segment, and any for an absolute one
+abbrev pub is_usable_in : ℕ → Segment → Space → Bool
+is_usable_in magic segments.TextSeg space = has_segment magic segments.TextSeg space
+is_usable_in magic segments.DataSeg space = has_segment magic segments.DataSeg space
+is_usable_in magic segments.BssSeg space = has_segment magic segments.BssSeg space
+is_usable_in magic _ space = true
+
+-- word i of a segment of k finds n bytes after the start of a segment of c, or the address n; a byte there is that segment's in
+-- this space
+pub record Arrives (file : Contents) (space : Space) (os before : List Contents) (k : Contents) (from : Segment) (i : ℕ) (front : List Contents) (c : Contents) (to : Segment) (n : ℕ) : Type 0 where
   pub address : ℕ
   pub place : IsPlace file.header os before k from (2 * i) address
   pub word : ℕ
   pub stands : IsWordAt file (space_of from) address word
   pub target : ℕ
   pub there : IsPlace file.header os front c to n target
+  pub loaded : n < size_of to c → is_in file.header space to target ≡ true
   pub arrives : operand true address word ≡ target % 65536
 
--- where no name is multiply defined, a call arrives at the definition of its name, whatever stands before, between and behind
+-- where no name is multiply defined, a call arrives at the definition of its name, in each space in which that may be used,
+-- whatever was linked before, between and after
 abbrev pub CallsArrive : Type 0
 CallsArrive = (forced : List (List ℕ)) (os : List Contents) (o : Choices) (x : Outcome) → AllByRecursion IsObject os → o.keep ≢ Nothing → link forced os o ≡ Ok x → x.report.multiples ≡ [] →
     (before : List Contents) (k : Contents) (after : List Contents) → os ≡ before ++ k ∷ after → (front : List Contents) (c : Contents) (back : List Contents) → os ≡ front ++ c ∷ back →
-    (from to : Segment) (i n : ℕ) (name : List ℕ) → Calls k from i name → Defines c name to n → Arrives x.file os before k from i front c to n
+    (from to : Segment) (i n : ℕ) (name : List ℕ) → Calls k from i name → Defines c name to n →
+    (space : Space) → is_usable_in x.file.header.magic to space ≡ true → Arrives x.file space os before k from i front c to n

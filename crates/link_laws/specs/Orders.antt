@@ -1,9 +1,10 @@
 -- Laws of the order of objects: another order gives the same program, laid out otherwise. (ld(1))
 --
--- Refusals, sizes, and which names are reported do not depend on the order of the objects; where objects and commons lie does.
--- Where no name is multiply defined, each name means the same in any order, so each word refers to the same thing. Orders are
--- those that exchanges reach, as of two neighbours.
-use Rattle.std.specs.Prelude.{◌≡◌, ◌≢◌, ℕ, ◌≤◌, Bool, true, false, not, ◌&&◌, eqb, List, [], ◌∷◌, ◌++◌, filter, length, sum_by, Some, Ok, Err, slice_get, bytes_eq}
+-- Without `-r`, objects that are added and linked in one order are added and linked in any other. Sizes, and which names are
+-- reported, do not depend on the order of the objects; the places of objects and commons do. Where no name is multiply defined,
+-- each name means the same in any order, so each word refers to the same thing. Orders are those that exchanges reach, as of two
+-- neighbours.
+use Rattle.std.specs.Prelude.{◌≡◌, ◌≢◌, ◌↔◌, ℕ, ◌≤◌, Bool, true, false, not, ◌&&◌, eqb, List, [], ◌∷◌, ◌++◌, map, filter, length, sum_by, Some, Result, Ok, Err, slice_get, bytes_eq}
 use Rattle.std.specs.List.{AllByRecursion}
 use Rattle.std.specs.List.Sorted.{IsPermutation}
 use Rattle.aout_core.specs.declared.symbol.Symbol.{Symbol}
@@ -12,6 +13,8 @@ use Rattle.aout_core.specs.declared.reloc.Reloc.{Reloc}
 use Rattle.aout_core.specs.declared.reloc.Kind.TheVariants.{External}
 use Rattle.aout_core.specs.Contents.{Contents}
 use Rattle.aout_core.specs.WellFormed.{is_external, masked_type, kind_of, symbol_number}
+use Rattle.link_session.specs.Labelled.{Labelled}
+use Rattle.link_session.specs.Edits.{Change, addition, added, answers}
 use Rattle.link_session.specs.Sessions.{IsObject}
 use Rattle.link_session.specs.Mentions.{mentions, externals, is_among}
 use Rattle.link_session.specs.Cells.{segment_words, segment_relocs}
@@ -19,13 +22,14 @@ use Rattle.link_out.specs.declared.linked.LinkFault.{LinkFault}
 use Rattle.link_options.specs.declared.options.Keep.TheVariants.{Nothing}
 use Rattle.link_options.specs.Choices.{Choices}
 use Rattle.link_out.specs.function.Link.{Outcome, link}
+use Rattle.link_out.specs.Runs.{link_after}
 use Rattle.link_out.specs.relation.NameStates.{IsWanted}
 use Rattle.link_out.specs.relation.Relocated.{entry_of, IsRelocated}
 use Rattle.link_out.specs.relation.LinkedTable.{undefined_row}
 use Rattle.link_out.specs.laws.WordsAndNames.{IsDefined}
 use Rattle.link_out.specs.laws.CommonsAndLayouts.{IsCommon, HasRoom}
 
--- the same objects in two orders, linked alike without relocation
+-- the links of the same objects in two orders, by the same options
 pub record AreOrders (forced : List (List ℕ)) (os ps : List Contents) (o : Choices) (x y : Outcome) : Type 0 where
   pub same : IsPermutation os ps
   pub one : link forced os o ≡ Ok x
@@ -44,7 +48,30 @@ abbrev pub OnceInAnyOrder : Type 0
 OnceInAnyOrder = (forced : List (List ℕ)) (os ps : List Contents) (o : Choices) (y : Outcome) → IsPermutation os ps →
     DefineOnce os → link forced ps o ≡ Ok y → y.report.multiples ≡ []
 
--- refused for the same, or not at all
+-- these objects are added in order
+abbrev pub additions : List Labelled → List Change
+additions es = map addition es
+
+-- and each is accepted
+abbrev pub AreAdded : List (List ℕ) → List Labelled → Type 0
+AreAdded forced es = AllByRecursion (λ a. a ≡ added) (answers forced (additions es))
+
+-- all are added in both orders, or in neither; the first that is refused, and at which limit, may differ
+abbrev pub OrderAddsAlike : Type 0
+OrderAddsAlike = (forced : List (List ℕ)) (es ds : List Labelled) → IsPermutation es ds → AreAdded forced es ↔ AreAdded forced ds
+
+-- two links, or two refusals with the same fault
+abbrev pub AreAlike : Result Outcome LinkFault → Result Outcome LinkFault → Type 0
+AreAlike (Ok x) (Ok y) = Unit {0}
+AreAlike (Err fault) y = y ≡ Err fault
+AreAlike (Ok x) (Err fault) = ⊥
+
+-- if all are added, without `-r` there is a link in both orders, or the same fault
+abbrev pub OrderLinksAlike : Type 0
+OrderLinksAlike = (forced : List (List ℕ)) (es ds : List Labelled) (o : Choices) → IsPermutation es ds → o.relocatable ≡ false → AreAdded forced es →
+    AreAlike (link_after forced (additions es) o) (link_after forced (additions ds) o)
+
+-- the link of all of them is refused with the same fault, or not at all
 abbrev pub OrderRefusesAlike : Type 0
 OrderRefusesAlike = (forced : List (List ℕ)) (os ps : List Contents) (o : Choices) (fault : LinkFault) → IsPermutation os ps →
     o.relocatable ≡ false → link forced os o ≡ Err fault → link forced ps o ≡ Err fault

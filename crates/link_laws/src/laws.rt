@@ -1,41 +1,46 @@
 //! Laws of loaded programs, lists and orders: each is the contract of a function with an empty body.
-ghost use Rattle.link_laws.specs.CoreLaws.{SegmentsLieApart, SpacesAreOne, AddressesFit, WordsAreLoaded, StrippedIsLoaded, BssIsZero, CommonsAreZero, NothingElse};
+ghost use Rattle.link_laws.specs.CoreLaws.{SegmentsLieApart, SpacesAreOne, AddressesFit, WordsAreLoaded, WordsOfRowsAreLoaded, KeepChangesNothing, StrippedIsLoaded, BssIsZero, CommonsAreZero, NothingElse};
 ghost use Rattle.link_laws.specs.Operands.{NamesAreFound, SegmentsAreFound, CallsArrive};
 ghost use Rattle.link_laws.specs.Listings.{UndefinedAreListed, UndefinedLines, RowLines, ExternalsAreListed, SizesAreSums};
-ghost use Rattle.link_laws.specs.Orders.{OrderRefusesAlike, OrderKeepsSizes, OrderReportsAlike, OrderFindsEntry, OrderKeepsMeanings, OrderKeepsReferents, OnceInAnyOrder};
+ghost use Rattle.link_laws.specs.Orders.{OrderAddsAlike, OrderLinksAlike, OrderRefusesAlike, OrderKeepsSizes, OrderReportsAlike, OrderFindsEntry, OrderKeepsMeanings, OrderKeepsReferents, OnceInAnyOrder};
 
-/// What stands at which address when a linked file is loaded: `core` of specs/Core, for the spaces of instructions and of
-/// data, which are one but for split spaces. (exec(2), a.out(5))
+/// Which byte is at which address when a linked file is loaded: `core` of specs/Core, for the spaces of instructions and of
+/// data, which are one except with split spaces. (exec(2), a.out(5))
 ///
 /// - `apart`: no two segments of a file share an address of a space.
-/// - `one`: but for split spaces, both spaces hold the same.
-/// - `fit`: each address is below 65,535, where text has at most so many bytes; a session takes no more.
-/// - `words`: each word of each object stands, relocated, the low byte first, behind those of the objects before it, which
-///   is where a symbol of that place in the object would say. Of links that keep symbols.
-/// - `stripped`: a stripped file loads the same, so `words` holds of its bytes too.
-/// - `bss`: each byte of each object's bss is a zero, where a symbol of that place would say.
-/// - `commons`: so is each byte of a common that is laid out, from the value of its symbol on.
+/// - `one`: except with split spaces, both spaces hold the same.
+/// - `fit`: each address is below 65,535 if text has at most 65,535 bytes; a session takes no more.
+/// - `words`: in a link that keeps symbols, each word of each object is loaded, relocated by the linked file's own table, the
+///   low byte first, after those of the objects before it. There a symbol of that place in the object would be.
+/// - `rows`: in any link, with `-s` too, the same by the rows of the relation of linking.
+/// - `kept`: links that differ only in the symbols that they keep load the same, so `-s` changes nothing.
+/// - `stripped`: a stripped file loads the same.
+/// - `bss`: each byte of each object's bss is a zero, where a symbol of that place would be.
+/// - `commons`: in a link that keeps symbols, so is each byte of a common that is laid out, from the value of its symbol on.
 /// - `nothing`: each byte of the core is of a word of an object, or a zero of bss.
 pub fn core_law()
     ensures apart { SegmentsLieApart }
     ensures one { SpacesAreOne }
     ensures fit { AddressesFit }
     ensures words { WordsAreLoaded }
+    ensures rows { WordsOfRowsAreLoaded }
+    ensures kept { KeepChangesNothing }
     ensures stripped { StrippedIsLoaded }
     ensures bss { BssIsZero }
     ensures commons { CommonsAreZero }
     ensures nothing { NothingElse }
 {}
 
-/// What an instruction finds by a word of a linked program. A word that is relative to the pc finds the address behind
+/// What an instruction finds by a word of a linked program. A word that is relative to the pc finds the address after
 /// itself, and the word; any other the word; both modulo 65,536. (ld(1))
 ///
-/// - `names`: a word that refers to a name finds in the program so many bytes beyond the name's value as it does beyond the
-///   name in its object. Of links that keep symbols, without relocation.
+/// - `names`: in a link without `-r` that keeps symbols, a word that refers to a name finds in the program so many bytes
+///   beyond the name's value as it does beyond the name in its object.
 /// - `segments`: a word that refers to a segment of its object finds what it does there, moved with that segment; an
 ///   absolute one the same as there.
-/// - `calls`: so where no name is multiply defined, a call finds the definition of its name, in whatever object it stands.
-///   Of links that keep symbols.
+/// - `calls`: in a link that keeps symbols, and where no name is multiply defined, a call finds the definition of its name,
+///   in whatever object that is: in a space that has its segment, or in any if it is absolute. A call looks in the space of
+///   instructions, so with split spaces it finds what is defined in text, or absolute.
 pub fn operand_law()
     ensures names { NamesAreFound }
     ensures segments { SegmentsAreFound }
@@ -52,7 +57,8 @@ pub fn operand_law()
 /// - `rows`: the bytes that nm writes without `-u`: a line for each local that is kept, and for each external the line
 ///   of its row in the relation of linking, so with the value that it has there.
 /// - `externals`: each external of the objects, and each forced name, is listed once; without `-r` its letter is that
-///   of the segment of its definition, B for a common, U where nothing defines it.
+///   of the segment of its definition, B for a common, U where nothing defines it. A common that is laid out has the
+///   address after data and the commons of the names that are mentioned before its own.
 /// - `sizes`: size writes the sums of the objects' texts, of their data, and of their bss with the commons.
 pub fn listing_law()
     ensures undefined { UndefinedAreListed }
@@ -65,7 +71,10 @@ pub fn listing_law()
 /// The order of objects changes where things lie, and not what a program means: the law is of the same objects in any two
 /// orders. (ld(1))
 ///
-/// - `refuses`: without relocation, what is refused in one order is refused in the other, with the same fault.
+/// - `adds`: all objects are added in both orders, or in neither. The object that is refused first, and the limit that it
+///   passes, may differ.
+/// - `links`: if all are added, without `-r` there is a link in both orders, or the same fault.
+/// - `refuses`: without `-r`, the link of all of them is refused in both orders with the same fault, or in neither.
 /// - `sizes`: text, data, bss and the table are as large, so the headers differ at most in the entry point.
 /// - `reports`: the same reserved names are reported, and the same undefined ones, in some order.
 /// - `entry`: where no name is multiply defined, the entry point is found in both orders or in neither.
@@ -74,6 +83,8 @@ pub fn listing_law()
 /// - `referents`: so each word refers to the same: to a segment of its own object, or to what its name means.
 /// - `single`: where no two symbols of the objects define one name, no name is multiply defined in any order.
 pub fn order_law()
+    ensures adds { OrderAddsAlike }
+    ensures links { OrderLinksAlike }
     ensures refuses { OrderRefusesAlike }
     ensures sizes { OrderKeepsSizes }
     ensures reports { OrderReportsAlike }

@@ -1,17 +1,15 @@
 -- Mentions that agree with the first definition of their name, and names that are not multiply defined.
-use Rattle.std.proofs.Common.{◌≡◌, ℕ, Bool, true, false, cond, not, ◌||◌, List, [], ◌∷◌, map, Option, Some, None, refl, sym, ◌∙◌, ap, eqb, eqb-true}
+use Rattle.std.proofs.Common.{◌≡◌, ℕ, Bool, true, false, cond, not, ◌||◌, List, [], ◌∷◌, map, Option, Some, None, refl, sym, ◌∙◌, ap}
 use Rattle.std.specs.Prelude.{bytes_eq, filter}
 use Rattle.std.specs.List.{AllByRecursion}
-use Rattle.std.proofs.lemmas.Bool.{and_parts}
 use Rattle.std.proofs.lemmas.Slice.Eq.{bytes_eq-Decides}
 use Rattle.aout_core.specs.declared.symbol.Segment.{Segment}
-use Rattle.aout_core.specs.declared.symbol.Segment.TheVariants.{Undefined, Absolute, TextSeg, DataSeg, BssSeg, Other}
-use Rattle.aout_core.specs.WellFormed.{segment_number, segment_numbered, first_of}
+use Rattle.aout_core.specs.WellFormed.{first_of}
 use Rattle.link_session.specs.declared.state.State.{State}
 use Rattle.link_session.specs.declared.state.State.TheVariants.{Defined, Wanted}
 use Rattle.link_session.specs.Mentions.{Mention, is_among}
 use Rattle.link_session.specs.States.{Definition, definition_by, first_definition, is_definition, differs}
-use Rattle.link_session.proofs.UpdateLemmas.{own_definition}
+use Rattle.link_session.proofs.UpdateLemmas.{own_definition, definition_same}
 
 -- a mention that says what the first definition of its name among all mentions says
 abbrev pub AgreesIn : List Mention → Mention → Type 0
@@ -27,24 +25,6 @@ none_differ all (m ∷ ms) h = by_test (differs (first_definition all m.name) m.
         (map (λ k. k.name) (filter (λ k. differs (first_definition all k.name) k.says) ms) ≡ [] → AllByRecursion (AgreesIn all) ms) → AllByRecursion (AgreesIn all) (m ∷ ms)
     by_test true e h rest = absurd (cc)
     by_test false e h rest = (e, rest h)
-
-same_segment : (a b : Segment) → eqb (segment_number a) (segment_number b) ≡ true → a ≡ b
-same_segment a b e = back a ∙ ap segment_numbered (eqb-true (segment_number a) (segment_number b) e) ∙ sym (back b)
-  where
-    back : (s : Segment) → s ≡ segment_numbered (segment_number s)
-    back Undefined = refl
-    back Absolute = refl
-    back TextSeg = refl
-    back DataSeg = refl
-    back BssSeg = refl
-    back Other = refl
-
-pub definition_same : (segment : Segment) (offset : ℕ) (d : Definition) → is_definition segment offset (Some d) ≡ true → Some d ≡ Some (segment, offset)
-definition_same segment offset d h =
-    let parts = and_parts (eqb (segment_number segment) (segment_number d.0)) (eqb offset d.1) h in
-    let s : segment ≡ d.0 = same_segment segment d.0 parts.0 in
-    let o : offset ≡ d.1 = eqb-true offset d.1 parts.1 in
-    λ i. Some (sym s i, sym o i)
 
 -- what agrees with a first definition is that definition
 pub agrees_with : (first : Option Definition) (segment : Segment) (offset : ℕ) → differs first (Defined segment offset) ≡ false → first ≡ Some (segment, offset)

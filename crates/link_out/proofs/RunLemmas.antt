@@ -1,6 +1,6 @@
 -- What edits of a session do, one alone and one after the other.
-use Rattle.std.proofs.Common.{◌≡◌, ℕ, Bool, true, false, if◌then◌else◌, nat_lt, length, List, [], ◌∷◌, ◌++◌, map, Option, None, Some, Result, Ok, Err, String, Vec, refl, sym, subst, ◌∙◌, ap}
-use Rattle.std.specs.Prelude.{IfErr}
+use Rattle.std.proofs.Common.{◌≡◌, ℕ, Bool, true, false, if◌then◌else◌, nat_lt, length, List, [], ◌∷◌, ◌++◌, map, Option, None, Some, Result, Ok, Err, String, Vec, refl, sym, subst, ◌∙◌, ap, inr}
+use Rattle.std.specs.Prelude.{IfErr, IsOk}
 use Rattle.std.proofs.lemmas.List.{append_assoc, map-append}
 use Rattle.std.specs.declared.alloc.Global.{Global}
 use Rattle.aout_core.specs.declared.symbol.Segment.TheVariants.{TextSeg, DataSeg, BssSeg}
@@ -13,12 +13,19 @@ use Rattle.link_session.specs.Labelled.{Labelled, objects}
 use Rattle.link_session.specs.Undo.{Kept}
 use Rattle.link_session.specs.Sessions.{Adds, Withdraws, IsCause, labelled}
 use Rattle.link_session.specs.Limits.{refusal}
-use Rattle.link_session.specs.Edits.{Change, addition, withdrawal, Answer, added, refused, withdrew, nothing, last_of, without_last, kept_unless, kept_after, answer_by, withdrawn_answer, answer_to, survivors_from, answers_from}
+use Rattle.link_session.specs.Edits.{Change, addition, withdrawal, added, last_of, without_last, kept_unless, kept_after, answer_by, withdrawn_answer, answer_to, survivors_from, answers_from}
 use Rattle.link_out.specs.declared.edit.Edit.{Edit}
 use Rattle.link_out.specs.declared.edit.Reply.{Reply}
 use Rattle.link_out.specs.declared.edit.Reply.TheVariants as replies
-use Rattle.link_out.specs.Runs.{change_of, answer_of, HasAdded}
-use Rattle.link_out.specs.internal.Replies.{IsDone, IsReplied, AreDone}
+use Rattle.link_out.specs.declared.edit.RunFault.{RunFault}
+use Rattle.link_out.specs.declared.edit.RunFault.TheVariants as faults
+use Rattle.link_out.specs.declared.linked.Linked.{Linked}
+use Rattle.link_out.specs.declared.linked.LinkFault.{LinkFault}
+use Rattle.link_out.specs.declared.linked.LinkFault.TheVariants as links
+use Rattle.link_options.specs.Choices.{Choices}
+use Rattle.link_out.specs.function.Link.{Outcome, link}
+use Rattle.link_out.specs.Runs.{change_of, answer_of, IsRunOf}
+use Rattle.link_out.specs.internal.Replies.{IsDone, IsReplied, AreDone, Lists, StopsAmong, IsLinkedWith, IsRunFrom, RunsOut}
 
 -- an accepted addition
 pub added_done : (old new : Kept) (e : Labelled) → refusal old.forced (objects old.entries) e.object ≡ None → Adds old new e →
@@ -96,29 +103,18 @@ answers-one_more : (forced : List (List ℕ)) (kept : List Labelled) (cs : List 
 answers-one_more forced kept [] c = refl
 answers-one_more forced kept (d ∷ cs) c = ap (λ xs. answer_to forced kept d ∷ xs) (answers-one_more forced (kept_after forced kept d) cs c)
 
--- an addition that is accepted, among other changes
-has_added_first : (a : Answer) (told : List Answer) → a ≡ added → HasAdded (a ∷ told)
-has_added_first a told is = subst (λ (b : Answer). HasAdded (b ∷ told)) (sym is) tt
-
-has_added_behind : (a : Answer) (told : List Answer) → HasAdded told → HasAdded (a ∷ told)
-has_added_behind added told h = tt
-has_added_behind (refused cause) told h = h
-has_added_behind (withdrew label) told h = h
-has_added_behind nothing told h = h
-
-has_added : (forced : List (List ℕ)) (kept : List Labelled) (cs : List Change) (c : Change) (left : List Change) → answer_to forced (survivors_from forced kept cs) c ≡ added →
-    HasAdded (answers_from forced kept (cs ++ c ∷ left))
-has_added forced kept [] c left is = has_added_first (answer_to forced kept c) (answers_from forced (kept_after forced kept c) left) is
-has_added forced kept (d ∷ cs) c left is =
-    has_added_behind (answer_to forced kept d) (answers_from forced (kept_after forced kept d) (cs ++ c ∷ left)) (has_added forced (kept_after forced kept d) cs c left is)
-
-pub accepted_among : (old new : Kept) (before : List Edit) (edit : Edit) (left all : List Edit) (replies : Option (Vec Reply Global)) → AreDone old new (map change_of before) replies → all ≡ before ++ edit ∷ left →
-    answer_to new.forced new.entries (change_of edit) ≡ added → HasAdded (answers_from old.forced old.entries (map change_of all))
-accepted_among old new before edit left all replies h order is =
-    let cs = map change_of before in
-    let changes : map change_of all ≡ cs ++ change_of edit ∷ map change_of left = ap (map change_of) order ∙ map-append change_of before (edit ∷ left) in
-    let accepted : answer_to old.forced (survivors_from old.forced old.entries cs) (change_of edit) ≡ added = sym (λ i. answer_to (h.forced i) (h.kept i) (change_of edit)) ∙ is in
-    subst (λ (ds : List Change). HasAdded (answers_from old.forced old.entries ds)) (sym changes) (has_added old.forced old.entries cs (change_of edit) (map change_of left) accepted)
+-- the changes before an addition that is accepted were made
+pub stopped_among : (old mid new : Kept) (before : List Edit) (edit : Edit) (left all : List Edit) (replies : Option (Vec Reply Global)) → AreDone old mid (map change_of before) replies → all ≡ before ++ edit ∷ left →
+    new ≡ mid → answer_to mid.forced mid.entries (change_of edit) ≡ added → StopsAmong old new (map change_of all)
+stopped_among old mid new before edit left all replies h order same is = record {
+  before = map change_of before;
+  change = change_of edit;
+  left = map change_of left;
+  order = ap (map change_of) order ∙ map-append change_of before (edit ∷ left);
+  forced = ap (λ (k : Kept). k.forced) same ∙ h.forced;
+  kept = ap (λ (k : Kept). k.entries) same ∙ h.kept;
+  accepted = ap (λ (k : Kept). answer_to k.forced k.entries (change_of edit)) same ∙ is;
+}
 
 -- what holds whatever the error is
 pub if_error : {T E : Type 0} (r : Result T E) (P : Type 0) → P → IfErr r (λ _. P)
@@ -151,5 +147,27 @@ one_more_done old new last edits edit replies next h one =
           ∙ sym (answers-one_more old.forced old.entries cs (change_of edit))
           ∙ ap (answers_from old.forced old.entries) (sym more);
     }
+
+-- the link of what is kept after all changes
+module _ (old new : Kept) (cs : List Change) (o : Choices) (replies : Option (Vec Reply Global)) (done : AreDone old new cs replies) where
+  same_link : link new.forced (objects new.entries) o ≡ link old.forced (objects (survivors_from old.forced old.entries cs)) o
+  same_link = λ i. link (done.forced i) (objects (done.kept i)) o
+
+  pub linked_last : (r : Result (Vec Reply Global × Linked) RunFault) → IsLinkedWith replies (link new.forced (objects new.entries) o) r → IsRunFrom old cs o r
+  linked_last r h = by_link r (link old.forced (objects (survivors_from old.forced old.entries cs)) o) (subst (λ x. IsLinkedWith replies x r) same_link h)
+    where
+      by_link : (r : Result (Vec Reply Global × Linked) RunFault) (x : Result Outcome LinkFault) → IsLinkedWith replies x r → IsRunOf r (answers_from old.forced old.entries cs) x
+      by_link (Ok run) x (is, made) = (ap (map answer_of) (subst (λ (rs : Option (Vec Reply Global)). Lists rs done.told) is done.lists) ∙ done.answers, made)
+      by_link (Err faults.Memory) x h = tt
+      by_link (Err (faults.Link links.Memory)) x h = h
+      by_link (Err (faults.Link links.DoesNotFit)) x h = h
+      by_link (Err (faults.Link links.TooManySymbols)) x h = h
+      by_link (Err (faults.Link links.SymbolNumber)) x h = h
+
+  pub out_of_memory : (r : Result (Vec Reply Global × Linked) RunFault) → IsLinkedWith replies (link new.forced (objects new.entries) o) r → r ≡ Err faults.Memory → RunsOut old new cs o
+  out_of_memory r h is = inr (record {
+    kept = done.kept;
+    link = subst IsOk same_link (subst (IsLinkedWith replies (link new.forced (objects new.entries) o)) is h);
+  })
 
 pub ruleset by_edit = (added_done, refused_done, within_limits, withdrew_done, nothing_done)

@@ -1,12 +1,14 @@
 //! Runs: edits of a session in order, then the link.
-ghost use Rattle.std.specs.Prelude.{◌≡◌, ℕ, ◌+◌, None, true, map, IfOk, IfErr};
+ghost use Rattle.std.specs.Prelude.{◌≡◌, ℕ, ◌+◌, None, Err, true, map, IfOk, IfErr};
 ghost use Rattle.aout_core.specs.WellFormed.{IsWellFormed};
 ghost use Rattle.link_session.specs.Limits.{refusal};
-ghost use Rattle.link_session.specs.Edits.{addition, withdrawal, added, answer_to, answers, answers_from};
+ghost use Rattle.link_session.specs.Edits.{addition, withdrawal, added, answer_to, answers};
 ghost use Rattle.link_session.specs.Labelled.{objects};
 ghost use Rattle.link_session.specs.Sessions.{labelled};
-ghost use Rattle.link_out.specs.Runs.{change_of, link_after, HasAdded, IsRunOf};
-ghost use Rattle.link_out.specs.internal.Replies.{IsDone, HasRoom, IsReplied, AreDone, IsRunFrom};
+ghost use Rattle.link_out.specs.declared.edit.RunFault.TheVariants as run_faults;
+ghost use Rattle.link_out.specs.function.Link.{link};
+ghost use Rattle.link_out.specs.Runs.{change_of, link_after, IsRunOf};
+ghost use Rattle.link_out.specs.internal.Replies.{IsDone, HasRoom, IsReplied, AreDone, StopsAmong, IsLinkedWith, IsRunFrom, RunsOut};
 
 use crate::edit::{Edit, Reply, RunFault};
 use crate::linked::Linked;
@@ -21,6 +23,7 @@ use std::alloc::{AllocError, Global};
 fn add_or_refuse(session: &mut Session, label: String, object: Object) -> Result<Reply, AllocError>
     ensures done { IfOk result (λ reply. IsDone session.old session.new (addition (labelled label object)) reply) }
     ensures within { IfErr result (λ _. refusal session.old.forced (objects session.old.entries) object ≡ None) }
+    ensures same { IfErr result (λ _. session.new ≡ session.old) }
 {
     let Err(refused) = session.add(label, object) else {
         return Ok(Reply::Added);
@@ -46,6 +49,7 @@ fn withdraw_last(session: &mut Session) -> Reply
 fn reply_to(session: &mut Session, edit: Edit) -> Result<Reply, AllocError>
     ensures done { IfOk result (λ reply. IsDone session.old session.new (change_of edit) reply) }
     ensures accepted { IfErr result (λ _. answer_to session.old.forced session.old.entries (change_of edit) ≡ added) }
+    ensures same { IfErr result (λ _. session.new ≡ session.old) }
 {
     match edit {
         Edit::Add(label, object) => add_or_refuse(session, label, object),
@@ -64,6 +68,7 @@ fn put_reply(
     ensures replied { IfOk result (λ done. IsReplied session.old session.new (change_of edit) replies.old replies.new) }
     ensures room { (n : ℕ) → HasRoom (1 + n) replies.old → HasRoom n replies.new }
     ensures accepted { IfErr result (λ _. answer_to session.old.forced session.old.entries (change_of edit) ≡ added) }
+    ensures same { IfErr result (λ _. session.new ≡ session.old) }
 {
     let reply = reply_to(session, edit)?;
     if let Some(list) = replies {
@@ -80,7 +85,7 @@ fn replies_to(
     edits: Vec<Edit>,
 ) -> Result<Option<Vec<Reply>>, AllocError>
     ensures done { IfOk result (λ replies. AreDone session.old session.new (map change_of edits.items) replies) }
-    ensures accepted { IfErr result (λ _. HasAdded (answers_from session.old.forced session.old.entries (map change_of edits.items))) }
+    ensures stopped { IfErr result (λ _. StopsAmong session.old session.new (map change_of edits.items)) }
 {
     let mut replies = Vec::with_capacity(alloc, edits.len()).ok();
     for edit in edits {
@@ -89,18 +94,17 @@ fn replies_to(
     Ok(replies)
 }
 
-/// Does the edits in order, and links what is left. Want of room for the replies is told last, so that it hides no
-/// refusal.
-fn run_on(
+/// Links what is kept after the last edit, and gives the replies with the link. A lack of room for the replies is reported
+/// last, so that it hides no refusal. `Memory` is returned only if there is a link.
+fn link_replied(
     alloc: Global,
-    session: &mut Session,
-    edits: Vec<Edit>,
+    session: &Session,
     options: &Options,
+    replies: Option<Vec<Reply>>,
 ) -> Result<(Vec<Reply>, Linked), RunFault>
-    ensures value { IsRunFrom session.old (map change_of edits.items) options.now result }
+    ensures value { IsLinkedWith replies (link session.now.forced (objects session.now.entries) options.now) result }
     ensures object { options.now.relocatable ≡ true → IfOk result (λ run. IsWellFormed run.1.file) }
 {
-    let replies = replies_to(alloc, session, edits)?;
     let linked = finish(alloc, session, options)?;
     match replies {
         Some(replies) => Ok((replies, linked)),
@@ -108,18 +112,35 @@ fn run_on(
     }
 }
 
+/// Does the edits in order, and links what is left.
+fn run_on(
+    alloc: Global,
+    session: &mut Session,
+    edits: Vec<Edit>,
+    options: &Options,
+) -> Result<(Vec<Reply>, Linked), RunFault>
+    ensures value { IsRunFrom session.old (map change_of edits.items) options.now result }
+    ensures memory { result ≡ Err run_faults.Memory → RunsOut session.old session.new (map change_of edits.items) options.now }
+    ensures object { options.now.relocatable ≡ true → IfOk result (λ run. IsWellFormed run.1.file) }
+{
+    let replies = replies_to(alloc, session, edits)?;
+    link_replied(alloc, session, options, replies)
+}
+
 /// Does the edits in order, from a session with these forced names and no objects, and links what is left: the
 /// replies, one to each edit, and the link. (ld(1); edits are an own choice)
 ///
-/// Errors: `Memory`, 1, where memory runs out: for forced names, for an addition that is accepted, or behind the last
-/// edit, where there is a link; `Link`, 2, where the link is refused, for another cause.
+/// Memory is requested for the forced names, for each addition that is accepted, and for the link. The result does not
+/// reveal which of these requests was refused.
+///
+/// Errors: `Memory`, 1, if memory runs out; `Link`, 2, if the link is refused for another cause.
 pub fn run(
     alloc: Global,
     forced: &Forced,
     edits: Vec<Edit>,
     options: &Options,
 ) -> Result<(Vec<Reply>, Linked), RunFault>
-    ensures value { let made = map change_of edits.items in IsRunOf forced.now result (answers forced.now made) (link_after forced.now made options.now) }
+    ensures value { let made = map change_of edits.items in IsRunOf result (answers forced.now made) (link_after forced.now made options.now) }
     ensures object { options.now.relocatable ≡ true → IfOk result (λ run. IsWellFormed run.1.file) }
 {
     let mut session = Session::with_forced(alloc, forced)?;

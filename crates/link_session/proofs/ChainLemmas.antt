@@ -12,7 +12,8 @@ use Rattle.link_session.specs.declared.cell.Cell.{Cell}
 use Rattle.link_session.specs.declared.cell.Target.{Target}
 use Rattle.link_session.specs.declared.mark.Place.{Place}
 use Rattle.link_session.specs.declared.mark.Place.TheVariants.{InText, InData}
-use Rattle.link_session.specs.internal.Chains.{Link, link_at, IsChain, same_place, is_on, AreApart, IsWithin, bound_to, bound_one, bound_where, nowhere, walk}
+use Rattle.link_session.specs.Marks.{same_place}
+use Rattle.link_session.specs.internal.Chains.{Link, link_at, IsChain, is_on, AreApart, IsWithin, bound_to, bound_one, bound_where, nowhere, walk}
 use Rattle.link_session.specs.Cells.{segment_target}
 
 -- One cell.

@@ -30,6 +30,9 @@ pub mod NoteLemmas
 pub mod UndoLemmas
 pub mod ChainBackLemmas
 pub mod ThreadLemmas
+pub mod MarkedLemmas
+pub mod DifferenceLemmas
+pub mod ChangedLemmas
 pub mod RestoreLemmas
 pub mod NamesLemmas
 pub mod CoverLemmas

@@ -108,7 +108,7 @@ abbrev one : List ℕ → State → Named
 one name s = (name, s) ∷ []
 
 -- one more mention
-with_mention-named_states : (ms : List Mention) (m : Mention) → with_mention (named_states ms) m ≡ named_states (ms ++ m ∷ [])
+pub with_mention-named_states : (ms : List Mention) (m : Mention) → with_mention (named_states ms) m ≡ named_states (ms ++ m ∷ [])
 with_mention-named_states ms m =
     with_mention-is (named_states ms) m
     ∙ (λ i. with_state (named_states ms) (place_of m.name (keys-named_states ms i)) (updated_state (state_for-named_states ms m.name i) m.says)

@@ -6,7 +6,8 @@ use Rattle.std.proofs.lemmas.List.{get_or_append_left}
 use Rattle.link_session.specs.declared.cell.Cell.{Cell}
 use Rattle.link_session.specs.declared.mark.Place.{Place}
 use Rattle.link_session.specs.declared.mark.Place.TheVariants.{InText, InData}
-use Rattle.link_session.specs.internal.Chains.{Link, link_at, IsChain, same_place, is_on, IsWithin, waits_at, Tells, Waits}
+use Rattle.link_session.specs.Marks.{same_place}
+use Rattle.link_session.specs.internal.Chains.{Link, link_at, IsChain, is_on, IsWithin, waits_at, Tells, Waits}
 use Rattle.link_session.proofs.ListLemmas.{all_map}
 use Rattle.link_session.proofs.ChainLemmas.{own_number, other_number}
 

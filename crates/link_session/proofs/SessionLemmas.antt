@@ -14,7 +14,7 @@ use Rattle.link_session.specs.Mentions.{Mention, forced_mention, mentions, exter
 use Rattle.link_session.specs.States.{state, multiple_names, differs, first_definition}
 use Rattle.link_session.specs.Image.{Image, image, named_states}
 use Rattle.link_session.specs.Limits.{limit_passed, refusal}
-use Rattle.link_session.specs.Undo.{undo, UndoesImage, IsJournal}
+use Rattle.link_session.specs.Undo.{undo, AreMarksOf, AreMarksOfLast, IsJournal}
 use Rattle.link_session.specs.Sessions.{newest, Adds, IsObject}
 use Rattle.link_session.specs.internal.Fields.{sizes_of, sizes_in, sizes_before, threads_by, with_heads_back, IsBehind, IsSmall, IsSession}
 use Rattle.link_session.specs.Undo.{marks_in}
@@ -31,6 +31,7 @@ use Rattle.link_session.proofs.TotalLemmas.{refusal-next_limit, image_small, wit
 use Rattle.link_session.proofs.AdditionLemmas.{joined_image-is}
 use Rattle.link_session.proofs.HistoryLemmas.{image_covered}
 use Rattle.link_session.proofs.FewLemmas.{taken_few}
+use Rattle.link_session.proofs.DifferenceLemmas.{taken_difference}
 use Rattle.link_session.proofs.KeptThreadLemmas.{kept_threaded, forced_kept, kept_push, kept_pop}
 use Rattle.link_session.proofs.ListLemmas.{all_append, all_split}
 
@@ -59,8 +60,16 @@ module _ (forced : List (List ℕ)) (es : List Labelled) (undo_records : List Un
   of_image : TakesBack (image forced (objects es)) e.object t.heads undo_record.marks.items
   of_image = subst (λ (n : Image). TakesBack n e.object t.heads undo_record.marks.items) s.image b
 
-  undoes_last : UndoesImage forced undo_record.marks.items (objects es ++ e.object ∷ []) (objects es)
-  undoes_last = subst (λ (n : Image). undo undo_record.marks.items n (image forced (objects es)) ≡ image forced (objects es)) (joined_image-is forced (objects es) e.object s.good) of_image.undoes
+  are_marks : AreMarksOf forced (objects es) e.object undo_record.marks.items
+  are_marks = record {
+    undoes = subst (λ (n : Image). undo undo_record.marks.items n (image forced (objects es)) ≡ image forced (objects es)) (joined_image-is forced (objects es) e.object s.good) of_image.undoes;
+    inside = of_image.inside;
+    few = taken_few forced (objects es) e.object t.heads undo_record.marks.items s.good of_image;
+    difference = taken_difference forced (objects es) e.object t.heads undo_record.marks.items s.good of_image;
+  }
+
+  of_last : AreMarksOfLast forced undo_record.marks.items (objects es ++ e.object ∷ []) (objects es)
+  of_last o split = subst (λ (x : Contents). AreMarksOf forced (objects es) x undo_record.marks.items) (same_from_push (objects es) (objects es) e.object o split).1 are_marks
 
   -- the fields after an addition
   pub added_session : (n : Image) (u : Threads) → IsObject e.object → next_limit m e.object ≡ None → undo_record.sizes ≡ sizes_of m → n ≡ joined_image m e.object → u ≡ next_threads m e.object t →
@@ -71,7 +80,7 @@ module _ (forced : List (List ℕ)) (es : List Labelled) (undo_records : List Un
     chained = subst (λ (x : Image). IsThreaded x u) (sym longer) (kept_threaded forced (objects (es ++ e ∷ [])) (map marks_in (undo_records ++ undo_record ∷ [])) u all_good kept);
     journal =
         subst (λ (P : Type 0). P) (λ i. IsJournal forced (sym one_more i) (sym (map-append marks_in undo_records (undo_record ∷ [])) i))
-        (journal_push (UndoesImage forced) (objects es) e.object (map marks_in undo_records) undo_record.marks.items s.journal undoes_last);
+        (journal_push (AreMarksOfLast forced) (objects es) e.object (map marks_in undo_records) undo_record.marks.items s.journal of_last);
     sizes =
         map-append sizes_in undo_records (undo_record ∷ [])
         ∙ (λ i. s.sizes i ++ (sizes ∙ ap sizes_of s.image) i ∷ [])
@@ -99,9 +108,7 @@ module _ (forced : List (List ℕ)) (es : List Labelled) (undo_records : List Un
     entries = refl;
     marks = undo_record.marks.items;
     journal = map-append marks_in undo_records (undo_record ∷ []);
-    undoes = (λ i. undo undo_record.marks.items (image forced (one_more i)) (image forced (objects es))) ∙ undoes_last;
-    inside = of_image.inside;
-    few = taken_few forced (objects es) e.object t.heads undo_record.marks.items s.good of_image;
+    are = are_marks;
   }
 
 module _ (forced : List (List ℕ)) (es : List Labelled) (undo_records : List UndoRecord) (m : Image) (t : Threads) (e : Labelled) (undo_record : UndoRecord) (s : IsSession forced (es ++ e ∷ []) (undo_records ++ undo_record ∷ []) m t) where
@@ -150,13 +157,13 @@ module _ (forced : List (List ℕ)) (es : List Labelled) (undo_records : List Un
     within = within_before forced (objects es) e.object (ap (λ (xs : List Contents). limit_passed forced xs) (sym one_less) ∙ s.within);
   }
     where
-      pop : IsJournal forced (objects es) (map marks_in undo_records) × UndoesImage forced undo_record.marks.items (objects es ++ e.object ∷ []) (objects es)
+      pop : IsJournal forced (objects es) (map marks_in undo_records) × AreMarksOfLast forced undo_record.marks.items (objects es ++ e.object ∷ []) (objects es)
       pop =
-          journal_pop (UndoesImage forced) (objects es) e.object (map marks_in undo_records) undo_record.marks.items
+          journal_pop (AreMarksOfLast forced) (objects es) e.object (map marks_in undo_records) undo_record.marks.items
           (subst (λ (P : Type 0). P) (λ i. IsJournal forced (one_less i) (map-append marks_in undo_records (undo_record ∷ []) i)) s.journal)
 
       before : undo undo_record.marks.items m (image forced (objects es)) ≡ image forced (objects es)
-      before = ap (λ (n : Image). undo undo_record.marks.items n (image forced (objects es))) now ∙ pop.1
+      before = ap (λ (n : Image). undo undo_record.marks.items n (image forced (objects es))) now ∙ (pop.1 e.object refl).undoes
 
       kept : KeepsThreads forced (objects es) (map marks_in undo_records) (with_heads_back undo_record.marks.items (threads_by undo_record.sizes m t))
       kept =
@@ -175,7 +182,7 @@ forced_session forced few m t text datas bss names multiples text_links data_lin
   image = none;
   threads = kept;
   chained = subst (λ (x : Image). IsThreaded x t) (sym none) (kept_threaded forced [] [] t tt kept);
-  journal = journal_empty (UndoesImage forced);
+  journal = journal_empty (AreMarksOfLast forced);
   sizes = refl;
   good = tt;
   within = limit_within 0 0 0 (length (externals forced [])) (record {

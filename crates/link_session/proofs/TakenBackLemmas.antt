@@ -1,21 +1,24 @@
 -- The marks of an object's mentions and of the chains that it binds take it back.
-use Rattle.std.proofs.Common.{◌≡◌, List, [], ◌++◌, map, take, length, refl, sym, ap, ◌∙◌, subst, arith}
+use Rattle.std.proofs.Common.{◌≡◌, List, [], ◌++◌, map, take, length, refl, sym, ap, ◌∙◌, subst, arith, append-nil}
 use Rattle.std.specs.List.{AllByRecursion}
 use Rattle.std.proofs.Math.Seq.{take-length}
 use Rattle.std.proofs.lemmas.List.{length-map, take_at, take_all}
 use Rattle.aout_core.specs.Contents.{Contents}
 use Rattle.link_session.specs.declared.cell.Cell.{Cell}
 use Rattle.link_session.specs.declared.mark.Mark.{Mark}
+use Rattle.link_session.specs.declared.state.State.{State}
+use Rattle.link_session.specs.Marks.{cells_marked, states_marked}
 use Rattle.link_session.specs.Mentions.{externals_in}
 use Rattle.link_session.specs.Image.{Image}
 use Rattle.link_session.specs.Undo.{put_all_back, cut_to, undo, IsInside}
 use Rattle.link_session.specs.Image.{Named}
 use Rattle.link_session.specs.internal.Additions.{state_marks, settled_cell, all_clashes, mention_by, next_shifts, next_mentions, next_named, joined_image, entered}
-use Rattle.link_session.specs.internal.Chains.{Link, heads_back}
+use Rattle.link_session.specs.internal.Chains.{Link, cell_at, heads_back}
 use Rattle.link_session.specs.internal.Counts.{NotesBound}
 use Rattle.link_session.specs.internal.Threads.{bound_heads, next_texts, next_datas}
-use Rattle.link_session.specs.internal.Restores.{Restores, TakesBack}
+use Rattle.link_session.specs.internal.Restores.{Restores, TakesBack, HoldBound}
 use Rattle.link_session.proofs.ListLemmas.{all_append}
+use Rattle.link_session.proofs.MarkedLemmas.{cells_marked-append, states_marked-append, no_cells}
 use Rattle.link_session.proofs.MarkLemmas.{put_all_back-append, cut_front}
 use Rattle.link_session.proofs.BackLemmas.{mentions_back, states_inside, states_few}
 use Rattle.link_session.proofs.WithdrawalLemmas.{heads_back-behind_states}
@@ -64,4 +67,9 @@ module _ (m : Image) (o : Contents) where
           ∙ r.heads_are;
       inside = subst (λ (l : List Mark). AllByRecursion (IsInside m) l) (sym e) (all_append (IsInside m) states ks (states_inside m m.externals (next_mentions m o)) (r.inside m refl refl));
       few = omega (arith, few, states_few (length m.externals) m.externals (next_mentions m o), length-map (externals_in o) (mention_by (next_shifts m o)));
+      cells_are = λ p.
+          let held : cells_marked p marks ≡ cells_marked p ks =
+          ap (cells_marked p) e ∙ cells_marked-append p states ks ∙ ap (λ (l : List Cell). l ++ cells_marked p ks) (no_cells p (length m.externals) m.externals (next_mentions m o)) in
+          subst (λ (P : Type 0). P) (λ i. HoldBound (cell_at m.text_cells m.data_cells p) (cell_at (t i) (d i) p) (sym held i)) (r.cells_are p);
+      states_are = λ i. ap (states_marked i) e ∙ states_marked-append i states ks ∙ ap (λ (l : List State). states_marked i states ++ l) (r.no_states i) ∙ append-nil (states_marked i states);
     }

@@ -1,14 +1,14 @@
 -- The states, the names and the multiples after one more mention.
 use Rattle.std.proofs.Common.{◌≡◌, ℕ, ◌+◌, max, Bool, true, false, cond, not, ◌||◌, List, [], ◌∷◌, ◌++◌, map, Option, Some, None, refl, sym, ◌∙◌, ap, arith, add-one, eq-eqb}
-use Rattle.std.specs.Prelude.{bytes_eq}
-use Rattle.std.proofs.lemmas.Bool.{or_left, or_right, or_parts}
+use Rattle.std.specs.Prelude.{bytes_eq, eqb}
+use Rattle.std.proofs.lemmas.Bool.{and_parts, or_left, or_right, or_parts, eqb-true}
 use Rattle.std.proofs.lemmas.List.{map-append}
 use Rattle.std.proofs.lemmas.List.Sums.{sum_by-append}
 use Rattle.std.proofs.lemmas.Slice.Eq.{bytes_eq-Decides}
 use Rattle.aout_core.specs.declared.symbol.Segment.{Segment}
 use Rattle.aout_core.specs.declared.symbol.Segment.TheVariants as segments
 use Rattle.aout_core.specs.Contents.{Contents}
-use Rattle.aout_core.specs.WellFormed.{segment_number, first_of}
+use Rattle.aout_core.specs.WellFormed.{segment_number, segment_numbered, first_of}
 use Rattle.link_session.specs.declared.state.State.{State}
 use Rattle.link_session.specs.declared.state.State.TheVariants.{Defined, Wanted}
 use Rattle.link_session.specs.Starts.{size_of, total}
@@ -45,6 +45,24 @@ definition_of ms name = by_definition (first_definition ms name)
 
 pub own_definition : (segment : Segment) (offset : ℕ) → is_definition segment offset (Some (segment, offset)) ≡ true
 own_definition segment offset = let a = eq-eqb (segment_number segment) (segment_number segment) refl in let b = eq-eqb offset offset refl in rw (a, b) refl
+
+same_segment : (a b : Segment) → eqb (segment_number a) (segment_number b) ≡ true → a ≡ b
+same_segment a b e = back a ∙ ap segment_numbered (eqb-true (segment_number a) (segment_number b) e) ∙ sym (back b)
+  where
+    back : (s : Segment) → s ≡ segment_numbered (segment_number s)
+    back segments.Undefined = refl
+    back segments.Absolute = refl
+    back segments.TextSeg = refl
+    back segments.DataSeg = refl
+    back segments.BssSeg = refl
+    back segments.Other = refl
+
+pub definition_same : (segment : Segment) (offset : ℕ) (d : Definition) → is_definition segment offset (Some d) ≡ true → Some d ≡ Some (segment, offset)
+definition_same segment offset d h =
+    let parts = and_parts (eqb (segment_number segment) (segment_number d.0)) (eqb offset d.1) h in
+    let s : segment ≡ d.0 = same_segment segment d.0 parts.0 in
+    let o : offset ≡ d.1 = eqb-true offset d.1 parts.1 in
+    λ i. Some (sym s i, sym o i)
 
 pub own_name : (name : List ℕ) → bytes_eq name name ≡ true
 own_name name = (bytes_eq-Decides name name).1 refl

@@ -8,8 +8,9 @@ pub mod Cells
 pub mod Image
 pub mod Limits
 pub mod Edits
-pub mod Undo
 pub mod Bounds
+pub mod Marks
+pub mod Undo
 pub mod Sessions
 pub mod Laws
 pub mod internal

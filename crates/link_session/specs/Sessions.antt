@@ -1,9 +1,8 @@
 -- What the calls of a session do to what it keeps. (own choice)
 --
 -- A session keeps forced names, objects with labels, and a journal. `add` appends an object and its marks, `withdraw` takes the
--- last ones away. These records say so, and that the marks undo their addition.
-use Rattle.std.specs.Prelude.{◌≡◌, ℕ, ◌≤◌, List, [], ◌∷◌, ◌++◌, length, Option, Some, None, unwrap_or, String, string_bytes}
-use Rattle.std.specs.List.{AllByRecursion}
+-- last ones away. These records say so, and what the marks are.
+use Rattle.std.specs.Prelude.{◌≡◌, ℕ, List, [], ◌∷◌, ◌++◌, Option, Some, None, unwrap_or, String, string_bytes}
 use Rattle.std.specs.declared.alloc.Global.{Global}
 use Rattle.aout_core.specs.Contents.{Contents, Fits}
 use Rattle.aout_core.specs.WellFormed.{IsWellFormed}
@@ -12,8 +11,7 @@ use Rattle.link_session.specs.declared.entry.AddFault.TheVariants.{Memory}
 use Rattle.link_session.specs.declared.mark.Mark.{Mark}
 use Rattle.link_session.specs.Labelled.{Labelled, objects}
 use Rattle.link_session.specs.Edits.{last_of}
-use Rattle.link_session.specs.Undo.{undo, IsInside, Kept, image_of}
-use Rattle.link_session.specs.Bounds.{most_marks}
+use Rattle.link_session.specs.Undo.{AreMarksOf, Kept}
 
 -- a file that fits its header and is well formed
 pub record IsObject (o : Contents) : Type 0 where
@@ -27,16 +25,13 @@ nothing_kept forced = record { forced = forced; entries = []; journal = [] }
 abbrev pub labelled : String Global → Contents → Labelled
 labelled label object = record { label = string_bytes label; object = object }
 
--- an object was appended, and its marks take it back: they lie inside the old image, and are no more than the cells that wait
--- for the names which it defines, and its external symbols
+-- an object was appended, and the marks of its addition
 pub record Adds (old new : Kept) (e : Labelled) : Type 0 where
   pub forced : new.forced ≡ old.forced
   pub entries : new.entries ≡ old.entries ++ e ∷ []
   pub marks : List Mark
   pub journal : new.journal ≡ old.journal ++ marks ∷ []
-  pub undoes : undo marks (image_of new) (image_of old) ≡ image_of old
-  pub inside : AllByRecursion (IsInside (image_of old)) marks
-  pub few : length marks ≤ most_marks old.forced (objects old.entries) e.object
+  pub are : AreMarksOf old.forced (objects old.entries) e.object marks
 
 -- the last object was taken away, with its marks
 pub record Withdraws (old new : Kept) (e : Labelled) : Type 0 where

@@ -9,8 +9,8 @@ pub enum Place {
     InData(u16),
 }
 
-/// What stood at a place before it was overwritten. The first mark of a place has what stood there before the addition,
-/// and a later one of the same place what stood there in between. (own choice)
+/// What was at a place before it was overwritten. The first mark of a place has what was there before the addition, and
+/// each later one of the same place what the change before it led to. (own choice)
 #[derive(Clone, Copy, Debug, PartialEq, Eq)]
 pub enum Mark {
     /// A cell that was bound.

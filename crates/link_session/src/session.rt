@@ -272,8 +272,9 @@ impl Session {
         &self.image.multiples
     }
 
-    /// What the addition of the last object overwrote; empty without objects. The first mark of a place has what stood
-    /// there before the addition, and a later one of the same place what stood there in between. (own choice)
+    /// What the addition of the last object overwrote, and nothing else; empty without objects. A place may appear more
+    /// than once, as a common that grows several times: its first mark has what was there before the addition, and each
+    /// later one what the change before it led to. (own choice)
     pub fn last_marks(&self) -> &[Mark]
         ensures value { result.now ≡ newest self.now.journal }
         ensures journal { IsJournal self.now.forced (objects self.now.entries) self.now.journal }

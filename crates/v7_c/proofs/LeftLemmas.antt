@@ -1,21 +1,25 @@
 -- What a call leaves, by what the library returned.
-use Rattle.std.proofs.Common.{◌≡◌, ℕ, Bool, true, false, cond, nat_lt, ◌||◌, List, length, Result, Ok, Err, IfOk, IfErr, refl, sym, ap, subst, ◌∙◌, arith}
+use Rattle.std.proofs.Common.{◌≡◌, ◌≢◌, ℕ, Bool, true, false, cond, nat_lt, ◌||◌, List, [], length, Result, Ok, Err, IfOk, IfErr, inl, inr, refl, sym, ap, subst, ◌∙◌, arith}
+use Rattle.std.specs.Prelude.{◌⊎◌, IsErrAnd, MatchResult, Vec}
+use Rattle.std.specs.declared.alloc.Global.{Global}
 use Rattle.aout_core.specs.declared.object.ObjectFault.TheVariants as objects
 use Rattle.library_calls.specs.declared.cause.Cause.{Cause}
 use Rattle.library_calls.specs.declared.cause.Cause.TheVariants.{NoOption, Excluded, LongName, CutNames, ManyNames, TooLong, NoEdit, BadFile, BadObject, NotAdded, NotLinked, Memory}
 use Rattle.library_calls.specs.declared.cause.Refusal.{Refusal}
+use Rattle.library_calls.specs.declared.link_call.Program.{Program}
+use Rattle.library_calls.proofs.NumberLemmas.{IsTold, Told}
 use Rattle.library_calls.specs.declared.parts.ObjectWord.{ObjectWord}
 use Rattle.library_calls.specs.declared.parts.PartLists.{PartLists}
 use Rattle.library_calls.specs.declared.parts.SymbolRow.{SymbolRow}
 use Rattle.library_calls.specs.declared.session_call.Ran.{Ran}
 use Rattle.library_calls.specs.declared.state_call.Shown.{Shown}
 use Rattle.library_calls.specs.Causes.{number_of, word_of}
-use Rattle.library_calls.specs.LinkAnswers.{Output}
+use Rattle.library_calls.specs.LinkAnswers.{Output, outputs_of}
 use Rattle.library_calls.specs.ObjectParts.{pieces_in}
 use Rattle.library_calls.specs.StateAnswers.{Asked, IsShown, told_of}
 use Rattle.v7_c.specs.declared.answer.Answer.{Answer}
 use Rattle.v7_c.specs.declared.answer.Counts.{Counts}
-use Rattle.v7_c.specs.Left.{LeavesState, LinkLeft, PartsLeft, SessionLeft, apart_left, counts_of, no_counts, of_none, parts_left, pieces_or, put_in, refused, given, link_left, output_left, no_output, no_session, ran_left, session_left, sessions_or, told_left, told_or}
+use Rattle.v7_c.specs.Left.{LeavesState, Left, LinkLeft, PartsLeft, counted_by, items_of, left, left_by, output_told, outputs_or, SessionLeft, apart_left, counts_of, no_counts, of_none, parts_left, pieces_or, put_in, refused, given, link_left, output_left, no_output, no_session, ran_left, session_left, sessions_or, told_left, told_or}
 
 -- a cause of the number of no memory lies in no word
 no_word : (cause : Cause) → number_of cause ≡ 50 → word_of cause ≡ 0
@@ -102,3 +106,101 @@ module _ (status : ℕ) (answer : Answer) (counts : Counts) (text_old text_new d
   apart_memory (Err cause) is h =
       is
       ∙ ap (λ (a : Answer). parts_left 2 a no_counts text_old data_old symbols_old) (no_memory (of_none cause) (sym (ap (λ (l : PartsLeft). l.answer.fault) is) ∙ h))
+
+-- ---- a fault of the number of no memory
+
+is_memory_or : (cause : Cause) → (cause ≡ Memory) ⊎ (cause ≢ Memory)
+is_memory_or NoOption = inr (λ e. absurd (cc))
+is_memory_or Excluded = inr (λ e. absurd (cc))
+is_memory_or LongName = inr (λ e. absurd (cc))
+is_memory_or CutNames = inr (λ e. absurd (cc))
+is_memory_or ManyNames = inr (λ e. absurd (cc))
+is_memory_or TooLong = inr (λ e. absurd (cc))
+is_memory_or NoEdit = inr (λ e. absurd (cc))
+is_memory_or (BadFile fault) = inr (λ e. absurd (cc))
+is_memory_or (BadObject fault) = inr (λ e. absurd (cc))
+is_memory_or (NotAdded fault) = inr (λ e. absurd (cc))
+is_memory_or (NotLinked fault) = inr (λ e. absurd (cc))
+is_memory_or Memory = inl refl
+
+module _ {A B X : Type 0} (answer : Result A Cause) where
+  -- what is refused under it is refused for memory
+  pub is_memory : (r : Result B Cause) → Told answer → IfErr r (λ cause. cause ≢ Memory → answer ≡ Err cause) → IfErr r (λ cause. cause ≡ Memory → X) →
+      IsErrAnd r (λ cause. number_of cause ≡ 50) → X
+  is_memory (Ok x) told err memory h = absurd h
+  is_memory (Err cause) told err memory h = by (is_memory_or cause)
+    where
+      by : ((cause ≡ Memory) ⊎ (cause ≢ Memory)) → X
+      by (inl e) = memory e
+      by (inr n) = absurd (subst (λ (r : Result A Cause). Told r) (err n) told h)
+
+module _ {A B : Type 0} (X : ℕ → Type 0) (answer : Result A Refusal) where
+  pub is_memory_at : (r : Result B Refusal) → IsTold answer → IfErr r (λ refusal. refusal.cause ≢ Memory → answer ≡ Err refusal) → IfErr r (λ refusal. refusal.cause ≡ Memory → X refusal.place) →
+      (place : ℕ) → IsErrAnd r (λ refusal. (number_of refusal.cause ≡ 50) × (place ≡ refusal.place)) → X place
+  is_memory_at (Ok x) told err memory place h = absurd h
+  is_memory_at (Err refusal) told err memory place h = by (is_memory_or refusal.cause)
+    where
+      by : ((refusal.cause ≡ Memory) ⊎ (refusal.cause ≢ Memory)) → X place
+      by (inl e) = subst X (sym h.1) (memory e)
+      by (inr n) = absurd (subst (λ (r : Result A Refusal). IsTold r) (err n) told h.0)
+
+no_left_memory : (b : Bool) (x y : Left) → x.answer.fault ≡ 60 → y.answer.fault ≡ 0 → (cond b x y).answer.fault ≡ 50 → ⊥
+no_left_memory true x y hx hy h = absurd (omega (arith, sym hx ∙ h))
+no_left_memory false x y hx hy h = absurd (omega (arith, sym hy ∙ h))
+
+pub bytes_fault : (status : ℕ) (answer : Answer) (old new : List ℕ) (r : Result (Vec ℕ Global) Cause) → left status answer new ≡ left_by (items_of r) old → answer.fault ≡ 50 → IsErrAnd r (λ cause. number_of cause ≡ 50)
+bytes_fault status answer old new (Ok x) is h =
+    absurd (no_left_memory (nat_lt (length old) (length x.items)) (left 2 (given 60 (length x.items) 0) old) (left 0 (given 0 (length x.items) 0) (put_in old x.items))
+    refl refl (sym (ap (λ (l : Left). l.answer.fault) is) ∙ h))
+bytes_fault status answer old new (Err cause) is h = sym (ap (λ (l : Left). l.answer.fault) is) ∙ h
+
+pub count_fault : (status : ℕ) (answer : Answer) (r : Result ℕ Cause) → left status answer [] ≡ counted_by r → answer.fault ≡ 50 → IsErrAnd r (λ cause. number_of cause ≡ 50)
+count_fault status answer (Ok x) is h =
+    let e : 0 ≡ 50 = sym (ap (λ (l : Left). l.answer.fault) is) ∙ h in absurd (omega (arith, e))
+count_fault status answer (Err cause) is h = sym (ap (λ (l : Left). l.answer.fault) is) ∙ h
+
+module _ (status : ℕ) (answer : Answer) (old new report_old report_new : List ℕ) where
+  output_fault : {B : Type 0} (view : B → Output) (r : Result B Refusal) (given_ : Result Output Refusal) → MatchResult r (λ x. given_ ≡ Ok (view x)) (λ refusal. given_ ≡ Err refusal) →
+      link_left status answer new report_new ≡ output_left given_ old report_old → answer.fault ≡ 50 → IsErrAnd r (λ refusal. (number_of refusal.cause ≡ 50) × (answer.place ≡ refusal.place))
+  output_fault view (Ok x) given_ same is h =
+      let whole = is ∙ ap (λ (g : Result Output Refusal). output_left g old report_old) same in
+      absurd (not_memory (nat_lt (length old) (length (view x).file) || nat_lt (length report_old) (length (view x).report))
+      (link_left 2 (given 60 (length (view x).file) (length (view x).report)) old report_old)
+      (link_left (view x).status (given 0 (length (view x).file) (length (view x).report)) (put_in old (view x).file) (put_in report_old (view x).report))
+      refl refl (sym (ap (λ (l : LinkLeft). l.answer.fault) whole) ∙ h))
+  output_fault view (Err refusal) given_ same is h =
+      let whole = is ∙ ap (λ (g : Result Output Refusal). output_left g old report_old) same in
+      (sym (ap (λ (l : LinkLeft). l.answer.fault) whole) ∙ h, ap (λ (l : LinkLeft). l.answer.place) whole)
+
+  pub program_fault : (r : Result Program Refusal) → link_left status answer new report_new ≡ output_left (outputs_or r) old report_old → answer.fault ≡ 50 →
+      IsErrAnd r (λ refusal. (number_of refusal.cause ≡ 50) × (answer.place ≡ refusal.place))
+  program_fault (Ok x) is h = output_fault outputs_of (Ok x) (Ok (outputs_of x)) refl is h
+  program_fault (Err refusal) is h = output_fault outputs_of (Err refusal) (Err refusal) refl is h
+
+  pub shown_fault : (r : Result Shown Refusal) → link_left status answer new report_new ≡ told_left (told_or r) old report_old → answer.fault ≡ 50 →
+      IsErrAnd r (λ refusal. (number_of refusal.cause ≡ 50) × (answer.place ≡ refusal.place))
+  shown_fault (Ok x) is h =
+      output_fault (λ (s : Shown). record { status = s.status; file = s.state.items; report = s.replies.items }) (Ok x) (output_told (Ok (told_of x))) refl is h
+  shown_fault (Err refusal) is h =
+      output_fault (λ (s : Shown). record { status = s.status; file = s.state.items; report = s.replies.items }) (Err refusal) (Err refusal) refl is h
+
+module _ (status : ℕ) (answer : Answer) (old new report_old report_new replies_old replies_new : List ℕ) where
+  pub ran_fault : (r : Result Ran Refusal) → session_left (link_left status answer new report_new) replies_new ≡ ran_left (sessions_or r) replies_old old report_old → answer.fault ≡ 50 →
+      IsErrAnd r (λ refusal. (number_of refusal.cause ≡ 50) × (answer.place ≡ refusal.place))
+  ran_fault (Ok x) is h =
+      absurd (no_session_memory (nat_lt (length replies_old) (length x.replies.items) || (nat_lt (length old) (length x.program.file.items) || nat_lt (length report_old) (length x.program.report.items)))
+      (session_left (link_left 2 (given 60 (length x.program.file.items) (length x.program.report.items)) old report_old) replies_old)
+      (session_left (link_left x.program.status (given 0 (length x.program.file.items) (length x.program.report.items)) (put_in old x.program.file.items) (put_in report_old x.program.report.items)) (put_in replies_old x.replies.items))
+      refl refl (sym (ap (λ (l : SessionLeft). l.link.answer.fault) is) ∙ h))
+  ran_fault (Err refusal) is h = (sym (ap (λ (l : SessionLeft). l.link.answer.fault) is) ∙ h, ap (λ (l : SessionLeft). l.link.answer.place) is)
+
+module _ (status : ℕ) (answer : Answer) (counts : Counts) (text_old text_new data_old data_new : List ObjectWord) (symbols_old symbols_new : List SymbolRow) where
+  pub parts_fault : (r : Result PartLists Cause) → parts_left status answer counts text_new data_new symbols_new ≡ apart_left (pieces_or r) text_old data_old symbols_old → answer.fault ≡ 50 →
+      IsErrAnd r (λ cause. number_of cause ≡ 50)
+  parts_fault (Ok p) is h =
+      absurd (no_parts_memory
+      (nat_lt (length text_old) (length p.text.items) || (nat_lt (length data_old) (length p.«data».items) || nat_lt (length symbols_old) (length p.symbols.items)))
+      (parts_left 2 (given 60 0 0) (counts_of (pieces_in p)) text_old data_old symbols_old)
+      (parts_left 0 (given 0 0 0) (counts_of (pieces_in p)) (put_in text_old p.text.items) (put_in data_old p.«data».items) (put_in symbols_old p.symbols.items))
+      refl refl (sym (ap (λ (l : PartsLeft). l.answer.fault) is) ∙ h))
+  parts_fault (Err cause) is h = sym (ap (λ (l : PartsLeft). l.answer.fault) is) ∙ h

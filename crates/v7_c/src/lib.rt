@@ -6,11 +6,12 @@
 mod answer;
 mod rooms;
 
-ghost use Rattle.std.specs.Prelude.{◌≡◌, ◌≢◌, [], Err};
+ghost use Rattle.std.specs.Prelude.{◌≡◌, ◌≢◌, ◌⊎◌, [], Err, IsOk};
 ghost use Rattle.library_calls.specs.declared.cause.Cause.TheVariants.{Memory};
 ghost use Rattle.library_calls.specs.FileAnswers.{checked_in, names_in, sizes_in, stripped_in};
 ghost use Rattle.library_calls.specs.LinkAnswers.{output_in};
-ghost use Rattle.library_calls.specs.ObjectParts.{made_of, parts_in, pieces};
+ghost use Rattle.library_calls.specs.MemoryWanted.{HasBody, LinkMayRunOut, SessionMayRunOut, StateMayRunOut};
+ghost use Rattle.library_calls.specs.ObjectParts.{file_for, made_of, parts_in, pieces};
 ghost use Rattle.library_calls.specs.SessionAnswers.{session_in};
 ghost use Rattle.library_calls.specs.StateAnswers.{asked_in};
 ghost use Rattle.v7_c.specs.Left.{LeavesState, apart_left, counted_by, left, left_by, link_left, no_bytes, no_output, no_session, output_left, parts_left, ran_left, session_left};
@@ -27,6 +28,7 @@ use std::alloc::Global;
 pub extern "C" fn v7_check(alloc: Global, bytes: &[u8], answer: &mut Answer) -> u32
     ensures value { answer.new.fault ≢ 50 → left result answer.new [] ≡ counted_by (checked_in bytes.now) }
     ensures memory { answer.new.fault ≡ 50 → left result answer.new [] ≡ no_bytes [] }
+    ensures ran_out { answer.new.fault ≡ 50 → HasBody bytes.now }
 {
     leave_count(library_calls::check(alloc, bytes), answer)
 }
@@ -36,6 +38,7 @@ pub extern "C" fn v7_check(alloc: Global, bytes: &[u8], answer: &mut Answer) -> 
 pub extern "C" fn v7_strip(alloc: Global, bytes: &[u8], room: &mut [u8], answer: &mut Answer) -> u32
     ensures value { answer.new.fault ≢ 50 → left result answer.new room.new ≡ left_by (stripped_in bytes.now) room.old }
     ensures memory { answer.new.fault ≡ 50 → left result answer.new room.new ≡ no_bytes room.old }
+    ensures ran_out { answer.new.fault ≡ 50 → IsOk (stripped_in bytes.now) }
 {
     leave_bytes(library_calls::strip(alloc, bytes), room, answer)
 }
@@ -51,6 +54,7 @@ pub extern "C" fn v7_nm(
 ) -> u32
     ensures value { answer.new.fault ≢ 50 → left result answer.new room.new ≡ left_by (names_in options bytes.now) room.old }
     ensures memory { answer.new.fault ≡ 50 → left result answer.new room.new ≡ no_bytes room.old }
+    ensures ran_out { answer.new.fault ≡ 50 → IsOk (names_in options bytes.now) }
 {
     leave_bytes(
         library_calls::list_symbols(alloc, options, bytes),
@@ -64,6 +68,7 @@ pub extern "C" fn v7_nm(
 pub extern "C" fn v7_size(alloc: Global, bytes: &[u8], room: &mut [u8], answer: &mut Answer) -> u32
     ensures value { answer.new.fault ≢ 50 → left result answer.new room.new ≡ left_by (sizes_in bytes.now) room.old }
     ensures memory { answer.new.fault ≡ 50 → left result answer.new room.new ≡ no_bytes room.old }
+    ensures ran_out { answer.new.fault ≡ 50 → IsOk (sizes_in bytes.now) }
 {
     leave_bytes(library_calls::show_sizes(alloc, bytes), room, answer)
 }
@@ -84,6 +89,7 @@ pub extern "C" fn v7_link(
         ≡ output_left (output_in options entry.now forced.now objects.now) room.old report.old }
     ensures memory { answer.new.fault ≡ 50 → link_left result answer.new room.new report.new
         ≡ no_output answer.new.place room.old report.old }
+    ensures ran_out { answer.new.fault ≡ 50 → LinkMayRunOut options entry.now forced.now objects.now answer.new.place }
 {
     let wanted = Wanted {
         options,
@@ -112,6 +118,7 @@ pub extern "C" fn v7_make(
     ensures value { answer.new.fault ≢ 50 → left result answer.new room.new
         ≡ left_by (made_of (pieces text.now data_words.now bss symbols.now)) room.old }
     ensures memory { answer.new.fault ≡ 50 → left result answer.new room.new ≡ no_bytes room.old }
+    ensures ran_out { answer.new.fault ≡ 50 → IsOk (file_for (pieces text.now data_words.now bss symbols.now)) }
 {
     let parts = ObjectParts {
         text,
@@ -137,6 +144,7 @@ pub extern "C" fn v7_take_apart(
         ≡ apart_left (parts_in bytes.now) text.old data_words.old symbols.old }
     ensures memory { answer.new.fault ≡ 50 → parts_left result answer.new counts.new text.new data_words.new symbols.new
         ≡ apart_left (Err Memory) text.old data_words.old symbols.old }
+    ensures ran_out { answer.new.fault ≡ 50 → HasBody bytes.now ⊎ IsOk (parts_in bytes.now) }
 {
     let parts = library_calls::take_apart(alloc, bytes);
     let (status, there) = leave_parts(parts, text, data_words, symbols, answer);
@@ -162,6 +170,7 @@ pub extern "C" fn v7_session(
         ≡ ran_left (session_in options entry.now forced.now edits.now objects.now) replies.old room.old report.old }
     ensures memory { answer.new.fault ≡ 50 → session_left (link_left result answer.new room.new report.new) replies.new
         ≡ no_session answer.new.place replies.old room.old report.old }
+    ensures ran_out { answer.new.fault ≡ 50 → SessionMayRunOut options entry.now forced.now edits.now objects.now answer.new.place }
 {
     let wanted = Wanted {
         options,
@@ -188,6 +197,7 @@ pub extern "C" fn v7_state(
         (link_left result answer.new room.new replies.new) }
     ensures memory { answer.new.fault ≡ 50 → link_left result answer.new room.new replies.new
         ≡ no_output answer.new.place room.old replies.old }
+    ensures ran_out { answer.new.fault ≡ 50 → StateMayRunOut form forced.now edits.now objects.now answer.new.place }
 {
     let shown = library_calls::show_session(alloc, form, forced, edits, objects);
     leave_state(shown, room, replies, answer)

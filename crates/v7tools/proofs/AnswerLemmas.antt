@@ -1,7 +1,7 @@
 -- The inputs one after another, and the link of what is kept of them.
 use Rattle.std.specs.declared.alloc.Global.{Global}
 use Rattle.std.proofs.Common.{◌≡◌, ◌≢◌, ℕ, false, List, [], ◌∷◌, Option, Some, None, option_and_then, option_map, Result, Ok, Err, refl, sym, ap, ◌∙◌, subst, inl, inr}
-use Rattle.std.specs.Prelude.{String, string_bytes, IfSome, IsErrAnd}
+use Rattle.std.specs.Prelude.{String, string_bytes, IfSome, IsErrAnd, IsOk}
 use Rattle.aout_core.specs.declared.file.ReadFault.TheVariants as reads
 use Rattle.aout_core.specs.Contents.{Contents}
 use Rattle.aout_core.specs.Decoding.{decode}
@@ -20,8 +20,8 @@ use Rattle.v7tools.specs.declared.fault.CliFault.{CliFault}
 use Rattle.v7tools.specs.declared.fault.CliFault.TheVariants as faults
 use Rattle.v7tools.specs.FaultTexts.{fault_at, fault_of_link}
 use Rattle.v7tools.specs.Inputs.{Cause, cannot_open, bad_file, bad_object, not_added, Refusal, of_input, not_linked, object_in, kept_with, with_input, with_inputs, at_path, and_then, link_or_refusal, linked}
-use Rattle.v7tools.specs.LinkAnswers.{Input, Said, said_by, refuses, breaks, runs_out, never, Takes, Rejects, WantsMemory, StopsAt, TakesAll, StopsIn, HasNoLink, IsLinkOver, told, IsTrueOf, IsLinkOfBytes, IsLinkOf}
-use Rattle.v7tools.specs.internal.InputParts.{AreTaken, IsPossible}
+use Rattle.v7tools.specs.LinkAnswers.{Input, Said, said_by, refuses, breaks, runs_out, never, Takes, Rejects, WantsMemory, StopsAt, TakesAll, StopsIn, HasNoLink, MayLackMemory, IsNotLinked, IsLinkOver, told, IsTrueOf, IsLinkOfBytes, IsLinkOf}
+use Rattle.v7tools.specs.internal.InputParts.{AreTaken, IsFinalLink, IsPossible, StopsWith}
 use Rattle.v7tools.specs.internal.StepParts.{IsAccepted, IsAddition, IsFound}
 
 -- ---- one input
@@ -161,14 +161,20 @@ module _ (forced : List (List ℕ)) where
     no_link_of x (refuses (of_input path cause)) h = absurd h
     no_link_of x (refuses (not_linked fault)) h = ap link_or_refusal h
     no_link_of x (breaks path) h = absurd h
-    no_link_of x runs_out h = tt
+    no_link_of x runs_out h = absurd h
     no_link_of x never h = absurd h
+
+    not_linked_of : (said : Said) → IsNotLinked forced o is said → IsTrueOf said (linked forced all o)
+    not_linked_of runs_out h = tt
+    not_linked_of (refuses r) (inl h) = said_of_whole (refuses r) (with_inputs forced [] all) link_kept (stops_bytes is [] all (refuses r) e h)
+    not_linked_of (refuses r) (inr h) = subst (IsTrueOf (refuses r)) (sym (linked_of h.kept h.taken)) (no_link_of (link forced (objects h.kept) o) (refuses r) h.none)
+    not_linked_of (breaks path) h = tt
+    not_linked_of never (inl h) = said_of_whole never (with_inputs forced [] all) link_kept (stops_bytes is [] all never e h)
+    not_linked_of never (inr h) = absurd h.none
 
     of_bytes : (answer : Result Linked CliFault) → IsLinkOver forced o is answer → IsLinkOfBytes forced o all answer
     of_bytes (Ok l) h = linked_of h.kept h.taken ∙ ap link_or_refusal h.link
-    of_bytes (Err fault) (inl (names, memory)) = subst (λ (f : CliFault). IsTrueOf (said_by f) (linked forced all o)) (sym memory) tt
-    of_bytes (Err fault) (inr (inl h)) = said_of_whole (said_by fault) (with_inputs forced [] all) link_kept (stops_bytes is [] all (said_by fault) e h)
-    of_bytes (Err fault) (inr (inr h)) = subst (IsTrueOf (said_by fault)) (sym (linked_of h.kept h.taken)) (no_link_of (link forced (objects h.kept) o) (said_by fault) h.none)
+    of_bytes (Err fault) h = not_linked_of (said_by fault) h
 
 -- what is said of the inputs is said of their bytes
 pub is_link_of : (forced : List (List ℕ)) (o : Choices) (is : List Input) (answer : Result Linked CliFault) → IsLinkOver forced o is answer → IsLinkOf forced o is answer
@@ -177,6 +183,57 @@ is_link_of forced o is answer h = record { over = h; bytes = by_told (told is) r
     by_told : (t : Option (List (List ℕ × List ℕ))) → told is ≡ t → IfSome t (λ bytes. IsLinkOfBytes forced o bytes answer)
     by_told None e = tt
     by_told (Some all) e = of_bytes forced o is all e answer h
+
+-- ---- where memory may run out
+
+-- an input that is taken wants memory
+wants_taken : (forced : List (List ℕ)) (kept next : List Labelled) (i : Input) → Takes forced kept i next → StopsAt forced kept i runs_out
+wants_taken forced kept next i h = (h.works, by_known i.known refl)
+  where
+    by_known : (known : Option (List ℕ)) → i.known ≡ known → IfSome known (WantsMemory forced kept i.path)
+    by_known None e = tt
+    by_known (Some bytes) e = inr (subst IsOk (sym (took forced kept next i bytes e h)) refl)
+
+runs_out_in : (forced : List (List ℕ)) (is : List Input) → StopsIn forced [] is runs_out → MayLackMemory forced is
+runs_out_in (name ∷ names) is h = tt
+runs_out_in [] [] h = tt
+runs_out_in [] (i ∷ is) (inl h) = h
+runs_out_in [] (i ∷ is) (inr (next, takes, rest)) = wants_taken [] [] next i takes
+
+runs_out_after : (forced : List (List ℕ)) (is : List Input) (kept : List Labelled) → TakesAll forced [] is kept → MayLackMemory forced is
+runs_out_after (name ∷ names) is kept h = tt
+runs_out_after [] [] kept h = tt
+runs_out_after [] (i ∷ is) kept (next, takes, rest) = wants_taken [] [] next i takes
+
+runs_out_for : (forced : List (List ℕ)) (is : List Input) → forced ≢ [] → MayLackMemory forced is
+runs_out_for [] is some = absurd (some refl)
+runs_out_for (name ∷ names) is some = tt
+
+-- the link stops at an input, whatever the inputs before it leave
+stops_in : (forced : List (List ℕ)) (kept left : List Labelled) (is : List Input) (said : Said) → StopsWith forced kept is said left → StopsIn forced kept is said
+stops_in forced kept left [] said h = h
+stops_in forced kept left (i ∷ is) said (inl h) = inl h.1
+stops_in forced kept left (i ∷ is) said (inr (next, takes, rest)) = inr (next, takes, stops_in forced next left is said rest)
+
+-- so there is no link
+not_linked_in : (forced : List (List ℕ)) (o : Choices) (is : List Input) (said : Said) → StopsIn forced [] is said → IsNotLinked forced o is said
+not_linked_in forced o is (refuses r) h = inl h
+not_linked_in forced o is (breaks path) h = inl h
+not_linked_in forced o is runs_out h = runs_out_in forced is h
+not_linked_in forced o is never h = inl h
+
+-- ---- the final link
+
+-- a fault of the link
+pub final_fault : (x : Result Outcome LinkFault) (cause : LinkFault) (r : Result Linked CliFault) → outcomes.IsLinkOf (Err cause) x → IsErrAnd r (λ f. f ≡ fault_of_link cause) → IsFinalLink x r
+final_fault x cause (Ok l) h e = absurd e
+final_fault x cause (Err f) h e = subst (λ (f : CliFault). IsFinalLink x (Err f)) (sym e) (by_cause cause h)
+  where
+    by_cause : (cause : LinkFault) → outcomes.IsLinkOf (Err cause) x → IsFinalLink x (Err (fault_of_link cause))
+    by_cause links.DoesNotFit h = h
+    by_cause links.TooManySymbols h = h
+    by_cause links.SymbolNumber h = h
+    by_cause links.Memory h = h
 
 -- ---- the link of what was taken
 
@@ -191,36 +248,38 @@ module _ (forced : List (List ℕ)) (o : Choices) (is : List Input) (old new : K
   -- the link stops at an input
   pub stopped : (fault : CliFault) (r : Result Linked CliFault) → AreTaken old new is (Err fault) → IsErrAnd r (λ f. f ≡ fault) → IsLinkOf forced o is r
   stopped fault (Ok l) h e = absurd e
-  stopped fault (Err f) h e = subst (λ (x : CliFault). IsLinkOf forced o is (Err x)) (sym e) (is_link_of forced o is (Err fault) (inr (inl (from_nothing (Err fault) h))))
-
-  -- all inputs are linked
-  pub linked_all : (l : Linked) → new.forced ≡ old.forced → AreTaken old new is (Ok tt) → outcomes.IsLinkOf (Ok l) (link new.forced (objects new.entries) o) → IsLinkOf forced o is (Ok l)
-  linked_all l same taken h =
-      is_link_of forced o is (Ok l) (record {
-        kept = new.entries;
-        taken = from_nothing (Ok tt) taken;
-        link = subst (λ (f : List (List ℕ)). link f (objects new.entries) o ≡ Ok (outcome_of l)) (names_of same) h;
-      })
-
-  -- there is no link of them
-  none_by : (cause : LinkFault) (x : Result Outcome LinkFault) → outcomes.IsLinkOf (Err cause) x → HasNoLink x (said_by (fault_of_link cause))
-  none_by links.DoesNotFit x h = h
-  none_by links.TooManySymbols x h = h
-  none_by links.SymbolNumber x h = h
-  none_by links.Memory x h = h
-
-  pub linked_none : (cause : LinkFault) (r : Result Linked CliFault) → new.forced ≡ old.forced → AreTaken old new is (Ok tt) → outcomes.IsLinkOf (Err cause) (link new.forced (objects new.entries) o) →
-      IsErrAnd r (λ f. f ≡ fault_of_link cause) → IsLinkOf forced o is r
-  linked_none cause (Ok l) same taken h e = absurd e
-  linked_none cause (Err f) same taken h e =
+  stopped fault (Err f) h e =
       subst (λ (x : CliFault). IsLinkOf forced o is (Err x)) (sym e)
-      (is_link_of forced o is (Err (fault_of_link cause)) (inr (inr (record {
-        kept = new.entries;
-        taken = from_nothing (Ok tt) taken;
-        none = none_by cause (link forced (objects new.entries) o) (subst (λ (f : List (List ℕ)). outcomes.IsLinkOf (Err cause) (link f (objects new.entries) o)) (names_of same) h);
-      }))))
+      (is_link_of forced o is (Err fault) (not_linked_in forced o is (said_by fault) (stops_in forced [] new.entries is (said_by fault) (from_nothing (Err fault) h))))
+
+  -- all inputs are taken, and linked
+  pub linked_last : (r : Result Linked CliFault) → new.forced ≡ old.forced → AreTaken old new is (Ok tt) → IsFinalLink (link new.forced (objects new.entries) o) r → IsLinkOf forced o is r
+  linked_last r same h final = is_link_of forced o is r (by_final r (subst (λ (f : List (List ℕ)). IsFinalLink (link f (objects new.entries) o) r) (names_of same) final))
+    where
+      taken : TakesAll forced [] is new.entries
+      taken = from_nothing (Ok tt) h
+
+      by_final : (r : Result Linked CliFault) → IsFinalLink (link forced (objects new.entries) o) r → IsLinkOver forced o is r
+      by_final (Ok l) f = record { kept = new.entries; taken = taken; link = f }
+      by_final (Err faults.Memory) f = runs_out_after forced is new.entries taken
+      by_final (Err (faults.NotLinked links.Memory)) f = absurd f
+      by_final (Err (faults.NotLinked links.DoesNotFit)) f = inr (record { kept = new.entries; taken = taken; none = f })
+      by_final (Err (faults.NotLinked links.TooManySymbols)) f = inr (record { kept = new.entries; taken = taken; none = f })
+      by_final (Err (faults.NotLinked links.SymbolNumber)) f = inr (record { kept = new.entries; taken = taken; none = f })
+      by_final (Err (faults.BadFile at fault)) f = absurd f
+      by_final (Err (faults.BadObject at fault)) f = absurd f
+      by_final (Err (faults.NotAdded at fault)) f = absurd f
+      by_final (Err (faults.CannotOpen at)) f = absurd f
+      by_final (Err (faults.CannotCreate at)) f = absurd f
+      by_final (Err faults.Usage) f = absurd f
+      by_final (Err faults.WriteFailed) f = absurd f
+      by_final (Err faults.LongLine) f = absurd f
+      by_final (Err faults.ManyLines) f = absurd f
+      by_final (Err faults.ScriptFailed) f = absurd f
 
 -- memory runs out for forced names
 pub no_names : (forced : List (List ℕ)) (o : Choices) (is : List Input) (r : Result Linked CliFault) → forced ≢ [] → IsErrAnd r (λ f. f ≡ faults.Memory) → IsLinkOf forced o is r
 no_names forced o is (Ok l) some e = absurd e
-no_names forced o is (Err f) some e = is_link_of forced o is (Err f) (inl (some, e))
+no_names forced o is (Err f) some e = subst (λ (x : CliFault). IsLinkOf forced o is (Err x)) (sym e) (is_link_of forced o is (Err faults.Memory) (runs_out_for forced is some))
+
+pub ruleset by_final = (final_fault)

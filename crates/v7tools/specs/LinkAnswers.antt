@@ -3,8 +3,12 @@
 -- The inputs are taken one after another, each by its bytes where these are known, and then linked. The link stops at the first that is
 -- refused, or whose device fails, or for which memory runs out. So where all bytes are known the result is the link of these bytes
 -- or the first refusal, unless a device fails or memory runs out.
+--
+-- At each stage (forced names, the header of an input, the addition of its object, the final link) memory is requested only if nothing
+-- at that stage is refused. The result does not reveal which stage ran out: once an object has been accepted, memory may have run out
+-- there. So of the result as a whole, `Memory` is ruled out only by the first input.
 use Rattle.std.specs.declared.alloc.Global.{Global}
-use Rattle.std.specs.Prelude.{◌≡◌, ◌≢◌, ◌⊎◌, ℕ, Bool, false, List, [], ◌∷◌, map, Option, Some, option_and_then, option_map, Result, Ok, Err, IfSome, IsOk, String, string_bytes}
+use Rattle.std.specs.Prelude.{◌≡◌, ◌⊎◌, ℕ, Bool, false, List, [], ◌∷◌, map, Option, Some, option_and_then, option_map, Result, Ok, Err, IfSome, IsOk, String, string_bytes}
 use Rattle.aout_core.specs.declared.file.ReadFault.TheVariants as reads
 use Rattle.aout_core.specs.Contents.{Contents}
 use Rattle.aout_core.specs.Decoding.{decode}
@@ -92,10 +96,9 @@ StopsIn forced kept (i ∷ is) said = StopsAt forced kept i said ⊎ ((next : Li
 
 -- ---- the link
 
--- the objects are refused as a whole; memory may run out only where there is a link
+-- the objects are refused as a whole
 abbrev pub HasNoLink : Result Outcome LinkFault → Said → Type 0
 HasNoLink x (refuses (not_linked fault)) = x ≡ Err fault
-HasNoLink x runs_out = IsOk x
 HasNoLink x _ = ⊥
 
 -- all inputs are taken, and linked
@@ -110,12 +113,22 @@ pub record LinksNone (forced : List (List ℕ)) (o : Choices) (inputs : List Inp
   pub taken : TakesAll forced [] inputs kept
   pub none : HasNoLink (link forced (objects kept) o) said
 
--- there is a link; or memory ran out for forced names before the first input, or the link stops at an input, or there is no
--- link of all
+-- memory may run out for forced names; if there are none, at the first input, if that wants memory; and if there is no input either, for
+-- the link of nothing. Nothing more can be said: once an object has been accepted, memory may have run out there
+abbrev pub MayLackMemory : List (List ℕ) → List Input → Type 0
+MayLackMemory [] [] = Unit {0}
+MayLackMemory [] (i ∷ is) = StopsAt [] [] i runs_out
+MayLackMemory (name ∷ names) is = Unit {0}
+
+-- memory may have run out, or the link stops at an input, or there is no link of all
+abbrev pub IsNotLinked : List (List ℕ) → Choices → List Input → Said → Type 0
+IsNotLinked forced o inputs runs_out = MayLackMemory forced inputs
+IsNotLinked forced o inputs said = StopsIn forced [] inputs said ⊎ LinksNone forced o inputs said
+
+-- there is a link, or why there is none
 abbrev pub IsLinkOver : List (List ℕ) → Choices → List Input → Result Linked CliFault → Type 0
 IsLinkOver forced o inputs (Ok l) = LinksAll forced o inputs l
-IsLinkOver forced o inputs (Err fault) =
-    ((forced ≢ []) × (fault ≡ faults.Memory)) ⊎ (StopsIn forced [] inputs (said_by fault) ⊎ LinksNone forced o inputs (said_by fault))
+IsLinkOver forced o inputs (Err fault) = IsNotLinked forced o inputs (said_by fault)
 
 -- ---- where all bytes are known
 

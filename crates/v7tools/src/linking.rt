@@ -1,7 +1,9 @@
 //! The link of files.
 ghost use Rattle.std.specs.Prelude.{◌≡◌, ◌↔◌, true, IfErr, IfOk, IsTrue};
 ghost use Rattle.aout_core.specs.WellFormed.{IsWellFormed};
-ghost use Rattle.v7tools.specs.internal.InputParts.{AreTaken, IsDeviceFault, without_wire};
+ghost use Rattle.link_session.specs.Labelled.{objects};
+ghost use Rattle.link_out.specs.function.Link.{link};
+ghost use Rattle.v7tools.specs.internal.InputParts.{AreTaken, IsDeviceFault, IsFinalLink, without_wire};
 ghost use Rattle.v7tools.specs.LinkAnswers.{inputs_of, IsLinkOf};
 
 use crate::additions::add_file;
@@ -13,7 +15,7 @@ use std::alloc::Global;
 use std::io::Read;
 
 /// Reads, checks and adds the inputs in their order, each before the next one. The wire of the input that is refused comes
-/// back with the fault.
+/// back with the fault, and the session keeps the inputs before it.
 fn take_inputs<R: Read + Drop>(
     alloc: Global,
     session: &mut Session,
@@ -31,14 +33,25 @@ fn take_inputs<R: Read + Drop>(
     Ok(())
 }
 
-/// Links the files of the inputs, pairs of a path and a reader, in their order, behind the forced names. Each is
+/// Links what is kept after the last input. `Memory` is returned only if there is a link.
+#[tactic(auto, using(crate::proofs::AnswerLemmas::by_final))]
+fn link_inputs(alloc: Global, session: &Session, options: &Options) -> Result<Linked, CliFault>
+    ensures value { IsFinalLink (link session.now.forced (objects session.now.entries) options.now) result }
+    ensures object { options.now.relocatable ≡ true → IfOk result (λ linked. IsWellFormed linked.file) }
+{
+    Ok(finish(alloc, session, options)?)
+}
+
+/// Links the files of the inputs, pairs of a path and a reader, in their order, after the forced names. Each is
 /// read, checked and added before the next one is read, and a refusal ends the link. With relocation the file is an
 /// object, which can be linked again. (ld(1))
 ///
-/// Errors: for the first input that is refused, with its path, `BadFile`, 3, where it is no file or its device
-/// failed, now or before, `BadObject`, 4, where it is no object, or `NotAdded`, 5, where it passes a limit; behind the
-/// last input `NotLinked`, 6, where there is no link; `Memory`, 9, where memory runs out: for forced names, for what
-/// the header of an input announces, for an object that is within all limits, or for a link that there is.
+/// Memory is requested for forced names, for what the header of an input announces, for an object that is within all
+/// limits, and for a link that is not refused. The result does not reveal which of these requests was refused.
+///
+/// Errors: for the first input that is refused, with its path, `BadFile`, 3, if it is not a file or its device failed,
+/// now or before, `BadObject`, 4, if it is not an object, or `NotAdded`, 5, if it passes a limit; after the last input
+/// `NotLinked`, 6, if there is no link; `Memory`, 9, if memory runs out.
 pub fn ld<R: Read + Drop>(
     alloc: Global,
     inputs: Vec<(String, Wire<R>)>,
@@ -52,5 +65,5 @@ pub fn ld<R: Read + Drop>(
     if let Err((fault, _)) = take_inputs(alloc, &mut session, inputs) {
         return Err(fault);
     }
-    Ok(finish(alloc, &session, options)?)
+    link_inputs(alloc, &session, options)
 }

@@ -1,10 +1,15 @@
 -- Edits that were made, the numbers that reply to them, and the state of a session.
-use Rattle.std.specs.Prelude.{◌≡◌, ℕ, List, map}
+use Rattle.std.specs.Prelude.{◌≡◌, ℕ, List, map, Result, Ok}
 use Rattle.link_session.specs.Edits.{Change, kept_after, answer_to, survivors_from, answers_from}
 use Rattle.link_session.specs.Labelled.{objects}
 use Rattle.link_session.specs.Undo.{Kept, IsJournal}
+use Rattle.link_options.specs.Choices.{Choices}
+use Rattle.link_out.specs.function.Link.{link}
+use Rattle.library_calls.specs.declared.cause.Cause.{Cause}
 use Rattle.library_calls.specs.declared.state_call.Form.{Form}
-use Rattle.library_calls.specs.SessionAnswers.{reply_number}
+use Rattle.library_calls.specs.Causes.{and_then}
+use Rattle.library_calls.specs.LinkAnswers.{linked_or, output_of}
+use Rattle.library_calls.specs.SessionAnswers.{SessionOutput, output_with, reply_number}
 use Rattle.library_calls.specs.StateAnswers.{encoded_in}
 
 -- an edit was made, and the number replies to it
@@ -19,7 +24,11 @@ pub record AreEdited (old new : Kept) (changes : List Change) (numbers : List �
   pub kept : new.entries ≡ survivors_from old.forced old.entries changes
   pub replies : numbers ≡ map reply_number (answers_from old.forced old.entries changes)
 
--- the state of a session, whose marks take its objects back
+-- the state of a session, with the marks of its objects
 pub record ShowsFrom (form : Form) (s : Kept) (state : List ℕ) : Type 0 where
   pub undoes : IsJournal s.forced (objects s.entries) s.journal
   pub encoded : state ≡ encoded_in form s
+
+-- the link of what edits left, with the replies to them
+abbrev pub edited_link : Kept → Choices → List ℕ → Result SessionOutput Cause
+edited_link s o numbers = and_then (linked_or (link s.forced (objects s.entries) o)) (λ x. Ok (output_with numbers (output_of x)))

@@ -1,15 +1,21 @@
 -- What becomes of the inputs of a link, one by one.
 use Rattle.std.specs.declared.alloc.Global.{Global}
-use Rattle.std.specs.Prelude.{◌≡◌, List, Some, None, Result, Ok, Err, String}
+use Rattle.std.specs.Prelude.{◌≡◌, ◌⊎◌, ℕ, List, [], ◌∷◌, Some, None, Result, Ok, Err, IsOk, String}
 use Rattle.aout_core.specs.declared.file.ReadFault.TheVariants as reads
 use Rattle.aout_core.specs.declared.object.ObjectFault.{ObjectFault}
 use Rattle.aout_core.specs.Contents.{Contents}
 use Rattle.aout_core.specs.WellFormed.{first_object_fault}
 use Rattle.aout_core.specs.Wires.{Latched}
+use Rattle.link_session.specs.Labelled.{Labelled}
 use Rattle.link_session.specs.Undo.{Kept}
+use Rattle.link_out.specs.declared.linked.Linked.{Linked}
+use Rattle.link_out.specs.declared.linked.LinkFault.{LinkFault}
+use Rattle.link_out.specs.declared.linked.LinkFault.TheVariants as links
+use Rattle.link_out.specs.function.Link.{Outcome}
+use Rattle.link_out.specs.Outcomes.{outcome_of}
 use Rattle.v7tools.specs.declared.fault.CliFault.{CliFault}
 use Rattle.v7tools.specs.declared.fault.CliFault.TheVariants as faults
-use Rattle.v7tools.specs.LinkAnswers.{Input, Said, never, said_by, StopsIn, TakesAll}
+use Rattle.v7tools.specs.LinkAnswers.{Input, Said, never, said_by, StopsAt, Takes, TakesAll}
 
 -- a device failed
 abbrev pub IsDeviceFault : CliFault → Type 0
@@ -26,10 +32,23 @@ abbrev pub without_wire : {R : Type 0} → Result (Unit {0}) (CliFault × Latche
 without_wire (Ok x) = Ok x
 without_wire (Err refused) = Err refused.0
 
--- the inputs were taken, or the link stops at one of them
+-- the inputs before one are taken, which leaves these objects, and the link stops at that one
+abbrev pub StopsWith : List (List ℕ) → List Labelled → List Input → Said → List Labelled → Type 0
+StopsWith forced kept [] said left = ⊥
+StopsWith forced kept (i ∷ is) said left = ((left ≡ kept) × StopsAt forced kept i said) ⊎ ((next : List Labelled) × Takes forced kept i next × StopsWith forced next is said left)
+
+-- the inputs were taken, or the link stops at one of them, with those before it taken
 abbrev pub AreTaken : Kept → Kept → List Input → Result (Unit {0}) CliFault → Type 0
 AreTaken old new inputs (Ok _) = TakesAll old.forced old.entries inputs new.entries
-AreTaken old new inputs (Err fault) = StopsIn old.forced old.entries inputs (said_by fault)
+AreTaken old new inputs (Err fault) = StopsWith old.forced old.entries inputs (said_by fault) new.entries
+
+-- the link of what was taken, or its refusal; memory ran out only if there is a link
+abbrev pub IsFinalLink : Result Outcome LinkFault → Result Linked CliFault → Type 0
+IsFinalLink x (Ok l) = x ≡ Ok (outcome_of l)
+IsFinalLink x (Err faults.Memory) = IsOk x
+IsFinalLink x (Err (faults.NotLinked links.Memory)) = ⊥
+IsFinalLink x (Err (faults.NotLinked fault)) = x ≡ Err fault
+IsFinalLink x (Err _) = ⊥
 
 -- an object, or why the file is none
 abbrev pub IsCheckOf : String Global → Contents → Result (String Global × Contents) CliFault → Type 0

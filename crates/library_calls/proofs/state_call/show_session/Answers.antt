@@ -13,4 +13,4 @@ returns-clause-ok c =
     let begun = c.in_ok-session.ensures.kept in
     let shows = subst (λ (k : Kept). Shows (asked form k.forced changes) told) begun (c.in_ok-edit_and_show.ensures.ok (ap (λ (k : Kept). k.entries) begun)) in
     all_shown c.args.form c.args.forced.now c.args.letters.now c.args.objects.now form c.in_ok-forced.forced changes told
-    (sym c.in_ok-form.ensures) (sym c.in_ok-forced.ensures) c.in_ok-edits.ensures.ok shows
+    (sym c.in_ok-form.ensures) (sym c.in_ok-forced.ensures.value) c.in_ok-edits.ensures.ok shows

@@ -1,6 +1,6 @@
 use Rattle.std.proofs.Common.{◌∷◌, ◌++◌, refl}
 use Rattle.link_laws.proofs.CoreLemmas.{segments_apart}
-use Rattle.link_laws.proofs.LoadedLemmas.{spaces_are_one, addresses_fit, words_loaded, bss_zero, common_zero, nothing_else}
+use Rattle.link_laws.proofs.LoadedLemmas.{spaces_are_one, addresses_fit, words_loaded, words_of_rows, kept_loaded, bss_zero, common_zero, nothing_else}
 use Rattle.link_laws.proofs.laws.core_law.Goals as goal
 
 pub returns-clause-apart : goal.returns-clause-apart
@@ -14,6 +14,12 @@ returns-clause-fit c = addresses_fit
 
 pub returns-clause-words : goal.returns-clause-words
 returns-clause-words c = words_loaded
+
+pub returns-clause-rows : goal.returns-clause-rows
+returns-clause-rows c = words_of_rows
+
+pub returns-clause-kept : goal.returns-clause-kept
+returns-clause-kept c = kept_loaded
 
 pub returns-clause-stripped : goal.returns-clause-stripped
 returns-clause-stripped c = λ file space address. refl

@@ -1,7 +1,14 @@
 use Rattle.link_laws.proofs.ReorderedLinks.{refused_in_order, sizes_kept, reported_alike, entry_found}
+use Rattle.link_laws.proofs.ReorderedAdditions.{added_in_order, linked_alike}
 use Rattle.link_laws.proofs.ReorderedMeanings.{meanings_kept, referents_kept}
 use Rattle.link_laws.proofs.SingleDefinitions.{once_in_any_order}
 use Rattle.link_laws.proofs.laws.order_law.Goals as goal
+
+pub returns-clause-adds : goal.returns-clause-adds
+returns-clause-adds c = added_in_order
+
+pub returns-clause-links : goal.returns-clause-links
+returns-clause-links c = linked_alike
 
 pub returns-clause-refuses : goal.returns-clause-refuses
 returns-clause-refuses c = refused_in_order

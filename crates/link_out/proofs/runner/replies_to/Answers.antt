@@ -1,6 +1,6 @@
 use Rattle.std.proofs.Common.{◌≡◌, ◌+◌, ◌++◌, ◌∷◌, length, arith, ap, subst, ◌∙◌}
 use Rattle.link_out.specs.internal.Replies.{HasRoom}
-use Rattle.link_out.proofs.RunLemmas.{accepted_among, if_error, one_more, one_more_done}
+use Rattle.link_out.proofs.RunLemmas.{if_error, one_more, one_more_done, stopped_among}
 use Rattle.link_out.proofs.runner.replies_to.Goals as goal
 
 pub loop-edit-preserved : goal.loop-edit-preserved
@@ -14,8 +14,10 @@ loop-edit-preserved c =
       room = c.in_ok-put_reply.ensures.room (length left) (subst (λ n. HasRoom n c.loop-edit.replies) (ap length split ∙ one) c.loop-edit.invariant.room);
     }
 
-pub returns-in_err-put_reply-clause-accepted : goal.returns-in_err-put_reply-clause-accepted
-returns-in_err-put_reply-clause-accepted c =
+pub returns-in_err-put_reply-clause-stopped : goal.returns-in_err-put_reply-clause-stopped
+returns-in_err-put_reply-clause-stopped c =
     let left = c.next.new.self.rest.items in
     let order : c.args.edits.items ≡ c.loop-edit.yielded ++ c.in-Some.edit ∷ left = c.loop-edit.invariant.order ∙ ap (λ r. c.loop-edit.yielded ++ r) c.in-Some.ensures.steps.0 in
-    if_error c.from_residual.result _ (accepted_among c.args.session.now c.loop-edit.session c.loop-edit.yielded c.in-Some.edit left c.args.edits.items c.loop-edit.replies c.loop-edit.invariant.done order c.in_err-put_reply.ensures.accepted)
+    let refused = c.in_err-put_reply.ensures in
+    if_error c.from_residual.result _
+    (stopped_among c.args.session.now c.loop-edit.session c.put_reply.new.session c.loop-edit.yielded c.in-Some.edit left c.args.edits.items c.loop-edit.replies c.loop-edit.invariant.done order refused.same refused.accepted)

@@ -1,7 +1,6 @@
 use Rattle.std.proofs.Common.{Err, refl}
 use Rattle.v7tools.specs.LinkAnswers.{inputs_of}
-use Rattle.v7tools.proofs.AnswerLemmas.{linked_all, linked_none, no_names, stopped}
-use Rattle.v7tools.proofs.StepLemmas.{no_value}
+use Rattle.v7tools.proofs.AnswerLemmas.{linked_last, no_names, stopped}
 use Rattle.v7tools.proofs.linking.ld.Goals as goal
 
 pub returns-in_err-session-clause-value : goal.returns-in_err-session-clause-value
@@ -13,18 +12,7 @@ returns-in-Err-clause-value g c =
     stopped c.args.forced.now c.args.options.now (inputs_of g.R.Read.remaining c.args.inputs.items) c.in_ok-session.session c.take_inputs.new.session c.in_ok-session.ensures.kept c.in-Err.fault
     (Err c.in-Err.fault) c.in-Err.ensures.value refl
 
-pub returns-in_err-finish-clause-value : goal.returns-in_err-finish-clause-value
-returns-in_err-finish-clause-value g c =
-    linked_none c.args.forced.now c.args.options.now (inputs_of g.R.Read.remaining c.args.inputs.items) c.in_ok-session.session c.take_inputs.new.session c.in_ok-session.ensures.kept c.in_err-finish.field-0.0
-    c.from_residual-in_err-finish.result c.in_default.ensures.forced c.in_default.ensures.value c.in_err-finish.ensures.value c.from_residual-in_err-finish.ensures.1
-
 pub returns-clause-value : goal.returns-clause-value
 returns-clause-value g c =
-    linked_all c.args.forced.now c.args.options.now (inputs_of g.R.Read.remaining c.args.inputs.items) c.in_ok-session.session c.take_inputs.new.session c.in_ok-session.ensures.kept c.in_ok-finish.field-0
-    c.in_default.ensures.forced c.in_default.ensures.value c.in_ok-finish.ensures.value
-
-pub returns-in_err-finish-clause-object : goal.returns-in_err-finish-clause-object
-returns-in_err-finish-clause-object g c = λ _. no_value c.from_residual-in_err-finish.result _ c.from_residual-in_err-finish.ensures.0
-
-pub returns-clause-object : goal.returns-clause-object
-returns-clause-object g c = c.in_ok-finish.ensures.object
+    linked_last c.args.forced.now c.args.options.now (inputs_of g.R.Read.remaining c.args.inputs.items) c.in_ok-session.session c.take_inputs.new.session c.in_ok-session.ensures.kept c.link_inputs.result
+    c.in_default.ensures.forced c.in_default.ensures.value c.link_inputs.ensures.value

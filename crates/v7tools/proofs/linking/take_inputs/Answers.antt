@@ -1,6 +1,8 @@
-use Rattle.std.proofs.Common.{◌≡◌, Ok, refl, sym, subst, ◌∙◌, inl, inr, string_bytes}
+use Rattle.std.proofs.Common.{◌≡◌, Ok, refl, sym, ap, subst, ◌∙◌, inl, inr, string_bytes}
 use Rattle.std.proofs.lemmas.List.{nil_from_length}
-use Rattle.v7tools.specs.LinkAnswers.{inputs_of, Input, said_by, StopsIn, TakesAll}
+use Rattle.v7tools.specs.LinkAnswers.{inputs_of, Input, said_by, TakesAll}
+use Rattle.v7tools.specs.internal.InputParts.{StopsWith}
+use Rattle.link_session.specs.Undo.{Kept}
 use Rattle.v7tools.proofs.AdditionLemmas.{forced_kept}
 use Rattle.v7tools.proofs.AnswerLemmas.{stops_at, takes_accepted}
 use Rattle.v7tools.proofs.StepLemmas.{device_fault, worked_before, worked_unless}
@@ -13,7 +15,7 @@ loop-path-init g c =
     record {
       forced = refl;
       taken = λ more h. subst (λ xs. TakesAll start.forced start.entries (inputs_of g.R.Read.remaining xs) more) all_left h;
-      stops = λ said h. subst (λ xs. StopsIn start.forced start.entries (inputs_of g.R.Read.remaining xs) said) all_left h;
+      stops = λ said left h. subst (λ xs. StopsWith start.forced start.entries (inputs_of g.R.Read.remaining xs) said left) all_left h;
     }
 
 pub returns-in-Err-clause-device : goal.returns-in-Err-clause-device
@@ -28,9 +30,9 @@ returns-in-Err-clause-value g c =
     let refused = c.in-Err.ensures in
     let i : Input = record { path = string_bytes c.in-Some.path; known = g.R.Read.remaining c.in-Some.wire.device; has_failed = c.in-Some.wire.has_failed } in
     let worked = worked_unless c.in-Some.wire c.add_file.new.wire c.in-Some.path fault refused.latched refused.device in
-    c.loop-path.invariant.stops (said_by fault)
-    (subst (λ xs. StopsIn before.forced before.entries (inputs_of g.R.Read.remaining xs) (said_by fault)) (sym c.in-Some.ensures.steps.0)
-    (inl (stops_at i c.in-Some.path refl before after fault refused.faults worked refused.value)))
+    c.loop-path.invariant.stops (said_by fault) after.entries
+    (subst (λ xs. StopsWith before.forced before.entries (inputs_of g.R.Read.remaining xs) (said_by fault) after.entries) (sym c.in-Some.ensures.steps.0)
+    (inl (ap (λ (k : Kept). k.entries) refused.value.0, stops_at i c.in-Some.path refl before after fault refused.faults worked refused.value)))
 
 pub loop-path-preserved : goal.loop-path-preserved
 loop-path-preserved g c =
@@ -47,9 +49,9 @@ loop-path-preserved g c =
       taken = λ more h.
           c.loop-path.invariant.taken more (subst (λ xs. TakesAll before.forced before.entries (inputs_of g.R.Read.remaining xs) more) (sym c.in-Some.ensures.steps.0)
           (after.entries, taken, subst (λ forced. TakesAll forced after.entries (inputs_of g.R.Read.remaining left) more) same h));
-      stops = λ said h.
-          c.loop-path.invariant.stops said (subst (λ xs. StopsIn before.forced before.entries (inputs_of g.R.Read.remaining xs) said) (sym c.in-Some.ensures.steps.0)
-          (inr (after.entries, taken, subst (λ forced. StopsIn forced after.entries (inputs_of g.R.Read.remaining left) said) same h)));
+      stops = λ said last h.
+          c.loop-path.invariant.stops said last (subst (λ xs. StopsWith before.forced before.entries (inputs_of g.R.Read.remaining xs) said last) (sym c.in-Some.ensures.steps.0)
+          (inr (after.entries, taken, subst (λ forced. StopsWith forced after.entries (inputs_of g.R.Read.remaining left) said last) same h)));
     }
 
 pub returns-clause-value : goal.returns-clause-value

@@ -1,6 +1,6 @@
 use Rattle.std.proofs.Common.{◌≡◌, drop}
 use Rattle.library_calls.specs.SessionAnswers.{session_status}
-use Rattle.library_calls.proofs.session_call.session_status.Given as goal
+use Rattle.library_calls.proofs.edits.session_status.Given as goal
 
 -- the edits so far were made
 abbrev pub invariant-loop-reply : goal.invariant-loop-reply

@@ -1,0 +1,11 @@
+use Rattle.std.proofs.Common.{subst, sym}
+use Rattle.aout_core.specs.Contents.{Fits}
+use Rattle.gnu_objects.proofs.FitsLemmas.{contents_fit}
+use Rattle.gnu_objects.proofs.conversion.object_with.Goals as goal
+use Rattle.std.proofs.Common.{length}
+
+pub from_parts-requires : goal.from_parts-requires
+from_parts-requires c =
+    let tables = c.args.tables.now in
+    subst Fits (sym c.in_ok-parts.ensures)
+    (contents_fit (length c.args.bytes.now) c.args.bytes.now c.args.header.now tables.strings.now tables.symbols.now tables.words.now c.requires.header c.requires.words)

@@ -1,0 +1,42 @@
+-- Where memory may run out, stage by stage.
+use Rattle.std.proofs.Common.{◌≡◌, ℕ, List, [], Result, Ok, Err, refl, sym, ap, ◌∙◌, subst, inl, inr}
+use Rattle.std.specs.Prelude.{IsOk, IsOkAnd}
+use Rattle.link_session.specs.Edits.{Change}
+use Rattle.link_session.specs.Labelled.{objects}
+use Rattle.link_session.specs.Sessions.{nothing_kept}
+use Rattle.link_session.specs.Undo.{Kept}
+use Rattle.link_options.specs.Choices.{Choices}
+use Rattle.link_out.specs.declared.linked.LinkFault.{LinkFault}
+use Rattle.link_out.specs.function.Link.{link}
+use Rattle.link_out.specs.Results.{Outcome}
+use Rattle.library_calls.specs.declared.cause.Cause.{Cause}
+use Rattle.library_calls.specs.declared.cause.Refusal.{Refusal}
+use Rattle.library_calls.specs.Causes.{at, and_then}
+use Rattle.library_calls.specs.LinkAnswers.{linked_or, with_objects}
+use Rattle.library_calls.specs.LinkWanted.{choices_in, forced_in}
+use Rattle.library_calls.specs.MemoryWanted.{MayRunOutInLink, MayRunOutInRun, MayRunOutInSession, SessionMayRunOut}
+use Rattle.library_calls.specs.SessionAnswers.{changes_in}
+
+is_linked : (r : Result Outcome LinkFault) → IsOk r → IsOk (at 0 (linked_or r))
+is_linked (Ok x) h = refl
+is_linked (Err fault) h = absurd (cc)
+
+-- memory may run out for the link of all objects
+pub link_without_memory : (forced : List (List ℕ)) (o : Choices) (bytes : List ℕ) (begun k : Kept) → begun ≡ nothing_kept forced → with_objects begun.forced (objects begun.entries) bytes ≡ Ok (objects k.entries) →
+    k.forced ≡ begun.forced → IsOk (link k.forced (objects k.entries) o) → MayRunOutInLink forced o bytes 0
+link_without_memory forced o bytes begun k is all same linked =
+    let taken : with_objects forced [] bytes ≡ Ok (objects k.entries) = ap (λ (x : Kept). with_objects x.forced (objects x.entries) bytes) (sym is) ∙ all in
+    let first : k.forced ≡ forced = same ∙ ap (λ (x : Kept). x.forced) is in
+    inl (
+      refl,
+      inr (subst (λ (r : Result (List _) _). IsOk (and_then r (λ os. at 0 (linked_or (link forced os o))))) (sym taken)
+          (is_linked (link forced (objects k.entries) o) (subst (λ (f : List (List ℕ)). IsOk (link f (objects k.entries) o)) first linked))),
+    )
+
+-- memory may run out for what all edits do
+pub run_without_memory : (bits : ℕ) (entry bytes letters objects : List ℕ) (o : Choices) (forced : List (List ℕ)) (cs : List Change) → choices_in bits entry ≡ Ok o → forced_in bytes ≡ Ok forced → changes_in letters objects ≡ Ok cs →
+    MayRunOutInRun forced o cs → SessionMayRunOut bits entry bytes letters objects 0
+run_without_memory bits entry bytes letters objects o forced cs first second third h =
+    subst (λ (r : Result Choices Cause). IsOkAnd r (λ x. IsOkAnd (forced_in bytes) (λ names. MayRunOutInSession names x letters objects 0))) (sym first)
+    (subst (λ (r : Result (List (List ℕ)) Refusal). IsOkAnd r (λ names. MayRunOutInSession names o letters objects 0)) (sym second)
+    (inr (refl, subst (λ (r : Result (List Change) Refusal). IsOkAnd r (MayRunOutInRun forced o)) (sym third) h)))

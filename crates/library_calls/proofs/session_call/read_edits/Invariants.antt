@@ -1,8 +1,0 @@
-use Rattle.std.proofs.Common.{◌≡◌, [], map, drop}
-use Rattle.link_out.specs.Runs.{change_of}
-use Rattle.library_calls.specs.SessionAnswers.{with_edits}
-use Rattle.library_calls.proofs.session_call.read_edits.Given as goal
-
--- the changes so far, with those of the edits that are left, make the whole
-abbrev pub invariant-loop-place : goal.invariant-loop-place
-invariant-loop-place l = with_edits 0 [] l.letters l.bytes ≡ with_edits l.place (map change_of l.edits.items) (drop l.place l.letters) l.rest

@@ -1,8 +1,0 @@
-use Rattle.std.proofs.Common.{map}
-use Rattle.link_out.specs.Runs.{change_of}
-use Rattle.library_calls.proofs.StateLemmas.{AreBegun}
-use Rattle.library_calls.proofs.state_call.make_edits.Given as goal
-
--- the edits so far were made
-abbrev pub invariant-loop-edit : goal.invariant-loop-edit
-invariant-loop-edit l = AreBegun l.initial.session l.session (map change_of l.fn.edits.items) (map change_of l.edit-iterator.rest.items) l.numbers.items

@@ -1,0 +1,80 @@
+-- For which inputs a call may answer that memory ran out, and with which place. (own choice)
+--
+-- A call works in stages, and each requests memory only if nothing is refused up to there. The answer does not reveal which request
+-- failed. So once an object or an edit is accepted, memory may have run out there, whatever is refused later.
+use Rattle.std.specs.Prelude.{◌≡◌, ◌≢◌, ◌⊎◌, ℕ, zero, suc, ◌+◌, ◌<◌, List, [], ◌∷◌, length, IsOk, IsOkAnd}
+use Rattle.aout_core.specs.Contents.{Contents}
+use Rattle.aout_core.specs.Decoding.{header_in}
+use Rattle.aout_core.specs.Encoding.{file_length}
+use Rattle.link_session.specs.Edits.{Change}
+use Rattle.link_options.specs.Choices.{Choices}
+use Rattle.link_out.specs.Runs.{link_after}
+use Rattle.library_calls.specs.FileAnswers.{behind_file, file_in}
+use Rattle.library_calls.specs.LinkAnswers.{linked_in, with_first}
+use Rattle.library_calls.specs.LinkWanted.{choices_in, forced_in}
+use Rattle.library_calls.specs.SessionAnswers.{behind_edit, change_in, changes_in}
+use Rattle.library_calls.specs.StateAnswers.{form_in}
+
+-- the bytes begin with a whole file, and it has more than its header: it is read before its words are checked
+pub record HasBody (bytes : List ℕ) : Type 0 where
+  pub whole : IsOk (file_in bytes)
+  pub more : 16 < file_length (header_in bytes)
+
+-- ---- objects that are linked
+
+-- memory may run out for the object that the bytes begin with: to read it, or to add it
+abbrev pub MayRunOutForObject : List (List ℕ) → List Contents → List ℕ → Type 0
+MayRunOutForObject forced os bytes = HasBody bytes ⊎ IsOk (with_first forced os bytes)
+
+-- memory may run out for the object of this number, which is one of at most so many that the bytes hold; those before it are
+-- accepted
+abbrev pub MayRunOutInMost : ℕ → List (List ℕ) → List Contents → List ℕ → ℕ → Type 0
+MayRunOutInMost zero forced os bytes place = ⊥
+MayRunOutInMost (suc n) forced os [] place = ⊥
+MayRunOutInMost (suc n) forced os (b ∷ bs) place =
+    ((place ≡ length os) × MayRunOutForObject forced os (b ∷ bs))
+    ⊎ IsOkAnd (with_first forced os (b ∷ bs)) (λ more. MayRunOutInMost n forced more (behind_file (b ∷ bs)) place)
+
+abbrev pub MayRunOutInObjects : List (List ℕ) → List Contents → List ℕ → ℕ → Type 0
+MayRunOutInObjects forced os bytes place = MayRunOutInMost (length bytes) forced os bytes place
+
+-- memory may run out for forced names, for an object, or for the link, if there is one
+abbrev pub MayRunOutInLink : List (List ℕ) → Choices → List ℕ → ℕ → Type 0
+MayRunOutInLink forced o bytes place =
+    ((place ≡ 0) × ((forced ≢ []) ⊎ IsOk (linked_in forced o bytes))) ⊎ MayRunOutInObjects forced [] bytes place
+
+-- not before the options and the forced names are accepted
+abbrev pub LinkMayRunOut : ℕ → List ℕ → List ℕ → List ℕ → ℕ → Type 0
+LinkMayRunOut bits entry forced bytes place =
+    IsOkAnd (choices_in bits entry) (λ o. IsOkAnd (forced_in forced) (λ names. MayRunOutInLink names o bytes place))
+
+-- ---- edits of a session
+
+-- memory may run out for an edit: to read its object, or to keep the edit
+abbrev pub MayRunOutForEdit : ℕ → List ℕ → Type 0
+MayRunOutForEdit letter bytes = ((letter ≡ 97) × HasBody bytes) ⊎ IsOk (change_in letter bytes)
+
+-- memory may run out for the edit of number `place`, where the first of these has this number; those before it are read
+abbrev pub MayRunOutInEdits : ℕ → List ℕ → List ℕ → ℕ → Type 0
+MayRunOutInEdits number [] bytes place = ⊥
+MayRunOutInEdits number (letter ∷ letters) bytes place =
+    ((place ≡ number) × MayRunOutForEdit letter bytes)
+    ⊎ (IsOk (change_in letter bytes) × MayRunOutInEdits (number + 1) letters (behind_edit letter bytes) place)
+
+-- memory may run out for forced names, for a change, or for the link of what is left, if there is one
+abbrev pub MayRunOutInRun : List (List ℕ) → Choices → List Change → Type 0
+MayRunOutInRun forced o changes = (forced ≢ []) ⊎ ((changes ≢ []) ⊎ IsOk (link_after forced changes o))
+
+abbrev pub MayRunOutInSession : List (List ℕ) → Choices → List ℕ → List ℕ → ℕ → Type 0
+MayRunOutInSession forced o letters bytes place =
+    MayRunOutInEdits 0 letters bytes place ⊎ ((place ≡ 0) × IsOkAnd (changes_in letters bytes) (MayRunOutInRun forced o))
+
+-- not before the options and the forced names are accepted
+abbrev pub SessionMayRunOut : ℕ → List ℕ → List ℕ → List ℕ → List ℕ → ℕ → Type 0
+SessionMayRunOut bits entry forced letters bytes place =
+    IsOkAnd (choices_in bits entry) (λ o. IsOkAnd (forced_in forced) (λ names. MayRunOutInSession names o letters bytes place))
+
+-- a state has to be written even if there is no edit
+abbrev pub StateMayRunOut : ℕ → List ℕ → List ℕ → List ℕ → ℕ → Type 0
+StateMayRunOut form forced letters bytes place =
+    IsOk (form_in form) × IsOk (forced_in forced) × (MayRunOutInEdits 0 letters bytes place ⊎ ((place ≡ 0) × IsOk (changes_in letters bytes)))

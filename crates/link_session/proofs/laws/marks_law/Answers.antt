@@ -1,0 +1,16 @@
+use Rattle.std.proofs.Common.{◌++◌, sym, subst}
+use Rattle.link_session.specs.Laws.{HoldState}
+use Rattle.link_session.specs.Marks.{states_changed}
+use Rattle.link_session.specs.Mentions.{mentions, mentions_in}
+use Rattle.link_session.specs.States.{state}
+use Rattle.link_session.proofs.MentionLemmas.{mentions_push}
+use Rattle.link_session.proofs.ChangedLemmas.{none_changed, first_changed}
+use Rattle.link_session.proofs.laws.marks_law.Goals as goal
+
+pub returns : goal.returns
+returns c = λ forced os o marks difference i name there.
+    let earlier = mentions forced os in
+    let ms = mentions_in os o in
+    let told : HoldState (state earlier name) (state (earlier ++ ms) name) (states_changed earlier ms name) =
+    record { same = none_changed earlier ms name; changed = first_changed earlier ms name } in
+    subst (λ (P : Type 0). P) (λ j. HoldState (state earlier name) (state (sym (mentions_push forced os o) j) name) (sym (difference.names i name there) j)) told

@@ -1,0 +1,371 @@
+/* Calls of libv7 for tests/faults.c, in rooms that are watched. The linker's option --wrap sends the library's calls of malloc,
+ * realloc and free here, where requests for memory are counted and refused. */
+#include <stdio.h>
+#include <string.h>
+
+#include "calls.h"
+
+enum { GUARD = 16, FILLER = 0xa5 };
+
+static const char *const names[CALLS] = {"v7_check", "v7_strip", "v7_nm", "v7_size", "v7_take_apart",
+                                         "v7_make", "v7_link", "v7_session", "v7_state"};
+
+/* rooms, aligned for words and symbols */
+static union {
+    unsigned char bytes[ROOM + GUARD];
+    struct v7_word word;
+    struct v7_symbol symbol;
+} rooms[3];
+struct v7_answer answer;
+unsigned failures;
+static struct v7_counts counts;
+static unsigned compared;
+
+/* ---- memory: requests from one number to another, counted from 1, are refused */
+
+static size_t requests, refused_from, refused_to, held;
+
+static void refuse(size_t from, size_t to)
+{
+    refused_from = from;
+    refused_to = to;
+}
+
+void *__real_malloc(size_t size);
+void *__real_realloc(void *old, size_t size);
+void __real_free(void *old);
+void *__wrap_malloc(size_t size);
+void *__wrap_realloc(void *old, size_t size);
+void __wrap_free(void *old);
+
+static int is_refused(void)
+{
+    requests++;
+    return refused_from <= requests && requests <= refused_to;
+}
+
+void *__wrap_malloc(size_t size)
+{
+    void *made = is_refused() ? NULL : __real_malloc(size);
+
+    held += made != NULL;
+    return made;
+}
+
+void *__wrap_realloc(void *old, size_t size)
+{
+    void *made = is_refused() ? NULL : __real_realloc(old, size);
+
+    held += made != NULL && old == NULL;
+    return made;
+}
+
+void __wrap_free(void *old)
+{
+    held -= old != NULL;
+    __real_free(old);
+}
+
+/* ---- calls */
+
+static uint32_t call_with_bytes(const struct request *r)
+{
+    const struct span *in = r->in;
+    const struct space *room = r->room;
+
+    switch (r->call) {
+    case CHECK:
+        return v7_check(in[0].at, in[0].size, &answer);
+    case STRIP:
+        return v7_strip(in[0].at, in[0].size, room[0].at, room[0].size, &answer);
+    case NM:
+        return v7_nm(r->option, in[0].at, in[0].size, room[0].at, room[0].size, &answer);
+    case SIZE:
+        return v7_size(in[0].at, in[0].size, room[0].at, room[0].size, &answer);
+    default:
+        return v7_take_apart(in[0].at, in[0].size, room[0].at, room[0].size, room[1].at, room[1].size, room[2].at,
+                             room[2].size, &counts, &answer);
+    }
+}
+
+static uint32_t call(const struct request *r)
+{
+    const struct span *in = r->in;
+    const struct space *room = r->room;
+
+    switch (r->call) {
+    case MAKE:
+        return v7_make(in[0].at, in[0].size, in[1].at, in[1].size, r->option, in[2].at, in[2].size, room[0].at,
+                       room[0].size, &answer);
+    case LINK:
+        return v7_link(r->option, in[0].at, in[0].size, in[1].at, in[1].size, in[2].at, in[2].size, room[0].at,
+                       room[0].size, room[1].at, room[1].size, &answer);
+    case SESSION:
+        return v7_session(r->option, in[0].at, in[0].size, in[1].at, in[1].size, in[2].at, in[2].size, in[3].at,
+                          in[3].size, room[0].at, room[0].size, room[1].at, room[1].size, room[2].at, room[2].size,
+                          &answer);
+    case STATE:
+        return v7_state(r->option, in[0].at, in[0].size, in[1].at, in[1].size, in[2].at, in[2].size, room[0].at,
+                        room[0].size, room[1].at, room[1].size, &answer);
+    default:
+        return call_with_bytes(r);
+    }
+}
+
+/* the bytes of a room, and those after it that have to stay as they are */
+static size_t watched(const struct request *r, int i)
+{
+    return r->room[i].size * (r->call != TAKE_APART ? 1 : i < 2 ? sizeof(struct v7_word) : sizeof(struct v7_symbol)) + GUARD;
+}
+
+/* the status of the call, with all that it may write to filled up before */
+uint32_t status_of(const struct request *r)
+{
+    int i;
+
+    for (i = 0; i < 3; i++)
+        if (r->room[i].at)
+            memset(r->room[i].at, FILLER, watched(r, i));
+    memset(&answer, FILLER, sizeof answer);
+    memset(&counts, FILLER, sizeof counts);
+    requests = 0;
+    return call(r);
+}
+
+/* whether a room has this, and else what it had before the call */
+static int has_alone(const struct request *r, int i, struct span out)
+{
+    const unsigned char *bytes = r->room[i].at;
+    size_t n;
+
+    if (!bytes)
+        return 1;
+    for (n = out.size; n < watched(r, i); n++)
+        if (bytes[n] != FILLER)
+            return 0;
+    return out.size == 0 || memcmp(bytes, out.at, out.size) == 0;
+}
+
+static int is_answered(const struct request *r, const struct wanted *w)
+{
+    const struct v7_answer *a = &w->answer;
+    const struct v7_counts *c = &w->counts;
+
+    if (answer.fault != a->fault || answer.word != a->word || answer.place != a->place || answer.size != a->size ||
+        answer.report_size != a->report_size)
+        return 0;
+    if (r->call == TAKE_APART && (counts.text != c->text || counts.data != c->data || counts.symbols != c->symbols ||
+                                  counts.bss != c->bss))
+        return 0;
+    return has_alone(r, 0, w->out[0]) && has_alone(r, 1, w->out[1]) && has_alone(r, 2, w->out[2]);
+}
+
+/* whether the call answers this, and gives all memory back */
+static int answers(const struct request *r, const struct wanted *w)
+{
+    uint32_t status = status_of(r);
+
+    compared++;
+    return status == w->status && is_answered(r, w) && held == 0;
+}
+
+void expect(const char *what, const struct request *r, const struct wanted *w)
+{
+    if (answers(r, w))
+        return;
+    failures++;
+    printf("%s, %s: fault %u, word %u, place %zu, sizes %zu and %zu\n  and not %u, word %u, place %zu, sizes %zu and %zu;"
+           " or another status, more written, or memory kept\n",
+           names[r->call], what, (unsigned)answer.fault, (unsigned)answer.word, answer.place, answer.size,
+           answer.report_size, (unsigned)w->answer.fault, (unsigned)w->answer.word, w->answer.place, w->answer.size,
+           w->answer.report_size);
+}
+
+void expect_fault(const char *what, const struct request *r, uint32_t fault, uint32_t word, size_t place)
+{
+    const struct wanted w = {.status = 2, .answer = {.fault = fault, .word = word, .place = place}};
+
+    expect(what, r, &w);
+}
+
+void expect_fault_without_memory(const char *what, const struct request *r, uint32_t fault, uint32_t word, size_t place)
+{
+    refuse(1, (size_t)-1);
+    expect_fault(what, r, fault, word, place);
+    refuse(0, 0);
+}
+
+/* ---- for each call one that gives something: an object, which calls _f and has two symbols, and another that defines _f */
+
+#define W(n) (n) & 255, (n) >> 8
+#define NAME(a, b) a, b, 0, 0, 0, 0, 0, 0
+#define CONTENTS W(04767), W(0177774), W(0207), W(7)
+#define OBJECT                                                                                                \
+    W(0407), W(6), W(2), W(4), W(24), W(0), W(0), W(0), CONTENTS, W(0), W(011), W(0), W(0), NAME('_', 'f'), W(040), \
+        W(0), NAME('L', '1'), W(2), W(0)
+#define DEFINITION \
+    W(0407), W(4), W(0), W(0), W(12), W(0), W(0), W(0), W(0240), W(0207), W(0), W(0), NAME('_', 'f'), W(042), W(2)
+
+const unsigned char object[56] = {OBJECT};
+static const unsigned char more[] = {OBJECT, 1, 2, 3, 4, 5}, both[] = {OBJECT, DEFINITION};
+static const unsigned char stripped[] = {W(0407), W(6), W(2), W(4), W(0), W(0), W(0), W(1), CONTENTS};
+static const unsigned char linked[] = {W(0407), W(10), W(2), W(4), W(24), W(8), W(0), W(1),
+                                       W(04767), W(4), W(0207), W(0240), W(0207), W(7),
+                                       NAME('_', 'x'), W(040), W(0), NAME('_', 'f'), W(042), W(8)};
+static const char state[] = "  text 000000  004767     a number\n"
+                            "  text 000002  000004 pc  text\n"
+                            "  text 000004  000207     a number\n"
+                            "  text 000006  000240     a number\n"
+                            "  text 000010  000207     a number\n"
+                            "  data 000000  000007     a number\n"
+                            "  bss 4 bytes\n"
+                            "  name _x: undefined\n"
+                            "  name _f: text 000010\n"
+                            "  mark _f was undefined\n"
+                            "  mark text 000002 was 177774 pc  waits for _f\n";
+static const struct v7_word text[] = {{04767, 0}, {0177774, 011}, {0207, 0}}, data[] = {{7, 0}};
+static const struct v7_symbol symbols[] = {{"_f", 040, 0}, {"L1", 02, 0}};
+
+#define STRING(s) {s, sizeof s - 1}
+#define BYTES(a) {a, sizeof a}
+#define LIST(a) {a, sizeof a / sizeof *a}
+#define SPACE(i, n) {rooms[i].bytes, n}
+#define FORCED STRING("_x\0\0\0\0\0\0")
+#define REPORT STRING("Undefined:\n_x\n")
+#define REPLIES STRING("\43\0\0")
+
+const struct request good[CALLS] = {
+    {CHECK, 0, {BYTES(more)}, {{0}}},
+    {STRIP, 0, {BYTES(more)}, {SPACE(0, 24)}},
+    {NM, V7_NM_REVERSE, {BYTES(more)}, {SPACE(0, 24)}},
+    {SIZE, 0, {BYTES(more)}, {SPACE(0, 19)}},
+    {TAKE_APART, 0, {BYTES(more)}, {SPACE(0, 3), SPACE(1, 1), SPACE(2, 2)}},
+    {MAKE, 4, {LIST(text), LIST(data), LIST(symbols)}, {SPACE(0, 56)}},
+    {LINK, V7_NOT_L, {STRING("_f"), FORCED, BYTES(both)}, {SPACE(0, 52), SPACE(1, 14)}},
+    {SESSION, V7_NOT_L, {STRING("_f"), FORCED, STRING("waa"), BYTES(both)}, {SPACE(0, 3), SPACE(1, 52), SPACE(2, 14)}},
+    {STATE, V7_LINES, {FORCED, STRING("waa"), BYTES(both)}, {SPACE(0, 3), SPACE(1, sizeof state - 1)}},
+};
+static const struct wanted given[CALLS] = {
+    {0, {0, 0, 0, 56, 0}, {0}, {{0}}},
+    {0, {0, 0, 0, 24, 0}, {0}, {BYTES(stripped)}},
+    {0, {0, 0, 0, 24, 0}, {0}, {STRING("       U _f\n000000 t L1\n")}},
+    {0, {0, 0, 0, 19, 0}, {0}, {STRING("6+2+4 = 12b = 014b\n")}},
+    {0, {0, 0, 0, 0, 0}, {3, 1, 2, 4}, {BYTES(text), BYTES(data), BYTES(symbols)}},
+    {0, {0, 0, 0, 56, 0}, {0}, {BYTES(object)}},
+    {1, {0, 0, 0, 52, 14}, {0}, {BYTES(linked), REPORT}},
+    {1, {0, 0, 0, 52, 14}, {0}, {REPLIES, BYTES(linked), REPORT}},
+    {1, {0, 0, 0, sizeof state - 1, 3}, {0}, {REPLIES, STRING(state)}},
+};
+
+/* a room that is too small by one, and rooms of size 0 */
+static void check_rooms(enum call kind)
+{
+    const struct wanted w = {.status = 2,
+                             .answer = {V7_NO_ROOM, 0, 0, given[kind].answer.size, given[kind].answer.report_size},
+                             .counts = given[kind].counts};
+    struct request none = good[kind];
+    int i;
+
+    for (i = 0; i < 3 && good[kind].room[i].at; i++) {
+        struct request short_one = good[kind];
+
+        short_one.room[i].size--;
+        expect("a room too small", &short_one, &w);
+        none.room[i].size = 0;
+    }
+    if (i > 0)
+        expect("no room", &none, &w);
+}
+
+/* Each request for memory refused, and all after it; and each alone, where the call may do with a smaller one. The place
+ * is that of an object or an edit, or 0. */
+static void check_memory(enum call kind)
+{
+    static const size_t last_place[CALLS] = {[LINK] = 1, [SESSION] = 2, [STATE] = 2};
+    const struct request *r = &good[kind];
+    size_t all = (status_of(r), requests), n;
+
+    for (n = 1; n <= all; n++) {
+        refuse(n, (size_t)-1);
+        status_of(r);
+        expect_fault("memory refused", r, V7_NO_MEMORY, 0, answer.place <= last_place[kind] ? answer.place : 0);
+        refuse(n, n);
+        if (status_of(r) != given[kind].status)
+            expect_fault("memory refused once", r, V7_NO_MEMORY, 0, answer.place <= last_place[kind] ? answer.place : 0);
+        else
+            expect("less memory", r, &given[kind]);
+    }
+    refuse(0, 0);
+    if (all == 0) {
+        printf("%s: no memory was asked for\n", names[kind]);
+        failures++;
+    }
+}
+
+/* ---- exchanged: each two parameters of one type, of each call that has two; the answer has to be another */
+
+static void differ(const struct request *r, int i, int j)
+{
+    if (answers(r, &given[r->call])) {
+        printf("%s: parameters %d and %d of one type exchanged, and the same answer\n", names[r->call], i, j);
+        failures++;
+    }
+}
+
+static void exchange_spans(enum call kind, int count)
+{
+    int i, j;
+
+    for (i = 0; i < count; i++)
+        for (j = i + 1; j < count; j++) {
+            struct request r = good[kind];
+
+            r.in[i] = good[kind].in[j];
+            r.in[j] = good[kind].in[i];
+            differ(&r, i, j);
+        }
+}
+
+static void exchange_rooms(enum call kind, int count)
+{
+    int i, j;
+
+    for (i = 0; i < count; i++)
+        for (j = i + 1; j < count; j++) {
+            struct request r = good[kind];
+
+            r.room[i] = good[kind].room[j];
+            r.room[j] = good[kind].room[i];
+            differ(&r, i, j);
+        }
+}
+
+static void check_exchanged(void)
+{
+    exchange_spans(MAKE, 2);
+    exchange_spans(LINK, 3);
+    exchange_spans(SESSION, 4);
+    exchange_spans(STATE, 3);
+    exchange_rooms(TAKE_APART, 2);
+    exchange_rooms(LINK, 2);
+    exchange_rooms(SESSION, 3);
+    exchange_rooms(STATE, 2);
+}
+
+void check_good(void)
+{
+    int kind;
+
+    for (kind = 0; kind < CALLS; kind++) {
+        expect("a good call", &good[kind], &given[kind]);
+        check_rooms((enum call)kind);
+        check_memory((enum call)kind);
+    }
+    check_exchanged();
+}
+
+int all_right(void)
+{
+    printf("%u calls compared\n", compared);
+    return failures == 0;
+}

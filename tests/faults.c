@@ -1,0 +1,375 @@
+/* An input for each fault of each call of libv7, as tables: what is asked for, damaged files, objects that pass a limit, links
+ * that are refused, and parts of objects. What is wanted is worked out from v7.h and docs/FORMAT.md, and never taken from what
+ * the library answers. tests/library.sh compiles it with tests/calls.c, and runs it. */
+#include <stdio.h>
+#include <string.h>
+
+#include "calls.h"
+
+enum { MOST_WORDS = 32767, MOST_BYTES = 65534, MOST_SYMBOLS = 5461 };
+
+static unsigned char objects[ROOM];
+static const struct span nothing = {"", 0}, letters = {"aaaaaaaaaaaaaa", 14};
+
+/* ---- what is asked for: a row has what is wrong in it, and 0 for what is not */
+
+enum { FOR_NM = 1, FOR_LINK = 2, FOR_SESSION = 4, FOR_STATE = 8, FOR_BOTH = FOR_LINK | FOR_SESSION };
+
+static const struct asked {
+    unsigned calls;
+    uint32_t option;
+    size_t entry_size, forced_size;
+    const char *edits;
+    uint32_t fault;
+    size_t place;
+} asked[] = {
+    {FOR_NM, 32, 0, 0, 0, V7_NO_OPTION, 0},
+    {FOR_NM, 0x80000000, 0, 0, 0, V7_NO_OPTION, 0},
+    {FOR_BOTH, 128, 0, 0, 0, V7_NO_OPTION, 0},
+    {FOR_BOTH, 0x80000000, 0, 0, 0, V7_NO_OPTION, 0},
+    {FOR_BOTH, 128 | V7_PURE | V7_SPLIT, 9, 7, "x", V7_NO_OPTION, 0},
+    {FOR_BOTH, V7_RELOCATABLE | V7_STRIP, 0, 0, 0, V7_EXCLUDED, 0},
+    {FOR_BOTH, V7_RELOCATABLE | V7_PURE, 0, 0, 0, V7_EXCLUDED, 0},
+    {FOR_BOTH, V7_RELOCATABLE | V7_SPLIT, 0, 0, 0, V7_EXCLUDED, 0},
+    {FOR_BOTH, V7_PURE | V7_SPLIT, 0, 0, 0, V7_EXCLUDED, 0},
+    {FOR_BOTH, V7_PURE | V7_SPLIT, 9, 7, "x", V7_EXCLUDED, 0},
+    {FOR_BOTH, V7_RELOCATABLE | V7_STRIP, 9, 7, "x", V7_EXCLUDED, 0},
+    {FOR_BOTH, 0, 9, 0, 0, V7_LONG_NAME, 0},
+    {FOR_BOTH, 0, 9, 7, "x", V7_LONG_NAME, 0},
+    {FOR_BOTH | FOR_STATE, 0, 0, 7, 0, V7_CUT_NAMES, 0},
+    {FOR_BOTH | FOR_STATE, 0, 0, 8 * 66 + 1, "x", V7_CUT_NAMES, 0},
+    {FOR_BOTH | FOR_STATE, 0, 0, 8 * 66, 0, V7_MANY_NAMES, 65},
+    {FOR_BOTH | FOR_STATE, 0, 0, 8 * 67, "x", V7_MANY_NAMES, 65},
+    {FOR_STATE, 2, 0, 0, 0, V7_NO_OPTION, 0},
+    {FOR_STATE, 0xffffffff, 0, 7, "x", V7_NO_OPTION, 0},
+    {FOR_SESSION | FOR_STATE, 0, 0, 0, "x", V7_NO_EDIT, 0},
+    {FOR_SESSION | FOR_STATE, 0, 0, 0, "waAa", V7_NO_EDIT, 2},
+    {FOR_SESSION | FOR_STATE, 0, 0, 0, "wawaa", V7_SHORT_HEADER, 4},
+};
+
+/* 66 different names, the first of them twice: the name of number 65 is the first too many */
+static unsigned char many[8 * 67];
+
+static void fill_many(void)
+{
+    unsigned n;
+
+    for (n = 0; n < 67; n++) {
+        many[8 * n] = 'n';
+        many[8 * n + 1] = (unsigned char)(n < 2 ? 1 : n);
+    }
+}
+
+static void check_asked(const struct asked *row, unsigned bit, enum call kind)
+{
+    struct request r = good[kind];
+    int forced = kind == STATE ? 0 : 1;
+
+    if (!(row->calls & bit))
+        return;
+    r.option = row->option;
+    if (row->entry_size)
+        r.in[0] = (struct span){"_entry_pt", row->entry_size};
+    if (row->forced_size)
+        r.in[forced] = (struct span){many, row->forced_size};
+    if (row->edits && kind != LINK)
+        r.in[forced + 1] = (struct span){row->edits, strlen(row->edits)};
+    expect_fault("asked for", &r, row->fault, 0, row->place);
+    if (row->fault <= V7_MANY_NAMES)
+        expect_fault_without_memory("asked for without memory", &r, row->fault, 0, row->place);
+}
+
+static void check_all_asked(void)
+{
+    size_t n;
+
+    fill_many();
+    for (n = 0; n < sizeof asked / sizeof *asked; n++) {
+        check_asked(&asked[n], FOR_NM, NM);
+        check_asked(&asked[n], FOR_LINK, LINK);
+        check_asked(&asked[n], FOR_SESSION, SESSION);
+        check_asked(&asked[n], FOR_STATE, STATE);
+    }
+}
+
+/* ---- files: the object of so many bytes, two of them changed. Words 0 to 3 have their relocation words at 24 to 30. */
+
+static const struct damage {
+    uint32_t fault, word;
+    size_t size;
+    struct {
+        unsigned at, byte;
+    } change[2];
+} damages[] = {
+    {V7_SHORT_HEADER, 0, 15, {{0, 6}, {2, 5}}},
+    {V7_BAD_MAGIC, 0, 40, {{0, 6}, {2, 5}}},
+    {V7_ODD_SIZE, 0, 40, {{0, 8}, {2, 5}}},
+    {V7_ODD_SIZE, 0, 56, {{4, 1}, {14, 1}}},
+    {V7_ODD_SIZE, 0, 56, {{6, 3}, {30, 012}}},
+    {V7_ODD_SIZE, 0, 56, {{8, 23}, {30, 012}}},
+    {V7_TRUNCATED, 0, 55, {{0, 8}, {30, 012}}},
+    {V7_NOT_AN_OBJECT, 0, 56, {{0, 8}, {14, 1}}},
+    {V7_NO_RELOCATION, 0, 56, {{14, 1}, {24, 012}}},
+    {V7_BAD_RELOCATION, 0, 56, {{24, 012}, {26, 031}}},
+    {V7_BAD_RELOCATION, 2, 56, {{28, 014}, {30, 031}}},
+    {V7_BAD_RELOCATION, 3, 56, {{30, 016}, {30, 016}}},
+    {V7_BAD_SYMBOL_NUMBER, 0, 56, {{24, 031}, {26, 012}}}, /* number 1 is local */
+    {V7_BAD_SYMBOL_NUMBER, 1, 56, {{40, 042}, {30, 012}}}, /* number 0 is defined now */
+    {V7_BAD_SYMBOL_NUMBER, 3, 56, {{30, 050}, {30, 050}}}, /* there is no number 2 */
+};
+
+static void put_damaged(const struct damage *d, unsigned char *bytes)
+{
+    int n;
+
+    memcpy(bytes, object, sizeof object);
+    for (n = 0; n < 2; n++)
+        bytes[d->change[n].at] = (unsigned char)d->change[n].byte;
+}
+
+/* A damaged file alone. A file that is not an object is good enough for v7_strip, v7_nm and v7_size. No memory is wanted before
+ * the file is known to be whole. */
+static void check_file(const struct damage *d, enum call kind)
+{
+    struct request r = good[kind];
+
+    r.in[0] = (struct span){objects, d->size};
+    if (d->fault >= V7_NOT_AN_OBJECT && (kind == STRIP || kind == NM || kind == SIZE)) {
+        r.room[0].size = 256;
+        if (status_of(&r) != 0)
+            expect_fault("a file that is not an object", &r, V7_NO_FAULT, 0, 0);
+        return;
+    }
+    expect_fault("a file", &r, d->fault, d->word, 0);
+    if (d->fault <= V7_TRUNCATED)
+        expect_fault_without_memory("a file without memory", &r, d->fault, d->word, 0);
+}
+
+/* A damaged object, the first of a list, without forced names. */
+static void check_first(const struct damage *d, enum call kind, int list)
+{
+    struct request r = good[kind];
+
+    r.in[kind == STATE ? 0 : 1] = nothing;
+    if (kind != LINK)
+        r.in[list - 1] = (struct span){letters.at, 1};
+    r.in[list] = (struct span){objects, d->size};
+    expect_fault("the first object", &r, d->fault, d->word, 0);
+    if (d->fault <= V7_TRUNCATED)
+        expect_fault_without_memory("the first object without memory", &r, d->fault, d->word, 0);
+}
+
+/* A damaged object after one that is taken. */
+static void check_list(const struct damage *d, enum call kind, int list, size_t place)
+{
+    struct request r = good[kind];
+
+    r.in[list] = (struct span){objects, sizeof object + d->size};
+    expect_fault("a list of objects", &r, d->fault, d->word, place);
+}
+
+static void check_damages(void)
+{
+    const struct damage *d;
+    int kind;
+
+    for (d = damages; d < damages + sizeof damages / sizeof *damages; d++) {
+        put_damaged(d, objects);
+        for (kind = CHECK; kind <= TAKE_APART; kind++)
+            check_file(d, (enum call)kind);
+        check_first(d, LINK, 2);
+        check_first(d, SESSION, 3);
+        check_first(d, STATE, 2);
+        memcpy(objects, object, sizeof object);
+        put_damaged(d, objects + sizeof object);
+        check_list(d, LINK, 2, 1);
+        /* the edits are w, a and a */
+        check_list(d, SESSION, 3, 2);
+        check_list(d, STATE, 2, 2);
+    }
+}
+
+/* ---- limits: lists of objects with words of 0, the first of which has a relocation word, and with names that all differ */
+
+struct made {
+    unsigned times, text, data, bss, symbols, type, reloc;
+};
+
+static const struct limit {
+    uint32_t fault, option;
+    struct made made[3];
+} limits[] = {
+    {V7_TEXT_FULL, 0, {{1, MOST_WORDS, 0, 0, 0, 0, 0}, {1, 1, 1, 2, 1, 041, 0}}},
+    {V7_TEXT_FULL, 0, {{1, MOST_WORDS, 1, 2, 0, 0, 0}, {1, 1, MOST_WORDS, MOST_BYTES, 1, 041, 0}}},
+    {V7_DATA_FULL, 0, {{1, 1, MOST_WORDS, 0, 0, 0, 0}, {1, 1, 1, 2, 1, 041, 0}}},
+    {V7_DATA_FULL, 0, {{1, 1, 1, 2, 0, 0, 0}, {1, 1, MOST_WORDS, MOST_BYTES, 1, 041, 0}}},
+    {V7_BSS_FULL, 0, {{1, 1, 0, MOST_BYTES, 0, 0, 0}, {1, 1, 1, 2, 1, 041, 0}}},
+    {V7_BSS_FULL, 0, {{12, 0, 0, 0, MOST_SYMBOLS, 041, 0}, {1, 0, 0, MOST_BYTES, 3, 041, 0}, {1, 0, 0, 2, 1, 041, 0}}},
+    {V7_NAMES_FULL, 0, {{12, 0, 0, 0, MOST_SYMBOLS, 041, 0}, {1, 0, 0, 0, 3, 041, 0}, {1, 1, 1, 2, 1, 041, 0}}},
+    {V7_DOES_NOT_FIT, 0, {{1, 1, 0, MOST_BYTES, 0, 0, 0}}},
+    {V7_DOES_NOT_FIT, 0, {{1, 1, 0, MOST_BYTES, MOST_SYMBOLS, 1, 0}, {1, 0, 0, 0, 1, 1, 0}}},
+    {V7_TOO_MANY_SYMBOLS, 0, {{1, 0, 0, 0, MOST_SYMBOLS, 1, 0}, {1, 0, 0, 0, 1, 1, 0}}},
+    {V7_TOO_MANY_SYMBOLS, V7_RELOCATABLE, {{1, 0, 0, 0, 1366, 1, 0}, {1, 1, 0, 0, 4096, 040, 0177770}}},
+    {V7_SYMBOL_NUMBER, V7_RELOCATABLE, {{1, 0, 0, 0, 1, 1, 0}, {1, 1, 0, 0, 4096, 040, 0177770}}},
+};
+
+static void put_word(unsigned char *at, unsigned word)
+{
+    at[0] = word & 255;
+    at[1] = word >> 8 & 255;
+}
+
+static void put_symbol(unsigned char *at, unsigned number, unsigned type)
+{
+    int digit;
+
+    for (digit = 7; digit >= 0; digit--, number /= 10)
+        at[digit] = (unsigned char)('0' + number % 10);
+    put_word(at + 8, type);
+    put_word(at + 10, 0);
+}
+
+/* the bytes behind the object, whose names count on from *NAMES */
+static unsigned char *put_object(const struct made *m, unsigned char *at, unsigned *names)
+{
+    const unsigned header[8] = {0407, 2 * m->text, 2 * m->data, m->bss, 12 * m->symbols, 0, 0, 0};
+    unsigned words = m->text + m->data, n;
+
+    memset(at, 0, 16 + 4 * words);
+    for (n = 0; n < 8; n++)
+        put_word(at + 2 * n, header[n]);
+    if (m->reloc)
+        put_word(at + 16 + 2 * words, m->reloc);
+    at += 16 + 4 * words;
+    for (n = 0; n < m->symbols; n++, at += 12)
+        put_symbol(at, (*names)++, m->type);
+    return at;
+}
+
+/* how many objects the list has; *SIZE is that of all */
+static size_t put_objects(const struct limit *l, size_t *size)
+{
+    unsigned char *end = objects;
+    unsigned names = 0, count = 0, n;
+    int i;
+
+    for (i = 0; i < 3; i++)
+        for (n = 0; n < l->made[i].times; n++, count++)
+            end = put_object(&l->made[i], end, &names);
+    *size = (size_t)(end - objects);
+    return count;
+}
+
+/* The last of N objects is not added: its reply is the fault, and all else is as without it. R has all but the number of edits,
+ * which is at EDITS, and the sizes of the first two rooms. */
+static void check_replies(struct request *r, int edits, size_t n, uint32_t fault)
+{
+    static unsigned char kept[ROOM];
+    unsigned char replies[16] = {0};
+    struct wanted w = {.status = 1, .out = {{replies, n}, {kept, 0}}};
+
+    r->in[edits].size = n - 1;
+    r->room[0].size = r->room[1].size = 0;
+    status_of(r);
+    w.answer.size = w.out[1].size = r->room[1].size = answer.size;
+    r->room[0].size = n;
+    status_of(r);
+    memcpy(kept, r->room[1].at, w.answer.size);
+    replies[n - 1] = (unsigned char)fault;
+    w.answer.report_size = r->call == STATE ? n : 0;
+    r->in[edits].size = n;
+    expect("the reply to an object that is not added", r, &w);
+}
+
+static void check_limit(const struct limit *l)
+{
+    size_t size, n = put_objects(l, &size);
+    const struct span list = {objects, size};
+    struct request link = {LINK, l->option, {nothing, nothing, list}, {good[LINK].room[0], good[LINK].room[1]}};
+    struct request session = good[SESSION], state = good[STATE];
+    const struct span in[4] = {nothing, nothing, {letters.at, n}, list};
+
+    memcpy(session.in, in, sizeof in);
+    memcpy(state.in, in + 1, 3 * sizeof *in);
+    session.option = l->option;
+    if (l->fault >= V7_DOES_NOT_FIT) {
+        expect_fault("a limit of links", &link, l->fault, 0, 0);
+        expect_fault("a limit of links", &session, l->fault, 0, 0);
+        return;
+    }
+    expect_fault("a limit of objects", &link, l->fault, 0, n - 1);
+    /* what is kept can be linked: without its names, and with its text in a space of its own */
+    session.option = V7_STRIP | V7_SPLIT;
+    check_replies(&session, 2, n, l->fault);
+    check_replies(&state, 1, n, l->fault);
+}
+
+/* ---- parts: relocation words of the first words of text and data; no symbol is external */
+
+static struct v7_word words[2][MOST_WORDS + 1];
+static struct v7_symbol symbols[MOST_SYMBOLS + 1];
+
+static const struct parts {
+    size_t text, data;
+    uint32_t bss;
+    size_t symbols;
+    uint16_t reloc[2];
+    uint32_t fault, word;
+} parts[] = {
+    {MOST_WORDS + 1, 0, 0, 0, {0, 0}, V7_TOO_LONG, 0},
+    {0, MOST_WORDS + 1, 0, 0, {0, 0}, V7_TOO_LONG, 0},
+    {0, 0, 65536, 0, {0, 0}, V7_TOO_LONG, 0},
+    {0, 0, 0xffffffff, 0, {0, 0}, V7_TOO_LONG, 0},
+    {0, 0, 0, MOST_SYMBOLS + 1, {0, 0}, V7_TOO_LONG, 0},
+    {1, 1, 65537, 1, {012, 012}, V7_TOO_LONG, 0},
+    {1, 1, 1, 1, {012, 012}, V7_ODD_SIZE, 0},
+    {0, 0, 65535, 0, {0, 0}, V7_ODD_SIZE, 0},
+    {1, 1, 2, 1, {012, 010}, V7_BAD_RELOCATION, 0},
+    {2, 1, 2, 1, {0, 014}, V7_BAD_RELOCATION, 2},
+    {1, 1, 2, 1, {010, 012}, V7_BAD_SYMBOL_NUMBER, 0},
+    {2, 1, 2, 1, {0, 031}, V7_BAD_SYMBOL_NUMBER, 2},
+};
+
+static void check_parts(const struct parts *p)
+{
+    struct request r = good[MAKE];
+
+    r.in[0] = (struct span){words[0], p->text};
+    r.in[1] = (struct span){words[1], p->data};
+    r.in[2] = (struct span){symbols, p->symbols};
+    r.option = p->bss;
+    words[0][0].reloc = p->reloc[0];
+    words[1][0].reloc = p->reloc[1];
+    expect_fault("parts", &r, p->fault, p->word, 0);
+    if (p->fault <= V7_ODD_SIZE)
+        expect_fault_without_memory("parts without memory", &r, p->fault, p->word, 0);
+}
+
+/* the most of all parts: four bytes for each word, and twelve for each symbol */
+static void check_most_parts(void)
+{
+    const struct wanted w = {.status = 2, .answer = {.fault = V7_NO_ROOM, .size = 16 + 4 * 2 * MOST_WORDS + 12 * MOST_SYMBOLS}};
+    struct request r = good[MAKE];
+
+    words[0][0].reloc = words[1][0].reloc = 0;
+    r.in[0] = (struct span){words[0], MOST_WORDS};
+    r.in[1] = (struct span){words[1], MOST_WORDS};
+    r.in[2] = (struct span){symbols, MOST_SYMBOLS};
+    r.option = MOST_BYTES;
+    expect("the most parts", &r, &w);
+}
+
+int main(void)
+{
+    size_t n;
+
+    check_good();
+    check_all_asked();
+    check_damages();
+    for (n = 0; n < sizeof limits / sizeof *limits; n++)
+        check_limit(&limits[n]);
+    for (n = 0; n < sizeof parts / sizeof *parts; n++)
+        check_parts(&parts[n]);
+    check_most_parts();
+    return all_right() ? 0 : 1;
+}

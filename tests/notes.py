@@ -1,0 +1,258 @@
+#!/usr/bin/env python3
+"""Compares the notes of v7-explain, with all their numbers, with those computed here by docs/FORMAT.md and v7-explain(1).
+
+usage: notes.py V7_EXPLAIN
+
+The files are made, the same in each run: objects whose numbers lie at the edges of their ranges and beside them, one file cut
+at each byte, objects with 15 to 18 bad relocation words, and files with other magic numbers, flags and sizes.
+"""
+import os
+import random
+import re
+import struct
+import subprocess
+import sys
+import tempfile
+
+EXPLAIN = os.path.abspath(sys.argv[1])
+MAGICS = (0o405, 0o407, 0o410, 0o411)
+SEGMENTS = {2: "text", 3: "data", 4: "bss"}
+# of bad relocation words so many are shown one by one
+MOST_BAD = 16
+dice = random.Random(42)
+
+
+def shown(name):
+    """A name as notes have it."""
+    return "".join(chr(c) if 32 < c < 127 and c != 92 else "\\%03o" % c for c in name) or "\\000"
+
+
+class File:
+    """What the bytes of a file say, by its header."""
+
+    def __init__(self, data):
+        self.data = data
+        self.magic, self.text, self.data_size, self.bss, *more = struct.unpack("<8H", data[:16])
+        self.table, self.entry, self.unused, self.flag = more
+        segments = self.text + self.data_size
+        self.data_at = 16 + self.text
+        self.relocation_at = 16 + segments
+        self.symbols_at = self.relocation_at + (segments if self.flag == 0 else 0)
+        self.end = self.symbols_at + self.table
+
+    def word(self, at):
+        return struct.unpack_from("<H", self.data, at)[0]
+
+    def words(self):
+        """Address, value and relocation word of each word that is relocated."""
+        for at in range(0, self.text + self.data_size if self.flag == 0 else 0, 2):
+            yield at, self.word(16 + at), self.word(self.relocation_at + at)
+
+    def symbols(self):
+        """Name, bytes of the name, type word and value of each symbol."""
+        fields = (struct.unpack_from("<8sHH", self.data, at) for at in range(self.symbols_at, self.end, 12))
+        return [(field.split(b"\0")[0], field, kind, value) for field, kind, value in fields]
+
+    def ranges(self):
+        """The address at which each segment begins, and that at which it ends, which counts as inside."""
+        data = {0o410: -(-self.text // 8192) * 8192, 0o411: 0}.get(self.magic, self.text)
+        bss = data + self.data_size
+        return {"text": (0, self.text), "data": (data, bss), "bss": (bss, bss + self.bss)}
+
+
+def is_wanted(kind):
+    return kind & 0o77 == 0o40
+
+
+def bad_sizes(file):
+    for at, part, size in ((2, "text", file.text), (4, "data", file.data_size), (6, "bss", file.bss)):
+        if size % 2:
+            yield at, f"odd size: {part} has 0{size:o} ({size}) bytes, which are no whole words"
+    if file.table % 12:
+        yield 8, f"odd size: the symbol table has 0{file.table:o} ({file.table}) bytes, and a symbol 12"
+
+
+def cut_off(file):
+    size = len(file.data)
+    ends = (file.data_at, file.relocation_at, file.symbols_at, file.end)
+    for end, part in zip(ends, ("text", "data", "the relocation", "the symbol table")):
+        if size < end:
+            yield size, f"truncated: the file ends here, in {part}; by its header it has 0{file.end:o} ({file.end}) bytes"
+            return
+
+
+def bad_words(file):
+    symbols = file.symbols()
+    for at, _, reloc in file.words():
+        number = reloc >> 4
+        if reloc & 0o16 > 0o10:
+            said = f"bad relocation at word {at // 2}: {reloc:o} has none of the kinds 0, 2, 4, 6 and 10"
+        elif reloc & 0o16 < 0o10 or number < len(symbols) and is_wanted(symbols[number][2]):
+            continue
+        elif number < len(symbols):
+            name, _, kind, _ = symbols[number]
+            said = f"symbol {number} of {len(symbols)}, {shown(name)} of type {kind:o}, and not an undefined external, 40"
+            said = f"bad symbol number at word {at // 2}: {reloc:o} refers to {said}"
+        else:
+            said = f"symbol {number}, and the table has {len(symbols)}, counted from 0"
+            said = f"bad symbol number at word {at // 2}: {reloc:o} refers to {said}"
+        yield file.relocation_at + at, said
+
+
+def wrong(data):
+    """What is wrong with a file, each with its byte; and the file, if it is one."""
+    if len(data) < 16:
+        return [(len(data), "short header: the file ends here, and a header has 16 bytes")], None
+    file = File(data)
+    if file.magic not in MAGICS:
+        return [(0, f"bad magic number: {file.magic:06o}, and not 000405, 000407, 000410 or 000411")], None
+    notes = list(bad_sizes(file)) or list(cut_off(file))
+    if notes:
+        return notes, None
+    if file.magic != 0o407:
+        text = f"not an object: the magic number is {file.magic:06o}, and an object's 000407; a program can't be linked again"
+        return [(0, text)], file
+    if file.flag:
+        text = f"no relocation: the flag is {file.flag:06o}, and an object's 0; a linked or stripped file can't be linked again"
+        return [(14, text)], file
+    notes = list(bad_words(file))
+    more = len(notes) - MOST_BAD
+    if more > 0:
+        notes[MOST_BAD:] = [(file.relocation_at, f"and {more} more such relocation words")]
+    return notes, file
+
+
+def odd_header(file):
+    if file.entry and file.flag == 0:
+        yield 10, f"the entry point of an object, {file.entry:06o}, is ignored"
+    if file.unused:
+        yield 12, f"the unused word, {file.unused:06o}, is ignored"
+    more = len(file.data) - file.end
+    if more:
+        yield file.end, f"0{more:o} ({more}) bytes behind the symbol table are not read"
+
+
+def odd_words(file):
+    for at, word, reloc in file.words():
+        if reloc > 0o17 and reloc & 0o16 < 0o10:
+            yield file.relocation_at + at, f"relocation word {reloc:06o} of the word at {at:06o}: bits above 17 are ignored"
+        segment = {2: "text", 4: "data", 6: "bss"}.get(reloc & 0o16)
+        if segment:
+            begin, end = file.ranges()[segment]
+            to = (word + at + 2) % 65536 if reloc & 1 else word
+            if not begin <= to <= end:
+                yield file.relocation_at + at, (f"the word at {at:06o} is of kind {segment} and refers to {to:06o}; "
+                                                f"{segment} lies from {begin:06o} to {end:06o}")
+
+
+def odd_symbol(file, number, symbols):
+    name, field, kind, value = symbols[number]
+    if not name:
+        yield 0, "has an empty name"
+    elif not all(32 < c < 127 for c in name):
+        yield 0, "has bytes in its name that do not print"
+    if field.rstrip(b"\0") != name:
+        yield 0, "has bytes behind the NUL of its name, which are ignored"
+    first = [other[0] for other in symbols].index(name)
+    if first < number:
+        yield 0, f"has the name of symbol {first}; names are equal in eight bytes"
+    if kind > 0o77:
+        yield 8, f"has type {kind:06o}, of which the bits above 77 are ignored"
+    if is_wanted(kind) and value:
+        rounded = ", rounded up to even" if value % 2 else ""
+        yield 10, f"is undefined with value {value:06o}: a common of {value} bytes{rounded}"
+    segment = SEGMENTS.get(kind & 0o37)
+    if segment:
+        begin, end = file.ranges()[segment]
+        if not begin <= value <= end:
+            yield 10, f"of {segment} has value {value:06o}, and {segment} lies from {begin:06o} to {end:06o}"
+
+
+def notes_of(data):
+    """All notes of a file, in any order."""
+    found, file = wrong(data)
+    notes = [f"wrong: byte 0{at:o} ({at}): {text}" for at, text in found]
+    if file:
+        odd = [*odd_header(file), *odd_words(file)]
+        symbols = file.symbols()
+        for number, symbol in enumerate(symbols):
+            at, title = file.symbols_at + 12 * number, f"symbol {number} {shown(symbol[0])}"
+            odd += [(at + place, f"{title} {text}") for place, text in odd_symbol(file, number, symbols)]
+        notes += [f"odd: byte 0{at:o} ({at}): {text}" for at, text in odd]
+    return sorted(notes)
+
+
+def near(edges):
+    return max(0, dice.choice(edges) + dice.choice([-2, -1, 0, 1, 2])) % 65536
+
+
+def made_symbol(edges):
+    name = dice.choice([b"_a", b"_b", b"Lc", b"", b"eight_by", b"a\\b", b"\x7f", b" x", b"~", b"_a\0z", b"!"])
+    kind = dice.choice([0o40, 0o40, 0o40, 0, 1, 2, 3, 4, 0o41, 0o42, 0o43, 0o44, 0o24, 0o37, 0o77, 0o100, 0o101, 0o140])
+    kind = dice.choice([kind, kind, kind, dice.randrange(65536)])
+    return struct.pack("<8sHH", name, kind, dice.choice([0, 1, 2, near(edges)]))
+
+
+def made_reloc(count):
+    number = dice.choice([0, 1, count - 1, count, 4095]) % 4096
+    external = 16 * number + 0o10
+    return dice.choice([0, 1, 2, 3, 4, 5, 6, 7, 0o10, 0o11, 0o12, 0o20, 0o26, external, external + 1, dice.randrange(65536)])
+
+
+def made_file(text, data, magic=0o407, flag=0):
+    """A file of so many words, most of whose numbers lie at the ends of segments."""
+    bss = 2 * dice.randrange(5)
+    edges = [0, 2 * text, 2 * (text + data), 2 * (text + data) + bss]
+    count = dice.randrange(6)
+    words = [near(edges) for _ in range(text + data)]
+    # a word that is relative to the pc has the distance
+    words = [(word - 2 * at - 2) % 65536 if dice.randrange(2) else word for at, word in enumerate(words)]
+    words += [made_reloc(count) for _ in range(text + data if flag == 0 else 0)]
+    header = [magic, 2 * text, 2 * data, bss, 12 * count, dice.choice([0, 0, 2]), dice.choice([0, 0, 1]), flag]
+    symbols = b"".join(made_symbol(edges) for _ in range(count))
+    return struct.pack("<%dH" % (8 + len(words)), *header, *words) + symbols + bytes(dice.choice([0, 0, 0, 1, 9]))
+
+
+def files():
+    whole = made_file(3, 2)
+    yield from (whole[:size] for size in range(len(whole) + 1))
+    for bad in range(15, 19):
+        yield struct.pack("<8H", 0o407, 2 * bad, 4, 0, 0, 0, 0, 0) + bytes(2 * bad + 4) + b"\x0a\0" * bad + bytes(4)
+        yield struct.pack("<8H", 0o407, 4, 2 * bad, 0, 0, 0, 0, 0) + bytes(2 * bad + 4) + b"\x0a\0" * (bad + 2)
+    for at in range(2, 10, 2):
+        for size in (1, 3, 13, 255):
+            yield whole[:at] + struct.pack("<H", size) + whole[at + 2:]
+    for magic in (*MAGICS, 0o404, 0o406, 0o412, 0, 65535):
+        yield from (made_file(text, 1, magic, flag) for text in (0, 1, 2) for flag in (0, 1, 65535))
+    yield from (made_file(dice.randrange(9), dice.randrange(5)) for _ in range(1000))
+
+
+def explained(paths):
+    """The notes of each file: those that say what is wrong or odd, in one line each."""
+    done = subprocess.run([EXPLAIN, *paths], stdout=subprocess.PIPE, check=False)
+    text = done.stdout.decode("ascii").replace("\n/  ", "")
+    parts = re.split(r"^/ f\d+\.o: 0[0-7]+ \(\d+\) bytes$", text, flags=re.M)[1:]
+    return [sorted(re.findall(r"^/ ((?:wrong|odd): .*)$", part, re.M)) for part in parts]
+
+
+def main():
+    made = list(files())
+    paths = [f"f{number}.o" for number in range(len(made))]
+    for path, data in zip(paths, made):
+        with open(path, "wb") as file:
+            file.write(data)
+    found = explained(paths)
+    assert len(found) == len(made), (len(found), len(made))
+    count = 0
+    for path, data, notes in zip(paths, made, found):
+        wanted = notes_of(data)
+        count += len(wanted)
+        if notes != wanted:
+            print(f"{path}, {data.hex()}:", *set(notes) - set(wanted), "and not", *set(wanted) - set(notes), sep="\n  ")
+            sys.exit(1)
+    print(f"{count} notes of {len(made)} files compared")
+
+
+with tempfile.TemporaryDirectory() as room:
+    os.chdir(room)
+    main()
