@@ -191,7 +191,6 @@ check-examples: build/v7 build/v7-from-gnu build/v7-object build/v7-explain buil
 	cmp crates/lesson/data/l.o examples/l.o
 	cmp crates/v7_from_gnu/data/squares.gnu examples/squares.gnu
 	cmp crates/v7_object/data/main.lst examples/main.lst
-	cmp crates/v7_object/stdout examples/main.o
 	sh tests/heads.sh
 	sh tests/manual.sh
 	python3 tests/statuses.py build/v7-from-gnu build/lesson
