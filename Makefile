@@ -14,7 +14,7 @@ endif
 .PHONY: all try demo lib check-lib test recheck wrong-bodies memory room bench instructions simulate lesson page check-page \
 	check-manual check-examples check-explain check-model check-streams install clean
 
-all: build/v7 build/v7-from-gnu build/v7-explain
+all: build/v7 build/v7-from-gnu build/v7-object build/v7-explain
 
 SOURCES := crates.txt $(shell find crates -name out -prune -o -type f -print)
 
@@ -35,6 +35,14 @@ build/v7-from-gnu: crates/v7_from_gnu/out/v7_from_gnu
 
 crates/v7_from_gnu/out/v7_from_gnu: crates.txt $(shell find crates/aout_core crates/gnu_objects crates/v7_from_gnu -name out -prune -o -type f -print)
 	python3 tests/prove.py v7_from_gnu $@
+	touch $@
+
+build/v7-object: crates/v7_object/out/v7_object
+	mkdir -p build
+	cp crates/v7_object/out/v7_object build/v7-object
+
+crates/v7_object/out/v7_object: crates.txt $(shell find crates/aout_core crates/listings crates/v7_object -name out -prune -o -type f -print)
+	python3 tests/prove.py v7_object $@
 	touch $@
 
 build/v7-explain: crates/v7_explain/out/v7_explain
@@ -162,11 +170,12 @@ check-manual: check-examples
 check-streams: build/v7
 	sh tests/streams.sh
 
-# listings of the examples and of 1,000 made objects are turned back, notes compared with computed ones, and maps with what v7
-# says of the links; DAMAGED files are tried besides
+# listings of the examples and of 1,000 made objects are turned back, and so are those of other files; 2,000 damaged listings
+# are tried, notes compared with computed ones, and maps with what v7 says of the links; DAMAGED files are tried besides
 DAMAGED ?= 0
-check-explain: build/v7 build/v7-explain
-	python3 tests/explain.py build/v7-explain build/v7 $(DAMAGED)
+check-explain: build/v7 build/v7-explain build/v7-object
+	python3 tests/explain.py build/v7-explain build/v7-object build/v7 $(DAMAGED)
+	python3 tests/listings.py build/v7-explain build/v7-object
 	python3 tests/notes.py build/v7-explain
 	python3 tests/map.py build/v7 build/v7-explain
 
@@ -176,20 +185,21 @@ check-model: build/v7
 
 # the examples of the manual pages and of the documents come out as shown, and so do the faults of v7-from-gnu and the steps of
 # lesson; the gate leaves the programs that they need
-check-examples: build/v7 build/v7-from-gnu build/v7-explain build/lesson
+check-examples: build/v7 build/v7-from-gnu build/v7-object build/v7-explain build/lesson
 	cmp crates/write_object/stdout examples/main.o
 	cmp crates/lesson/data/k.o examples/k.o
 	cmp crates/lesson/data/l.o examples/l.o
 	cmp crates/v7_from_gnu/data/squares.gnu examples/squares.gnu
+	cmp crates/v7_object/data/main.lst examples/main.lst
 	sh tests/heads.sh
 	sh tests/manual.sh
 	python3 tests/statuses.py build/v7-from-gnu build/lesson
 
 # the programs, their manual pages, the documents and the examples; and the library, where `make lib` made it
 SHARE = $(DESTDIR)$(PREFIX)/share
-install: build/v7 build/v7-from-gnu build/v7-explain
+install: build/v7 build/v7-from-gnu build/v7-object build/v7-explain
 	mkdir -p $(DESTDIR)$(PREFIX)/bin $(SHARE)/man/man1 $(SHARE)/man/man5 $(SHARE)/doc/v7
-	cp build/v7 build/v7-from-gnu build/v7-explain $(DESTDIR)$(PREFIX)/bin
+	cp build/v7 build/v7-from-gnu build/v7-object build/v7-explain $(DESTDIR)$(PREFIX)/bin
 	cp man/*.1 $(SHARE)/man/man1
 	cp man/*.5 $(SHARE)/man/man5
 	cp -R README.md CHANGES.md docs examples $(SHARE)/doc/v7

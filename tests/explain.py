@@ -1,6 +1,6 @@
-"""Tries v7-explain: each object of examples/ and 1,000 made ones are listed, and examples/object.sh turns the listings back.
+"""Tries v7-explain: each object of examples/ and 1,000 made ones are listed, and v7-object turns the listings back.
 
-usage: explain.py V7_EXPLAIN V7 [DAMAGED]
+usage: explain.py V7_EXPLAIN V7_OBJECT V7 [DAMAGED]
 
 Listed twice over, an object has to come back as it was, bytes that a name has behind its NUL aside, and each line has to fit
 80 columns. The status has to be 0 where a session of v7 adds the file, and else 1, with the words of v7 among the notes.
@@ -14,10 +14,9 @@ import subprocess
 import sys
 import tempfile
 
-EXPLAIN, V7 = (os.path.abspath(p) for p in sys.argv[1:3])
-DAMAGED = int(sys.argv[3]) if len(sys.argv) > 3 else 0
+EXPLAIN, OBJECT, V7 = (os.path.abspath(p) for p in sys.argv[1:4])
+DAMAGED = int(sys.argv[4]) if len(sys.argv) > 4 else 0
 TOP = os.path.dirname(os.path.dirname(os.path.abspath(__file__)))
-OBJECT_SH = os.path.join(TOP, "examples", "object.sh")
 dice = random.Random(29)
 
 
@@ -124,7 +123,9 @@ def check(path, answer):
 def turned_back(path, text):
     with open(path + ".lst", "w") as listing:
         listing.write(text)
-    return subprocess.run(["sh", OBJECT_SH, path + ".lst"], stdout=subprocess.PIPE, check=True).stdout
+    subprocess.run([OBJECT, path + ".lst", path + ".back"], check=True)
+    with open(path + ".back", "rb") as back:
+        return back.read()
 
 
 def numbered(items):

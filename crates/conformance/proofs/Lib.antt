@@ -19,3 +19,4 @@ mod StepExamples
 mod StripExamples
 mod MemoryExamples
 mod MemoryOfCalls
+mod TextExamples

@@ -1,4 +1,4 @@
-//! The listing of a file, in the form that examples/object.sh reads.
+//! The listing of a file, in the form that `read_listing` of `listings` reads.
 use crate::places::{Places, Segments};
 use crate::text::shown;
 use crate::words_in::{Contents, reloc_text};
@@ -133,11 +133,23 @@ fn put_segment(
     }
 }
 
+/// The magic number and the flag, unless they are those of an object.
+fn put_kind(text: &mut String, header: &Header) -> Result<(), AllocError> {
+    if header.magic != 0o407 {
+        write!(text, "magic {:06o}\n", header.magic)?;
+    }
+    if header.flag != 0 {
+        write!(text, "flag {:06o}\n", header.flag)?;
+    }
+    Ok(())
+}
+
 /// The listing of a file.
 pub(crate) fn put_listing(alloc: Global, text: &mut String, file: &File) -> Result<(), AllocError> {
     let header = file.header();
     let segments = Segments::of(header);
     put_header(text, header)?;
+    put_kind(text, header)?;
     text.push_str("text\n")?;
     let contents = Contents {
         start: 0,

@@ -1,0 +1,114 @@
+-- Listings of files: what is written, what is read, and statements near the law of listings that do not hold.
+use Rattle.std.proofs.Common.{◌≡◌, ℕ, ◌+◌, ◌<◌, List, [], ◌∷◌, ◌++◌, refl, ap, arith}
+use Rattle.std.specs.Prelude.{codes, drop, get_or, Result, Ok, Err}
+use Rattle.aout_core.specs.declared.reloc.Reloc.{Reloc}
+use Rattle.aout_core.specs.declared.symbol.Symbol.{Symbol}
+use Rattle.aout_core.specs.Contents.{Contents, IsSound}
+use Rattle.listings.specs.declared.fault.Fault.{Fault}
+use Rattle.listings.specs.declared.fault.Reason.{Reason}
+use Rattle.listings.specs.declared.fault.Reason.TheVariants.{NotOctal, WrongNumber, NoMagic, OddSize}
+use Rattle.listings.specs.Octal.{octal, short_octal}
+use Rattle.listings.specs.Names.{shown_name}
+use Rattle.listings.specs.Listing.{gap, text_of, no_remarks, listing}
+use Rattle.listings.specs.Laws.{ListingLaw}
+use Rattle.listings.specs.Reading.{read}
+use Rattle.conformance.specs.Samples.{sym as entry_of, object, header, _f}
+use Rattle.conformance.proofs.StepRuns.{sound_file}
+
+-- a word with all its bits, a name with a blank, and another symbol
+abbrev spaced : Contents
+spaced = object (0o177777 ∷ []) (0o51 ∷ []) [] [] 2 (entry_of (codes "a b") 0o40 2 ∷ entry_of _f 0o42 0 ∷ [])
+
+spaced_sound : IsSound spaced
+spaced_sound = sound_file spaced refl refl
+
+spaced_written : listing no_remarks spaced ≡ codes "text\n000000  177777    51\ndata\nbss 2\nsymbols\n0     a\\040b     40  000002\n1     _f         42  000000\n"
+spaced_written = refl
+
+spaced_read : read (codes "text\n0 177777 51 remark\n\nbss 2\nsymbols\n/ note\n0 a\\040b 40 2\n1 _f 42 0") ≡ Ok spaced
+spaced_read = refl
+
+-- pure text, so data begins at the next multiple of 020000
+abbrev pure : Contents
+pure = record {
+  header = header 0o410 2 2 0 0 0 1;
+  text_words = 0o207 ∷ [];
+  data_words = 1 ∷ [];
+  text_reloc = [];
+  data_reloc = [];
+  symbols = [];
+}
+
+pure_written : listing no_remarks pure ≡ codes "magic 000410\nflag 000001\ntext\n000000  000207\ndata\n020000  000001\nbss 0\nsymbols\n"
+pure_written = refl
+
+-- mistakes, by line and column
+abbrev mistake : ℕ → ℕ → Reason → Result Contents Fault
+mistake line column reason = Err (record { line = line; column = column; reason = reason })
+
+bad_magic : read (codes "/ note\n magic 404\n") ≡ mistake 2 8 NoMagic
+bad_magic = refl
+
+odd_bss : read (codes "bss 3\n") ≡ mistake 1 5 OddSize
+odd_bss = refl
+
+-- the law, of one way to write a file
+abbrev ReadsBack : (Contents → List ℕ) → Type 0
+ReadsBack written = (c : Contents) → IsSound c → read (written c) ≡ Ok c
+
+law_of_listings : ListingLaw → ReadsBack (listing no_remarks)
+law_of_listings law = λ c sound. law no_remarks c (record { notes = tt; findings = tt; word = λ at w r. tt; symbol = λ s. tt }) sound
+
+-- other ways: other digits of a word, other names, and another order of the table
+abbrev rows : (ℕ → List ℕ) → ℕ → List ℕ → List Reloc → List (List ℕ)
+rows digits at [] rs = []
+rows digits at (w ∷ ws) [] = []
+rows digits at (w ∷ ws) (r ∷ rs) = gap 1 (octal at) (gap 1 (digits w) (short_octal r.0)) ∷ rows digits (at + 2) ws rs
+
+abbrev entries : (List ℕ → List ℕ) → ℕ → List Symbol → List (List ℕ)
+entries shown n [] = []
+entries shown n (s ∷ ss) = gap 1 (short_octal n) (gap 1 (shown s.name) (gap 1 (short_octal s.type_bits) (octal s.value))) ∷ entries shown (n + 1) ss
+
+abbrev written_by : (ℕ → List ℕ) → (List ℕ → List ℕ) → (List (List ℕ) → List (List ℕ)) → Contents → List ℕ
+written_by digits shown order c =
+    text_of (codes "text" ∷ rows digits 0 c.text_words c.text_reloc ++ (gap 0 (codes "bss") (short_octal c.header.bss_size) ∷ (codes "symbols" ∷ order (entries shown 0 c.symbols))))
+
+abbrev as_they_are : (List (List ℕ)) → List (List ℕ)
+as_they_are ls = ls
+
+by_the_form : read (written_by octal shown_name as_they_are spaced) ≡ Ok spaced
+by_the_form = refl
+
+refuses : (fault : Fault) (c : Contents) (found : Result Contents Fault) → found ≡ Err fault → found ≡ Ok c → ⊥
+refuses fault c found e h = absurd (cc)
+
+-- a name with a blank, as it is
+name_as_it_is : ReadsBack (written_by octal (λ (name : List ℕ). name) as_they_are) → ⊥
+name_as_it_is law =
+    refuses (record { line = 5; column = 6; reason = NotOctal }) spaced (read (written_by octal (λ (name : List ℕ). name) as_they_are spaced)) refl (law spaced spaced_sound)
+
+-- an octal digit too few
+abbrev five : ℕ → List ℕ
+five w = drop 1 (octal w)
+
+same_file : (a b : Contents) (found : Result Contents Fault) → found ≡ Ok a → found ≡ Ok b → a ≡ b
+same_file a b found ha hb = cc
+
+less_than_same : (a b : ℕ) → a < b → a ≡ b → ⊥
+less_than_same a b less same = absurd (omega arith)
+
+five_digits : ReadsBack (written_by five shown_name as_they_are) → ⊥
+five_digits law =
+    let other : Contents = record spaced { text_words = 0o77777 ∷ [] } in
+    let same : other ≡ spaced = same_file other spaced (read (written_by five shown_name as_they_are spaced)) refl (law spaced spaced_sound) in
+    less_than_same (get_or other.text_words 0 0) (get_or spaced.text_words 0 0) (omega arith) (ap (λ (c : Contents). get_or c.text_words 0 0) same)
+
+-- the table in another order, with the numbers of its entries
+abbrev exchanged : List (List ℕ) → List (List ℕ)
+exchanged [] = []
+exchanged (a ∷ []) = a ∷ []
+exchanged (a ∷ (b ∷ ls)) = b ∷ (a ∷ ls)
+
+table_in_another_order : ReadsBack (written_by octal shown_name exchanged) → ⊥
+table_in_another_order law =
+    refuses (record { line = 5; column = 1; reason = WrongNumber }) spaced (read (written_by octal shown_name exchanged spaced)) refl (law spaced spaced_sound)

@@ -1,0 +1,296 @@
+-- The listing of a file says that file.
+use Rattle.std.proofs.Common.{◌≡◌, ℕ, ◌+◌, ◌*◌, ◌%◌, ◌<◌, Bool, true, false, cond, eqb, eqb-true, List, [], ◌∷◌, ◌++◌, length, refl, sym, ◌∙◌, ap, subst, arith}
+use Rattle.std.specs.Prelude.{codes, map, ◌-◌, ◌&&◌, if◌then◌else◌, IsTrue, drop, slice_get, Option, Some, None, Result, Ok, Err}
+use Rattle.std.specs.List.{AllByRecursion}
+use Rattle.std.proofs.lemmas.List.{append-nil}
+use Rattle.aout_core.specs.declared.reloc.Reloc.{Reloc}
+use Rattle.aout_core.specs.declared.symbol.Symbol.{Symbol}
+use Rattle.aout_core.specs.declared.header.Header.{Header}
+use Rattle.aout_core.specs.Contents.{Contents, is_magic, has_whole_sizes, IsWord, IsSound}
+use Rattle.listings.specs.declared.fault.Reason.{Reason}
+use Rattle.listings.specs.declared.fault.Reason.TheVariants.{NoMagic, OddSize}
+use Rattle.listings.specs.declared.fault.Section.TheVariants.{InText, InData, InSymbols}
+use Rattle.listings.specs.Octal.{octal, short_octal, number}
+use Rattle.listings.specs.Columns.{lines_in, row_of, column, from_third, from_fourth}
+use Rattle.listings.specs.Names.{shown_name}
+use Rattle.listings.specs.Drafts.{Segment, Draft, empty_segment, empty_draft, finished, data_start}
+use Rattle.listings.specs.Listing.{Remarks, gap, wide, remarked, word_line, word_lines, symbol_lines, named_line, unusual, note_lines, head_lines, text_lines, data_lines, bss_lines, table_lines, listing_lines, listing}
+use Rattle.listings.specs.Reading.{◌>>=◌, in_column, row_read, lines_read, file_of, read}
+use Rattle.listings.proofs.OctalLemmas.{octal_again, short_again, octal_digits, short_digits}
+use Rattle.listings.proofs.ColumnLemmas.{IsColumn, ink, number_column, row_two, line_of_column, line_gap, line_last, lines_again}
+use Rattle.listings.specs.Laws.{IsLine, AreRemarks}
+use Rattle.listings.proofs.NameLemmas.{name_column}
+use Rattle.listings.proofs.RowLemmas.{Reads, reads_nil, reads_one, reads_both, reads_more, entry_row, Enters, AreRelocs, words_with, words_alone, symbols_read}
+
+-- no line has a newline
+abbrev AreLines : List (List ℕ) → Type 0
+AreLines ls = AllByRecursion IsLine ls
+
+lines_append : (xs ys : List (List ℕ)) → AreLines xs → AreLines ys → AreLines (xs ++ ys)
+lines_append [] ys hx hy = hy
+lines_append (x ∷ xs) ys hx hy = (hx.0, lines_append xs ys hx.1 hy)
+
+octal_column : (n : ℕ) → IsColumn (octal n)
+octal_column n = number_column (octal n) (octal_digits n)
+
+short_column : (n : ℕ) → IsColumn (short_octal n)
+short_column n = number_column (short_octal n) (short_digits n)
+
+word_line_is : (x : Remarks) (at w : ℕ) (r : Option Reloc) → AreRemarks x → IsLine (word_line x at w r)
+word_line_is x at w None are = line_gap 1 (octal at) (octal w ++ remarked []) (octal_column at) (line_last (octal w) [] (octal_column w) tt)
+word_line_is x at w (Some r) are =
+    line_gap 1 (octal at) (gap (wide 4 (short_octal r.0)) (octal w) (short_octal r.0 ++ remarked (x.word at w r))) (octal_column at)
+    (line_gap (wide 4 (short_octal r.0)) (octal w) (short_octal r.0 ++ remarked (x.word at w r)) (octal_column w)
+    (line_last (short_octal r.0) (x.word at w r) (short_column r.0) (are.word at w r)))
+
+word_lines_are : (x : Remarks) (at : ℕ) (ws : List ℕ) (rs : List Reloc) → AreRemarks x → AreLines (word_lines x at ws rs)
+word_lines_are x at [] rs are = tt
+word_lines_are x at (w ∷ ws) rs are = (word_line_is x (at % 65536) w (slice_get rs 0) are, word_lines_are x (at + 2) ws (drop 1 rs) are)
+
+symbol_lines_are : (x : Remarks) (n : ℕ) (ss : List Symbol) → AreRemarks x → AreLines (symbol_lines x n ss)
+symbol_lines_are x n [] are = tt
+symbol_lines_are x n (s ∷ ss) are =
+    let a = short_octal n in
+    let b = shown_name s.name in
+    let c = short_octal s.type_bits in
+    let e = octal s.value ++ remarked (x.symbol s) in (
+      line_gap (wide 4 a) a (gap (wide 8 b + (3 - length c)) b (gap 1 c e)) (short_column n)
+          (line_gap (wide 8 b + (3 - length c)) b (gap 1 c e) (name_column s.name)
+          (line_gap 1 c e (short_column s.type_bits) (line_last (octal s.value) (x.symbol s) (octal_column s.value) (are.symbol s)))),
+      symbol_lines_are x (n + 1) ss are,
+    )
+
+magic_column : IsColumn (codes "magic")
+magic_column = (omega arith, (omega arith, (omega arith, (omega arith, (omega arith, tt)))))
+
+flag_column : IsColumn (codes "flag")
+flag_column = (omega arith, (omega arith, (omega arith, (omega arith, tt))))
+
+entry_column : IsColumn (codes "entry")
+entry_column = (omega arith, (omega arith, (omega arith, (omega arith, (omega arith, tt)))))
+
+unused_column : IsColumn (codes "unused")
+unused_column = (omega arith, (omega arith, (omega arith, (omega arith, (omega arith, (omega arith, tt))))))
+
+bss_column : IsColumn (codes "bss")
+bss_column = (omega arith, (omega arith, (omega arith, tt)))
+
+text_column : IsColumn (codes "text")
+text_column = (omega arith, (omega arith, (omega arith, (omega arith, tt))))
+
+data_column : IsColumn (codes "data")
+data_column = (omega arith, (omega arith, (omega arith, (omega arith, tt))))
+
+symbols_column : IsColumn (codes "symbols")
+symbols_column = (omega arith, (omega arith, (omega arith, (omega arith, (omega arith, (omega arith, (omega arith, tt)))))))
+
+named_line_is : (w : List ℕ) (n : ℕ) → IsColumn w → IsLine (named_line w n)
+named_line_is w n h = line_gap 0 w (octal n) h (line_of_column (octal n) (ink (octal n) (octal_column n)))
+
+unusual_by : (usual n : ℕ) (w : List ℕ) (t : Bool) → eqb n usual ≡ t → IsColumn w → AreLines (unusual usual w n)
+unusual_by usual n w true e h = rw e tt
+unusual_by usual n w false e h = rw e (named_line_is w n h, tt)
+
+unusual_are : (usual n : ℕ) (w : List ℕ) → IsColumn w → AreLines (unusual usual w n)
+unusual_are usual n w h = unusual_by usual n w (eqb n usual) refl h
+
+notes_are : (ns : List (List ℕ)) → AreLines ns → AreLines (map (λ (note : List ℕ). 47 ∷ note) ns)
+notes_are [] h = tt
+notes_are (n ∷ ns) h = ((omega arith, h.0), notes_are ns h.1)
+
+listing_lines_are : (x : Remarks) (c : Contents) → AreRemarks x → AreLines (listing_lines x c)
+listing_lines_are x c are =
+    lines_append (note_lines x.notes) (head_lines c.header ++ (text_lines x c ++ (data_lines x c ++ (bss_lines c.header ++ (table_lines x c ++ note_lines x.findings))))) (notes_are x.notes are.notes)
+    (lines_append (head_lines c.header) (text_lines x c ++ (data_lines x c ++ (bss_lines c.header ++ (table_lines x c ++ note_lines x.findings))))
+    (lines_append (unusual 0o407 (codes "magic") c.header.magic) (unusual 0 (codes "flag") c.header.flag)
+    (unusual_are 0o407 c.header.magic (codes "magic") magic_column) (unusual_are 0 c.header.flag (codes "flag") flag_column))
+    (lines_append (text_lines x c) (data_lines x c ++ (bss_lines c.header ++ (table_lines x c ++ note_lines x.findings)))
+    (line_of_column (codes "text") text_column, word_lines_are x 0 c.text_words c.text_reloc are)
+    (lines_append (data_lines x c) (bss_lines c.header ++ (table_lines x c ++ note_lines x.findings))
+    (line_of_column (codes "data") data_column, word_lines_are x (data_start c.header.magic c.header.text_size) c.data_words c.data_reloc are)
+    (lines_append (bss_lines c.header) (table_lines x c ++ note_lines x.findings) (
+      line_gap 0 (codes "bss") (short_octal c.header.bss_size) bss_column (line_of_column (short_octal c.header.bss_size) (ink (short_octal c.header.bss_size) (short_column c.header.bss_size))),
+      lines_append (unusual 0 (codes "entry") c.header.entry_point) (unusual 0 (codes "unused") c.header.unused)
+          (unusual_are 0 c.header.entry_point (codes "entry") entry_column) (unusual_are 0 c.header.unused (codes "unused") unused_column),
+    )
+    (lines_append (table_lines x c) (note_lines x.findings) (line_of_column (codes "symbols") symbols_column, symbol_lines_are x 0 c.symbols are) (notes_are x.findings are.findings))))))
+
+-- a word of the header
+header_row : (d : Draft) (w : List ℕ) (n : ℕ) (put : ℕ → Draft) → IsColumn w → IsWord n →
+    ((k m : List ℕ) → row_read d (record { first = w; second = octal n; third = k; fourth = m }) ≡ (in_column 1 (number (octal n)) >>= (λ (x : ℕ). Ok (put x)))) →
+    row_read d (row_of (named_line w n)) ≡ Ok (put n)
+header_row d w n put h small found =
+    ap (row_read d) (ap (λ (y : List ℕ). row_of (gap 0 w y)) (sym (append-nil (octal n))) ∙ row_two 0 w (octal n) [] h (octal_column n))
+    ∙ found (column (from_third (gap 0 w (octal n ++ [])))) (column (from_fourth (gap 0 w (octal n ++ []))))
+    ∙ ap (λ (x : Result ℕ Reason). in_column 1 x >>= (λ (y : ℕ). Ok (put y))) (octal_again n small)
+
+-- the size of bss, which has to be even
+short_row : (d : Draft) (w : List ℕ) (n : ℕ) (put : ℕ → Draft) → IsColumn w → IsWord n → eqb (n % 2) 0 ≡ true →
+    ((k m : List ℕ) → row_read d (record { first = w; second = short_octal n; third = k; fourth = m })
+    ≡ (in_column 1 (number (short_octal n)) >>= (λ (x : ℕ). if eqb (x % 2) 0 then Ok (put x) else Err (1, OddSize)))) →
+    row_read d (row_of (gap 0 w (short_octal n))) ≡ Ok (put n)
+short_row d w n put h small even found =
+    ap (row_read d) (ap (λ (y : List ℕ). row_of (gap 0 w y)) (sym (append-nil (short_octal n))) ∙ row_two 0 w (short_octal n) [] h (short_column n))
+    ∙ found (column (from_third (gap 0 w (short_octal n ++ [])))) (column (from_fourth (gap 0 w (short_octal n ++ []))))
+    ∙ ap (λ (x : Result ℕ Reason). in_column 1 x >>= (λ (y : ℕ). if eqb (y % 2) 0 then Ok (put y) else Err (1, OddSize))) (short_again n small)
+    ∙ rw even refl
+
+-- what has been read after the magic number
+abbrev with_magic : ℕ → Draft
+with_magic n = let d : Draft = empty_draft in record d { magic = n }
+
+whole_bss_by : (p q r s : Bool) → IsTrue (p && (q && (r && s))) → r ≡ true
+whole_bss_by p q true s h = refl
+whole_bss_by true true false s h = absurd (cc)
+whole_bss_by true false false s h = absurd (cc)
+whole_bss_by false q false s h = absurd (cc)
+
+whole_bss : (h : Header) → IsTrue (has_whole_sizes h) → eqb (h.bss_size % 2) 0 ≡ true
+whole_bss h whole = whole_bss_by (eqb (h.text_size % 2) 0) (eqb (h.data_size % 2) 0) (eqb (h.bss_size % 2) 0) (eqb (h.symbol_size % 12) 0) whole
+
+-- the magic number, which has to be one that a file has
+magic_row : (n : ℕ) → IsWord n → IsTrue (is_magic n) → row_read empty_draft (row_of (named_line (codes "magic") n)) ≡ Ok (with_magic n)
+magic_row n small is =
+    ap (row_read empty_draft) (ap (λ (y : List ℕ). row_of (gap 0 (codes "magic") y)) (sym (append-nil (octal n))) ∙ row_two 0 (codes "magic") (octal n) [] magic_column (octal_column n))
+    ∙ ap (λ (x : Result ℕ Reason). in_column 1 x >>= (λ (y : ℕ). if is_magic y then Ok (with_magic y) else Err (1, NoMagic))) (octal_again n small)
+    ∙ rw is refl
+
+-- a word of the header that is left out, as the draft has it already
+unusual_reads_by : (put : ℕ → Draft) (usual n : ℕ) (w : List ℕ) (t : Bool) → eqb n usual ≡ t →
+    row_read (put usual) (row_of (named_line w n)) ≡ Ok (put n) → Reads (put usual) (unusual usual w n) (put n)
+unusual_reads_by put usual n w true e found =
+    rw e (subst (λ (y : ℕ). Reads (put usual) [] (put y)) (sym (eqb-true n usual e)) (reads_nil (put usual)))
+unusual_reads_by put usual n w false e found = rw e (reads_one (put usual) (put n) (named_line w n) found)
+
+unusual_reads : (put : ℕ → Draft) (usual n : ℕ) (w : List ℕ) → row_read (put usual) (row_of (named_line w n)) ≡ Ok (put n) → Reads (put usual) (unusual usual w n) (put n)
+unusual_reads put usual n w found = unusual_reads_by put usual n w (eqb n usual) refl found
+
+notes_read : (d : Draft) (ns : List (List ℕ)) → Reads d (map (λ (note : List ℕ). 47 ∷ note) ns) d
+notes_read d [] = reads_nil d
+notes_read d (n ∷ ns) = reads_more d d d (47 ∷ n) (map (λ (note : List ℕ). 47 ∷ note) ns) refl (notes_read d ns)
+
+-- and after the flag
+abbrev with_flag : Contents → ℕ → Draft
+with_flag c n = let d : Draft = with_magic c.header.magic in record d { flag = n }
+
+abbrev head_draft : Contents → Draft
+head_draft c = with_flag c c.header.flag
+
+head_reads : (c : Contents) → IsSound c → Reads empty_draft (head_lines c.header) (head_draft c)
+head_reads c sound =
+    let h = sound.header in
+    reads_both empty_draft (with_magic c.header.magic) (head_draft c) (unusual 0o407 (codes "magic") c.header.magic) (unusual 0 (codes "flag") c.header.flag)
+    (unusual_reads with_magic 0o407 c.header.magic (codes "magic") (magic_row c.header.magic h.magic sound.fits.magic))
+    (unusual_reads (with_flag c) 0 c.header.flag (codes "flag")
+    (header_row (with_magic c.header.magic) (codes "flag") c.header.flag (with_flag c) flag_column h.flag (λ k m. refl)))
+
+-- what has been read within the text, the data and the table
+abbrev in_text : Contents → Segment → Draft
+in_text c s = let d : Draft = head_draft c in record d { section = InText; text_part = s }
+
+abbrev text_segment : Contents → Segment
+text_segment c = record { words = c.text_words; relocs = c.text_reloc }
+
+abbrev data_segment : Contents → Segment
+data_segment c = record { words = c.data_words; relocs = c.data_reloc }
+
+abbrev in_data : Contents → Segment → Draft
+in_data c s = let d : Draft = head_draft c in record d { section = InData; text_part = text_segment c; data_part = s }
+
+abbrev with_bss : Contents → ℕ → Draft
+with_bss c n = let d : Draft = in_data c (data_segment c) in record d { bss = n }
+
+abbrev with_entry : Contents → ℕ → Draft
+with_entry c n = let d : Draft = with_bss c c.header.bss_size in record d { entry = n }
+
+abbrev with_unused : Contents → ℕ → Draft
+with_unused c n = let d : Draft = with_entry c c.header.entry_point in record d { unused = n }
+
+abbrev header_draft : Contents → Draft
+header_draft c = with_unused c c.header.unused
+
+abbrev in_table : Contents → List Symbol → Draft
+in_table c ss = let d : Draft = header_draft c in record d { section = InSymbols; symbols = ss }
+
+bss_reads : (c : Contents) → IsSound c → Reads (in_data c (data_segment c)) (bss_lines c.header) (header_draft c)
+bss_reads c sound =
+    let h = sound.header in
+    let data_draft = in_data c (data_segment c) in
+    reads_more data_draft (with_bss c c.header.bss_size) (header_draft c) (gap 0 (codes "bss") (short_octal c.header.bss_size))
+    (unusual 0 (codes "entry") c.header.entry_point ++ unusual 0 (codes "unused") c.header.unused)
+    (short_row data_draft (codes "bss") c.header.bss_size (with_bss c) bss_column h.bss_size (whole_bss c.header sound.fits.sizes) (λ k m. refl))
+    (reads_both (with_bss c c.header.bss_size) (with_entry c c.header.entry_point) (header_draft c)
+    (unusual 0 (codes "entry") c.header.entry_point) (unusual 0 (codes "unused") c.header.unused)
+    (unusual_reads (with_entry c) 0 c.header.entry_point (codes "entry")
+    (header_row (with_bss c c.header.bss_size) (codes "entry") c.header.entry_point (with_entry c) entry_column h.entry_point (λ k m. refl)))
+    (unusual_reads (with_unused c) 0 c.header.unused (codes "unused")
+    (header_row (with_entry c c.header.entry_point) (codes "unused") c.header.unused (with_unused c) unused_column h.unused (λ k m. refl))))
+
+-- the relocation of a segment is whole, or not there
+segment_reads : (x : Remarks) (put : Segment → Draft) (start flag at size : ℕ) (ws : List ℕ) (rs : List Reloc) (t : Bool) → eqb flag 0 ≡ t → Enters put start flag →
+    at ≡ start → 2 * length ws ≡ size → size < 65536 → 2 * length rs ≡ cond t size 0 → AllByRecursion IsWord ws → AreRelocs rs →
+    Reads (put empty_segment) (word_lines x at ws rs) (put (record { words = ws; relocs = rs }))
+segment_reads x put start flag at size ws rs true on enters place long small also words relocs =
+    words_with x put start flag at empty_segment ws rs enters on (omega arith) (omega arith) words relocs (omega arith)
+segment_reads x put start flag at size ws [] false off enters place long small also words relocs =
+    words_alone x put start flag at empty_segment ws enters off (omega arith) words (omega arith)
+segment_reads x put start flag at size ws (r ∷ rs) false off enters place long small also words relocs = absurd (omega arith)
+
+body_reads : (x : Remarks) (c : Contents) → IsSound c → Reads (head_draft c) (text_lines x c ++ (data_lines x c ++ (bss_lines c.header ++ (table_lines x c ++ note_lines x.findings)))) (in_table c c.symbols)
+body_reads x c sound =
+    let fits = sound.fits in
+    let flag = c.header.flag in
+    let text : Reads (in_text c empty_segment) (word_lines x 0 c.text_words c.text_reloc) (in_text c (text_segment c)) =
+    segment_reads x (in_text c) 0 flag 0 c.header.text_size c.text_words c.text_reloc (eqb flag 0) refl (λ s f g k m h. entry_row (in_text c s) f g k m h) refl
+    fits.text sound.header.text_size fits.text_relocation sound.text_words sound.text_reloc in
+    let data_rows : Reads (in_data c empty_segment) (word_lines x (data_start c.header.magic c.header.text_size) c.data_words c.data_reloc) (in_data c (data_segment c)) =
+    segment_reads x (in_data c) (data_start c.header.magic (2 * length c.text_words)) flag (data_start c.header.magic c.header.text_size) c.header.data_size c.data_words c.data_reloc (eqb flag 0) refl
+    (λ s f g k m h. entry_row (in_data c s) f g k m h) (ap (data_start c.header.magic) (sym fits.text)) fits.«data» sound.header.data_size fits.data_relocation sound.data_words sound.data_reloc in
+    let whole = fits.table in
+    let small = sound.header.symbol_size in
+    let table : Reads (in_table c []) (symbol_lines x 0 c.symbols) (in_table c c.symbols) = symbols_read x (in_table c []) 0 [] c.symbols refl sound.symbols (omega arith) in
+    let text_draft = in_text c (text_segment c) in
+    let data_draft = in_data c (data_segment c) in
+    let last = in_table c c.symbols in
+    reads_both (head_draft c) text_draft last (text_lines x c) (data_lines x c ++ (bss_lines c.header ++ (table_lines x c ++ note_lines x.findings)))
+    (reads_more (head_draft c) (in_text c empty_segment) text_draft (codes "text") (word_lines x 0 c.text_words c.text_reloc) refl text)
+    (reads_both text_draft data_draft last (data_lines x c) (bss_lines c.header ++ (table_lines x c ++ note_lines x.findings))
+    (reads_more text_draft (in_data c empty_segment) data_draft (codes "data") (word_lines x (data_start c.header.magic c.header.text_size) c.data_words c.data_reloc) refl data_rows)
+    (reads_both data_draft (header_draft c) last (bss_lines c.header) (table_lines x c ++ note_lines x.findings) (bss_reads c sound)
+    (reads_both (header_draft c) last last (table_lines x c) (note_lines x.findings) (reads_more (header_draft c) (in_table c []) last (codes "symbols") (symbol_lines x 0 c.symbols) refl table) (notes_read last x.findings))))
+
+finished_is : (c : Contents) → IsSound c → finished (in_table c c.symbols) ≡ c
+finished_is c sound =
+    let fits = sound.fits in
+    let t = fits.text in
+    let d = fits.«data» in
+    let s = fits.table in
+    λ i. record {
+      header = record {
+        magic = c.header.magic;
+        text_size = t i;
+        data_size = d i;
+        bss_size = c.header.bss_size;
+        symbol_size = s i;
+        entry_point = c.header.entry_point;
+        unused = c.header.unused;
+        flag = c.header.flag;
+      };
+      text_words = c.text_words;
+      data_words = c.data_words;
+      text_reloc = c.text_reloc;
+      data_reloc = c.data_reloc;
+      symbols = c.symbols;
+    }
+
+pub listing_read : (x : Remarks) (c : Contents) → AreRemarks x → IsSound c → read (listing x c) ≡ Ok c
+listing_read x c are sound =
+    let last = in_table c c.symbols in
+    let body = text_lines x c ++ (data_lines x c ++ (bss_lines c.header ++ (table_lines x c ++ note_lines x.findings))) in
+    let all = reads_both empty_draft empty_draft last (note_lines x.notes) (head_lines c.header ++ body) (notes_read empty_draft x.notes)
+    (reads_both empty_draft (head_draft c) last (head_lines c.header) body (head_reads c sound) (body_reads x c sound)) 1 [] in
+    let said : lines_read 1 empty_draft (lines_in (listing x c)) ≡ Ok last =
+    ap (lines_read 1 empty_draft) (lines_again (listing_lines x c) (listing_lines_are x c are))
+    ∙ ap (lines_read 1 empty_draft) (sym (append-nil (listing_lines x c)))
+    ∙ all.1 in
+    ap file_of said ∙ ap Ok (finished_is c sound)

@@ -1,0 +1,165 @@
+-- Rows that were written say what was written.
+use Rattle.std.proofs.Common.{◌≡◌, ℕ, ◌+◌, ◌*◌, ◌%◌, ◌<◌, true, false, eqb, List, [], ◌∷◌, ◌++◌, length, refl, sym, ◌∙◌, ap, subst, arith, append_assoc, length-append}
+use Rattle.std.specs.Prelude.{ltb, leb, ◌-◌, Some, None, Result, Ok}
+use Rattle.std.specs.List.{AllByRecursion}
+use Rattle.std.proofs.lemmas.Bool.{lt-ltb, le-leb, ne_eqb, eq-eqb}
+use Rattle.aout_core.specs.declared.reloc.Reloc.{Reloc}
+use Rattle.aout_core.specs.declared.symbol.Symbol.{Symbol}
+use Rattle.aout_core.specs.Contents.{IsWord, IsSymbol}
+use Rattle.listings.specs.declared.fault.Section.TheVariants.{InSymbols}
+use Rattle.listings.specs.Octal.{octal, short_octal, number}
+use Rattle.listings.specs.Columns.{row_of, column, from_third, from_fourth}
+use Rattle.listings.specs.Names.{shown_name, name_of}
+use Rattle.listings.specs.Drafts.{Segment, Draft}
+use Rattle.listings.specs.Listing.{Remarks, wide, word_line, word_lines, symbol_line, symbol_lines}
+use Rattle.listings.specs.Reading.{Mistake, ◌>>=◌, relocs_of, with_word, word_entry, symbol_entry, entry_in, row_read, in_line, lines_read}
+use Rattle.listings.proofs.OctalLemmas.{octal_again, short_again, IsNumber, octal_digits, short_digits}
+use Rattle.listings.proofs.ColumnLemmas.{number_column, row_two, row_three, row_four}
+use Rattle.listings.proofs.NameLemmas.{name_column, name_again}
+use Rattle.std.proofs.lemmas.List.{append-nil}
+
+-- these lines, whatever follows them, turn one draft into another
+abbrev pub Reads : Draft → List (List ℕ) → Draft → Type 0
+Reads d ls e = (n : ℕ) (rest : List (List ℕ)) → (m : ℕ) × (lines_read n d (ls ++ rest) ≡ lines_read m e rest)
+
+pub reads_nil : (d : Draft) → Reads d [] d
+reads_nil d = λ n rest. (n, refl)
+
+pub reads_one : (d e : Draft) (l : List ℕ) → row_read d (row_of l) ≡ Ok e → Reads d (l ∷ []) e
+reads_one d e l h = λ n rest. (n + 1, ap (λ (x : Result Draft Mistake). in_line n l x >>= (λ f. lines_read (n + 1) f rest)) h)
+
+pub reads_both : (d e f : Draft) (xs ys : List (List ℕ)) → Reads d xs e → Reads e ys f → Reads d (xs ++ ys) f
+reads_both d e f xs ys a b = λ n rest.
+    let p = a n (ys ++ rest) in
+    let q = b p.0 rest in
+    (q.0, ap (lines_read n d) (append_assoc xs ys rest) ∙ p.1 ∙ q.1)
+
+pub reads_more : (d e f : Draft) (l : List ℕ) (ls : List (List ℕ)) → row_read d (row_of l) ≡ Ok e → Reads e ls f → Reads d (l ∷ ls) f
+reads_more d e f l ls h b = reads_both d e f (l ∷ []) ls (reads_one d e l h) b
+
+-- a row that begins with a number belongs to the section
+pub entry_row : (d : Draft) (f g k m : List ℕ) → IsNumber f →
+    row_read d (record { first = f; second = g; third = k; fourth = m }) ≡ entry_in d.section d (record { first = f; second = g; third = k; fourth = m })
+entry_row d [] g k m h = absurd h
+entry_row d (b ∷ bs) g k m h =
+    let low : leb 48 b ≡ true = le-leb 48 b h.0.0 in
+    let high : ltb b 58 ≡ true = (let top = h.0.1 in lt-ltb b 58 (omega arith)) in
+    let range = h.0.0 in
+    let other : eqb b 47 ≡ false = ne_eqb b 47 (λ (e : b ≡ 47). absurd (omega arith)) in
+    rw (other, low, high) refl
+
+word_found : (start flag at w : ℕ) (s : Segment) (rs : List Reloc) (f g k m : List ℕ) →
+    number f ≡ Ok at → number g ≡ Ok w → relocs_of flag k ≡ Ok rs → at ≡ (start + 2 * length s.words) % 65536 → length s.words < 32767 →
+    word_entry start flag s (record { first = f; second = g; third = k; fourth = m }) ≡ Ok (with_word s w rs)
+word_found start flag at w s rs f g k m hf hg hk place room =
+    let there : eqb at ((start + 2 * length s.words) % 65536) ≡ true = eq-eqb at ((start + 2 * length s.words) % 65536) place in
+    let fits : ltb (length s.words) 32767 ≡ true = lt-ltb (length s.words) 32767 room in
+    rw (hf, hg, hk, there, fits) refl
+
+relocs_there : (flag : ℕ) (r : Reloc) → eqb flag 0 ≡ true → IsWord r.0 → relocs_of flag (short_octal r.0) ≡ Ok (r ∷ [])
+relocs_there flag r on h = rw (on, short_again r.0 h) refl
+
+relocs_none : (flag : ℕ) (k : List ℕ) → eqb flag 0 ≡ false → relocs_of flag k ≡ Ok []
+relocs_none flag k off = rw off refl
+
+abbrev pub joined : Segment → List ℕ → List Reloc → Segment
+joined s ws rs = record { words = s.words ++ ws; relocs = s.relocs ++ rs }
+
+joined_nil : (s : Segment) → s ≡ joined s [] []
+joined_nil s = λ i. record { words = sym (append-nil s.words) i; relocs = sym (append-nil s.relocs) i }
+
+joined_more : (s : Segment) (w : ℕ) (r ws_r : List Reloc) (ws : List ℕ) → joined (with_word s w r) ws ws_r ≡ joined s (w ∷ ws) (r ++ ws_r)
+joined_more s w r ws_r ws = λ i. record { words = append_assoc s.words (w ∷ []) ws i; relocs = append_assoc s.relocs r ws_r i }
+
+-- the rows of a section belong to this segment of a draft
+abbrev pub Enters : (Segment → Draft) → ℕ → ℕ → Type 0
+Enters put start flag = (s : Segment) (f g k m : List ℕ) → IsNumber f →
+    row_read (put s) (record { first = f; second = g; third = k; fourth = m })
+    ≡ (word_entry start flag s (record { first = f; second = g; third = k; fourth = m }) >>= (λ t. Ok (put t)))
+
+abbrev pub AreRelocs : List Reloc → Type 0
+AreRelocs rs = AllByRecursion (λ (r : Reloc). IsWord r.0) rs
+
+-- the words of a segment with relocation
+pub words_with : (x : Remarks) (put : Segment → Draft) (start flag at : ℕ) (s : Segment) (ws : List ℕ) (rs : List Reloc) → Enters put start flag → eqb flag 0 ≡ true →
+    at ≡ start + 2 * length s.words → length rs ≡ length ws → AllByRecursion IsWord ws → AreRelocs rs → length s.words + length ws < 32768 →
+    Reads (put s) (word_lines x at ws rs) (put (joined s ws rs))
+words_with x put start flag at s [] [] enters on place same words relocs room = subst (λ (t : Segment). Reads (put s) [] (put t)) (joined_nil s) (reads_nil (put s))
+words_with x put start flag at s [] (r ∷ rs) enters on place same words relocs room = absurd (omega arith)
+words_with x put start flag at s (w ∷ ws) [] enters on place same words relocs room = absurd (omega arith)
+words_with x put start flag at s (w ∷ ws) (r ∷ rs) enters on place same words relocs room =
+    let place_here : at % 65536 ≡ (start + 2 * length s.words) % 65536 = omega arith in
+    let here = at % 65536 in
+    let a = octal here in
+    let b = octal w in
+    let k = short_octal r.0 in
+    let note = x.word here w r in
+    let line = word_line x here w (Some r) in
+    let t : Segment = with_word s w (r ∷ []) in
+    let last = column (from_fourth line) in
+    let found : row_read (put s) (row_of line) ≡ Ok (put t) =
+    ap (row_read (put s)) (row_three 1 (wide 4 k) a b k note (number_column a (octal_digits here)) (number_column b (octal_digits w)) (number_column k (short_digits r.0)))
+    ∙ enters s a b k last (octal_digits here)
+    ∙ ap (λ (y : Result Segment Mistake). y >>= (λ u. Ok (put u)))
+    (word_found start flag here w s (r ∷ []) a b k last (octal_again here (omega arith)) (octal_again w words.0) (relocs_there flag r on relocs.0) place_here (omega arith)) in
+    let long : length (s.words ++ w ∷ []) ≡ length s.words + 1 = length-append s.words (w ∷ []) in
+    let rest = words_with x put start flag (at + 2) t ws rs enters on (omega arith) (omega arith) words.1 relocs.1 (omega arith) in
+    reads_more (put s) (put t) (put (joined s (w ∷ ws) (r ∷ rs))) line (word_lines x (at + 2) ws rs) found
+    (subst (λ (u : Segment). Reads (put t) (word_lines x (at + 2) ws rs) (put u)) (joined_more s w (r ∷ []) rs ws) rest)
+
+-- the words of a segment without relocation
+pub words_alone : (x : Remarks) (put : Segment → Draft) (start flag at : ℕ) (s : Segment) (ws : List ℕ) → Enters put start flag → eqb flag 0 ≡ false →
+    at ≡ start + 2 * length s.words → AllByRecursion IsWord ws → length s.words + length ws < 32768 →
+    Reads (put s) (word_lines x at ws []) (put (joined s ws []))
+words_alone x put start flag at s [] enters off place words room = subst (λ (t : Segment). Reads (put s) [] (put t)) (joined_nil s) (reads_nil (put s))
+words_alone x put start flag at s (w ∷ ws) enters off place words room =
+    let place_here : at % 65536 ≡ (start + 2 * length s.words) % 65536 = omega arith in
+    let here = at % 65536 in
+    let a = octal here in
+    let b = octal w in
+    let line = word_line x here w None in
+    let t : Segment = with_word s w [] in
+    let third = column (from_third line) in
+    let last = column (from_fourth line) in
+    let found : row_read (put s) (row_of line) ≡ Ok (put t) =
+    ap (row_read (put s)) (row_two 1 a b [] (number_column a (octal_digits here)) (number_column b (octal_digits w)))
+    ∙ enters s a b third last (octal_digits here)
+    ∙ ap (λ (y : Result Segment Mistake). y >>= (λ u. Ok (put u)))
+    (word_found start flag here w s [] a b third last (octal_again here (omega arith)) (octal_again w words.0) (relocs_none flag third off) place_here (omega arith)) in
+    let long : length (s.words ++ w ∷ []) ≡ length s.words + 1 = length-append s.words (w ∷ []) in
+    let rest = words_alone x put start flag (at + 2) t ws enters off (omega arith) words.1 (omega arith) in
+    reads_more (put s) (put t) (put (joined s (w ∷ ws) [])) line (word_lines x (at + 2) ws []) found
+    (subst (λ (u : Segment). Reads (put t) (word_lines x (at + 2) ws []) (put u)) (joined_more s w [] [] ws) rest)
+
+-- symbols
+symbol_found : (n : ℕ) (done : List Symbol) (s : Symbol) (f g k m : List ℕ) →
+    number f ≡ Ok n → name_of g ≡ Ok s.name → number k ≡ Ok s.type_bits → number m ≡ Ok s.value → n ≡ length done → length done < 5461 →
+    symbol_entry done (record { first = f; second = g; third = k; fourth = m }) ≡ Ok (done ++ s ∷ [])
+symbol_found n done s f g k m hf hg hk hm place room =
+    let there : eqb n (length done) ≡ true = eq-eqb n (length done) place in
+    let fits : ltb (length done) 5461 ≡ true = lt-ltb (length done) 5461 room in
+    rw (hf, hg, hk, hm, there, fits) refl
+
+pub symbols_read : (x : Remarks) (d : Draft) (n : ℕ) (done ss : List Symbol) → n ≡ length done → AllByRecursion IsSymbol ss → length done + length ss < 5462 →
+    Reads (record d { section = InSymbols; symbols = done }) (symbol_lines x n ss) (record d { section = InSymbols; symbols = done ++ ss })
+symbols_read x d n done [] place are room =
+    subst (λ (y : List Symbol). Reads (record d { section = InSymbols; symbols = done }) [] (record d { section = InSymbols; symbols = y })) (sym (append-nil done))
+    (reads_nil (record d { section = InSymbols; symbols = done }))
+symbols_read x d n done (s ∷ ss) place are room =
+    let from : Draft = record d { section = InSymbols; symbols = done } in
+    let next : Draft = record d { section = InSymbols; symbols = done ++ s ∷ [] } in
+    let last : Draft = record d { section = InSymbols; symbols = done ++ s ∷ ss } in
+    let a = short_octal n in
+    let b = shown_name s.name in
+    let c = short_octal s.type_bits in
+    let e = octal s.value in
+    let found : row_read from (row_of (symbol_line x n s)) ≡ Ok next =
+    ap (row_read from) (row_four (wide 4 a) (wide 8 b + (3 - length c)) 1 a b c e (x.symbol s)
+    (number_column a (short_digits n)) (name_column s.name) (number_column c (short_digits s.type_bits)) (number_column e (octal_digits s.value)))
+    ∙ entry_row from a b c e (short_digits n)
+    ∙ ap (λ (y : Result (List Symbol) Mistake). y >>= (λ ys. Ok (record from { symbols = ys })))
+    (symbol_found n done s a b c e (short_again n (omega arith)) (name_again s.name are.0.name) (short_again s.type_bits are.0.type_bits) (octal_again s.value are.0.value) place (omega arith)) in
+    let long : length (done ++ s ∷ []) ≡ length done + 1 = length-append done (s ∷ []) in
+    let rest = symbols_read x d (n + 1) (done ++ s ∷ []) ss (omega arith) are.1 (omega arith) in
+    reads_more from next last (symbol_line x n s) (symbol_lines x (n + 1) ss) found
+    (subst (λ (y : List Symbol). Reads next (symbol_lines x (n + 1) ss) (record d { section = InSymbols; symbols = y })) (append_assoc done (s ∷ []) ss) rest)

@@ -1,0 +1,9 @@
+pub mod Octal
+pub mod Columns
+pub mod Names
+pub mod Drafts
+pub mod Listing
+pub mod Reading
+pub mod Said
+pub mod Laws
+pub mod internal

@@ -1,0 +1,93 @@
+-- The listing of a file: lines of columns.
+--
+-- A listing begins and ends with notes, and each note is a line that begins with a slash. A line gives the magic number unless it is
+-- 0407, and another the flag unless it is 0. The words of text and of data follow, the size of bss, the entry point and the unused word
+-- unless they are 0, and the table. A line may end with a remark.
+use Rattle.std.specs.Prelude.{ℕ, ◌+◌, ◌-◌, ◌%◌, eqb, if◌then◌else◌, List, [], ◌∷◌, ◌++◌, drop, map, replicate, length, Option, Some, None, slice_get, codes}
+use Rattle.std.specs.List.{flat_map}
+use Rattle.aout_core.specs.declared.header.Header.{Header}
+use Rattle.aout_core.specs.declared.reloc.Reloc.{Reloc}
+use Rattle.aout_core.specs.declared.symbol.Symbol.{Symbol}
+use Rattle.aout_core.specs.Contents.{Contents}
+use Rattle.listings.specs.Octal.{octal, short_octal}
+use Rattle.listings.specs.Drafts.{data_start}
+use Rattle.listings.specs.Names.{shown_name}
+
+-- what people are told beside a file; readers pass over it
+pub record Remarks : Type 0 where
+  pub notes : List (List ℕ)
+  pub findings : List (List ℕ)
+  pub word : ℕ → ℕ → Reloc → List ℕ
+  pub symbol : Symbol → List ℕ
+
+-- two columns, and one blank more than n between them
+abbrev pub gap : ℕ → List ℕ → List ℕ → List ℕ
+gap n a b = a ++ 32 ∷ (replicate n 32 ++ b)
+
+-- two blanks, of which gap writes one, and those that the column lacks of this width
+abbrev pub wide : ℕ → List ℕ → ℕ
+wide width a = 1 + (width - length a)
+
+abbrev pub remarked : List ℕ → List ℕ
+remarked [] = []
+remarked (b ∷ bs) = 32 ∷ 32 ∷ b ∷ bs
+
+-- an address, a word, and its relocation word if it has one
+abbrev pub word_line : Remarks → ℕ → ℕ → Option Reloc → List ℕ
+word_line x at w None = gap 1 (octal at) (octal w ++ [])
+word_line x at w (Some r) = gap 1 (octal at) (gap (wide 4 (short_octal r.0)) (octal w) (short_octal r.0 ++ remarked (x.word at w r)))
+
+abbrev pub word_lines : Remarks → ℕ → List ℕ → List Reloc → List (List ℕ)
+word_lines x at [] rs = []
+word_lines x at (w ∷ ws) rs = word_line x (at % 65536) w (slice_get rs 0) ∷ word_lines x (at + 2) ws (drop 1 rs)
+
+-- the numbers of a symbol, and a remark
+abbrev pub symbol_numbers : Remarks → Symbol → List ℕ
+symbol_numbers x s = gap 1 (short_octal s.type_bits) (octal s.value ++ remarked (x.symbol s))
+
+abbrev pub symbol_line : Remarks → ℕ → Symbol → List ℕ
+symbol_line x n s =
+    gap (wide 4 (short_octal n)) (short_octal n)
+    (gap (wide 8 (shown_name s.name) + (3 - length (short_octal s.type_bits))) (shown_name s.name) (symbol_numbers x s))
+
+abbrev pub symbol_lines : Remarks → ℕ → List Symbol → List (List ℕ)
+symbol_lines x n [] = []
+symbol_lines x n (s ∷ ss) = symbol_line x n s ∷ symbol_lines x (n + 1) ss
+
+abbrev pub named_line : List ℕ → ℕ → List ℕ
+named_line word n = gap 0 word (octal n)
+
+-- a line, unless the number is the usual one
+abbrev pub unusual : ℕ → List ℕ → ℕ → List (List ℕ)
+unusual usual word n = if eqb n usual then [] else named_line word n ∷ []
+
+abbrev pub note_lines : List (List ℕ) → List (List ℕ)
+note_lines notes = map (λ (note : List ℕ). 47 ∷ note) notes
+
+abbrev pub head_lines : Header → List (List ℕ)
+head_lines h = unusual 0o407 (codes "magic") h.magic ++ unusual 0 (codes "flag") h.flag
+
+abbrev pub text_lines : Remarks → Contents → List (List ℕ)
+text_lines x c = codes "text" ∷ word_lines x 0 c.text_words c.text_reloc
+
+abbrev pub data_lines : Remarks → Contents → List (List ℕ)
+data_lines x c = codes "data" ∷ word_lines x (data_start c.header.magic c.header.text_size) c.data_words c.data_reloc
+
+abbrev pub bss_lines : Header → List (List ℕ)
+bss_lines h = gap 0 (codes "bss") (short_octal h.bss_size) ∷ (unusual 0 (codes "entry") h.entry_point ++ unusual 0 (codes "unused") h.unused)
+
+abbrev pub table_lines : Remarks → Contents → List (List ℕ)
+table_lines x c = codes "symbols" ∷ symbol_lines x 0 c.symbols
+
+abbrev pub listing_lines : Remarks → Contents → List (List ℕ)
+listing_lines x c = note_lines x.notes ++ (head_lines c.header ++ (text_lines x c ++ (data_lines x c ++ (bss_lines c.header ++ (table_lines x c ++ note_lines x.findings)))))
+
+-- each line with its newline
+abbrev pub text_of : List (List ℕ) → List ℕ
+text_of ls = flat_map (λ (l : List ℕ). l ++ 10 ∷ []) ls
+
+abbrev pub listing : Remarks → Contents → List ℕ
+listing x c = text_of (listing_lines x c)
+
+abbrev pub no_remarks : Remarks
+no_remarks = record { notes = []; findings = []; word = λ at w r. []; symbol = λ s. [] }

@@ -1,0 +1,41 @@
+-- Names in bytes that print, and back.
+--
+-- A byte that prints is written as it is, except the blank and the backslash. Any other byte is a backslash and three octal digits.
+-- The empty name is written as a NUL.
+use Rattle.std.specs.Prelude.{ℕ, ◌+◌, ◌-◌, ◌*◌, ◌/◌, Bool, ◌&&◌, not, nat_lt, eqb, if◌then◌else◌, List, [], ◌∷◌, ◌++◌, take, Result, Ok, Err}
+use Rattle.std.specs.List.{flat_map}
+use Rattle.aout_core.specs.Names.{before_nul}
+use Rattle.listings.specs.declared.fault.Reason.{Reason}
+use Rattle.listings.specs.declared.fault.Reason.TheVariants.{Missing, BadName}
+use Rattle.listings.specs.Octal.{digit, is_digit}
+
+abbrev pub is_plain : ℕ → Bool
+is_plain b = nat_lt 32 b && (nat_lt b 127 && not (eqb b 92))
+
+abbrev pub shown_byte : ℕ → List ℕ
+shown_byte b = if is_plain b then b ∷ [] else 92 ∷ digit (b / 64) ∷ digit (b / 8) ∷ digit b ∷ []
+
+abbrev pub shown_name : List ℕ → List ℕ
+shown_name [] = shown_byte 0
+shown_name (b ∷ bs) = flat_map shown_byte (b ∷ bs)
+
+-- the bytes of a name, after those of `out`; `left` digits of an escaped byte are still to come, and those before them make `sum`
+abbrev pub bytes_from : List ℕ → ℕ → ℕ → List ℕ → Result (List ℕ) Reason
+bytes_from out left sum [] = if eqb left 0 then Ok out else Err BadName
+bytes_from out left sum (b ∷ bs) =
+    if eqb left 0
+    then (if eqb b 92 then bytes_from out 3 0 bs else (if is_plain b then bytes_from (out ++ b ∷ []) 0 0 bs else Err BadName))
+    else (if is_digit b
+    then (if nat_lt (8 * sum + (b - 48)) 256
+    then (if eqb left 1 then bytes_from (out ++ (8 * sum + (b - 48)) ∷ []) 0 0 bs else bytes_from out (left - 1) (8 * sum + (b - 48)) bs)
+    else Err BadName)
+    else Err BadName)
+
+abbrev pub cut_name : Result (List ℕ) Reason → Result (List ℕ) Reason
+cut_name (Ok bytes) = Ok (take 8 (before_nul bytes))
+cut_name (Err e) = Err e
+
+-- the name in a column, cut at a NUL and at eight bytes
+abbrev pub name_of : List ℕ → Result (List ℕ) Reason
+name_of [] = Err Missing
+name_of (b ∷ bs) = cut_name (bytes_from [] 0 0 (b ∷ bs))

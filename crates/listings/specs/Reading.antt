@@ -1,0 +1,143 @@
+-- What a listing says: line by line, each line by its columns and by what was read before it.
+--
+-- A row that begins with a digit belongs to the section that was opened last. Any other row begins with a word. A row without columns
+-- says nothing, and neither does one that begins with a slash. Columns after those that a row needs are not read.
+use Rattle.std.specs.Prelude.{ℕ, ◌+◌, ◌*◌, ◌%◌, Bool, ◌&&◌, nat_le, nat_lt, nat_eq, eqb, if◌then◌else◌, List, [], ◌∷◌, ◌++◌, length, Result, Ok, Err, codes}
+use Rattle.std.specs.Cmp.Lexicographic.{pointwise}
+use Rattle.aout_core.specs.declared.reloc.Reloc.{Reloc}
+use Rattle.aout_core.specs.declared.symbol.Symbol.{Symbol}
+use Rattle.aout_core.specs.Contents.{Contents, is_magic}
+use Rattle.listings.specs.declared.fault.Reason.{Reason}
+use Rattle.listings.specs.declared.fault.Reason.TheVariants.{WrongAddress, WrongNumber, TooManyWords, TooManySymbols, NoSection, UnknownWord, OutOfOrder, TooLate, AfterTable, NoMagic, OddSize}
+use Rattle.listings.specs.declared.fault.Section.{Section}
+use Rattle.listings.specs.declared.fault.Section.TheVariants.{InHeader, InText, InData, InSymbols}
+use Rattle.listings.specs.declared.fault.Word.{Word}
+use Rattle.listings.specs.declared.fault.Word.TheVariants.{Text, Data, Symbols, Bss, Entry, Unused, Magic, Flag, Unknown}
+use Rattle.listings.specs.declared.fault.Fault.{Fault}
+use Rattle.listings.specs.Octal.{number}
+use Rattle.listings.specs.Columns.{lines_in, Row, row_of, column_place}
+use Rattle.listings.specs.Names.{name_of}
+use Rattle.listings.specs.Drafts.{Segment, Draft, empty_draft, finished, data_start}
+
+-- the number of a column, and what is wrong in it
+abbrev pub Mistake : Type 0
+Mistake = ℕ × Reason
+
+infixl 10 ◌>>=◌
+abbrev pub ◌>>=◌ : {A B E : Type 0} → Result A E → (A → Result B E) → Result B E
+(Ok x) >>= f = f x
+(Err e) >>= f = Err e
+
+abbrev pub in_column : {A : Type 0} → ℕ → Result A Reason → Result A Mistake
+in_column k (Ok x) = Ok x
+in_column k (Err reason) = Err (k, reason)
+
+-- a relocation word, if the flag says that the file has relocation
+abbrev pub relocs_of : ℕ → List ℕ → Result (List Reloc) Mistake
+relocs_of flag third = if eqb flag 0 then in_column 2 (number third) >>= (λ n. Ok ((let r : Reloc = record { 0 = n } in r) ∷ [])) else Ok []
+
+abbrev pub with_word : Segment → ℕ → List Reloc → Segment
+with_word s w rs = record { words = s.words ++ w ∷ []; relocs = s.relocs ++ rs }
+
+-- a word of a segment that begins at this address
+abbrev pub word_entry : ℕ → ℕ → Segment → Row → Result Segment Mistake
+word_entry start flag s r =
+    in_column 0 (number r.first) >>= λ at.
+    in_column 1 (number r.second) >>= λ w.
+    relocs_of flag r.third >>= λ rs.
+    if nat_lt (length s.words) 32767
+    then (if eqb at ((start + 2 * length s.words) % 65536) then Ok (with_word s w rs) else Err (0, WrongAddress))
+    else Err (0, TooManyWords)
+
+abbrev pub symbol_entry : List Symbol → Row → Result (List Symbol) Mistake
+symbol_entry ss r =
+    in_column 0 (number r.first) >>= λ n.
+    in_column 1 (name_of r.second) >>= λ name.
+    in_column 2 (number r.third) >>= λ type.
+    in_column 3 (number r.fourth) >>= λ value.
+    if nat_lt (length ss) 5461
+    then (if eqb n (length ss) then Ok (ss ++ (let s : Symbol = record { name = name; type_bits = type; value = value } in s) ∷ []) else Err (0, WrongNumber))
+    else Err (0, TooManySymbols)
+
+-- a row that begins with a digit
+abbrev pub entry_in : Section → Draft → Row → Result Draft Mistake
+entry_in InHeader d r = Err (0, NoSection)
+entry_in InText d r = word_entry 0 d.flag d.text_part r >>= λ s. Ok (record d { text_part = s })
+entry_in InData d r = word_entry (data_start d.magic (2 * length d.text_part.words)) d.flag d.data_part r >>= λ s. Ok (record d { data_part = s })
+entry_in InSymbols d r = symbol_entry d.symbols r >>= λ ss. Ok (record d { symbols = ss })
+
+abbrev pub is_word : List ℕ → List ℕ → Bool
+is_word a b = pointwise nat_eq a b
+
+abbrev pub word_in : List ℕ → Word
+word_in first =
+    if is_word first (codes "text") then Text
+    else (if is_word first (codes "data") then Data
+    else (if is_word first (codes "symbols") then Symbols
+    else (if is_word first (codes "bss") then Bss
+    else (if is_word first (codes "entry") then Entry
+    else (if is_word first (codes "unused") then Unused
+    else (if is_word first (codes "magic") then Magic
+    else (if is_word first (codes "flag") then Flag
+    else Unknown)))))))
+
+-- the order of the sections
+abbrev pub rank : Section → ℕ
+rank InHeader = 0
+rank InText = 1
+rank InData = 2
+rank InSymbols = 3
+
+abbrev pub opened : Section → Draft → Result Draft Mistake
+opened s d = if nat_lt (rank d.section) (rank s) then Ok (record d { section = s }) else Err (0, OutOfOrder)
+
+-- before the first section
+abbrev pub only_first : Section → Result Draft Mistake → Result Draft Mistake
+only_first InHeader found = found
+only_first _ found = Err (0, TooLate)
+
+-- before the symbols
+abbrev pub not_last : Section → Result Draft Mistake → Result Draft Mistake
+not_last InSymbols found = Err (0, AfterTable)
+not_last _ found = found
+
+abbrev pub named_by : Word → Draft → Result ℕ Mistake → Result Draft Mistake
+named_by Text d n = opened InText d
+named_by Data d n = opened InData d
+named_by Symbols d n = opened InSymbols d
+named_by Bss d n = n >>= (λ x. if eqb (x % 2) 0 then Ok (record d { bss = x }) else Err (1, OddSize))
+named_by Entry d n = n >>= (λ x. Ok (record d { entry = x }))
+named_by Unused d n = n >>= (λ x. Ok (record d { unused = x }))
+named_by Magic d n = only_first d.section (n >>= (λ x. if is_magic x then Ok (record d { magic = x }) else Err (1, NoMagic)))
+named_by Flag d n = only_first d.section (n >>= (λ x. Ok (record d { flag = x })))
+named_by Unknown d n = Err (0, UnknownWord)
+
+-- a row that begins with a word
+abbrev pub named : Draft → Row → Result Draft Mistake
+named d r = not_last d.section (named_by (word_in r.first) d (in_column 1 (number r.second)))
+
+abbrev pub is_decimal : ℕ → Bool
+is_decimal b = nat_le 48 b && nat_lt b 58
+
+abbrev pub row_by : List ℕ → Draft → Row → Result Draft Mistake
+row_by [] d r = Ok d
+row_by (b ∷ bs) d r = if eqb b 47 then Ok d else (if is_decimal b then entry_in d.section d r else named d r)
+
+abbrev pub row_read : Draft → Row → Result Draft Mistake
+row_read d r = row_by r.first d r
+
+abbrev pub in_line : {A : Type 0} → ℕ → List ℕ → Result A Mistake → Result A Fault
+in_line n line (Ok x) = Ok x
+in_line n line (Err m) = Err (record { line = n; column = column_place m.0 line; reason = m.1 })
+
+abbrev pub lines_read : ℕ → Draft → List (List ℕ) → Result Draft Fault
+lines_read n d [] = Ok d
+lines_read n d (l ∷ ls) = in_line n l (row_read d (row_of l)) >>= λ e. lines_read (n + 1) e ls
+
+abbrev pub file_of : Result Draft Fault → Result Contents Fault
+file_of (Ok d) = Ok (finished d)
+file_of (Err fault) = Err fault
+
+-- the file that a listing says, or its first mistake
+abbrev pub read : List ℕ → Result Contents Fault
+read text = file_of (lines_read 1 empty_draft (lines_in text))

@@ -1,0 +1,6 @@
+-- Definitions for the code alone: what its loops and private functions do. No contract of a public function leads here.
+pub mod Answers
+pub mod DraftParts
+pub mod Lines
+pub mod Rows
+pub mod Whole

@@ -1,0 +1,19 @@
+-- What the functions that read rows return: what the definitions give, unless memory ran out.
+use Rattle.std.specs.Prelude.{◌≡◌, Result, Ok, Err}
+use Rattle.listings.specs.declared.fault.RowFault.{RowFault}
+use Rattle.listings.specs.declared.fault.RowFault.TheVariants.{Memory, Wrong}
+use Rattle.listings.specs.Reading.{Mistake}
+
+abbrev pub Fails : {Y : Type 0} → RowFault → Result Y Mistake → Type 0
+Fails Memory found = Unit {0}
+Fails (Wrong k reason) found = found ≡ Err (k, reason)
+
+-- the value that was returned, seen by view
+abbrev pub Found : {X Y : Type 0} → (X → Y) → Result X RowFault → Result Y Mistake → Type 0
+Found view (Ok x) found = found ≡ Ok (view x)
+Found view (Err e) found = Fails e found
+
+-- the value that is left
+abbrev pub Leaves : {X Y : Type 0} → Y → Result X RowFault → Result Y Mistake → Type 0
+Leaves left (Ok x) found = found ≡ Ok left
+Leaves left (Err e) found = Fails e found

@@ -1,0 +1,20 @@
+-- The draft of the code, by the lists that it holds.
+use Rattle.listings.specs.declared.draft.SegmentDraft.{SegmentDraft}
+use Rattle.listings.specs.declared.draft.FileDraft.{FileDraft}
+use Rattle.listings.specs.Drafts.{Segment, Draft}
+
+abbrev pub segment_of : SegmentDraft → Segment
+segment_of s = record { words = s.words.items; relocs = s.relocs.items }
+
+abbrev pub draft_of : FileDraft → Draft
+draft_of d = record {
+  section = d.section;
+  magic = d.magic;
+  bss = d.bss;
+  entry = d.entry;
+  unused = d.unused;
+  flag = d.flag;
+  text_part = segment_of d.text_part;
+  data_part = segment_of d.data_part;
+  symbols = d.symbols.items;
+}

@@ -1,0 +1,14 @@
+-- What the functions that read lines return.
+use Rattle.std.specs.Prelude.{◌≡◌, Result, Ok, Err}
+use Rattle.listings.specs.declared.fault.Fault.{Fault}
+use Rattle.listings.specs.declared.fault.ListingFault.{ListingFault}
+use Rattle.listings.specs.declared.fault.ListingFault.TheVariants.{Memory, Wrong}
+use Rattle.listings.specs.Drafts.{Draft}
+
+abbrev pub Stops : ListingFault → Result Draft Fault → Type 0
+Stops Memory found = Unit {0}
+Stops (Wrong fault) found = found ≡ Err fault
+
+abbrev pub Goes : {X : Type 0} → Draft → Result X ListingFault → Result Draft Fault → Type 0
+Goes left (Ok x) found = found ≡ Ok left
+Goes left (Err e) found = Stops e found

@@ -1,0 +1,119 @@
+//! Why a listing was not read, and where.
+ghost use Rattle.std.specs.Prelude.{◌≡◌};
+ghost use Rattle.listings.specs.declared.fault.RowFault.TheVariants.{Memory};
+
+use std::alloc::{AllocError, AllocFailed};
+use thiserror::Error;
+
+/// The part of a listing that a line belongs to.
+#[derive(Clone, Copy, Debug, PartialEq, Eq)]
+pub(crate) enum Section {
+    InHeader,
+    InText,
+    InData,
+    InSymbols,
+}
+
+/// A word that a line begins with.
+#[derive(Clone, Copy, Debug, PartialEq, Eq)]
+pub(crate) enum Word {
+    Text,
+    Data,
+    Symbols,
+    Bss,
+    Entry,
+    Unused,
+    Magic,
+    Flag,
+    Unknown,
+}
+
+/// Why a line is wrong.
+#[derive(Clone, Copy, Debug, PartialEq, Eq, Error)]
+pub enum Reason {
+    /// The line has no such column.
+    #[error("a column is missing")]
+    Missing,
+    /// A byte of the number is not an octal digit.
+    #[error("not an octal number")]
+    NotOctal,
+    /// The number is over 177777.
+    #[error("over 177777")]
+    TooLarge,
+    /// A byte of the name does not print, or a backslash is not followed by three octal digits up to 377.
+    #[error("bad byte in a name")]
+    BadName,
+    /// The address is not that of the next word of the section.
+    #[error("the address does not follow")]
+    WrongAddress,
+    /// The number is not that of the next symbol.
+    #[error("the number does not follow")]
+    WrongNumber,
+    /// The section has 32,767 words already.
+    #[error("more than 32767 words")]
+    TooManyWords,
+    /// The table has 5,461 symbols already.
+    #[error("more than 5461 symbols")]
+    TooManySymbols,
+    /// A number comes before the first section.
+    #[error("text, data or symbols is missing")]
+    NoSection,
+    /// No line begins with this word.
+    #[error("unknown word")]
+    UnknownWord,
+    /// Text comes before data and data before symbols, and each comes once.
+    #[error("text, data and symbols are not in this order")]
+    OutOfOrder,
+    /// The magic number or the flag comes after the first section.
+    #[error("magic and flag come before text, data and symbols")]
+    TooLate,
+    /// A word comes after the symbols.
+    #[error("only symbols can follow symbols")]
+    AfterTable,
+    /// No file has this magic number.
+    #[error("bad magic number")]
+    NoMagic,
+    /// The size of bss is odd.
+    #[error("odd size")]
+    OddSize,
+}
+
+/// The first mistake of a listing; lines and columns are counted from 1.
+#[derive(Clone, Copy, Debug, PartialEq, Eq)]
+pub struct Fault {
+    pub line: usize,
+    pub column: usize,
+    pub reason: Reason,
+}
+
+/// Why a listing was not read.
+#[derive(Clone, Copy, Debug, PartialEq, Eq)]
+pub enum ListingFault {
+    Memory,
+    /// The first mistake.
+    Wrong(Fault),
+}
+
+/// Why a row was not read.
+#[derive(Clone, Copy, Debug, PartialEq, Eq)]
+pub(crate) enum RowFault {
+    Memory,
+    /// The number of the column, from 0.
+    Wrong(usize, Reason),
+}
+
+impl From<AllocError> for RowFault {
+    ghost from_gives = { λ _ fault. fault ≡ Memory };
+
+    fn from(_error: AllocError) -> RowFault {
+        RowFault::Memory
+    }
+}
+
+impl<T: Drop> From<AllocFailed<T>> for RowFault {
+    ghost from_gives = { λ _ fault. fault ≡ Memory };
+
+    fn from(_error: AllocFailed<T>) -> RowFault {
+        RowFault::Memory
+    }
+}

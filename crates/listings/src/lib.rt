@@ -1,0 +1,21 @@
+//! The listing of a file as text, in both directions.
+//!
+//! `write_listing` writes the text of a file, and `read_listing` reads one: the words of text and data with their addresses and
+//! relocation words, the size of bss, the symbols, and the words of the header that do not follow from these. `laws` says that
+//! reading the listing of a file gives that file.
+#![tactic(auto)]
+
+mod columns;
+mod draft;
+mod fault;
+pub mod laws;
+mod numbers;
+mod read;
+mod remark;
+mod rows;
+mod write;
+
+pub use fault::{Fault, ListingFault, Reason};
+pub use read::read_listing;
+pub use remark::{Nothing, Remark};
+pub use write::write_listing;

@@ -1,0 +1,94 @@
+//! The numbers and names of columns.
+ghost use Rattle.std.specs.Prelude.{◌≡◌, ℕ, List, [], ◌∷◌, IfOk, IfErr};
+ghost use Rattle.listings.specs.Octal.{number};
+ghost use Rattle.listings.specs.Names.{bytes_from, name_of};
+ghost use Rattle.listings.specs.Reading.{in_column};
+ghost use Rattle.listings.specs.internal.Answers.{Fails, Found};
+
+use crate::fault::{Reason, RowFault};
+use aout_core::Name;
+use std::alloc::Global;
+
+/// The number in a column.
+pub(crate) fn number_at(place: usize, column: &[u8]) -> Result<u16, RowFault>
+    ensures { Found (λ n. n) result (in_column place (number column.now)) }
+{
+    if column.is_empty() {
+        return Err(RowFault::Wrong(place, Reason::Missing));
+    }
+    let mut sum = 0u32;
+    for byte in column {
+        let byte = *byte;
+        if byte < b'0' || byte > b'7' {
+            return Err(RowFault::Wrong(place, Reason::NotOctal));
+        }
+        sum = 8 * sum + u32::from(byte - b'0');
+        if sum > 65535 {
+            return Err(RowFault::Wrong(place, Reason::TooLarge));
+        }
+    }
+    Ok(sum as u16)
+}
+
+/// Takes a byte of a name; `left` digits of an escaped byte are still to come, and those before them make `sum`.
+fn take_byte(
+    bytes: &mut Vec<u8>,
+    left: u8,
+    sum: u8,
+    place: usize,
+    byte: u8,
+) -> Result<(u8, u8), RowFault>
+    ensures ok { IfOk result (λ s. (rest : List ℕ) → bytes_from bytes.new.items s.0 s.1 rest ≡ bytes_from bytes.old.items left sum (byte ∷ rest)) }
+    ensures err { IfErr result (λ e. (rest : List ℕ) → Fails e (in_column place (bytes_from bytes.old.items left sum (byte ∷ rest)))) }
+{
+    if left == 0 {
+        if byte == b'\\' {
+            return Ok((3, 0));
+        }
+        if byte > b' ' && byte < 127 {
+            bytes.push(byte)?;
+            return Ok((0, 0));
+        }
+        return Err(RowFault::Wrong(place, Reason::BadName));
+    }
+    if byte < b'0' || byte > b'7' {
+        return Err(RowFault::Wrong(place, Reason::BadName));
+    }
+    let next = 8 * u16::from(sum) + u16::from(byte - b'0');
+    if next > 255 {
+        return Err(RowFault::Wrong(place, Reason::BadName));
+    }
+    if left == 1 {
+        bytes.push(next as u8)?;
+        return Ok((0, 0));
+    }
+    Ok((left - 1, next as u8))
+}
+
+/// The bytes of the name in a column.
+fn bytes_of(alloc: Global, place: usize, column: &[u8]) -> Result<Vec<u8>, RowFault>
+    ensures { Found (λ v. v.items) result (in_column place (bytes_from [] 0 0 column.now)) }
+{
+    let mut bytes = Vec::new(alloc);
+    let mut left = 0u8;
+    let mut sum = 0u8;
+    for byte in column {
+        (left, sum) = take_byte(&mut bytes, left, sum, place, *byte)?;
+    }
+    if left == 0 {
+        Ok(bytes)
+    } else {
+        Err(RowFault::Wrong(place, Reason::BadName))
+    }
+}
+
+/// The name in a column.
+pub(crate) fn name_at(alloc: Global, place: usize, column: &[u8]) -> Result<Name, RowFault>
+    ensures { Found (λ n. n) result (in_column place (name_of column.now)) }
+{
+    if column.is_empty() {
+        return Err(RowFault::Wrong(place, Reason::Missing));
+    }
+    let bytes = bytes_of(alloc, place, column)?;
+    Ok(Name::from_bytes(&bytes))
+}

@@ -1,0 +1,67 @@
+//! What is remarked in a listing.
+ghost use Rattle.std.specs.Prelude.{◌≡◌, ◌++◌, [], OnOk};
+ghost use Rattle.listings.specs.Listing.{Remarks, no_remarks, remarked, note_lines, text_of};
+ghost use Rattle.listings.specs.Laws.{AreRemarks};
+
+use aout_core::{Reloc, Symbol};
+use std::alloc::AllocError;
+
+/// What people are told beside a file. A reader passes over it.
+pub trait Remark {
+    ghost said: { Self → Remarks };
+
+    /// Appends the notes, a line each, which begins with a slash.
+    fn put_notes(&self, text: &mut Vec<u8>) -> Result<(), AllocError>
+        ensures { OnOk result (text.new.items ≡ text.old.items ++ text_of (note_lines (said self.now).notes)) };
+
+    /// Appends the notes that follow the table, in the same form.
+    fn put_findings(&self, text: &mut Vec<u8>) -> Result<(), AllocError>
+        ensures { OnOk result (text.new.items ≡ text.old.items ++ text_of (note_lines (said self.now).findings)) };
+
+    /// Appends two blanks and what is remarked of a word, or nothing if there is no remark.
+    fn put_word(
+        &self,
+        text: &mut Vec<u8>,
+        at: u16,
+        word: u16,
+        reloc: Reloc,
+    ) -> Result<(), AllocError>
+        ensures { OnOk result (text.new.items ≡ text.old.items ++ remarked ((said self.now).word at word reloc)) };
+
+    /// Appends two blanks and what is remarked of a symbol, or nothing.
+    fn put_symbol(&self, text: &mut Vec<u8>, symbol: &Symbol) -> Result<(), AllocError>
+        ensures { OnOk result (text.new.items ≡ text.old.items ++ remarked ((said self.now).symbol symbol.now)) };
+
+    ghost are: { (r : Self) → AreRemarks (said r) };
+}
+
+/// Nothing is remarked.
+pub struct Nothing;
+
+impl Remark for Nothing {
+    ghost said = { λ r. no_remarks };
+
+    fn put_notes(&self, text: &mut Vec<u8>) -> Result<(), AllocError> {
+        Ok(())
+    }
+
+    fn put_findings(&self, text: &mut Vec<u8>) -> Result<(), AllocError> {
+        Ok(())
+    }
+
+    fn put_word(
+        &self,
+        text: &mut Vec<u8>,
+        at: u16,
+        word: u16,
+        reloc: Reloc,
+    ) -> Result<(), AllocError> {
+        Ok(())
+    }
+
+    fn put_symbol(&self, text: &mut Vec<u8>, symbol: &Symbol) -> Result<(), AllocError> {
+        Ok(())
+    }
+
+    ghost are = { λ r. record { notes = tt; findings = tt; word = λ at w q. tt; symbol = λ s. tt } };
+}

@@ -1,0 +1,252 @@
+//! Reads a row of a listing into a draft.
+ghost use Rattle.std.specs.Prelude.{◌≡◌, ◌<◌, ◌^◌, ◌*◌, length, option_to_list, Ok};
+ghost use Rattle.std.specs.Cmp.Lexicographic.{pointwise};
+ghost use Rattle.listings.specs.Columns.{row_of};
+ghost use Rattle.listings.specs.internal.Rows.{row_in};
+ghost use Rattle.listings.specs.declared.fault.Word.TheVariants.{Bss, Magic, Flag};
+ghost use Rattle.listings.specs.Octal.{number};
+ghost use Rattle.listings.specs.Drafts.{data_start};
+ghost use Rattle.listings.specs.Reading.{in_column, relocs_of, with_word, word_entry, symbol_entry, entry_in, is_word, word_in, rank, opened, named_by, named, row_read};
+ghost use Rattle.listings.specs.internal.DraftParts.{segment_of, draft_of};
+ghost use Rattle.listings.specs.internal.Whole.{IsDraft};
+ghost use Rattle.listings.specs.internal.Answers.{Found, Leaves};
+
+use crate::columns::{Columns, columns_of};
+use crate::draft::{FileDraft, SegmentDraft, data_start, has_magic};
+use crate::fault::{Reason, RowFault, Section, Word};
+use crate::numbers::{name_at, number_at};
+use aout_core::{Reloc, Symbol};
+use std::alloc::Global;
+
+/// A relocation word, if the file has relocation.
+fn reloc_of(flag: u16, third: &[u8]) -> Result<Option<Reloc>, RowFault>
+    ensures { Found (λ r. option_to_list r) result (relocs_of flag third.now) }
+{
+    if flag == 0 {
+        Ok(Some(Reloc(number_at(2, third)?)))
+    } else {
+        Ok(None)
+    }
+}
+
+/// Adds a word and its relocation word.
+fn add_word(segment: &mut SegmentDraft, word: u16, reloc: Option<Reloc>) -> Result<(), RowFault>
+    ensures { Leaves (segment_of segment.new) result (Ok (with_word (segment_of segment.old) word (option_to_list reloc))) }
+{
+    segment.words.push(word)?;
+    match reloc {
+        Some(reloc) => Ok(segment.relocs.push(reloc)?),
+        None => Ok(()),
+    }
+}
+
+/// Reads a word of a segment that begins at an address.
+fn word_entry(
+    start: usize,
+    flag: u16,
+    segment: &mut SegmentDraft,
+    columns: Columns,
+) -> Result<(), RowFault>
+    requires { start < 2 ^ 32 }
+    ensures { Leaves (segment_of segment.new) result (word_entry start flag (segment_of segment.old) (row_in columns.entry)) }
+{
+    let at = number_at(0, columns.first)?;
+    let word = number_at(1, columns.second)?;
+    let reloc = reloc_of(flag, columns.third)?;
+    let count = segment.words.len();
+    if count >= 32767 {
+        return Err(RowFault::Wrong(0, Reason::TooManyWords));
+    }
+    if usize::from(at) != (start + 2 * count) % 65536 {
+        return Err(RowFault::Wrong(0, Reason::WrongAddress));
+    }
+    add_word(segment, word, reloc)
+}
+
+/// Reads an entry of the symbol table.
+fn symbol_entry(alloc: Global, symbols: &mut Vec<Symbol>, columns: Columns) -> Result<(), RowFault>
+    ensures { Leaves symbols.new.items result (symbol_entry symbols.old.items (row_in columns.entry)) }
+{
+    let number = number_at(0, columns.first)?;
+    let name = name_at(alloc, 1, columns.second)?;
+    let type_bits = number_at(2, columns.third)?;
+    let value = number_at(3, columns.fourth)?;
+    let count = symbols.len();
+    if count >= 5461 {
+        return Err(RowFault::Wrong(0, Reason::TooManySymbols));
+    }
+    if usize::from(number) != count {
+        return Err(RowFault::Wrong(0, Reason::WrongNumber));
+    }
+    let symbol = Symbol {
+        name,
+        type_bits,
+        value,
+    };
+    Ok(symbols.push(symbol)?)
+}
+
+/// Reads a row that begins with a digit.
+fn entry_in(alloc: Global, draft: &mut FileDraft, columns: Columns) -> Result<(), RowFault>
+    requires { IsDraft (draft_of draft.old) }
+    ensures { Leaves (draft_of draft.new) result (entry_in draft.old.section (draft_of draft.old) (row_in columns.entry)) }
+{
+    match draft.section {
+        Section::InHeader => Err(RowFault::Wrong(0, Reason::NoSection)),
+        Section::InText => word_entry(0, draft.flag, &mut draft.text_part, columns),
+        Section::InData => {
+            let start = data_start(draft.magic, 2 * draft.text_part.words.len());
+            word_entry(start, draft.flag, &mut draft.data_part, columns)
+        }
+        Section::InSymbols => symbol_entry(alloc, &mut draft.symbols, columns),
+    }
+}
+
+fn is_word(column: &[u8], word: &[u8]) -> bool
+    ensures { result ≡ is_word column.now word.now }
+{
+    column == word
+}
+
+fn word_of(columns: Columns) -> Word
+    ensures { result ≡ word_in columns.entry.first.now }
+{
+    let first = columns.first;
+    if is_word(first, b"text") {
+        return Word::Text;
+    }
+    if is_word(first, b"data") {
+        return Word::Data;
+    }
+    if is_word(first, b"symbols") {
+        return Word::Symbols;
+    }
+    if is_word(first, b"bss") {
+        return Word::Bss;
+    }
+    if is_word(first, b"entry") {
+        return Word::Entry;
+    }
+    if is_word(first, b"unused") {
+        return Word::Unused;
+    }
+    if is_word(first, b"magic") {
+        return Word::Magic;
+    }
+    if is_word(first, b"flag") {
+        return Word::Flag;
+    }
+    Word::Unknown
+}
+
+/// The place of a section in a listing.
+fn rank(section: Section) -> u8
+    ensures { result ≡ rank section }
+{
+    match section {
+        Section::InHeader => 0,
+        Section::InText => 1,
+        Section::InData => 2,
+        Section::InSymbols => 3,
+    }
+}
+
+/// Opens a section.
+fn open(draft: &mut FileDraft, section: Section) -> Result<(), RowFault>
+    ensures { Leaves (draft_of draft.new) result (opened section (draft_of draft.old)) }
+{
+    if rank(draft.section) >= rank(section) {
+        return Err(RowFault::Wrong(0, Reason::OutOfOrder));
+    }
+    draft.section = section;
+    Ok(())
+}
+
+/// Takes the size of bss.
+fn take_bss(draft: &mut FileDraft, second: &[u8]) -> Result<(), RowFault>
+    ensures { Leaves (draft_of draft.new) result (named_by Bss (draft_of draft.old) (in_column 1 (number second.now))) }
+{
+    let size = number_at(1, second)?;
+    if size % 2 != 0 {
+        return Err(RowFault::Wrong(1, Reason::OddSize));
+    }
+    draft.bss = size;
+    Ok(())
+}
+
+/// Takes the magic number.
+fn take_magic(draft: &mut FileDraft, second: &[u8]) -> Result<(), RowFault>
+    ensures { Leaves (draft_of draft.new) result (named_by Magic (draft_of draft.old) (in_column 1 (number second.now))) }
+{
+    if draft.section != Section::InHeader {
+        return Err(RowFault::Wrong(0, Reason::TooLate));
+    }
+    let magic = number_at(1, second)?;
+    if !has_magic(magic) {
+        return Err(RowFault::Wrong(1, Reason::NoMagic));
+    }
+    draft.magic = magic;
+    Ok(())
+}
+
+/// Takes the flag.
+fn take_flag(draft: &mut FileDraft, second: &[u8]) -> Result<(), RowFault>
+    ensures { Leaves (draft_of draft.new) result (named_by Flag (draft_of draft.old) (in_column 1 (number second.now))) }
+{
+    if draft.section != Section::InHeader {
+        return Err(RowFault::Wrong(0, Reason::TooLate));
+    }
+    draft.flag = number_at(1, second)?;
+    Ok(())
+}
+
+/// Takes what a word says.
+fn take_word(draft: &mut FileDraft, word: Word, second: &[u8]) -> Result<(), RowFault>
+    ensures { Leaves (draft_of draft.new) result (named_by word (draft_of draft.old) (in_column 1 (number second.now))) }
+{
+    match word {
+        Word::Text => open(draft, Section::InText),
+        Word::Data => open(draft, Section::InData),
+        Word::Symbols => open(draft, Section::InSymbols),
+        Word::Bss => take_bss(draft, second),
+        Word::Entry => {
+            draft.entry = number_at(1, second)?;
+            Ok(())
+        }
+        Word::Unused => {
+            draft.unused = number_at(1, second)?;
+            Ok(())
+        }
+        Word::Magic => take_magic(draft, second),
+        Word::Flag => take_flag(draft, second),
+        Word::Unknown => Err(RowFault::Wrong(0, Reason::UnknownWord)),
+    }
+}
+
+/// Reads a row that begins with a word.
+fn named(draft: &mut FileDraft, columns: Columns) -> Result<(), RowFault>
+    ensures { Leaves (draft_of draft.new) result (named (draft_of draft.old) (row_in columns.entry)) }
+{
+    if draft.section == Section::InSymbols {
+        return Err(RowFault::Wrong(0, Reason::AfterTable));
+    }
+    take_word(draft, word_of(columns), columns.second)
+}
+
+/// Reads a row.
+pub(crate) fn read_row(alloc: Global, draft: &mut FileDraft, line: &[u8]) -> Result<(), RowFault>
+    requires { IsDraft (draft_of draft.old) }
+    ensures { Leaves (draft_of draft.new) result (row_read (draft_of draft.old) (row_of line.now)) }
+{
+    let columns = columns_of(line);
+    let Some(&byte) = columns.first.first() else {
+        return Ok(());
+    };
+    if byte == b'/' {
+        return Ok(());
+    }
+    if byte >= b'0' && byte <= b'9' {
+        return entry_in(alloc, draft, columns);
+    }
+    named(draft, columns)
+}

@@ -1,0 +1,144 @@
+//! The program `v7-object`: makes an a.out file of a listing.
+#![tactic(auto)]
+
+use aout_core::{DeviceFault, Wire, write_file};
+use listings::{Fault, ListingFault, read_listing};
+use std::alloc::{AllocError, Global};
+use std::io::Read;
+use std::process::ExitCode;
+use std::{env, fs, io};
+
+/// The words of the command: two paths.
+#[derive(Drop)]
+struct Words {
+    listing: String,
+    to: String,
+}
+
+/// Why nothing was made: the line for standard error and the status.
+#[derive(Drop)]
+struct Failure {
+    line: String,
+    status: u8,
+}
+
+/// Why nothing was made, or no memory for the line that says so.
+#[derive(Drop)]
+enum Refused {
+    Told(Failure),
+    Memory,
+}
+
+/// A line with a path and a text.
+fn device_line(alloc: Global, path: &str, text: &str) -> Result<String, AllocError> {
+    format!(in alloc; "v7-object: {path}: {text}\n")
+}
+
+/// A line with a path and the first mistake of a listing.
+fn mistake_line(alloc: Global, path: &str, fault: Fault) -> Result<String, AllocError> {
+    let Fault {
+        line,
+        column,
+        reason,
+    } = fault;
+    format!(in alloc; "v7-object: {path}: line {line}, column {column}: {reason}\n")
+}
+
+/// A fault of status 2.
+fn device_fault(rt: &HostRuntime, path: &str, text: &str) -> Refused {
+    match device_line(rt.alloc(), path, text) {
+        Ok(line) => Refused::Told(Failure { line, status: 2 }),
+        Err(_) => Refused::Memory,
+    }
+}
+
+/// A fault of status 1.
+fn mistake(rt: &HostRuntime, path: &str, fault: Fault) -> Refused {
+    match mistake_line(rt.alloc(), path, fault) {
+        Ok(line) => Refused::Told(Failure { line, status: 1 }),
+        Err(_) => Refused::Memory,
+    }
+}
+
+/// All bytes of a file.
+fn read_all(rt: &HostRuntime, path: &str) -> Result<Vec<u8>, Refused> {
+    let Ok(mut file) = fs::open(rt, path) else {
+        return Err(device_fault(rt, path, "cannot open"));
+    };
+    let mut bytes = Vec::new(rt.alloc());
+    match file.read_to_end(&mut bytes) {
+        Ok(_) => Ok(bytes),
+        Err(error) => match error.kind() {
+            io::ErrorKind::OutOfMemory => Err(Refused::Memory),
+            _ => Err(device_fault(rt, path, "read error")),
+        },
+    }
+}
+
+/// Makes the file of a listing. The file is written only if the listing has no mistake.
+fn make_file(rt: &HostRuntime, words: &Words) -> Result<(), Refused> {
+    let from = words.listing.as_str();
+    let to = words.to.as_str();
+    let text = read_all(rt, from)?;
+    let file = match read_listing(rt.alloc(), &text) {
+        Ok(file) => file,
+        Err(ListingFault::Wrong(fault)) => return Err(mistake(rt, from, fault)),
+        Err(ListingFault::Memory) => return Err(Refused::Memory),
+    };
+    let Ok(device) = fs::create(rt, to) else {
+        return Err(device_fault(rt, to, "cannot create"));
+    };
+    match write_file(&file, &mut Wire::new(device)) {
+        Ok(()) => Ok(()),
+        Err(DeviceFault) => Err(device_fault(rt, to, "write error")),
+    }
+}
+
+/// The two paths of the command, if it has two and no option.
+fn asked(rt: &HostRuntime) -> io::Result<Option<Words>> {
+    let mut paths = Vec::new(rt.alloc());
+    for word in env::args(rt)?.skip(1) {
+        paths.push(word)?;
+    }
+    let (Some(to), Some(listing), None) = (paths.pop(), paths.pop(), paths.pop()) else {
+        return Ok(None);
+    };
+    if listing.as_str().starts_with('-') {
+        return Ok(None);
+    }
+    Ok(Some(Words { listing, to }))
+}
+
+/// Reports a fault on standard error, and returns the status.
+fn told(rt: &HostRuntime, refused: Refused) -> u8 {
+    match refused {
+        Refused::Told(failure) => {
+            let _ = rt.eprint(failure.line.as_str());
+            failure.status
+        }
+        Refused::Memory => {
+            let _ = rt.eprint("v7-object: no memory\n");
+            2
+        }
+    }
+}
+
+fn usage(rt: &HostRuntime) -> u8 {
+    let _ = rt.eprint("usage: v7-object LISTING FILE\n");
+    2
+}
+
+fn main(rt: HostRuntime) -> ExitCode {
+    let status = match asked(&rt) {
+        Ok(Some(words)) => match make_file(&rt, &words) {
+            Ok(()) => 0,
+            Err(refused) => told(&rt, refused),
+        },
+        Ok(None) => usage(&rt),
+        Err(error) => match error.kind() {
+            io::ErrorKind::OutOfMemory => told(&rt, Refused::Memory),
+            _ => usage(&rt),
+        },
+    };
+    ExitCode::from(status)
+}
