@@ -140,7 +140,7 @@ def hexadecimal(word):
 def byte_item(word):
     """Bytes, so many times the same bytes, or words that count up."""
     if b"*" in word:
-        count, same = word.split(b"*")
+        same, count = word.split(b"*")
         return hexadecimal(same) * number(count)
     if b".." in word:
         first, last = (int.from_bytes(hexadecimal(end), "little") for end in word.split(b".."))
