@@ -12,7 +12,7 @@ endif
 # tests/prove.py uses all processors by itself
 .NOTPARALLEL:
 .PHONY: all try demo lib check-lib test recheck wrong-bodies memory room bench instructions simulate lesson page check-page \
-	check-manual check-examples check-explain check-model check-streams install clean
+	check-manual check-examples check-explain check-cases check-model check-streams install clean
 
 all: build/v7 build/v7-from-gnu build/v7-explain
 
@@ -169,6 +169,13 @@ check-explain: build/v7 build/v7-explain
 	python3 tests/explain.py build/v7-explain build/v7 $(DAMAGED)
 	python3 tests/notes.py build/v7-explain
 	python3 tests/map.py build/v7 build/v7-explain
+
+# plays the cases, docs/CASES.md, with the programs: each must come out as written, and each bad case must be refused with its
+# line. Samples that are in examples too must be the same there
+check-cases: build/v7 build/v7-from-gnu build/v7-explain
+	python3 tests/cases.py -s
+	python3 tests/cases.py -e tests/bad.case | cmp - tests/bad.answers
+	python3 tests/cases.py
 
 # compares v7 with a second linker, tests/model.py, on 3,000 random cases, always the same
 check-model: build/v7
