@@ -234,6 +234,14 @@ MAKING = ("use", "object", "bytes", "text", "sized", "names", "cut", "poke", "sa
 CHECKING = ("bytes", "text", "listing", "sized", "names", "cut", "poke", "same", "unchanged", "absent")
 
 
+def read_asked(line, text):
+    """The requests of a line, each with its file."""
+    requests = [words_of(line, one) for one in text.split(", ") if text]
+    if any(len(words) < 2 for words in requests):
+        raise Mistake(line, "wanted asked REQUEST FILE, ..")
+    return requests
+
+
 def item_of(line, word, rest):
     usage, reader = FORMS[word]
     words = words_of(line, rest)
@@ -301,7 +309,7 @@ class Reader:
         elif word == "status":
             self.take_status(line, rest)
         elif word == "asked":
-            self.step(line, text).asked = words_of(line, rest)
+            self.step(line, text).asked = read_asked(line, rest)
         elif word == "state":
             self.owner = Item(line, word, tuple(words_of(line, rest)))
             self.part().states.append(self.owner)
