@@ -16,7 +16,7 @@ endif
 
 all: build/v7 build/v7-from-gnu build/v7-explain
 
-SOURCES := crates.txt $(shell find crates -name out -prune -o -type f -print)
+SOURCES := crates.txt $(shell find crates \( -name out -o -path crates/cases/data \) -prune -o -type f -print)
 
 build/v7: crates/v7/out/v7
 	mkdir -p build

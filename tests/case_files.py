@@ -17,6 +17,9 @@ def octal(line, column):
     return int(column, 8)
 
 
+ORDER = [None, "text", "data", "symbols"]
+
+
 def word(number):
     return number.to_bytes(2, "little")
 
@@ -26,76 +29,48 @@ class Listing:
 
     def __init__(self):
         self.head = {"magic": 0o407, "flag": 0, "bss": 0, "entry": 0, "unused": 0}
-        self.section = None
+        self.sections = []
         self.words = {"text": [], "data": []}
         self.relocs = {"text": [], "data": []}
         self.symbols = []
 
-    def data_start(self):
-        size = 2 * len(self.words["text"])
+    def take(self, line, columns):
+        section = self.sections[-1] if self.sections else None
+        if columns[0] in ORDER[ORDER.index(section) + 1:]:
+            self.sections.append(columns[0])
+        elif columns[0] in self.head and section != "symbols":
+            self.head[columns[0]] = octal(line, columns[1])
+        elif section == "symbols":
+            self.take_symbol(line, columns)
+        elif section:
+            self.take_word(line, section, columns)
+        else:
+            raise Mistake(line, f"neither a number of the header nor a section: {columns[0]}")
+
+    def start(self, section):
+        """The address at which a section begins."""
+        size = 2 * len(self.words["text"]) if section == "data" else 0
         return {0o410: (size + 0o17777) // 0o20000 * 0o20000, 0o411: 0}.get(self.head["magic"], size)
 
-    def take(self, line, text):
-        columns = text.split()
-        if not columns or columns[0].startswith("/"):
-            return
-        try:
-            self.take_columns(line, columns)
-        except IndexError:
-            raise Mistake(line, "a column is missing") from None
-
-    def take_columns(self, line, columns):
-        if columns[0][0].isdigit():
-            if self.section is None:
-                raise Mistake(line, "text, data or symbols is missing")
-            (self.take_symbol if self.section == "symbols" else self.take_word)(line, columns)
-        elif self.section == "symbols":
-            raise Mistake(line, "only symbols can follow symbols")
-        elif columns[0] in self.head:
-            self.take_head(line, columns)
-        else:
-            self.open(line, columns[0])
-
-    def take_head(self, line, columns):
-        name, value = columns[0], octal(line, columns[1])
-        if name in ("magic", "flag") and self.section:
-            raise Mistake(line, "magic and flag come before text, data and symbols")
-        if name == "magic" and value not in (0o405, 0o407, 0o410, 0o411):
-            raise Mistake(line, "bad magic number")
-        if name == "bss" and value % 2:
-            raise Mistake(line, "odd size")
-        self.head[name] = value
-
-    def open(self, line, name):
-        order = [None, "text", "data", "symbols"]
-        if name not in order:
-            raise Mistake(line, f"unknown word: {name}")
-        if order.index(name) <= order.index(self.section):
-            raise Mistake(line, "text, data and symbols are not in this order")
-        self.section = name
-
-    def take_word(self, line, columns):
-        words, relocs = self.words[self.section], self.relocs[self.section]
-        start = self.data_start() if self.section == "data" else 0
-        at, value = octal(line, columns[0]), octal(line, columns[1])
-        if at != (start + 2 * len(words)) % 65536:
+    def take_word(self, line, section, columns):
+        words = self.words[section]
+        if octal(line, columns[0]) != (self.start(section) + 2 * len(words)) % 65536:
             raise Mistake(line, f"the address does not follow: {columns[0]}")
-        words.append(value)
+        words.append(octal(line, columns[1]))
         if self.head["flag"] == 0:
-            relocs.append(octal(line, columns[2]))
+            self.relocs[section].append(octal(line, columns[2]))
 
     def take_symbol(self, line, columns):
-        number, name = octal(line, columns[0]), encoded(line, columns[1])
-        if number != len(self.symbols):
+        if octal(line, columns[0]) != len(self.symbols):
             raise Mistake(line, f"the number does not follow: {columns[0]}")
-        name = name.split(b"\0")[0][:8].ljust(8, b"\0")
+        name = encoded(line, columns[1]).split(b"\0")[0][:8].ljust(8, b"\0")
         self.symbols.append(name + word(octal(line, columns[2])) + word(octal(line, columns[3])))
 
     def bytes(self):
-        head = self.head
-        sizes = [2 * len(self.words["text"]), 2 * len(self.words["data"]), head["bss"], 12 * len(self.symbols)]
+        head, words, relocs = self.head, self.words, self.relocs
+        sizes = [2 * len(words["text"]), 2 * len(words["data"]), head["bss"], 12 * len(self.symbols)]
         numbers = [head["magic"], *sizes, head["entry"], head["unused"], head["flag"]]
-        for part in (self.words, self.relocs):
+        for part in (words, relocs):
             numbers += part["text"] + part["data"]
         return b"".join(map(word, numbers)) + b"".join(self.symbols)
 
@@ -104,7 +79,12 @@ def listed(block):
     """The bytes of the file of a listing."""
     listing = Listing()
     for line, text in block:
-        listing.take(line, text)
+        columns = text.split()
+        if columns and not columns[0].startswith("/"):
+            try:
+                listing.take(line, columns)
+            except IndexError:
+                raise Mistake(line, "a column is missing") from None
     return listing.bytes()
 
 
@@ -132,63 +112,55 @@ def sample(line, name):
 
 # --- files that a line describes
 
-def header(sizes, symbols):
-    numbers = [0o407, sizes[b"text"], sizes[b"data"], sizes[b"bss"], 12 * symbols, 0, 0, 0]
-    return b"".join(map(word, numbers))
-
-
-def undefined(names):
-    return b"".join(name[:8].ljust(8, b"\0") + word(0o40) + word(0) for name in names)
-
-
 def sized(sizes, names):
-    return header(sizes, len(names)) + bytes(2 * (sizes[b"text"] + sizes[b"data"])) + undefined(names)
+    numbers = [0o407, sizes[b"text"], sizes[b"data"], sizes[b"bss"], 12 * len(names), 0, 0, 0]
+    words = bytes(2 * (sizes[b"text"] + sizes[b"data"]))
+    symbols = (name[:8].ljust(8, b"\0") + word(0o40) + word(0) for name in names)
+    return b"".join(map(word, numbers)) + words + b"".join(symbols)
 
 
 def with_names(count, prefix):
-    names = [prefix + b"%04d" % number for number in range(count)]
-    return sized({b"text": 0, b"data": 0, b"bss": 0}, names)
+    return sized({b"text": 0, b"data": 0, b"bss": 0}, [prefix + b"%04d" % number for number in range(count)])
 
 
-def poked(line, data, changes):
+def source(item, folder, size=0):
+    """The file that a line names last: one of the folder, or a sample. It has at least this size."""
+    name = item.told[-1]
+    data = folder[name] if name in folder else sample(item.line, name)
+    if size > len(data):
+        raise Mistake(item.line, f"{os.fsdecode(name)} has {len(data)} bytes")
+    return data
+
+
+def cut(item, folder):
+    _, size, _ = item.told
+    return source(item, folder, size)[:size]
+
+
+def poked(item, folder):
+    _, changes, _ = item.told
+    data = source(item, folder, max(place + len(new) for place, new in changes))
     for place, new in changes:
-        if place + len(new) > len(data):
-            raise Mistake(line, f"no byte {place}")
         data = data[:place] + new + data[place + len(new):]
     return data
 
 
-def source(item, folder):
-    """The file that a line names last: one of the folder, or a sample."""
-    name = item.told[-1]
-    return folder[name] if name in folder else sample(item.line, name)
-
-
-def cut(item, folder):
-    data = source(item, folder)
-    if item.told[1] > len(data):
-        raise Mistake(item.line, f"only {len(data)} bytes")
-    return data[:item.told[1]]
+MAKERS = {
+    "object": lambda item, folder: listed(item.block),
+    "listing": lambda item, folder: listed(item.block),
+    "text": lambda item, folder: b"".join(encoded(line, text) for line, text in item.block),
+    "bytes": lambda item, folder: b"".join(item.told[1:]),
+    "sized": lambda item, folder: sized(*item.told[1:]),
+    "names": lambda item, folder: with_names(*item.told[1:]),
+    "same": source,
+    "cut": cut,
+    "poke": poked,
+}
 
 
 def contents(item, folder):
     """The bytes of the file that a line describes, among these files."""
-    told = item.told
-    if item.word in ("object", "listing"):
-        return listed(item.block)
-    if item.word == "text":
-        return b"".join(encoded(line, text) for line, text in item.block)
-    if item.word == "bytes":
-        return told[1]
-    if item.word == "sized":
-        return sized(told[1], told[2])
-    if item.word == "names":
-        return with_names(told[1], told[2])
-    if item.word == "cut":
-        return cut(item, folder)
-    if item.word == "poke":
-        return poked(item.line, source(item, folder), told[1])
-    return source(item, folder)
+    return MAKERS[item.word](item, folder)
 
 
 def objects(item):
@@ -203,7 +175,7 @@ def make(item, folder):
     """Puts the files of a line into a folder."""
     if item.word == "use":
         folder.update((name, sample(item.line, name)) for name in item.told)
-    elif item.word == "object" and isinstance(item.told[0], str):
+    elif item.word == "object" and len(item.told) == 2:
         folder.update(objects(item))
     else:
         folder[item.told[0]] = contents(item, folder)

@@ -2,7 +2,7 @@
 import re
 from dataclasses import dataclass, field
 
-PROGRAMS = ("v7", "v7-explain", "v7-from-gnu", "v7-object")
+PROGRAMS = (b"v7", b"v7-explain", b"v7-from-gnu", b"v7-object")
 
 
 class Mistake(Exception):
@@ -16,7 +16,7 @@ class Mistake(Exception):
 
 @dataclass
 class Item:
-    """A line that makes or describes a file, or plans a failure, with its `|` lines."""
+    """A line with a word at the front, what it has after the word, and its `|` lines."""
     line: int
     word: str
     told: tuple
@@ -25,14 +25,13 @@ class Item:
 
 @dataclass
 class Step:
-    """A command, what it reads, and what is to come of it."""
+    """A command, what it reads, and what is to come of it. Each text has its line."""
     line: int
     words: list
     given: list = field(default_factory=list)
     output: list = field(default_factory=list)
     error: list = field(default_factory=list)
     status: tuple = None
-    asked: list = None
     files: list = field(default_factory=list)
 
     def is_checked(self):
@@ -41,13 +40,10 @@ class Step:
 
 @dataclass
 class Part:
-    """Files, commands, and states of sessions, in a folder of its own."""
-    line: int
+    """Files, refusals and states, and commands, in a folder of their own."""
     made: list = field(default_factory=list)
     plans: list = field(default_factory=list)
-    only: set = field(default_factory=set)
     steps: list = field(default_factory=list)
-    states: list = field(default_factory=list)
 
 
 @dataclass
@@ -57,7 +53,7 @@ class Case:
     parts: list
 
 
-# --- texts
+# --- texts and words
 
 TIMES = re.compile(r"\\\*([0-9]+)\(([^)]*)\)")
 ESCAPE = re.compile(r"\\([0-3][0-7][0-7])?")
@@ -69,13 +65,9 @@ def numbered(text, number):
     return text.replace("\\d", str(number)).replace("\\D", "%04d" % number).replace("\\o", "%06o" % number)
 
 
-def times(text, count):
-    return [numbered(text, number) for number in range(count)]
-
-
 def spread(text):
     """The text with each repetition written out."""
-    return TIMES.sub(lambda found: "".join(times(found[2], int(found[1]))), text)
+    return TIMES.sub(lambda found: "".join(numbered(found[2], number) for number in range(int(found[1]))), text)
 
 
 def encoded(line, text):
@@ -89,8 +81,7 @@ def encoded(line, text):
 
 def words_of(line, text):
     """The words of a text, as bytes."""
-    text = spread(text)
-    words, at = [], 0
+    text, words, at = spread(text), [], 0
     while at < len(text):
         found = WORD.match(text, at)
         if not found:
@@ -102,18 +93,16 @@ def words_of(line, text):
 
 def texts_of(line, text):
     """The texts after the mark of a line, each with the newline that ends it or with none."""
-    mark, rest = text[:1], text[1:]
-    if rest == "" or rest[0] == " ":
-        return [spread(rest[1:]) + "\n"]
-    if rest[0] == "-":
-        return [spread(rest[2:])]
-    found = re.fullmatch(r"\* ([0-9]+)(?: (.*))?", rest)
+    found = re.fullmatch(r".(?:(-)|\* ([0-9]+))?(?: (.*))?", text)
     if not found:
         raise Mistake(line, f"unknown line: {text}")
-    return [one + "\n" for one in times(spread(found[2] or ""), int(found[1]))]
+    is_last, times, rest = found[1], found[2], spread(found[3] or "")
+    if times:
+        return [numbered(rest, number) + "\n" for number in range(int(times))]
+    return [rest if is_last else rest + "\n"]
 
 
-# --- lines with a word at the front: what each has after it, and how it is read
+# --- what follows the word at the front of a line
 
 def number(word):
     if not word.isdigit():
@@ -127,128 +116,92 @@ def path(word):
     return word
 
 
-def paths(words):
-    if not words:
-        raise ValueError
-    return tuple(path(word) for word in words)
-
-
-def hexadecimal(word):
+def some_bytes(word):
+    """Bytes, the same bytes so many times, or words that count up."""
+    if b"*" in word:
+        same, count = word.split(b"*")
+        return some_bytes(same) * number(count)
+    if b".." in word:
+        first, last = (int.from_bytes(some_bytes(end), "little") for end in word.split(b".."))
+        return b"".join(value.to_bytes(2, "little") for value in range(first, last + 1))
     return bytes.fromhex(word.decode("ascii"))
 
 
-def byte_item(word):
-    """Bytes, so many times the same bytes, or words that count up."""
-    if b"*" in word:
-        same, count = word.split(b"*")
-        return hexadecimal(same) * number(count)
-    if b".." in word:
-        first, last = (int.from_bytes(hexadecimal(end), "little") for end in word.split(b".."))
-        return b"".join(value.to_bytes(2, "little") for value in range(first, last + 1))
-    return hexadecimal(word)
+KINDS = {"FILE": path, "FROM": path, "N": number, "BYTE": number, "HH": some_bytes, "NAME": bytes, "PREFIX": bytes,
+         "REQUEST": bytes, "EDIT": bytes}
+FORMS = {
+    "use": ["FILE .."],
+    "object": ["FILE"],
+    "bytes": ["FILE", "FILE HH .."],
+    "text": ["FILE"],
+    "listing": ["FILE"],
+    "sized": ["FILE text N data N bss N undefined NAME .."],
+    "names": ["FILE N PREFIX"],
+    "cut": ["FILE N FROM"],
+    "poke": ["FILE BYTE HH .. FROM"],
+    "same": ["FILE FROM"],
+    "unchanged": ["FILE .."],
+    "absent": ["FILE .."],
+    "only": ["memory", "disk"],
+    "refuse": ["REQUEST FILE", "write more FILE"],
+    "fail": ["read FILE after N", "write FILE after N"],
+    "state": ["", "EDIT .."],
+    "status": ["N"],
+}
+WITH_BLOCK = ("object", "text", "listing", "state")
+PLANS = ("only", "refuse", "fail", "state")
+ONLY_MADE = ("use", "object")
+ONLY_CHECKED = ("listing", "unchanged", "absent")
 
 
-def read_bytes(words):
-    return path(words[0]), b"".join(byte_item(word) for word in words[1:])
-
-
-def read_object(words):
-    (name,) = words
-    return path(name), 1
+def read_form(form, words):
+    """The values of words that have this form: each of a kind, or a word of the form itself."""
+    kinds = form.split()
+    if kinds[-1:] == [".."]:
+        kinds = kinds[:-1] + kinds[-2:-1] * (len(words) - len(kinds) + 1)
+    if len(kinds) != len(words):
+        raise ValueError
+    if any(kind not in KINDS and kind.encode() != word for kind, word in zip(kinds, words)):
+        raise ValueError
+    return tuple(KINDS[kind](word) if kind in KINDS else kind for kind, word in zip(kinds, words))
 
 
 def read_sized(words):
-    name, words = path(words[0]), list(words[1:])
+    name, words = path(words[0]), words[1:]
     sizes = {b"text": 0, b"data": 0, b"bss": 0}
-    while words and words[0] != b"undefined":
-        sizes[words[0]] = sizes[words[0]] * 0 + number(words[1])
+    while words and words[0] in sizes:
+        sizes[words[0]] = number(words[1])
         words = words[2:]
-    if words == [b"undefined"]:
+    if words and (words[0] != b"undefined" or len(words) == 1):
         raise ValueError
     return name, sizes, words[1:]
 
 
-def read_names(words):
-    name, count, prefix = words
-    return path(name), number(count), prefix
-
-
-def read_cut(words):
-    name, count, source = words
-    return path(name), number(count), path(source)
-
-
 def read_poke(words):
-    name, *pairs, source = words
-    if not pairs or len(pairs) % 2:
+    name, *changes, source = words
+    if not changes or len(changes) % 2:
         raise ValueError
-    places = [number(word) for word in pairs[0::2]]
-    return path(name), list(zip(places, map(hexadecimal, pairs[1::2]))), path(source)
+    places = map(number, changes[0::2])
+    return path(name), list(zip(places, map(some_bytes, changes[1::2]))), path(source)
 
 
-def read_same(words):
-    name, source = words
-    return path(name), path(source)
-
-
-def read_only(words):
-    (engine,) = words
-    if engine not in (b"memory", b"disk"):
-        raise ValueError
-    return (engine.decode(),)
-
-
-def read_refuse(words):
-    if len(words) < 2:
-        raise ValueError
-    return tuple(words)
-
-
-def read_fail(words):
-    what, name, after, count = words
-    if what not in (b"read", b"write") or after != b"after":
-        raise ValueError
-    return what, name, number(count)
-
-
-FORMS = {
-    "use": ("FILE ..", paths),
-    "object": ("FILE", read_object),
-    "bytes": ("FILE HH ..", read_bytes),
-    "text": ("FILE", read_object),
-    "listing": ("FILE", read_object),
-    "sized": ("FILE text N data N bss N undefined NAME ..", read_sized),
-    "names": ("FILE N PREFIX", read_names),
-    "cut": ("FILE N FROM", read_cut),
-    "poke": ("FILE BYTE HH FROM", read_poke),
-    "same": ("FILE FROM", read_same),
-    "unchanged": ("FILE ..", paths),
-    "absent": ("FILE ..", paths),
-    "only": ("memory, or only disk", read_only),
-    "refuse": ("REQUEST FILE", read_refuse),
-    "fail": ("read FILE after N, or fail write FILE after N", read_fail),
-}
-WITH_BLOCK = ("object", "text", "listing", "state")
-PLANS = ("refuse", "fail")
-MAKING = ("use", "object", "bytes", "text", "sized", "names", "cut", "poke", "same")
-CHECKING = ("bytes", "text", "listing", "sized", "names", "cut", "poke", "same", "unchanged", "absent")
-
-
-def read_asked(line, text):
-    """The requests of a line, each with its file."""
-    requests = [words_of(line, one) for one in text.split(", ") if text]
-    if any(len(words) < 2 for words in requests):
-        raise Mistake(line, "wanted asked REQUEST FILE, ..")
-    return requests
+READERS = {"sized": read_sized, "poke": read_poke}
 
 
 def item_of(line, word, rest):
-    usage, reader = FORMS[word]
     words = words_of(line, rest)
-    try:
-        return Item(line, word, reader(words))
-    except (ValueError, IndexError, KeyError):
-        raise Mistake(line, f"wanted {word} {usage}") from None
+    for form in FORMS[word]:
+        try:
+            return Item(line, word, READERS[word](words) if word in READERS else read_form(form, words))
+        except (ValueError, IndexError):
+            pass
+    raise Mistake(line, "wanted " + ", or ".join(f"{word} {form}" for form in FORMS[word]))
+
+
+def check_asked(line, text):
+    """The requests of a line, each with its file, are checked in memory only; here they need the right form."""
+    if any(len(words_of(line, one)) < 2 for one in text.split(", ") if text):
+        raise Mistake(line, "wanted asked REQUEST FILE, ..")
 
 
 # --- cases
@@ -256,110 +209,97 @@ def item_of(line, word, rest):
 class Reader:
     """Reads the lines of one case."""
 
-    def __init__(self, line):
-        self.parts = [Part(line)]
+    def __init__(self):
+        self.parts = [Part()]
         self.owner = None
-
-    def part(self):
-        return self.parts[-1]
 
     def step(self, line, text):
         """The command that a line is about."""
-        if not self.part().steps:
+        if not self.parts[-1].steps:
             raise Mistake(line, f"before any command: {text}")
-        return self.part().steps[-1]
+        return self.parts[-1].steps[-1]
 
     def take(self, line, text):
-        mark = text[0]
-        if mark != "|":
-            self.owner = None
+        if text[0] == "|":
+            self.take_block(line, text)
+            return
+        self.owner = None
         if text == "--":
             self.end_part(line)
-            self.parts.append(Part(line))
+            self.parts.append(Part())
         elif text.startswith("$ "):
             self.take_command(line, text[2:])
-        elif mark in "<>!":
-            self.take_text(line, mark, text)
-        elif mark == "|":
-            self.take_block(line, text)
+        elif text[0] in "<>!":
+            self.take_text(line, text)
         else:
             self.take_word(line, text)
-
-    def take_command(self, line, text):
-        words = words_of(line, text)
-        if not words or words[0].decode("latin-1") not in PROGRAMS:
-            raise Mistake(line, f"not one of the programs: {text}")
-        self.end_step()
-        self.part().steps.append(Step(line, words))
-
-    def take_text(self, line, mark, text):
-        step = self.step(line, text)
-        found = [(line, encoded(line, one)) for one in texts_of(line, text)]
-        {"<": step.given, ">": step.output, "!": step.error}[mark].extend(found)
 
     def take_block(self, line, text):
         if self.owner is None:
             raise Mistake(line, f"not after object, text, listing or state: {text}")
         self.owner.block.extend((line, one) for one in texts_of(line, text))
 
+    def take_command(self, line, text):
+        words = words_of(line, text)
+        if words[0] not in PROGRAMS:
+            raise Mistake(line, f"not one of the programs: {text}")
+        self.end_step()
+        self.parts[-1].steps.append(Step(line, words))
+
+    def take_text(self, line, text):
+        step = self.step(line, text)
+        texts = {"<": step.given, ">": step.output, "!": step.error}[text[0]]
+        texts.extend((line, encoded(line, one)) for one in texts_of(line, text))
+
     def take_word(self, line, text):
         word, _, rest = text.partition(" ")
         if word == "object*":
             self.take_objects(line, rest)
-        elif word == "status":
-            self.take_status(line, rest)
         elif word == "asked":
-            self.step(line, text).asked = read_asked(line, rest)
-        elif word == "state":
-            self.owner = Item(line, word, tuple(words_of(line, rest)))
-            self.part().states.append(self.owner)
+            self.step(line, text)
+            check_asked(line, rest)
         elif word in FORMS:
             self.take_item(item_of(line, word, rest))
         else:
             raise Mistake(line, f"unknown line: {text}")
 
     def take_objects(self, line, rest):
-        count, _, name = rest.partition(" ")
-        if not count.isdigit() or not name:
+        found = re.fullmatch("([0-9]+) ([^ ]+)", rest)
+        if not found:
             raise Mistake(line, "wanted object* N FILE")
-        self.owner = Item(line, "object", (name, int(count)))
-        self.make(self.owner)
-
-    def take_status(self, line, rest):
-        step = self.step(line, "status")
-        if not rest.isdigit():
-            raise Mistake(line, "wanted status N")
-        if step.status is not None:
-            raise Mistake(line, "a second status")
-        step.status = (line, int(rest))
+        self.take_item(Item(line, "object", (found[2], int(found[1]))))
 
     def take_item(self, item):
+        part = self.parts[-1]
         if item.word in WITH_BLOCK:
             self.owner = item
-        if item.word == "only":
-            self.part().only.add(item.told[0])
+        if item.word == "status":
+            self.take_status(item)
         elif item.word in PLANS:
-            self.part().plans.append(item)
-        elif self.part().steps and item.word in CHECKING:
-            self.part().steps[-1].files.append(item)
+            part.plans.append(item)
+        elif not part.steps and item.word not in ONLY_CHECKED:
+            part.made.append(item)
+        elif part.steps and item.word not in ONLY_MADE:
+            part.steps[-1].files.append(item)
         else:
-            self.make(item)
+            hint = "before the commands of a part; -- begins a new part" if part.steps else "after a command"
+            raise Mistake(item.line, f"{item.word} comes {hint}")
 
-    def make(self, item):
-        if item.word not in MAKING:
-            raise Mistake(item.line, f"before any command: {item.word}")
-        if self.part().steps:
-            raise Mistake(item.line, f"{item.word} comes before the commands; a line -- begins a new part")
-        self.part().made.append(item)
+    def take_status(self, item):
+        step = self.step(item.line, "status")
+        if step.status:
+            raise Mistake(item.line, "a second status")
+        step.status = (item.line, item.told[0])
 
     def end_step(self):
-        steps = self.part().steps
+        steps = self.parts[-1].steps
         if steps and not steps[-1].is_checked():
             raise Mistake(steps[-1].line, "no line has what comes of this command")
 
     def end_part(self, line):
         self.end_step()
-        if not self.part().steps and not self.part().states:
+        part = self.parts[-1]
+        if not part.steps and all(plan.word != "state" for plan in part.plans):
             raise Mistake(line, "no command")
 
 
@@ -373,35 +313,30 @@ def check_line(line, text):
 def read_case(lines):
     """The case of these lines, which begin with those of `#`."""
     shown = [entry for entry in lines if entry[1].startswith("#")]
-    rest = lines[len(shown):]
-    if not rest:
+    if len(shown) == len(lines):
         raise Mistake(shown[-1][0], "no case after this line")
-    line, text = rest[0]
-    if not re.fullmatch(r"case [a-z0-9_]+", text):
+    line, text = lines[len(shown)]
+    if not re.fullmatch("case [a-z0-9_]+", text):
         raise Mistake(line, f"wanted case NAME: {text}")
-    if not any(entry[1].startswith("# ") for entry in shown):
+    if not shown:
         raise Mistake(line, "no # line before this case")
-    reader = Reader(line)
-    for entry in rest[1:]:
+    reader = Reader()
+    for entry in lines[len(shown) + 1:]:
         check_line(*entry)
         reader.take(*entry)
     reader.end_part(line)
     return Case(text[5:], line, reader.parts)
 
 
-def split(lines):
-    """The lines of each case: a case begins with lines of `#`, or without them."""
+def cases_in(name):
+    """The lines of each case of a file: a case begins with lines of `#`, or without them."""
+    with open(name, encoding="latin-1", newline="") as file:
+        lines = [entry for entry in enumerate(file.read().split("\n"), 1) if entry[1]]
     cases, was_shown = [], False
     for entry in lines:
         is_shown = entry[1].startswith("#")
-        if not cases or (is_shown and not was_shown) or (entry[1].startswith("case ") and not was_shown):
+        if not cases or not was_shown and (is_shown or entry[1].startswith("case ")):
             cases.append([])
         cases[-1].append(entry)
         was_shown = is_shown
     return cases
-
-
-def lines_of(name):
-    with open(name, encoding="latin-1", newline="") as file:
-        texts = file.read().split("\n")
-    return [(place, text) for place, text in enumerate(texts, 1) if text]

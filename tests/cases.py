@@ -1,11 +1,9 @@
 #!/usr/bin/env python3
 """Plays cases, docs/CASES.md, with the built programs, in real folders and through real pipes.
 
-usage: tests/cases.py [-b FOLDER] [FILE ..]     plays these files, or all of crates/cases/data
-       tests/cases.py [-b FOLDER] -e FILE ..    prints the first error of each bad case, and goes on
-       tests/cases.py -s                        compares the samples with the files of examples/
-
-The programs are in FOLDER, which is build/ without -b.
+usage: tests/cases.py [FILE ..]      plays these files, or all of crates/cases/data
+       tests/cases.py -e FILE ..     prints only the first error of each bad case
+       tests/cases.py -s             compares the samples with the files of examples/
 """
 import collections
 import glob
@@ -16,7 +14,7 @@ import sys
 import tempfile
 
 from case_files import SAMPLES, contents, make, sample, sample_path
-from case_format import Mistake, lines_of, read_case, split
+from case_format import Mistake, cases_in, read_case
 
 TOP = os.path.normpath(os.path.join(os.path.dirname(os.path.abspath(__file__)), ".."))
 SECONDS = 60
@@ -78,46 +76,33 @@ def check_bytes(item, wanted, came):
         raise differ(item.line, os.fsdecode(item.told[0]), excerpt(wanted, at), excerpt(came, at))
 
 
-def check_described(item, after):
-    name = item.told[0]
-    if name not in after:
-        raise differ(item.line, os.fsdecode(name), "a file", "no such file")
-    others = {other: data for other, data in after.items() if other != name}
-    check_bytes(item, contents(item, others), after[name])
+MANY = ("unchanged", "absent")
 
 
-def check_unchanged(item, before, after):
-    for name in item.told:
-        if name not in before or before[name] != after.get(name):
-            raise Mistake(item.line, f"{os.fsdecode(name)} is not the file that it was")
+def check_described(item, before, after):
+    """Checks what a line says of files."""
+    for name in item.told if item.word in MANY else item.told[:1]:
+        path = os.fsdecode(name)
+        if item.word == "absent" and name in after:
+            raise Mistake(item.line, f"{path} is there")
+        if item.word != "absent" and name not in after:
+            raise Mistake(item.line, f"{path} is not there")
+        if item.word == "unchanged" and before.get(name) != after[name]:
+            raise Mistake(item.line, f"{path} has changed")
+        if item.word not in MANY:
+            others = {other: data for other, data in after.items() if other != name}
+            check_bytes(item, contents(item, others), after[name])
 
 
-def check_absent(item, after):
-    for name in item.told:
-        if name in after:
-            raise Mistake(item.line, f"{os.fsdecode(name)} is there")
-
-
-def check_others(step, before, after):
-    """Files that no line describes are as they were."""
+def check_files(step, before, after):
     described = set()
     for item in step.files:
-        described.update(item.told if item.word in ("unchanged", "absent") else item.told[:1])
+        check_described(item, before, after)
+        described.update(item.told if item.word in MANY else item.told[:1])
     for name in sorted((before.keys() | after.keys()) - described):
         if before.get(name) != after.get(name):
             how = "has gone" if name not in after else "has changed" if name in before else "has appeared"
             raise Mistake(step.line, f"{os.fsdecode(name)} {how}, and no line describes it")
-
-
-def check_files(step, before, after):
-    for item in step.files:
-        if item.word == "unchanged":
-            check_unchanged(item, before, after)
-        elif item.word == "absent":
-            check_absent(item, after)
-        else:
-            check_described(item, after)
-    check_others(step, before, after)
 
 
 # --- commands
@@ -131,16 +116,11 @@ def snapshot(room):
     return files
 
 
-def program(step, build):
-    path = os.path.join(build, step.words[0].decode())
-    if not os.access(path, os.X_OK):
-        raise Mistake(step.line, f"{path} is missing")
-    return path
-
-
-def run(step, build, room):
+def run(step, room):
     given = b"".join(text for _, text in step.given)
-    path = program(step, build)
+    path = os.path.join(TOP, "build", step.words[0].decode())
+    if not os.access(path, os.X_OK):
+        raise Mistake(step.line, f"build/{step.words[0].decode()} is missing")
     try:
         return subprocess.run(step.words, executable=path, cwd=room, input=given, capture_output=True,
                               env={}, timeout=SECONDS, check=False)
@@ -148,43 +128,48 @@ def run(step, build, room):
         raise Mistake(step.line, f"it does not end within {SECONDS} seconds") from None
 
 
-def play_step(step, build, room):
+def play_step(step, room):
     before = snapshot(room)
-    came = run(step, build, room)
+    came = run(step, room)
     check_output(step.line, "standard error", step.error, came.stderr)
     check_output(step.line, "standard output", step.output, came.stdout)
     check_status(step, came.returncode)
     check_files(step, before, snapshot(room))
 
 
-def play_part(part, build):
+def files_of(part):
+    """The files before the commands. Listings after the commands are read too, so that a part that is skipped has no bad one."""
     folder = {}
     for item in part.made:
         make(item, folder)
+    for item in (item for step in part.steps for item in step.files):
+        if item.word == "listing":
+            contents(item, folder)
+    return folder
+
+
+def play_part(part, folder):
     with tempfile.TemporaryDirectory() as room:
         for name, data in folder.items():
             with open(os.path.join(os.fsencode(room), name), "wb") as file:
                 file.write(data)
         for step in part.steps:
-            play_step(step, build, room)
+            play_step(step, room)
 
 
 # --- cases
 
 def reason(part):
     """Why a part can't be played here, or None."""
-    if part.states:
-        return "the state of a session"
-    if part.plans:
-        return "refusals and failing devices"
-    return "only memory" if "memory" in part.only else None
+    words = {plan.word for plan in part.plans if plan.told != ("disk",)}
+    names = {"state": "states of sessions", "refuse": "refusals and failing devices", "fail": "refusals and failing devices"}
+    return next((names.get(word, "only memory") for word in sorted(words, reverse=True)), None)
 
 
 class Run:
     """All cases of a run, and what came of them."""
 
-    def __init__(self, build, is_listing_errors):
-        self.build = build
+    def __init__(self, is_listing_errors):
         self.is_listing_errors = is_listing_errors
         self.names = {}
         self.played = self.in_part = self.bad = 0
@@ -197,8 +182,9 @@ class Run:
     def play(self, case):
         reasons = [why for why in map(reason, case.parts) if why]
         for part in case.parts:
+            folder = files_of(part)
             if not reason(part):
-                play_part(part, self.build)
+                play_part(part, folder)
         if len(reasons) == len(case.parts):
             self.skipped[reasons[0]] += 1
             self.say(f"skipped {case.name}: {reasons[0]}")
@@ -221,7 +207,7 @@ class Run:
             print(f"{name}:{mistake.line}: {known}: {mistake.text}")
 
     def file(self, name):
-        cases = split(lines_of(name))
+        cases = cases_in(name)
         for lines in cases:
             self.take(name, lines)
         if not cases:
@@ -251,21 +237,17 @@ def check_samples():
 
 
 def main(words):
-    build, is_listing_errors = os.path.join(TOP, "build"), False
-    if words[:1] == ["-s"]:
+    if words == ["-s"]:
         return 0 if check_samples() else 1
-    if words[:1] == ["-b"]:
-        build, words = os.path.abspath(words[1]), words[2:]
-    if words[:1] == ["-e"]:
-        is_listing_errors, words = True, words[1:]
-    files = words or sorted(os.path.relpath(name) for name in glob.glob(os.path.join(SAMPLES, "*.case")))
-    run_all = Run(build, is_listing_errors)
+    is_listing_errors = words[:1] == ["-e"]
+    files = words[is_listing_errors:] or sorted(glob.glob(os.path.relpath(os.path.join(SAMPLES, "*.case"))))
+    all_cases = Run(is_listing_errors)
     for name in files:
-        run_all.file(name)
+        all_cases.file(name)
     if is_listing_errors:
         return 0
-    run_all.summary()
-    return 1 if run_all.bad or not run_all.played else 0
+    all_cases.summary()
+    return 1 if all_cases.bad or not all_cases.played else 0
 
 
 if __name__ == "__main__":
