@@ -318,11 +318,12 @@ def read_case(lines):
     line, text = lines[len(shown)]
     if not re.fullmatch("case [a-z0-9_]+", text):
         raise Mistake(line, f"wanted case NAME: {text}")
-    if not shown:
+    if not any(re.match(r"# \S", text) for _, text in shown):
         raise Mistake(line, "no # line before this case")
     reader = Reader()
-    for entry in lines[len(shown) + 1:]:
+    for entry in lines:
         check_line(*entry)
+    for entry in lines[len(shown) + 1:]:
         reader.take(*entry)
     reader.end_part(line)
     return Case(text[5:], line, reader.parts)

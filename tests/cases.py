@@ -207,12 +207,15 @@ class Run:
             print(f"{name}:{mistake.line}: {known}: {mistake.text}")
 
     def file(self, name):
-        cases = cases_in(name)
+        try:
+            cases = cases_in(name)
+        except OSError:
+            cases = []
         for lines in cases:
             self.take(name, lines)
         if not cases:
             self.bad += 1
-            print(f"{name}:1: no case in this file")
+            print(f"{name}:1: no such file, or no case in it")
 
     def summary(self):
         skipped = "".join(f", {count} for {why}" for why, count in sorted(self.skipped.items()))
