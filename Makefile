@@ -12,11 +12,11 @@ endif
 # tests/prove.py uses all processors by itself
 .NOTPARALLEL:
 .PHONY: all try demo lib check-lib test recheck wrong-bodies memory room bench instructions simulate lesson page check-page \
-	check-manual check-examples check-explain check-model check-streams install clean
+	check-manual check-examples check-explain check-cases check-model check-streams install clean
 
 all: build/v7 build/v7-from-gnu build/v7-object build/v7-explain
 
-SOURCES := crates.txt $(shell find crates -name out -prune -o -type f -print)
+SOURCES := crates.txt $(shell find crates \( -name out -o -path crates/cases/data \) -prune -o -type f -print)
 
 build/v7: crates/v7/out/v7
 	mkdir -p build
@@ -178,6 +178,13 @@ check-explain: build/v7 build/v7-explain build/v7-object
 	python3 tests/listings.py build/v7-explain build/v7-object
 	python3 tests/notes.py build/v7-explain
 	python3 tests/map.py build/v7 build/v7-explain
+
+# plays the cases, docs/CASES.md, with the programs: each must come out as written, and each bad case must be refused with its
+# line. Samples that are in examples too must be the same there
+check-cases: build/v7 build/v7-from-gnu build/v7-explain
+	python3 tests/cases.py -s
+	python3 tests/cases.py -e tests/bad.case | cmp - tests/bad.answers
+	python3 tests/cases.py
 
 # compares v7 with a second linker, tests/model.py, on 3,000 random cases, always the same
 check-model: build/v7
