@@ -181,7 +181,7 @@ check-explain: build/v7 build/v7-explain build/v7-object
 
 # plays the cases, docs/CASES.md, with the programs: each must come out as written, and each bad case must be refused with its
 # line. Samples that are in examples too must be the same there
-check-cases: build/v7 build/v7-from-gnu build/v7-explain
+check-cases: build/v7 build/v7-from-gnu build/v7-object build/v7-explain
 	python3 tests/cases.py -s
 	python3 tests/cases.py -e tests/bad.case | cmp - tests/bad.answers
 	python3 tests/cases.py
