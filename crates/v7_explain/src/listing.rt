@@ -1,6 +1,8 @@
 //! The listing of a file, in the form that `read_listing` of `listings` reads.
-ghost use Rattle.std.specs.Prelude.{◌≡◌, Ok, IfOk};
+ghost use Rattle.std.specs.Prelude.{◌≡◌, Ok, IfOk, map, string_bytes};
+ghost use Rattle.listings.specs.Listing.{listing};
 ghost use Rattle.listings.specs.Reading.{read};
+ghost use Rattle.v7_explain.specs.Said.{explained};
 
 use crate::remarks::Explained;
 use aout_core::{File, Header};
@@ -70,7 +72,8 @@ pub(crate) fn listing_of(
     notes: &[String],
     findings: &[String],
 ) -> Result<Vec<u8>, AllocError>
-    ensures { IfOk result (λ text. read text.items ≡ Ok file.now) }
+    ensures lists { IfOk result (λ v. v.items ≡ listing (explained file.now.symbols (map string_bytes notes.now) (map string_bytes findings.now)) file.now) }
+    ensures again { IfOk result (λ v. read v.items ≡ Ok file.now) }
 {
     let remarks = Explained {
         alloc,
