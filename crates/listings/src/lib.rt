@@ -18,4 +18,4 @@ mod write;
 pub use fault::{Fault, ListingFault, Reason};
 pub use read::read_listing;
 pub use remark::{Nothing, Remark};
-pub use write::write_listing;
+pub use write::{put_name, put_octal, put_short_octal, write_listing};

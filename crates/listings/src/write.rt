@@ -1,11 +1,13 @@
 //! Writes the listing of a file.
-ghost use Rattle.std.specs.Prelude.{◌≡◌, ◌<◌, [], ◌∷◌, ◌++◌, codes, length, replicate, slice_get, IfOk, OnOk};
+ghost use Rattle.std.specs.Prelude.{◌≡◌, ◌<◌, [], ◌∷◌, ◌++◌, codes, length, replicate, slice_get, Ok, IfOk, OnOk};
 ghost use Rattle.listings.specs.Octal.{digit, octal, short, short_octal};
 ghost use Rattle.listings.specs.Names.{shown_byte, shown_name};
 ghost use Rattle.listings.specs.Listing.{note_lines, gap, wide, word_line, word_lines, symbol_numbers, symbol_line, symbol_lines, named_line, unusual, head_lines, text_lines, data_lines, bss_lines, table_lines, text_of, listing};
+ghost use Rattle.listings.specs.Reading.{read};
 
 use crate::draft::data_start;
 use crate::remark::Remark;
+use aout_core::laws::sound_law;
 use aout_core::{File, Header, Name, Reloc, Symbol};
 use std::alloc::{AllocError, Global};
 
@@ -58,6 +60,21 @@ fn put_blanks(text: &mut Vec<u8>, count: usize) -> Result<(), AllocError>
         text.extend_from_slice(b" ")?;
     }
     Ok(())
+}
+
+/// Appends a number in six octal digits.
+pub fn put_octal(text: &mut Vec<u8>, word: u16) -> Result<(), AllocError>
+    ensures { OnOk result (text.new.items ≡ text.old.items ++ octal word) }
+{
+    text.extend_from_slice(&octal(word))
+}
+
+/// Appends a number in octal without zeros at the front.
+pub fn put_short_octal(text: &mut Vec<u8>, word: u16) -> Result<(), AllocError>
+    ensures { OnOk result (text.new.items ≡ text.old.items ++ short_octal word) }
+{
+    let digits = octal(word);
+    text.extend_from_slice(short(&digits))
 }
 
 /// Appends a blank, and so many more, and a column.
@@ -138,19 +155,26 @@ fn put_byte(text: &mut Vec<u8>, byte: u8) -> Result<(), AllocError>
     ])
 }
 
+/// Appends a name as it is shown: a blank, a backslash and each byte that does not print as `\ooo`, and an empty name as `\000`.
+pub fn put_name(text: &mut Vec<u8>, name: &Name) -> Result<(), AllocError>
+    ensures { OnOk result (text.new.items ≡ text.old.items ++ shown_name name.now) }
+{
+    let bytes = name.as_bytes();
+    if bytes.is_empty() {
+        return put_byte(text, 0);
+    }
+    for byte in bytes {
+        put_byte(text, *byte)?;
+    }
+    Ok(())
+}
+
 /// A name as it is shown.
 fn shown(alloc: Global, name: &Name) -> Result<Vec<u8>, AllocError>
     ensures { IfOk result (λ v. v.items ≡ shown_name name.now) }
 {
     let mut text = Vec::new(alloc);
-    let bytes = name.as_bytes();
-    if bytes.is_empty() {
-        put_byte(&mut text, 0)?;
-        return Ok(text);
-    }
-    for byte in bytes {
-        put_byte(&mut text, *byte)?;
-    }
+    put_name(&mut text, name)?;
     Ok(text)
 }
 
@@ -309,11 +333,7 @@ fn put_table<R: Remark>(
 }
 
 /// The listing of a file, with remarks.
-pub fn write_listing<R: Remark>(
-    alloc: Global,
-    file: &File,
-    remarks: &R,
-) -> Result<Vec<u8>, AllocError>
+fn listing_of<R: Remark>(alloc: Global, file: &File, remarks: &R) -> Result<Vec<u8>, AllocError>
     ensures { IfOk result (λ v. v.items ≡ listing (R.said remarks.now) file.now) }
 {
     let mut text = Vec::new(alloc);
@@ -325,4 +345,17 @@ pub fn write_listing<R: Remark>(
     put_table(remarks, alloc, &mut text, file)?;
     remarks.put_findings(&mut text)?;
     Ok(text)
+}
+
+/// The listing of a file, with remarks. Whatever is remarked, reading the listing gives the file.
+pub fn write_listing<R: Remark>(
+    alloc: Global,
+    file: &File,
+    remarks: &R,
+) -> Result<Vec<u8>, AllocError>
+    ensures lists { IfOk result (λ v. v.items ≡ listing (R.said remarks.now) file.now) }
+    ensures again { IfOk result (λ v. read v.items ≡ Ok file.now) }
+{
+    sound_law(file);
+    listing_of(alloc, file, remarks)
 }

@@ -1,9 +1,10 @@
 //! Files as listings.
 use crate::finding::{tell_odd, tell_wrong};
 use crate::likeness::{header_of, is_of_gnu, likeness};
-use crate::listing::{put_header, put_listing};
+use crate::listing::{listing_of, put_header};
 use crate::odd::odd_of;
 use crate::reading::{Bytes, read_all};
+use crate::remarks::put_lines;
 use crate::text::put_note;
 use crate::told::Told;
 use crate::words::ListingWords;
@@ -26,10 +27,11 @@ pub(crate) struct Source<'a> {
     pub(crate) is_stored: bool,
 }
 
-/// What is wrong with a file as an object; and the file.
+/// Adds what is wrong with a file as an object, and returns the file.
 fn tell_object(
     alloc: Global,
     told: &mut Told,
+    findings: &mut Vec<String>,
     source: Source<'_>,
     file: File,
 ) -> Result<File, AllocError> {
@@ -37,33 +39,37 @@ fn tell_object(
         Ok(object) => Ok(object.into_file()),
         Err((file, fault)) => {
             let wrong = wrong_object(alloc, &file, fault)?;
-            tell_wrong(alloc, told, source.path, source.is_stored, &wrong)?;
+            tell_wrong(alloc, told, findings, source.path, source.is_stored, &wrong)?;
             Ok(file)
         }
     }
 }
 
-/// Explains a file.
+/// Explains a file, after these notes.
 fn explain_file(
     alloc: Global,
     told: &mut Told,
+    notes: &mut Vec<String>,
     source: Source<'_>,
     file: File,
 ) -> Result<(), AllocError> {
-    put_listing(alloc, &mut told.text, &file)?;
-    let file = tell_object(alloc, told, source, file)?;
+    put_header(alloc, notes, file.header())?;
+    let mut findings = Vec::new(alloc);
+    let file = tell_object(alloc, told, &mut findings, source, file)?;
     let odd = odd_of(alloc, source.bytes, &file)?;
-    tell_odd(alloc, told, &odd)?;
+    tell_odd(alloc, &mut findings, &odd)?;
     if is_of_gnu(alloc, source.bytes, false) {
-        put_note(&mut told.text, GNU_NOTE)?;
+        put_note(alloc, &mut findings, GNU_NOTE)?;
     }
-    Ok(())
+    let listing = listing_of(alloc, &file, notes, &findings)?;
+    told.text.extend_from_slice(&listing)
 }
 
-/// Explains bytes that are no file.
+/// Explains bytes that are not a file, after these notes.
 fn explain_refused(
     alloc: Global,
     told: &mut Told,
+    notes: &mut Vec<String>,
     source: Source<'_>,
     fault: ReadFault,
 ) -> Result<(), AllocError> {
@@ -72,17 +78,17 @@ fn explain_refused(
         _ => None,
     };
     if let (Some(header), None) = (header_of(source.bytes), known) {
-        put_header(&mut told.text, &header)?;
+        put_header(alloc, notes, &header)?;
     }
     let wrong = wrong_bytes(alloc, source.bytes, fault)?;
-    tell_wrong(alloc, told, source.path, source.is_stored, &wrong)?;
+    tell_wrong(alloc, told, notes, source.path, source.is_stored, &wrong)?;
     if let Some(note) = known {
-        put_note(&mut told.text, note)?;
+        put_note(alloc, notes, note)?;
     }
     if is_of_gnu(alloc, source.bytes, true) {
-        put_note(&mut told.text, GNU_NOTE)?;
+        put_note(alloc, notes, GNU_NOTE)?;
     }
-    Ok(())
+    put_lines(&mut told.text, notes)
 }
 
 /// Explains the bytes of a file.
@@ -94,11 +100,12 @@ pub(crate) fn explain_bytes(
     let path = source.path;
     let size = source.bytes.len();
     let title = format!(in alloc; "{path}: 0{size:o} ({size}) bytes")?;
-    put_note(&mut told.text, title.as_str())?;
+    let mut notes = Vec::new(alloc);
+    put_note(alloc, &mut notes, title.as_str())?;
     match read_file(alloc, &mut Wire::new(source.bytes)) {
-        Ok(file) => explain_file(alloc, told, source, file),
+        Ok(file) => explain_file(alloc, told, &mut notes, source, file),
         Err(ReadFault::Memory) => Err(AllocError),
-        Err(fault) => explain_refused(alloc, told, source, fault),
+        Err(fault) => explain_refused(alloc, told, &mut notes, source, fault),
     }
 }
 
@@ -131,7 +138,7 @@ fn store(rt: &HostRuntime, told: &mut Told, path: &str) -> Result<(), AllocError
             told.text.clear();
             return told.fault(path, "cannot create", 2);
         };
-        if device.write_all(told.text.as_bytes()).is_err() {
+        if device.write_all(&told.text).is_err() {
             told.fault(path, "write error", 2)?;
         }
     }

@@ -27,6 +27,7 @@ pub(crate) fn find(
 pub(crate) fn tell_wrong(
     alloc: Global,
     told: &mut Told,
+    lines: &mut Vec<String>,
     path: &str,
     is_stored: bool,
     findings: &[Finding],
@@ -35,7 +36,7 @@ pub(crate) fn tell_wrong(
         let byte = byte_text(alloc, finding.place)?;
         let text = finding.text.as_str();
         let note = format!(in alloc; "wrong: {byte}: {text}")?;
-        put_note(&mut told.text, note.as_str())?;
+        put_note(alloc, lines, note.as_str())?;
         told.status = told.status.max(1);
         if is_stored {
             let line = format!(in alloc; "{byte}: {text}")?;
@@ -45,17 +46,17 @@ pub(crate) fn tell_wrong(
     Ok(())
 }
 
-/// Tells what is odd of a file, as notes.
+/// Adds what is odd of a file, as notes.
 pub(crate) fn tell_odd(
     alloc: Global,
-    told: &mut Told,
+    lines: &mut Vec<String>,
     findings: &[Finding],
 ) -> Result<(), AllocError> {
     for finding in findings {
         let byte = byte_text(alloc, finding.place)?;
         let text = finding.text.as_str();
         let note = format!(in alloc; "odd: {byte}: {text}")?;
-        put_note(&mut told.text, note.as_str())?;
+        put_note(alloc, lines, note.as_str())?;
     }
     Ok(())
 }

@@ -14,6 +14,7 @@ mod map_text;
 mod odd;
 mod places;
 mod reading;
+mod remarks;
 mod text;
 mod told;
 mod words;

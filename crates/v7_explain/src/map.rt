@@ -208,9 +208,10 @@ fn tell_names(
     names: &Names<'_>,
     options: &Options,
 ) -> Result<(), AllocError> {
-    put_map(alloc, &mut told.text, names, options)?;
+    let mut text = String::new(alloc);
+    put_map(alloc, &mut text, names, options)?;
     told.status = status_of(names.outcome);
-    Ok(())
+    told.text.extend_from_slice(text.as_bytes())
 }
 
 /// Tells the map of the objects that were taken.

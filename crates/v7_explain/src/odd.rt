@@ -3,7 +3,7 @@ use crate::finding::{Finding, find};
 use crate::places::{Places, Range, Segments};
 use crate::text::shown;
 use crate::words_in::{Contents, is_wanted, meant};
-use aout_core::{File, Header, Kind, Reloc, Segment, Symbol};
+use aout_core::{File, Header, Kind, Name, Reloc, Segment, Symbol};
 use std::alloc::{AllocError, Global};
 
 /// The name of a segment, and where it lies.
@@ -145,30 +145,54 @@ fn has_rest(bytes: &[u8], place: usize, symbol: &Symbol) -> bool {
     field.iter().skip(used).any(|byte| *byte != 0)
 }
 
-/// The first symbol of the same name, before the one of this number.
-fn alike(symbols: &[Symbol], number: usize, symbol: &Symbol) -> Option<usize> {
-    symbols
-        .iter()
-        .take(number)
-        .position(|other| other.name == symbol.name)
+/// A name, and the number of a symbol that has it.
+#[derive(Clone, Copy)]
+struct Numbered {
+    name: Name,
+    number: usize,
 }
 
-/// Adds a name that an earlier symbol has.
+/// The symbols in the order of their names, and those of one name in the order of the table.
+fn by_name(alloc: Global, symbols: &[Symbol]) -> Result<Vec<Numbered>, AllocError> {
+    let mut order = Vec::new(alloc);
+    for (number, symbol) in symbols.iter().enumerate() {
+        let name = symbol.name;
+        order.push(Numbered { name, number })?;
+    }
+    order.sort_by_key(|numbered| numbered.name)?;
+    Ok(order)
+}
+
+/// For each symbol the number of the first one that has its name.
+fn first_alike(alloc: Global, symbols: &[Symbol]) -> Result<Vec<usize>, AllocError> {
+    let mut firsts = Vec::new(alloc);
+    firsts.resize(symbols.len(), 0)?;
+    let mut first: Option<Numbered> = None;
+    for numbered in &by_name(alloc, symbols)? {
+        let before = match first {
+            Some(before) if before.name == numbered.name => before,
+            _ => *numbered,
+        };
+        if let Some(place) = firsts.get_mut(numbered.number) {
+            *place = before.number;
+        }
+        first = Some(before);
+    }
+    Ok(firsts)
+}
+
+/// Adds a name that an earlier symbol has, the one of the number `first`.
 fn find_alike(
     alloc: Global,
     findings: &mut Vec<Finding>,
     at: Titled<'_>,
-    symbols: &[Symbol],
     number: usize,
+    first: usize,
 ) -> Result<(), AllocError> {
-    let Titled {
-        symbol,
-        place,
-        title,
-    } = at;
-    let Some(first) = alike(symbols, number, symbol) else {
+    let Titled { place, title, .. } = at;
+    if first >= number {
         return Ok(());
-    };
+    }
     let text = format!(in alloc;
         "{title} has the name of symbol {first}; names are equal in eight bytes"
     )?;
@@ -182,12 +206,13 @@ struct Source<'a> {
     file: &'a File,
 }
 
-/// Adds what is odd of a symbol.
+/// Adds what is odd of a symbol, whose name the symbol of the number `first` has first.
 fn find_symbol(
     alloc: Global,
     findings: &mut Vec<Finding>,
     source: Source<'_>,
     number: usize,
+    first: usize,
     symbol: &Symbol,
 ) -> Result<(), AllocError> {
     let Source { bytes, file } = source;
@@ -208,7 +233,7 @@ fn find_symbol(
         )?;
         find(findings, place, text)?;
     }
-    find_alike(alloc, findings, at, file.symbols(), number)?;
+    find_alike(alloc, findings, at, number, first)?;
     find_type_bits(alloc, findings, at)?;
     find_common(alloc, findings, at)?;
     find_value(alloc, findings, at, &segments)
@@ -331,8 +356,9 @@ pub(crate) fn odd_of(alloc: Global, bytes: &[u8], file: &File) -> Result<Vec<Fin
     };
     find_words(alloc, &mut findings, header, data)?;
     let source = Source { bytes, file };
-    for (number, symbol) in file.symbols().iter().enumerate() {
-        find_symbol(alloc, &mut findings, source, number, symbol)?;
+    let firsts = first_alike(alloc, file.symbols())?;
+    for (number, (symbol, first)) in file.symbols().iter().zip(firsts.iter()).enumerate() {
+        find_symbol(alloc, &mut findings, source, number, *first, symbol)?;
     }
     Ok(findings)
 }

@@ -22,21 +22,24 @@ pub(crate) fn shown(alloc: Global, name: &[u8]) -> Result<String, AllocError> {
     Ok(text)
 }
 
-/// Adds a note, in lines that begin with `/` and are broken at blanks.
-pub(crate) fn put_note(text: &mut String, note: &str) -> Result<(), AllocError> {
-    text.push('/')?;
-    let mut column = 1usize;
+/// Adds a note, in lines that are broken at blanks. A line has no slash yet.
+pub(crate) fn put_note(
+    alloc: Global,
+    lines: &mut Vec<String>,
+    note: &str,
+) -> Result<(), AllocError> {
+    let mut line = String::new(alloc);
     for word in note.split(' ') {
-        let width = word.len().saturating_add(1);
-        if column.saturating_add(width) > WIDTH && column > 4 {
-            text.push_str("\n/  ")?;
-            column = 3;
+        let end = line.len().saturating_add(word.len()).saturating_add(2);
+        if end > WIDTH && line.len() > 3 {
+            lines.push(line)?;
+            line = String::from_str(alloc, "  ")?;
         }
-        text.push(' ')?;
-        text.push_str(word)?;
-        column = column.saturating_add(width);
+        line.push(' ')?;
+        line.push_str(word)?;
     }
-    text.push('\n')
+    lines.push(line)?;
+    Ok(())
 }
 
 /// The byte of a file, in octal and in decimal.

@@ -4,7 +4,7 @@ use std::alloc::{AllocError, Global};
 /// A text for standard output, lines for standard error, and the status.
 #[derive(Drop)]
 pub(crate) struct Told {
-    pub(crate) text: String,
+    pub(crate) text: Vec<u8>,
     pub(crate) errors: String,
     pub(crate) status: u8,
 }
@@ -13,7 +13,7 @@ impl Told {
     /// Nothing told, and status 0.
     pub(crate) fn new(alloc: Global) -> Told {
         Told {
-            text: String::new(alloc),
+            text: Vec::new(alloc),
             errors: String::new(alloc),
             status: 0,
         }
@@ -33,7 +33,7 @@ impl Told {
 
 /// Writes what is told to the standard streams, and returns the status.
 pub(crate) fn tell(rt: &HostRuntime, told: &Told) -> u8 {
-    let written = rt.print(told.text.as_str());
+    let written = rt.write_all(&told.text);
     let _ = rt.eprint(told.errors.as_str());
     match written {
         Ok(()) => told.status,
