@@ -16,7 +16,7 @@ endif
 
 all: build/v7 build/v7-from-gnu build/v7-object build/v7-explain
 
-SOURCES := crates.txt $(shell find crates \( -name out -o -path crates/cases/data \) -prune -o -type f -print)
+SOURCES := crates.txt $(shell find crates \( -name out -o -path crates/cases \) -prune -o -type f -print)
 
 build/v7: crates/v7/out/v7
 	mkdir -p build
@@ -183,7 +183,7 @@ check-explain: build/v7 build/v7-explain build/v7-object
 # line. Samples that are in examples too must be the same there
 check-cases: build/v7 build/v7-from-gnu build/v7-object build/v7-explain
 	python3 tests/cases.py -s
-	python3 tests/cases.py -e tests/bad.case | cmp - tests/bad.answers
+	python3 tests/cases.py -e crates/cases/data/bad.cases | cmp - tests/bad.answers
 	python3 tests/cases.py
 
 # compares v7 with a second linker, tests/model.py, on 3,000 random cases, always the same
