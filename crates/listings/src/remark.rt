@@ -6,7 +6,7 @@ ghost use Rattle.listings.specs.Laws.{AreRemarks};
 use aout_core::{Reloc, Symbol};
 use std::alloc::AllocError;
 
-/// What people are told beside a file. A reader passes over it.
+/// What a listing says to people beside the file. Reading a listing skips it.
 pub trait Remark {
     ghost said: { Self → Remarks };
 
