@@ -2,7 +2,7 @@
 """A second linker: ld, nm, size, strip and session again, in as few words as they take.
 
 It was written from docs/LINK.md, docs/FORMAT.md, docs/LIMITS.md, docs/BLACKBOARD.md and the
-manual pages alone, and shares no code with v7. Where these left something open, the program was tried and
+manual pages, and shares no code with v7. Where these left something open, the program was tried and
 the page was mended. tests/agree.py compares the two on random files.
 
     python3 tests/model.py ld -o program main.o twice.o
