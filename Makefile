@@ -138,7 +138,7 @@ simulate: build/v7
 	cat build/doubled.txt
 	echo '21 doubled is 42' | cmp - build/doubled.txt
 
-# adds the objects FILES to a session one by one and takes them out again, and shows each state; docs/LESSON.md
+# adds the objects FILES to a session one by one and takes them out again, and shows each state; docs/teaching/LESSON.md
 lesson: build/lesson
 	build/lesson $(or $(FILES),examples/k.o examples/l.o)
 
@@ -209,7 +209,7 @@ install: build/v7 build/v7-from-gnu build/v7-object build/v7-explain
 	cp build/v7 build/v7-from-gnu build/v7-object build/v7-explain $(DESTDIR)$(PREFIX)/bin
 	cp man/*.1 $(SHARE)/man/man1
 	cp man/*.5 $(SHARE)/man/man5
-	cp -R README.md CHANGES.md docs examples $(SHARE)/doc/v7
+	cp -R README.md CHANGES.md CONTRIBUTING.md docs examples $(SHARE)/doc/v7
 	rm $(SHARE)/doc/v7/examples/.gitignore
 	if test -f build/libv7.so; then \
 		mkdir -p $(DESTDIR)$(PREFIX)/lib $(DESTDIR)$(PREFIX)/include && \

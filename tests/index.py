@@ -1,5 +1,5 @@
 #!/usr/bin/env python3
-"""Sees that each name in docs/INDEX.md is there: `CRATE/file::name` as a function, a type or a constant of the code, or as a
+"""Sees that each name in docs/internals/INDEX.md is there: `CRATE/file::name` as a function, a type or a constant of the code, or as a
 definition where the file is one of specs/; those of the column of tests as tests."""
 import os
 import re
@@ -27,7 +27,7 @@ def fault_of(crate, file, name, column):
 
 def main():
     faults, count, header = [], 0, []
-    with open("docs/INDEX.md", encoding="utf-8") as index:
+    with open("docs/internals/INDEX.md", encoding="utf-8") as index:
         for number, line in enumerate(index, 1):
             if not line.startswith("|"):
                 continue
@@ -38,18 +38,18 @@ def main():
             if set(line.strip()) <= set("|-"):
                 continue
             if len(cells) != len(header):
-                faults.append(f"docs/INDEX.md:{number}: {len(cells)} cells")
+                faults.append(f"docs/internals/INDEX.md:{number}: {len(cells)} cells")
                 continue
             for column, cell in list(zip(header, cells))[1:]:
                 names = CELL.findall(cell)
                 if not names:
-                    faults.append(f"docs/INDEX.md:{number}: nothing under {column}")
+                    faults.append(f"docs/internals/INDEX.md:{number}: nothing under {column}")
                 for crate, file, name in names:
                     count += 1
                     fault = fault_of(crate, file, name, column)
                     if fault:
-                        faults.append(f"docs/INDEX.md:{number}: {fault}")
-    print(f"docs/INDEX.md names {count} places of the code, the definitions and the tests")
+                        faults.append(f"docs/internals/INDEX.md:{number}: {fault}")
+    print(f"docs/internals/INDEX.md names {count} places of the code, the definitions and the tests")
     for fault in faults:
         print(fault)
     return 1 if faults else 0

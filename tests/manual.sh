@@ -12,7 +12,7 @@ top=$PWD
 for program in v7 v7-from-gnu v7-object v7-explain lesson; do
     [ -x build/$program ] || { echo "build/$program is missing: make build/$program makes it"; exit 2; }
 done
-[ $# -gt 0 ] || set -- man/*.1 man/*.5 README.md examples/*.md docs/*.md
+[ $# -gt 0 ] || set -- man/*.1 man/*.5 README.md CONTRIBUTING.md examples/*.md docs/*.md docs/*/*.md
 room=$(mktemp -d)
 trap 'rm -rf "$room"' EXIT
 PATH=$top/build:$PATH

@@ -1,4 +1,4 @@
--- The law of order at the objects of docs/BLACKBOARD.md, and statements near it that do not hold.
+-- The law of order at the objects of docs/teaching/BLACKBOARD.md, and statements near it that do not hold.
 use Rattle.std.proofs.Common.{◌≡◌, ◌≢◌, ◌↔◌, ℕ, ◌≤◌, true, false, List, [], ◌∷◌, ◌++◌, length, Option, Some, None, refl, sym, ◌∙◌, ap, arith}
 use Rattle.std.specs.Prelude.{Bool, not, ◌&&◌, eqb, replicate, filter, sum_by, slice_get, bytes_eq, codes, Ok, Err}
 use Rattle.std.specs.List.Sorted.{IsPermutation}
