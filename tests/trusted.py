@@ -6,6 +6,9 @@ this follows the imports. Each file that they lead to has to stand in specs/ of 
 and with its lines in the table "What a reader has to trust" of docs/PROOFS.md, which has no other. Nothing in src/ or
 specs/ of a crate may import the internals of another.
 
+It also follows single claims, definition by definition: docs/PROOFS.md has a table of them, with how many lines each leads to. The
+function `link` is left out there, since `linking_law` ties it to the relation.
+
 The lines that are counted are those of definitions: imports, comments and empty lines are left out.
 """
 import glob
@@ -150,6 +153,79 @@ def placed(crate, name):
     return paths[0] if paths else f"crates/{crate}/specs/{name}.antt"
 
 
+def path_of(crate, module):
+    return f"crates/{crate}/specs/{module.replace('.', '/')}.antt"
+
+
+def definitions(path):
+    """The definitions of a file: the names that each gives, and its lines."""
+    found, lines = [], []
+    for line in read(path).split("\n") + [""]:
+        if line.strip() and not re.match(r"--|(?:pub )?use ", line):
+            lines.append(line)
+        elif lines:
+            names = {re.match(r" *(?:(?:abbrev|record|data|def|rec|pub|unfoldable) +)*([^\s({:]+)", lines[0])[1]}
+            if re.match(r"(?:pub )?data ", lines[0]):
+                names |= set(re.findall(r"^ +(?:pub )?([\w-]+) :", "\n".join(lines), re.M))
+            found.append((names, lines))
+            lines = []
+    return found
+
+
+def lines_of_claim(starts):
+    """How many lines of definitions some names lead to, by file."""
+    reached, waiting = {}, list(starts)
+    while waiting:
+        crate, module, name = waiting.pop()
+        path = path_of(crate, module)
+        if not os.path.exists(path) or (crate, module, name) == ("link_out", "function.Link", "link"):
+            continue
+        items, scope = definitions(path), dict(imports(read(path)))
+        places = {own: place for place, (names, _) in enumerate(items) for own in names}
+        if name not in places:
+            if name in scope and scope[name][1] == "specs":
+                waiting.append((scope[name][0], scope[name][2], name))
+            continue
+        place = places[name]
+        if place in reached.setdefault(path, {}):
+            continue
+        reached[path][place] = len(items[place][1])
+        for word in set(re.findall(r"[\w-]+", "\n".join(items[place][1]))):
+            if word in places and places[word] != place:
+                waiting.append((crate, module, word))
+            elif word in scope and scope[word][1] == "specs" and not scope[word][2].startswith("declared"):
+                waiting.append((scope[word][0], scope[word][2], word))
+    return {path: sum(items.values()) for path, items in reached.items()}
+
+
+def check_claims():
+    """The table of claims in docs/PROOFS.md: how many lines, and in how many files."""
+    text = read("docs/PROOFS.md").split("## What to trust for each claim")[1].split("\n## ")[0]
+    where = {}
+    for path in glob.glob("crates/*/specs/**/*.antt", recursive=True):
+        crate, module = path.split("/")[1], path.split("/specs/")[1][:-5].replace("/", ".")
+        if crate in LIBRARIES and module.split(".")[0] not in INTERNAL + ["declared"]:
+            for names, _ in definitions(path):
+                for name in names:
+                    where.setdefault(name, []).append((crate, module, name))
+    rows = re.findall(r"^\| ([^|]+) \| [^|]+ \| ([^|]+) \| (\d+) \| (\d+) \|$", text, re.M)
+    for claim, names, lines, files in rows:
+        starts = []
+        for name in re.findall(r"`(\w+)`", names):
+            if len(where.get(name, [])) != 1:
+                faults.append(f"docs/PROOFS.md: {claim}: {len(where.get(name, []))} definitions are called {name}")
+            starts += where.get(name, [])
+        found = lines_of_claim(starts)
+        shown = f"{sum(found.values())} lines in {len(found)} files"
+        print(f"{claim}: {shown}")
+        for path in sorted(found):
+            print(f"  {found[path]:4} {path}")
+        if shown != f"{lines} lines in {files} files":
+            faults.append(f"docs/PROOFS.md: {claim}: {shown}")
+    if not rows:
+        faults.append("docs/PROOFS.md has no claims")
+
+
 def listed():
     """The files that the table of docs/PROOFS.md names, each with its lines."""
     text = read("docs/PROOFS.md").split("## What a reader has to trust")[1].split("\n## ")[0]
@@ -178,6 +254,7 @@ def main():
             faults.append(f"{path} is not in the table of docs/PROOFS.md, or not with {count(path)} lines")
     for path in sorted(known.keys() - reached):
         faults.append(f"{path} is in the table of docs/PROOFS.md, and no promise leads to it")
+    check_claims()
     for fault in faults:
         print(f"fault: {fault}")
     sys.exit(1 if faults else 0)

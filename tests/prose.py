@@ -1,0 +1,316 @@
+#!/usr/bin/env python3
+"""Looks at the documents, the manual, v7.h and the doc comments as a reader would, as far as a script can: habits of language
+that keep a reader out, links and paths that lead nowhere, documents that nothing links to, and commands that no check runs. It
+prints each with its file and line.
+
+usage: tests/prose.py             all documents of the repository
+       tests/prose.py FILE..      these alone, for their language and their links"""
+import glob
+import os
+import re
+import sys
+
+os.chdir(os.path.join(os.path.dirname(os.path.abspath(__file__)), ".."))
+
+# a habit, how it is found, a sentence that has it, and the same in plain English
+HABITS = [
+    ("behind: say after, or follows", r"\bbehind\b", "What is behind the symbols is ignored.", "Bytes after the symbols are ignored."),
+    ("stand, lie: say is or has", r"\b([Ss]tand|[Ss]tands|[Ll]ie|[Ll]ies) (in|at|on|beside|before|under|there|here|between|together|apart)\b",
+     "The rules stand in LINK.", "LINK has the rules."),
+    ("told, tell: say report or state", r"\b([Ii]s|are|was|were|be) told\b|\btells? of\b|\btold as\b", "The fault is told once.", "v7 reports the error once."),
+    ("is no X: say is not an X", r"(?<![Tt]here )(?<![Tt]here and )\b([Ii]s|are|was|were) (no (?!longer\b|more\b|less\b|fewer\b|other\b|one\b)[a-z]+|none\b(?! of))",
+     "A library is no object.", "A library is not an object."),
+    ("exactly where, only where: say if and only if, or if", r"\b([Ee]xactly|[Oo]nly|[Jj]ust) where\b", "It fails exactly where a size is odd.", "It fails if a size is odd."),
+    ("who, whoever, as a noun: name the reader", r"\b[Ww]hoever\b|\b([Ff]or|[Bb]y|[Tt]o) who\b|^Who [a-z]+s\b", "For who calls the libraries.", "For callers of the libraries."),
+    ("Of X, Y holds: say for X", r"(^|[.:;] )Of (links?|objects?|files?|an?|the|all|each|what|its|names?) [^.]*?, [a-z]", "Of links that keep symbols, the order does not matter.",
+     "For links that keep symbols, the order does not matter."),
+    ("words of a command: say arguments", r"\b[Ww]ords? (of|for|after) (a|the|its|each|this|some) (command|subcommand|call)s?\b|\b[Cc]ommand's words\b",
+     "The words of a command are read once.", "The arguments of a command are read once."),
+    ("room: say buffer, memory or space", r"\b[Rr]ooms\b|\b([Aa]|[Tt]he|[Nn]o|[Ee]ach|[Tt]his) room\b", "The caller gives two rooms.", "The caller gives two buffers."),
+    ("deed, office: say event, file system", r"\b([Dd]eeds?|[Oo]ffices?)\b", "The list has every deed.", "The list has every event."),
+    ("can't be had: say what is not possible", r"\b(can't|cannot|could not) be had\b", "It cannot be had for the whole.", "It is not possible for the whole."),
+    ("unasked, meanwhile, thereby: say it plainly", r"\b([Uu]nasked|[Mm]eanwhile|[Tt]hereby|[Ww]hereby|[Tt]herein|[Hh]ereby)\b", "The disk is full meanwhile.",
+     "The disk fills up during the write."),
+    ("that of which, of which: turn the sentence round", r"\bof which (is|are|it|they)\b", "The page of which is full.", "The full page."),
+    ("two semicolons: write sentences", r";[^.;`]*;", "It reads; it links; it writes.", "It reads. Then it links and writes."),
+]
+LONGEST = 50
+
+# where a habit has to stay: the file, a text of the line, and why
+EXCEPTIONS = [
+]
+
+# targets of make that a document may show although .ci/run does not run them, and why
+NOT_IN_CI = {
+    "bench": "prints figures, and never fails",
+    "instructions": "needs valgrind, and prints figures",
+    "room": "needs valgrind, and prints figures",
+    "memory": "takes ten minutes",
+    "wrong-bodies": "takes an hour",
+    "simulate": "needs SIMH's pdp11; check-examples runs the same commands where it is installed",
+    "page": "check-page makes the same page",
+    "check-page": "needs a browser",
+    "lesson": "check-examples runs the program",
+    "lib": "check-lib makes it",
+    "install": "check-dist installs",
+    "install-lib": "check-dist installs",
+    "dist": "proves twice",
+    "check-dist": "proves twice",
+    "planted": "compiles some forty programs",
+    "try": "test does the same and more",
+}
+
+
+def documents():
+    """The documents, in the order in which they are read."""
+    return sorted(set(["README.md", "CHANGES.md"] + glob.glob("CONTRIBUTING.md") + glob.glob("docs/**/*.md", recursive=True)
+                      + glob.glob("examples/*.md") + glob.glob("crates/*/*.md")))
+
+
+def manual():
+    return sorted(glob.glob("man/*.[1-9]"))
+
+
+def sources():
+    return sorted(glob.glob("include/*.h") + glob.glob("crates/*/src/**/*.rt", recursive=True))
+
+
+class Line:
+    """A line of prose: its file, its number, and its text without code."""
+
+    def __init__(self, path, number, text):
+        self.path, self.number, self.text = path, number, text
+
+    def place(self):
+        return f"{self.path}:{self.number}"
+
+
+def without_code(text):
+    return re.sub(r"`[^`]*`", "`x`", text)
+
+
+def prose_of_markdown(path, lines):
+    fenced = False
+    for number, text in enumerate(lines, 1):
+        if text.startswith("```"):
+            fenced = not fenced
+        elif not fenced and not re.match(r"    (?! *[-*] )", text):
+            yield Line(path, number, without_code(text))
+
+
+INLINE = (".Ar", ".Cm", ".Dv", ".Em", ".Er", ".Ev", ".Fa", ".Fl", ".Fn", ".Ic", ".Li", ".Nm", ".No", ".Op", ".Pa", ".Ql", ".Sq", ".Sx", ".Sy", ".Va", ".Vt", ".Xr")
+
+
+def prose_of_manual(path, lines):
+    """Text lines, and lines of the macros that stay inside a sentence; any other macro ends it."""
+    shown = False
+    for number, text in enumerate(lines, 1):
+        if text.startswith((".Bd -literal", ".Ed")):
+            shown = text.startswith(".Bd")
+        elif not shown and text.startswith(INLINE):
+            yield Line(path, number, "x" + (text[-1] if text[-1] in ".,:;" else ""))
+        elif not shown:
+            yield Line(path, number, "" if text.startswith(".") else text)
+
+
+def prose_of_source(path, lines):
+    """Doc comments of Rattle, and the comments of a header for C. Code between them ends a sentence."""
+    inside, fenced = False, False
+    for number, text in enumerate(lines, 1):
+        if path.endswith(".rt"):
+            comment = re.match(r"\s*//[/!] ?(.*)", text)
+            shown = comment.group(1) if comment else ""
+            fenced = fenced != shown.startswith("```") and bool(comment)
+            yield Line(path, number, "" if fenced or shown.startswith(("```", "    ")) else without_code(shown))
+            continue
+        begins = "/*" in text
+        if begins:
+            yield Line(path, number, "")
+        if inside or begins:
+            yield Line(path, number, re.sub(r"^[ /]*\*+ ?|\*/.*", "", text[text.find("/*"):] if begins else text))
+        inside = (inside or begins) and "*/" not in text
+
+
+def prose_of(path, lines):
+    if path.endswith(".md"):
+        return list(prose_of_markdown(path, lines))
+    if re.search(r"\.[1-9]$", path):
+        return list(prose_of_manual(path, lines))
+    return list(prose_of_source(path, lines))
+
+
+def sentences(lines):
+    """The sentences of lines of prose, each with the line on which it begins. A blank line, a list's or a table's begins anew."""
+    start, words = None, []
+    for line in lines + [Line("", 0, "")]:
+        text = line.text.strip()
+        breaks = not text or text.startswith(("#", "|", "- ", "* ")) or re.match(r"\d+\. ", text) or start and line.path != start.path
+        if breaks and words:
+            yield start, " ".join(words)
+            start, words = None, []
+        if text.startswith(("|", "#")):
+            continue
+        for piece in re.split(r"(?<=[.?!:]) (?=[A-Z`*])", text):
+            if not words:
+                start = line
+            words.append(piece)
+            if re.search(r"[.?!:]\*{0,2}$", piece):
+                yield start, " ".join(words)
+                start, words = None, []
+
+
+def habits_in(lines):
+    """The habits of some lines of prose, each with the line and the words that show it."""
+    for line in lines:
+        for name, form, _, _ in HABITS:
+            found = re.search(form, line.text)
+            if found and not (line.text.startswith("|") and found.group(0).count(";") > 1):
+                yield line, name, found.group(0)
+    for start, text in sentences(lines):
+        if len(text.split()) > LONGEST:
+            yield start, f"a sentence of {len(text.split())} words: write two", " ".join(text.split()[:6])
+
+
+def excused(line, raw, used):
+    for exception in EXCEPTIONS:
+        path, text, _ = exception
+        if path == line.path and text in raw:
+            used.add(exception)
+            return True
+    return False
+
+
+PATH = re.compile(r"(?<![\w./-])((?:docs|tests|examples|crates|man|include|page|packaging|\.ci)/[\w./-]*\w)")
+LINK = re.compile(r"\]\(([^)#]+)(#[^)]*)?\)")
+PAGE = re.compile(r"\b(v7(?:-[a-z-]+)?)\((\d)\)")
+HEADING = re.compile(r"((?:docs/[\w/]+|README|CONTRIBUTING)\.md), \"([^\"]+)\"")
+
+
+def exists(path, beside=""):
+    return any(os.path.exists(os.path.join(folder, path)) for folder in ("", beside))
+
+
+def dead_in(path, text):
+    """What a line names that is not there: a file, a manual page, a heading of a document."""
+    beside = os.path.dirname(path)
+    for target, _ in LINK.findall(text):
+        if "://" not in target and not exists(target, beside):
+            yield f"no file {target}"
+    for target in PATH.findall(text):
+        place = re.sub(r"::\w+$", "", target)
+        if not exists(place, beside) and not re.search(r"NAME|CRATE|FILE|/out\b", place) and not glob.glob(place + "*"):
+            yield f"no file {place}"
+    for name, section in PAGE.findall(text):
+        if not os.path.exists(f"man/{name}.{section}"):
+            yield f"no manual page {name}({section})"
+    for target, heading in HEADING.findall(text):
+        if os.path.exists(target) and not re.search(rf"^#+ {re.escape(heading)}", open(target, encoding="utf-8").read(), re.M):
+            yield f"{target} has no heading \"{heading}\""
+
+
+def unlinked(texts):
+    """The documents that no other document names."""
+    for path in texts:
+        name = os.path.basename(path)
+        others = (text for other, text in texts.items() if other != path)
+        if path != "README.md" and path.startswith(("docs/", "examples/", "C")) and not any(name in text for text in others):
+            yield f"{path}:1: no other document names it"
+
+
+def make_targets():
+    """The targets of the Makefile, and those of them that .ci/run makes."""
+    makefile = open("Makefile", encoding="utf-8").read()
+    targets = set(re.findall(r"^([\w./-]+(?: [\w./-]+)*):(?!=)", makefile, re.M))
+    targets = {name for names in targets for name in names.split()}
+    script = open(".ci/run", encoding="utf-8").read()
+    run = {name for line in re.findall(r"^\s*make (.*)$", script, re.M) for name in line.split()}
+    return targets, run
+
+
+def checked_documents():
+    """The documents whose examples tests/manual.sh runs."""
+    script = open("tests/manual.sh", encoding="utf-8").read()
+    forms = re.search(r"\|\| set -- (.*)", script).group(1).split()
+    return {path for form in forms for path in glob.glob(form, recursive=True)}
+
+
+def commands_in(path, lines, checked, targets, run):
+    """The commands of a document that no check runs, or that are not there."""
+    block, first = False, False
+    for number, text in enumerate(lines, 1):
+        indented = re.match(r" {4,}(\S.*)", text)
+        first, block = bool(indented) and not block, bool(indented)
+        if first:
+            runs = indented.group(1).startswith("$ ")
+        if indented and runs and path not in checked:
+            yield number, "an example that tests/manual.sh does not run"
+            runs = None
+        shown = [indented.group(1)] if indented and runs is False else []
+        for command in shown + re.findall(r"`([^`]+)`", text):
+            made = re.match(r"(?:\$ )?make((?: [\w./=$-]+)+)", command)
+            for name in (made.group(1).split() if made else []):
+                if "=" in name or name == "X":
+                    continue
+                if name not in targets:
+                    yield number, f"no target {name} of make"
+                elif name not in run and name not in NOT_IN_CI:
+                    yield number, f"make {name}, which .ci/run does not make"
+
+
+def check_itself():
+    """Each habit is found in its own example, and not in the cure."""
+    faults = []
+    for name, form, bad, good in HABITS:
+        if not re.search(form, bad):
+            faults.append(f"tests/prose.py: \"{name}\" is not found in: {bad}")
+        if any(re.search(other, good) for _, other, _, _ in HABITS):
+            faults.append(f"tests/prose.py: a habit is found in: {good}")
+    lines = [Line("x.md", 1, "word " * LONGEST + "and one more.")]
+    if not list(habits_in(lines)):
+        faults.append("tests/prose.py: a long sentence is not found")
+    planted = {"docs/A.md": "See [this](docs/missing.md), docs/also_missing.md and v7-none(1)."}
+    if len(set(dead_in("docs/A.md", planted["docs/A.md"]))) != 3:
+        faults.append("tests/prose.py: a dead link is not found")
+    if not list(unlinked(planted)):
+        faults.append("tests/prose.py: a document that nothing links to is not found")
+    shown = ["    $ v7 nm a.o", "", "    make nothing", "", "Run `make other`."]
+    if len(list(commands_in("x.md", shown, set(), {"other"}, set()))) != 3:
+        faults.append("tests/prose.py: a command that no check runs is not found")
+    return faults
+
+
+def read(path):
+    with open(path, encoding="utf-8") as file:
+        return file.read()
+
+
+def main():
+    chosen = sys.argv[1:]
+    paths = chosen or documents() + manual() + sources()
+    texts = {path: read(path) for path in paths}
+    faults, used = check_itself(), set()
+    for path, text in texts.items():
+        lines = text.splitlines()
+        for line, name, shown in habits_in(prose_of(path, lines)):
+            if not excused(line, lines[line.number - 1], used):
+                faults.append(f"{line.place()}: {name}: {shown}")
+        for number, raw in enumerate(lines, 1):
+            if not path.endswith(".rt"):
+                faults += [f"{path}:{number}: {fault}" for fault in sorted(set(dead_in(path, raw)))]
+    if not chosen:
+        named = {path: text for path, text in texts.items() if path.endswith(".md") or path in manual()}
+        faults += unlinked(named)
+        checked, (targets, run) = checked_documents(), make_targets()
+        for path in documents():
+            for number, fault in commands_in(path, texts[path].splitlines(), checked, targets, run):
+                faults.append(f"{path}:{number}: {fault}")
+        faults += [f"tests/prose.py: an exception that nothing needs: {exception}" for exception in EXCEPTIONS if exception not in used]
+        if len(EXCEPTIONS) > 40:
+            faults.append(f"tests/prose.py: {len(EXCEPTIONS)} exceptions, and 40 are the most")
+    for fault in faults:
+        print(fault)
+    print(f"{len(texts)} texts, {len(HABITS) + 1} habits, {len(EXCEPTIONS)} exceptions: {len(faults)} faults")
+    return 1 if faults else 0
+
+
+sys.exit(main())
