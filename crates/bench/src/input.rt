@@ -78,7 +78,7 @@ fn mentions(alloc: Global, number: u16) -> Result<Vec<Symbol>, AllocError> {
     Ok(symbols)
 }
 
-/// Puts a word of text and its relocation word behind the others.
+/// Puts a word of text and its relocation word after the others.
 fn push_word(
     words: &mut Vec<u16>,
     relocs: &mut Vec<Reloc>,

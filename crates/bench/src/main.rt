@@ -154,7 +154,7 @@ fn words(rt: &HostRuntime) -> io::Result<Vec<String>> {
     Ok(words)
 }
 
-/// Adds and withdraws an object of this kind so many times, behind so many others.
+/// Adds and withdraws an object of this kind so many times, after so many others.
 fn repeat_as_told(rt: &HostRuntime, kind: &str, objects: &str, times: &str) -> Result<()> {
     let objects = objects.parse::<u16>()?;
     let size = Size { objects, ..FULL };

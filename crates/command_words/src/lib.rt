@@ -1,4 +1,4 @@
-//! The words of a command: which tool they name, with which options and files.
+//! The arguments of a command: which tool they name, with which options and files.
 #![tactic(auto)]
 
 mod fault;

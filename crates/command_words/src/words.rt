@@ -1,4 +1,4 @@
-//! The words of a command.
+//! The arguments of a command.
 ghost use Rattle.std.specs.Prelude.{◌≡◌, ◌<◌, false, [], IfErr, IfOk, bytes_eq, codes, filter, length, map, string_bytes, unwrap_or, vec_len};
 ghost use Rattle.clap.specs.Matches.{found_of};
 ghost use Rattle.clap.specs.Simple.{app_of};
@@ -291,7 +291,7 @@ fn dashes(words: &[String]) -> usize
 /// - `strip FILE...`.
 /// - `session [-rsxXnid] [-u NAME]... [-e NAME]`.
 ///
-/// A flag may be repeated, but not `-e` and `-o`. The value of an option stands in the same word, or in the next one if
+/// A flag may be repeated, but not `-e` and `-o`. The value of an option is in the same argument, or in the next one if
 /// that does not begin with `-`. Options may stand after files, and `--` ends them. A dash alone is a file.
 ///
 /// (ld(1), nm(1), size(1), strip(1); the session and the limit are an own choice)

@@ -191,8 +191,8 @@ fn convert_with(
 /// The object of the Seventh Edition that the bytes are, which begin with an object in GNU's form. Symbols for a
 /// debugger are dropped or refused. (a.out(5); binutils, pdp11-aout)
 ///
-/// Errors, the first that applies: `ShortHeader`, 1, `BadMagic`, 2, `OddSize`, 3, `Truncated`, 4, and `BadStrings`, 5,
-/// for the header and the sizes; for the first bad symbol `Overlay`, 6, `BadPlace`, 7, or `Stab`, 8; `TooManySymbols`,
+/// Errors, the first that applies. For the header and the sizes: `ShortHeader`, 1, `BadMagic`, 2, `OddSize`, 3, `Truncated`,
+/// 4, and `BadStrings`, 5. Then, for the first bad symbol, `Overlay`, 6, `BadPlace`, 7, or `Stab`, 8; `TooManySymbols`,
 /// 9, where over 5,461 stay; `AlikeNames`, 10, for the first two; `StabWord`, 11, for the first; `BadWord`, 12, as
 /// `Object::from_file` says; and `Memory`, 13, if memory runs out, but never in place of the first five.
 pub fn convert(alloc: Global, bytes: &[u8], drops: bool) -> Result<Object, Refusal>

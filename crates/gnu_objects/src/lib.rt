@@ -2,7 +2,7 @@
 //! they are.
 //!
 //! Header, text, data and relocation words are the same in both. A symbol of GNU's form has 8 bytes, of which a word
-//! is the place of its name in a table of strings behind the symbols. docs/OBJECTS.md tells how such objects are made.
+//! is the place of its name in a table of strings after the symbols. docs/OBJECTS.md explains how such objects are made.
 #![tactic(auto)]
 
 mod bytes;

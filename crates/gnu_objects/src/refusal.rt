@@ -56,7 +56,7 @@ pub enum Refusal {
     /// 11: this word refers to a symbol for a debugger.
     #[error("word {0} refers to a symbol for a debugger")]
     StabWord(u16),
-    /// 12: a word is none that an object may have.
+    /// 12: a word that an object may not have.
     #[error("{0}")]
     BadWord(ObjectFault),
     /// 13: memory runs out for what is converted.

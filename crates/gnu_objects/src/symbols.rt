@@ -8,9 +8,9 @@ use std::alloc::{AllocError, Global};
 /// A symbol in GNU's form, 8 bytes long. (binutils, pdp11-aout)
 #[derive(Clone, Copy, Debug, PartialEq, Eq)]
 pub struct GnuSymbol {
-    /// What a debugger is told by a symbol for it, and else 0.
+    /// What a symbol for a debugger says, and else 0.
     pub description: u16,
-    /// The place of the name in the strings; 0 is no name.
+    /// The place of the name in the strings, or 0 without a name.
     pub place: u16,
     /// The low byte of the Seventh Edition's type word; above 044 it is a symbol for a debugger.
     pub type_bits: u8,

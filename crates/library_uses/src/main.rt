@@ -1,4 +1,4 @@
-//! Small uses of the libraries: the examples that stand at the heads of their crates, and a run of all of them.
+//! Small uses of the libraries: the examples at the heads of their crates, and a run of all of them.
 #![tactic(auto)]
 
 mod heads;

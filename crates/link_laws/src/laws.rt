@@ -32,7 +32,7 @@ pub fn core_law()
 {}
 
 /// What an instruction finds by a word of a linked program. A word that is relative to the pc finds the address after
-/// itself, and the word; any other the word; both modulo 65,536. (ld(1))
+/// itself plus the word, and any other word finds the word. Both are modulo 65,536. (ld(1))
 ///
 /// - `names`: in a link without `-r` that keeps symbols, a word that refers to a name finds in the program so many bytes
 ///   beyond the name's value as it does beyond the name in its object.
@@ -47,8 +47,8 @@ pub fn operand_law()
     ensures calls { CallsArrive }
 {}
 
-/// Lists agree with links: what nm and size tell of a linked file is what its link reported, and what its objects
-/// have. All but `sizes` are of links that keep symbols, and the first two of links without `-r`, since with `-r`
+/// Lists agree with links: what nm and size show for a linked file is what its link reported, and what its objects
+/// have. All but `sizes` are about links that keep symbols, and the first two of links without `-r`, since with `-r`
 /// nothing is reported undefined. (nm(1), size(1), ld(1))
 ///
 /// - `undefined`: the names that `nm -u` lists are exactly those that are reported undefined, each once, by `-g`, or

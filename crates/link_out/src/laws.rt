@@ -27,15 +27,15 @@ pub fn partial_law()
 /// What a linked file means, told by the files that were linked and by its own header and symbol table. All laws that
 /// look something up in the table are of links that keep symbols. (a.out(5), ld(1))
 ///
-/// - `words`: each word of each object stands behind those of the objects before it, with the address added of what
-///   its relocation word names: how far that segment was moved, or what the table gives for the name; less how far
-///   its own segment was moved, where it is relative to the pc.
+/// - `words`: each word of each object comes after those of the objects before it. Added to it is the address of what
+///   its relocation word names: how far that segment was moved, or what the table gives for the name. From a word that
+///   is relative to the pc it is subtracted how far its own segment was moved.
 /// - `fill`: text and data hold the objects' bytes and no others, and bss at least the objects' bss.
 /// - `definitions`: where no name is multiply defined, each definition of each object is in the table, moved.
-/// - `multiples`: a name is reported so exactly where the objects have two definitions of it that differ.
+/// - `multiples`: a name is reported so if and only if the objects have two definitions of it that differ.
 /// - `names`: without relocation, and where no name is reported undefined, each external symbol gives an address.
 /// - `once`: each external of the objects, and each forced name, has one external symbol, in order of first mention.
-/// - `room`, `apart`: commons that are laid out lie between data and bss, each on bytes of its own.
+/// - `room`, `apart`: commons that are laid out are between data and bss, each on bytes of its own.
 /// - `entry`: where a name is asked for, the entry word is its address if it is an external in text; else the word is
 ///   0, and the name is reported. Where none is, it is 0.
 /// - `missing`: a name that is reported undefined has a symbol without an address.
@@ -83,10 +83,10 @@ pub fn beyond_law()
 /// options, the file and the report alone, holds exactly of what a link gives, and of one file and report at most.
 /// (ld(1), a.out(5))
 ///
-/// - `exactly`: a link of objects gives a file and a report exactly where these are linked from them.
+/// - `exactly`: a link of objects gives a file and a report if and only if these are linked from them.
 /// - `once`: no two files or reports are linked from the same objects, forced names and options.
-/// - `refused`: a link of objects is refused exactly where its end, its table or a word's number is too large, with
-///   the first of these, told by the objects, the forced names and the options alone.
+/// - `refused`: a link of objects is refused if and only if its end, its table or a word's number is too large, with
+///   the first of these, by the objects, the forced names and the options alone.
 pub fn linking_law()
     ensures exactly { LinkedExactly }
     ensures once { LinkedOnce }

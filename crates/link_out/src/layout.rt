@@ -36,7 +36,7 @@ impl Model for Bases {
     ghost inverse = { λ v. record { text_end = v.text_end; data_start = v.data_start; data_end = v.data_end; bss_start = v.bss_start; bss_end = v.bss_end } };
 }
 
-/// Where data starts behind so many bytes of text.
+/// Where data starts after so many bytes of text.
 fn data_base(layout: Layout, text: u16) -> u64
     ensures value { result ≡ data_base layout text }
     ensures small { result ≤ 73728 }
@@ -126,7 +126,7 @@ pub(crate) fn data_size(session: &Session) -> u16
     (2 * cells.len()) as u16
 }
 
-/// Where the segments of a session's link lie, whether `finish` would link it or not: it refuses what ends behind
+/// Where the segments of a session's link lie, whether `finish` would link it or not: it refuses what ends after
 /// 65,535. (ld(1))
 pub fn link_bases(session: &Session, options: &Options) -> Bases
     ensures value { result ≡ (plan session.now.forced (objects session.now.entries) options.now).at }

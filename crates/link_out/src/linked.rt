@@ -21,7 +21,7 @@ pub struct Linked {
     pub report: Report,
 }
 
-/// What is reported of a link. Its lines stand in the order of the fields. (ld(1))
+/// What is reported of a link. Its lines are in the order of the fields. (ld(1))
 #[derive(Debug, Drop)]
 pub struct Report {
     /// A name for each symbol whose definition of it differs from the first.

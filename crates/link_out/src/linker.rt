@@ -48,7 +48,7 @@ struct Resolved<'a> {
     bases: &'a Bases,
     /// What becomes of each external.
     finals: &'a [Final],
-    /// How many locals stand before the externals in the table.
+    /// How many locals come before the externals in the table.
     locals: u16,
     /// The entry word.
     entry: u16,

@@ -34,7 +34,7 @@ fn kept_bound_of(session: &Session, commons: bool, index: u16) -> Option<Segment
     }
 }
 
-/// Whether a word with this target would need a number over 4,095; `locals` rows stand before the externals.
+/// Whether a word with this target would need a number over 4,095; `locals` rows come before the externals.
 fn is_out(session: &Session, commons: bool, locals: u16, target: Target) -> bool
     ensures { result ≡ is_out (image_of session.now).externals commons locals target }
 {
@@ -56,7 +56,7 @@ fn is_any_out(session: &Session, commons: bool, locals: u16, cells: &[Cell]) -> 
         .any(|cell| is_out(session, commons, locals, cell.target))
 }
 
-/// Whether a file with relocation would need a symbol number over 4,095; `locals` rows stand before the externals.
+/// Whether a file with relocation would need a symbol number over 4,095; `locals` rows come before the externals.
 pub(crate) fn has_far_word(session: &Session, options: &Options, locals: u16) -> bool
     requires relocatable { options.now.relocatable ≡ true }
     requires locals { locals ≡ length (local_rows (plan_of session.now options.now) (objects session.now.entries)) }

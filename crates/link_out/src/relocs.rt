@@ -57,7 +57,7 @@ fn name_bits(bound: Option<Segment>, row: u32) -> u16
     }
 }
 
-/// The bits of what a cell refers to; `locals` rows stand before the externals.
+/// The bits of what a cell refers to; `locals` rows come before the externals.
 fn target_bits(finals: &[Final], locals: u16, target: Target) -> u16
     requires { is_far finals.now locals target ≡ false }
     ensures value { result ≡ target_bits finals.now locals target }
@@ -74,7 +74,7 @@ fn target_bits(finals: &[Final], locals: u16, target: Target) -> u16
     }
 }
 
-/// The relocation word of a cell; `locals` rows stand before the externals.
+/// The relocation word of a cell; `locals` rows come before the externals.
 fn reloc_of_cell(finals: &[Final], locals: u16, cell: Cell) -> Reloc
     requires { is_far finals.now locals cell.target ≡ false }
     ensures { result ≡ reloc_of_cell finals.now locals cell }
@@ -84,7 +84,7 @@ fn reloc_of_cell(finals: &[Final], locals: u16, cell: Cell) -> Reloc
 }
 
 /// The relocation words of the cells of a segment, none of which waits for a name whose number is too large; `locals`
-/// rows stand before the externals. An error: out of memory.
+/// rows come before the externals. An error: out of memory.
 pub(crate) fn relocs_of_cells(
     alloc: Global,
     cells: &[Cell],

@@ -23,7 +23,7 @@ fn is_named(name: &Name, text: &[u8]) -> bool
     name.as_bytes() == text
 }
 
-/// What becomes of a name that nothing defines and that is no common.
+/// What becomes of a name that nothing defines and that is not a common.
 pub(crate) fn reserved_or_waiting(bases: &Bases, name: Name) -> Final
     requires text { bases.now.text_end ≤ 65535 }
     requires datas { bases.now.data_end ≤ 65535 }
@@ -99,8 +99,8 @@ fn is_reserved(name: &Name) -> bool
     is_named(name, b"_etext") || (is_named(name, b"_edata") || is_named(name, b"_end"))
 }
 
-/// Whether a link without relocation reports a name in this state as undefined: nothing defines it, it is no common, and
-/// it is none of `_etext`, `_edata` and `_end`, which the linker defines. (ld(1))
+/// Whether a link without relocation reports a name in this state as undefined: nothing defines it, it is not a common, and
+/// it is not `_etext`, `_edata` or `_end`, which the linker defines. (ld(1))
 pub fn is_missing(name: &Name, state: State) -> bool
     ensures { result ≡ is_missing name.now state }
 {

@@ -77,7 +77,7 @@ fn put_reply(
     Ok(())
 }
 
-/// Does the edits in order, with a reply to each; `None` in place of the replies where there was no room for them. An
+/// Does the edits in order, with a reply to each; `None` in place of the replies if there was not enough memory for them. An
 /// error: out of memory for an addition that is accepted.
 fn replies_to(
     alloc: Global,

@@ -37,7 +37,7 @@ impl<R: Read> BlockReader<R> {
         self.wire.failed()
     }
 
-    /// Takes the next byte; the wire is read only where no byte is held.
+    /// Takes the next byte; the wire is read only if no byte is held.
     pub(crate) fn next_byte(&mut self) -> Result<Option<u8>, DeviceFault>
         ensures fault { IsErr result ↔ IsTrue self.new.wire.has_failed }
         ensures latched { IsTrue self.old.wire.has_failed → (self.new ≡ self.old) }

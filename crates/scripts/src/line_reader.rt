@@ -31,7 +31,7 @@ pub enum Stop {
     End,
     /// A line has more than 4,096 bytes.
     LongLine,
-    /// There is something behind 1,000,000 lines.
+    /// There is something after 1,000,000 lines.
     ManyLines,
     /// Its device failed.
     ReadFailed,
@@ -70,7 +70,7 @@ fn read_line<R: Read>(reader: &mut BlockReader<R>, line: &mut Vec<u8>) -> Ending
     }
 }
 
-/// Asks whether there is a line behind the last one that a script may have, and returns why there is none to give.
+/// Asks whether there is a line after the last one that a script may have, and returns why there is none to give.
 fn stop_at_limit<R: Read>(reader: &mut BlockReader<R>) -> Stop
     ensures failed { (result ≡ Stop.ReadFailed) ↔ IsTrue reader.new.wire.has_failed }
     ensures latched { IsTrue reader.old.wire.has_failed → (reader.new ≡ reader.old) }
@@ -85,7 +85,7 @@ fn stop_at_limit<R: Read>(reader: &mut BlockReader<R>) -> Stop
     }
 }
 
-/// Takes the line behind `line_count` others, and returns whether the script ended with it.
+/// Takes the line after `line_count` others, and returns whether the script ended with it.
 fn take_line<R: Read>(
     reader: &mut BlockReader<R>,
     line: &mut Vec<u8>,
@@ -140,7 +140,7 @@ impl<R> Model for LineReader<R> {
 }
 
 impl<R: Read + Drop> LineReader<R> {
-    /// A script of which no line was read. It makes the room for a line. (own choice)
+    /// A script of which no line was read. It requests memory for a line. (own choice)
     ///
     /// Errors: `AllocError` where memory runs out for a line.
     pub fn new(alloc: Global, wire: Wire<R>) -> Result<LineReader<R>, AllocError>
@@ -157,12 +157,12 @@ impl<R: Read + Drop> LineReader<R> {
     }
 
     /// The next line. A line ends at a newline; a last one without it counts if it is not empty, and the device is not
-    /// asked again behind it. The device is asked for a block, one read at a time, only while what is held does not
-    /// settle the result: no whole line, at most 4,096 bytes of one, and no byte behind the last line that may be given.
+    /// asked again after it. The device is asked for a block, one read at a time, only while what is held does not
+    /// settle the result: no whole line, at most 4,096 bytes of one, and no byte after the last line that may be given.
     /// What a read gives is used at once. (own choice)
     ///
     /// Errors: `End` at the end; `LongLine` for more than 4,096 bytes before a newline; `ManyLines` where there is
-    /// anything behind 1,000,000 lines; `ReadFailed` where the device failed; `Memory` where memory runs out for a path.
+    /// anything after 1,000,000 lines; `ReadFailed` where the device failed; `Memory` where memory runs out for a path.
     /// Every later call returns the same again.
     pub fn next_line(&mut self) -> Result<Line, Stop>
         ensures next { GivesNext R.remaining self.old self.new result }

@@ -25,7 +25,7 @@ pub enum Line {
     Bad,
 }
 
-/// The path behind a word that a line begins with, where there is one.
+/// The path after a word that a line begins with, if there is one.
 fn path_behind<'a>(word: &str, line: &'a str) -> Option<&'a str>
     ensures { MatchOption result (has_path word.now line.now ≡ false)
         (λ path. (has_path word.now line.now ≡ true) × (path.now ≡ drop (length word.now) line.now)) }

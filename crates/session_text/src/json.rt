@@ -55,7 +55,7 @@ fn push_json_name(text: &mut Vec<u8>, name: &Name) -> Result<(), AllocError>
     text.extend_from_slice(b"\"")
 }
 
-/// Appends what stands in front of a name, and the name as a string.
+/// Appends what comes before a name, and the name as a string.
 fn push_named(text: &mut Vec<u8>, front: &[u8], name: &Name) -> Result<(), AllocError>
     ensures { OnOk result (text.new.items ≡ text.old.items ++ (front.now ++ json_name name.now)) }
 {
@@ -63,7 +63,7 @@ fn push_named(text: &mut Vec<u8>, front: &[u8], name: &Name) -> Result<(), Alloc
     push_json_name(text, name)
 }
 
-/// Appends what stands in front of an offset, and the offset of the word of this index.
+/// Appends what comes before an offset, and the offset of the word of this index.
 fn push_offset(text: &mut Vec<u8>, front: &[u8], index: usize) -> Result<(), AllocError>
     requires { index < 65536 }
     ensures { OnOk result (text.new.items ≡ text.old.items ++ (front.now ++ decimal (2 * index))) }
@@ -314,13 +314,19 @@ fn push_names(text: &mut Vec<u8>, session: &Session) -> Result<(), AllocError>
     text.extend_from_slice(b"]")
 }
 
-/// What a session knows, as one JSON object. Its members: `objects`, how many there are; `text` and `data`, the words,
-/// each with `offset` in bytes, `value`, `pc`, and `target`, which is `text`, `data`, `bss`, `number`, or `external` with
-/// the `name` that it waits for; `bss` in bytes; `externals`, each with `name`, `state` and `value`, where the state is
-/// `undefined`, `common` with its size, `text`, `data` or `bss` with an offset, or `number`; `multiples`, the names
-/// that are multiply defined; `marks`, what the addition of the last object overwrote, in the order in which it did:
-/// `segment` and `offset`, or `name`, and `was` with what stood there. In a name a byte that does not print, a quote and
-/// a backslash are `\u00` and two hexadecimal digits. (own choice)
+/// What a session knows, as one JSON object with these members (own choice):
+///
+/// - `objects`: how many there are.
+/// - `text` and `data`: the words, each with `offset` in bytes, `value`, `pc` and `target`. The target is `text`, `data`,
+///   `bss`, `number`, or `external` with the `name` that the word waits for.
+/// - `bss`: its size in bytes.
+/// - `externals`: each with `name`, `state` and `value`. The state is `undefined`, `common` with its size, `text`, `data`
+///   or `bss` with an offset, or `number`.
+/// - `multiples`: the names that are multiply defined.
+/// - `marks`: what the addition of the last object overwrote, in order. A mark has `segment` and `offset`, or `name`, and
+///   `was` with what was there.
+///
+/// In a name a byte that does not print, a quote and a backslash are `\u00` and two hexadecimal digits.
 ///
 /// An error: memory ran out for the text.
 pub fn state_json(alloc: Global, session: &Session) -> Result<Vec<u8>, AllocError>

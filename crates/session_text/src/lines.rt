@@ -241,11 +241,17 @@ fn nothing_line(entries: &[Entry]) -> &'static [u8]
     }
 }
 
-/// What a session knows, as lines: the words of the merged text and data, each with its offset in bytes, its value, `pc`
-/// where it is relative to that, and what it refers to or waits for; the size of bss in bytes; each external with its
-/// state; the names that are multiply defined; and what the addition of the last object overwrote, in the order in which
-/// it did. Words and offsets have six octal digits, and sizes are decimal. In a name a byte that does not print, a blank
-/// and a backslash are `\ooo`. (own choice)
+/// What a session knows, as lines, in this order (own choice):
+///
+/// - the words of the merged text and data, each with its offset in bytes, its value, `pc` if it is relative to that, and
+///   what it refers to or waits for
+/// - the size of bss in bytes
+/// - each external with its state
+/// - the names that are multiply defined
+/// - what the addition of the last object overwrote, in the order in which it did
+///
+/// Words and offsets have six octal digits, and sizes are decimal. In a name a byte that does not print, a blank and a
+/// backslash are `\ooo`.
 ///
 /// An error: memory ran out for the text.
 pub fn state_lines(alloc: Global, session: &Session) -> Result<Vec<u8>, AllocError>

@@ -1,11 +1,11 @@
-//! The path of a file, which stands before or above its lines.
+//! The path of a file, before or above its lines.
 ghost use Rattle.std.specs.Prelude.{◌≡◌, ◌++◌, [], false, if◌then◌else◌};
 ghost use Rattle.aout_core.specs.Wires.{Writes};
 
 use aout_core::{DeviceFault, Wire};
 use std::io::Write;
 
-/// Writes a path and the mark behind it, or nothing.
+/// Writes a path and the mark after it, or nothing.
 pub(crate) fn put_heading<W: Write>(
     is_wanted: bool,
     path: &str,

@@ -1,4 +1,4 @@
-//! The program `v7`: the object tools of PDP-11 Unix, each named by the first word of the command.
+//! The program `v7`: the object tools of PDP-11 Unix, each named by the first argument.
 #![tactic(auto)]
 
 use std::fs::File;

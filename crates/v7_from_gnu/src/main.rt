@@ -10,7 +10,7 @@ use std::io::Read;
 use std::process::ExitCode;
 use std::{env, fs, io};
 
-/// The words of the command: `-S`, which drops symbols for a debugger, and two paths.
+/// The arguments: `-S`, which drops symbols for a debugger, and two paths.
 #[derive(Drop)]
 struct Words {
     drops: bool,
@@ -65,7 +65,7 @@ fn read_all(rt: &HostRuntime, path: &str) -> Result<Vec<u8>, Fault> {
     }
 }
 
-/// Converts one file. The other is written only where nothing was refused.
+/// Converts one file. The other is written only if nothing was refused.
 fn convert_file(rt: &HostRuntime, words: &Words) -> Result<(), Fault> {
     let from = words.from.as_str();
     let to = words.to.as_str();
@@ -83,7 +83,7 @@ fn convert_file(rt: &HostRuntime, words: &Words) -> Result<(), Fault> {
     }
 }
 
-/// What the words behind the program's name ask for, if they ask for anything.
+/// What the arguments ask for, if they ask for anything.
 fn asked(rt: &HostRuntime) -> io::Result<Option<Words>> {
     let mut drops = false;
     let mut paths = Vec::new(rt.alloc());

@@ -16,7 +16,7 @@ fn gathered(alloc: Global, rest: Args) -> Result<Vec<String>, AllocError>
     Ok(words)
 }
 
-/// The words of a command, of the arguments that the system gives the program: all behind its name, in order, empty ones
+/// The arguments of a command: of those that the system gives the program all after its name, in order, empty ones
 /// too. (own choice)
 ///
 /// Errors: `AllocError` where memory runs out.

@@ -1,4 +1,4 @@
-//! The files of a runtime, as an office. No contract can say what a file gives or takes, so these lines are to be read: a
+//! The files of a runtime, as an `Office`. No contract can say what a file gives or takes, so these lines are to be read: a
 //! file is opened and stored at the very path that is asked for.
 use crate::office::{Office, Stored};
 use aout_core::{File, Wire, write_file};

@@ -25,11 +25,11 @@ pub enum CliFault {
     Usage,
     /// 2: the file at this path can't be opened: there is none, it may not be read, or too many are open.
     CannotOpen(String),
-    /// 3: what stands at this path is no a.out file, or its device failed.
+    /// 3: the file at this path is not an a.out file, or its device failed.
     BadFile(String, ReadFault),
-    /// 4: the file at this path is no object.
+    /// 4: the file at this path is not an object.
     BadObject(String, ObjectFault),
-    /// 5: the object at this path has no room behind those before it.
+    /// 5: the object at this path does not fit after those before it.
     NotAdded(String, AddFault),
     /// 6: the objects can't be linked.
     NotLinked(LinkFault),

@@ -66,7 +66,7 @@ pub(crate) fn read_text<'a>(path: &'a str, fault: ReadFault) -> FaultText<'a>
     }
 }
 
-/// Why a file is no object.
+/// Why a file is not an object.
 pub(crate) fn object_text<'a>(path: &'a str, fault: ObjectFault) -> FaultText<'a>
     ensures { text_of result ≡ at_file path.now (object_text fault) }
 {
@@ -126,7 +126,7 @@ fn put_index<W: Write>(index: Option<u16>, out: &mut Wire<W>) -> Result<(), Devi
 }
 
 impl<'a> FaultText<'a> {
-    /// Writes the parts, one behind the other.
+    /// Writes the parts, one after the other.
     pub(crate) fn write<W: Write>(&self, out: &mut Wire<W>) -> Result<(), DeviceFault>
         ensures { Writes W.contents result out.old out.new (text_of self.now) }
     {

@@ -1,4 +1,4 @@
-//! The commands nm, size and strip, over any office.
+//! The commands nm, size and strip, over any `Office`.
 ghost use Rattle.std.specs.Prelude.{◌≤◌, IfOk};
 ghost use Rattle.aout_core.specs.Wires.{IsPassedOn};
 ghost use Rattle.symtools.specs.Files.{by_bytes};
@@ -119,7 +119,7 @@ fn check_stored(path: String, stored: Stored) -> Result<(), CliFault>
     }
 }
 
-/// Stores each file stripped at its own path, in order; a fault leaves those behind it as they were.
+/// Stores each file stripped at its own path, in order; a fault leaves those after it as they were.
 fn store_stripped<O: Office>(office: &mut O, loaded: Vec<(String, File)>) -> Result<u8, CliFault>
     ensures small { IfOk result (λ status. status ≤ 1) }
     ensures run { IsStripping (O.history office.old) (O.history office.new) loaded.items result }

@@ -1,4 +1,4 @@
-//! The command ld, over any office.
+//! The command ld, over any `Office`.
 ghost use Rattle.std.specs.Prelude.{◌≤◌, map, string_bytes, IfOk};
 ghost use Rattle.aout_core.specs.Wires.{IsPassedOn};
 ghost use Rattle.link_out.specs.Outcomes.{findings_of};

@@ -49,9 +49,9 @@ fn link_inputs(alloc: Global, session: &Session, options: &Options) -> Result<Li
 /// Memory is requested for forced names, for what the header of an input announces, for an object that is within all
 /// limits, and for a link that is not refused. The result does not reveal which of these requests was refused.
 ///
-/// Errors: for the first input that is refused, with its path, `BadFile`, 3, if it is not a file or its device failed,
-/// now or before, `BadObject`, 4, if it is not an object, or `NotAdded`, 5, if it passes a limit; after the last input
-/// `NotLinked`, 6, if there is no link; `Memory`, 9, if memory runs out.
+/// Errors, with the path of the first input that is refused: `BadFile`, 3, if it is not a file or its device failed, now or
+/// before; `BadObject`, 4, if it is not an object; `NotAdded`, 5, if it passes a limit. After the last input: `NotLinked`,
+/// 6, if there is no link. `Memory`, 9, if memory runs out.
 pub fn ld<R: Read + Drop>(
     alloc: Global,
     inputs: Vec<(String, Wire<R>)>,

@@ -1,4 +1,4 @@
-//! The office of a command: what opens and stores its files.
+//! What opens and stores the files of a command.
 ghost use Rattle.std.specs.Prelude.{[], ◌∷◌, List, None, Option};
 ghost use Rattle.std.specs.Option.{option_map};
 ghost use Rattle.v7tools.specs.Events.{Event, Extends, opened, stored};

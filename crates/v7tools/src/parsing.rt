@@ -1,4 +1,4 @@
-//! The words of a command, for the program.
+//! The arguments of a command, for the program.
 ghost use Rattle.std.specs.Prelude.{◌≡◌, IfErr, IfOk, map, string_bytes};
 ghost use Rattle.command_words.specs.Calls.{IsAsked, IsWhole, dashes_in, files_of};
 ghost use Rattle.v7tools.specs.Calls.{IsOfWords};
@@ -15,7 +15,7 @@ use std::alloc::Global;
 /// - `strip FILE...`.
 /// - `session [-rsxXnid] [-u NAME]... [-e NAME]`.
 ///
-/// A flag may be repeated, but not `-e` and `-o`. The value of an option stands in the same word, or in the next one if
+/// A flag may be repeated, but not `-e` and `-o`. The value of an option is in the same argument, or in the next one if
 /// that does not begin with `-`. Options may stand after files, and `--` ends them. A dash alone is a file.
 ///
 /// (ld(1), nm(1), size(1), strip(1); the session and the limit are an own choice)

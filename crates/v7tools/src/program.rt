@@ -1,4 +1,4 @@
-//! The program: its words decide the call, over any office and any streams.
+//! The program: its arguments decide the call, over any `Office` and any streams.
 ghost use Rattle.std.specs.Prelude.{◌≤◌, map, string_bytes, IfOk};
 ghost use Rattle.aout_core.specs.Wires.{IsPassedOn};
 ghost use Rattle.v7tools.specs.CommandRuns.{IsCallRun, Performs, RunsWords};
@@ -86,7 +86,7 @@ pub struct Outputs<W, E> {
     pub error: Wire<E>,
 }
 
-/// Does what the words after the program's name ask for, over any office and any streams: a session's script, standard
+/// Does what the arguments ask for, over any `Office` and any streams: a session's script, standard
 /// output and standard error. It returns the status of the program: 0, or 1 where there was something to report or a
 /// session refused a line or could not store a link, or 2 for a fault, whose line goes to standard error; without a
 /// fault nothing goes there. Where nothing waited on standard output before, nothing waits at the end either, unless it
@@ -113,11 +113,12 @@ pub fn perform<O: Office, R: Read + Drop, W: BufferedWrite, E: Write>(
     }
 }
 
-/// Does what the words after the program's name ask for, and returns the status of the program: 0, or 1 where there was
-/// something to report or a session refused a line or could not store a link, or 2 for a fault, whose line goes to
-/// standard error. With 2 the words or an input were refused before any output, or memory ran out, or no file could be
-/// made at a path, or a device failed while it was written, or a script could not be answered to its end; what was
-/// stored before then stays. (own choice)
+/// Does what the arguments ask for, and returns the status of the program (own choice):
+///
+/// - 0, or 1 if there was something to report, or if a session refused a line or could not store a link.
+/// - 2 for a fault, whose line goes to standard error. The arguments or an input were refused before any output, or memory
+///   ran out, or no file could be made at a path, or a device failed while it was written, or a script could not be
+///   answered to its end. What was stored before then stays.
 pub fn command<H: Runtime + AllocGlobal>(rt: &H, words: Vec<String>) -> u8
     ensures { result ≤ 2 }
 {

@@ -41,7 +41,7 @@ impl<R> Model for Script<R> {
 }
 
 impl<R: Read + Drop> Script<R> {
-    /// A script of which no line was read. It makes the room for a line. (own choice)
+    /// A script of which no line was read. It requests memory for a line. (own choice)
     ///
     /// Errors: `Memory`, 9, where memory runs out for a line.
     pub fn new(alloc: Global, wire: Wire<R>) -> Result<Script<R>, CliFault>
@@ -53,12 +53,12 @@ impl<R: Read + Drop> Script<R> {
     }
 
     /// The next line, or `None` at the end and at every later call. A line ends at a newline; a last one without it
-    /// counts if it is not empty, and the reader is not asked again behind it. The reader is asked for a block, one
+    /// counts if it is not empty, and the reader is not asked again after it. The reader is asked for a block, one
     /// read at a time, only while what the script holds does not settle the result: no whole line, at most 4,096 bytes
-    /// of one, and no byte behind the last line that it may give. What a read gives is used at once. (own choice)
+    /// of one, and no byte after the last line that it may give. What a read gives is used at once. (own choice)
     ///
     /// Errors: `LongLine`, 11, for more than 4,096 bytes before a newline; `ManyLines`, 12, where there is anything
-    /// behind 1,000,000 lines; `ScriptFailed`, 13, where the device failed; `Memory`, 9, where memory runs out for a
+    /// after 1,000,000 lines; `ScriptFailed`, 13, where the device failed; `Memory`, 9, where memory runs out for a
     /// path. Every later call returns the fault again.
     pub fn next_line(&mut self) -> Result<Option<Line>, CliFault>
         ensures next { ReturnsNext R.remaining self.old self.new result }

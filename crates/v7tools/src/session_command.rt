@@ -1,4 +1,4 @@
-//! The session as a command, over any office: each line of a script is answered before the next one is asked for.
+//! The session as a command, over any `Office`: each line of a script is answered before the next one is asked for.
 ghost use Rattle.std.specs.Prelude.{◌≡◌, ◌↔◌, ◌≤◌, string_bytes, Err, IfErr, IfOk, IsTrue};
 ghost use Rattle.aout_core.specs.Wires.{IsPassedOn, Writes};
 ghost use Rattle.link_session.specs.Sessions.{nothing_kept};
@@ -38,7 +38,7 @@ fn open_wire<O: Office>(office: &mut O, path: &str) -> Option<Wire<O::Source>>
     Some(Wire::new(source))
 }
 
-/// Takes a step that is no link, and returns its status.
+/// Takes a step that is not a link, and returns its status.
 fn take_step<R: Read + Drop, W: Write>(
     setting: &Setting<'_>,
     session: &mut Session,

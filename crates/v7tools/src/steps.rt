@@ -119,11 +119,12 @@ fn make_link<W: Write>(
     }
 }
 
-/// Does what a command asks for, and writes the answer: `added PATH` or the text of the fault; `withdrew LABEL` or
-/// `nothing to withdraw`; the nm lines of the externals; the undefined names; the text of the fault that refuses a
-/// link; or `bad command`. Of a link that is made nothing is written; with relocation its file is an object. A step that
-/// is `Refused` leaves the session as it was, also where there is no memory, which answers `no memory`. Memory is taken
-/// to add and to link alone. (own choice)
+/// Does what a command asks for, and writes the answer (own choice). This is `added PATH` or the text of the fault,
+/// `withdrew LABEL` or `nothing to withdraw`, the nm lines of the externals, the undefined names, the text of the fault
+/// that refuses a link, or `bad command`.
+///
+/// For a link that is made nothing is written; with relocation its file is an object. A step that is `Refused` leaves the
+/// session as it was, also without memory, which answers `no memory`. Only adding and linking request memory.
 ///
 /// Errors: `WriteFailed`, 8, where the answers' wire failed, now or before, but for a link that is made, which writes
 /// nothing: a prefix of the answer went out, and the session is as after the command.
