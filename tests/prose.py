@@ -72,7 +72,9 @@ def manual():
 
 
 def sources():
-    return sorted(glob.glob("include/*.h") + glob.glob("crates/*/src/**/*.rt", recursive=True))
+    """Where doc comments are: the code, and the definitions that a reader has to trust."""
+    definitions = glob.glob("crates/*/specs/**/*.antt", recursive=True)
+    return sorted(glob.glob("include/*.h") + glob.glob("crates/*/src/**/*.rt", recursive=True) + definitions)
 
 
 class Line:
@@ -117,9 +119,9 @@ def prose_of_source(path, lines):
     """Doc comments of Rattle, and the comments of a header for C. Code between them ends a sentence."""
     inside, fenced = False, False
     for number, text in enumerate(lines, 1):
-        if path.endswith(".rt"):
-            comment = re.match(r"\s*//[/!] ?(.*)", text)
-            shown = comment.group(1) if comment else ""
+        if not path.endswith(".h"):
+            comment = re.match(r"\s*//[/!] ?(.*)|\s*-- ?(.*)", text)
+            shown = comment.group(1) or comment.group(2) or "" if comment else ""
             fenced = fenced != shown.startswith("```") and bool(comment)
             yield Line(path, number, "" if fenced or shown.startswith(("```", "    ")) else without_code(shown))
             continue
@@ -295,7 +297,7 @@ def main():
             if not excused(line, lines[line.number - 1], used):
                 faults.append(f"{line.place()}: {name}: {shown}")
         for number, raw in enumerate(lines, 1):
-            if not path.endswith(".rt"):
+            if not path.endswith((".rt", ".antt")):
                 faults += [f"{path}:{number}: {fault}" for fault in sorted(set(dead_in(path, raw)))]
     if not chosen:
         named = {path: text for path, text in texts.items() if path.endswith(".md") or path in manual()}

@@ -1,12 +1,12 @@
--- When bytes encode a file: names may have anything behind their first NUL. (a.out(5); NULs: own choice)
+-- When bytes encode a file: names may have anything after their first NUL. (a.out(5); NULs: own choice)
 --
--- Reading ignores what stands in a name behind a NUL, so the same file may be read from bytes other than `encoding` has for it.
+-- Reading ignores what is in a name after a NUL, so the same file may be read from bytes other than `encoding` has for it.
 -- In every other place they are the same.
 use Rattle.std.specs.Prelude.{◌≡◌, ◌⊎◌, ℕ, ◌+◌, ◌*◌, ◌<◌, ◌≤◌, List, length, Some, slice_get}
 use Rattle.aout_core.specs.Contents.{Contents}
 use Rattle.aout_core.specs.Encoding.{symbols_at, encoding}
 
--- the place is one of the eight bytes of the name of the symbol numbered `entry`, and behind a NUL among them; the symbols
+-- the place is one of the eight bytes of the name of the symbol numbered `entry`, and after a NUL among them; the symbols
 -- begin at `table`
 pub record IsBehindNul (table : ℕ) (bytes : List ℕ) (place : ℕ) : Type 0 where
   pub entry : ℕ
@@ -16,7 +16,7 @@ pub record IsBehindNul (table : ℕ) (bytes : List ℕ) (place : ℕ) : Type 0 w
   pub behind : nul < place
   pub in_name : place < table + 12 * entry + 8
 
--- the bytes are the file's encoding, but for what stands in a name behind a NUL
+-- the bytes are the file's encoding, but for what is in a name after a NUL
 pub record Encodes (bytes : List ℕ) (c : Contents) : Type 0 where
   pub same_length : length bytes ≡ length (encoding c)
   pub same_bytes : (place : ℕ) → place < length bytes →

@@ -1,6 +1,6 @@
 -- The laws of the format, each proved by a function of the module `laws`.
 --
--- What was written is read back, whatever follows it; what is read is what the bytes encode; and bytes encode one file at most.
+-- What was written is read back, whatever follows it. What is read is what the bytes encode. Bytes encode one file at most.
 use Rattle.std.specs.Prelude.{◌≡◌, ℕ, List, ◌++◌, take, Ok}
 use Rattle.aout_core.specs.Words.{AreBytes}
 use Rattle.aout_core.specs.Contents.{Contents, IsSound}

@@ -1,7 +1,7 @@
 -- What `read_file` returns for the bytes that it was given, and what it leaves of them. (own choice)
 --
--- It returns the file that the bytes begin with, or the first refusal, and takes no byte behind the file. Two things the bytes
--- do not tell: whether memory runs out for the lists, and whether the device fails.
+-- It returns the file that the bytes begin with, or the first refusal, and takes no byte after the file. Two things do not follow
+-- from the bytes: whether memory runs out for the lists, and whether the device fails.
 use Rattle.std.specs.Prelude.{◌≡◌, ℕ, ◌<◌, ◌≤◌, List, [], drop, length, Option, Some, Result, Ok, Err, IsTrue}
 use Rattle.aout_core.specs.declared.header.Header.{Header}
 use Rattle.aout_core.specs.declared.file.ReadFault.{ReadFault}
@@ -21,15 +21,15 @@ pub record HasHeader (bytes : List ℕ) : Type 0 where
   pub header : IsFileHeader (header_in bytes)
 
 -- the result is the file that the bytes begin with, or the refusal, unless the device failed, or memory ran out for what the
--- header announces behind its 16 bytes
+-- header announces after its 16 bytes
 abbrev pub IsReadOf : Result Contents ReadFault → List ℕ → Type 0
 IsReadOf (Ok c) bytes = decode bytes ≡ Ok c
 IsReadOf (Err Memory) bytes = HasHeader bytes × (16 < file_length (header_in bytes))
 IsReadOf (Err Device) bytes = Unit {0}
 IsReadOf (Err fault) bytes = decode bytes ≡ Err fault
 
--- a file was taken whole and nothing more; of too few bytes none is left; after a refused header, or where memory ran out, the
--- header alone was taken; and of a device that failed nothing is said
+-- a file was taken whole and nothing more, and of too few bytes none is left. After a refused header, or if memory ran out, the
+-- header alone was taken. For a device that failed nothing is specified
 abbrev pub LeavesAfter : Result Contents ReadFault → List ℕ → Option (List ℕ) → Type 0
 LeavesAfter (Ok c) bytes left = left ≡ Some (drop (file_length c.header) bytes)
 LeavesAfter (Err ShortHeader) bytes left = left ≡ Some []

@@ -19,7 +19,7 @@ abbrev pub Puts : {T E : Type 0} → Result T E → Option (List ℕ) → Option
 Puts result old new bytes = MatchResult result (λ _. Appends old new bytes) (λ _. AppendsPrefix old new bytes)
 
 -- a write of the bytes `text` to a wire, where a device holds its `contents`: all of them go out, or on a fault a prefix of
--- them; it is a fault exactly where the latch is on afterwards; and a wire whose latch was on is left as it was
+-- them. It is a fault if and only if the latch is on afterwards. A wire whose latch was on is left as it was
 pub record Writes {W T E : Type 0} (contents : W → Option (List ℕ)) (result : Result T E) (old new : Latched W) (text : List ℕ) : Type 0 where
   pub fault : IsErr result ↔ IsTrue new.has_failed
   pub latched : IsTrue old.has_failed → (new ≡ old)

@@ -1,7 +1,7 @@
 -- Runs of the program on a disk that gives at each path the file that was stored there last. (own choice)
 --
--- What a run asks of its office, its events, tells what is stored at each path. A disk is what is known of the files before: the
--- bytes at a path. Where an opening gives these bytes, or those that were stored there last, several runs may be told as one.
+-- What a run asks of the system, its events, determines what is stored at each path. A disk is what is known of the files before: the
+-- bytes at a path. Where an opening gives these bytes, or those that were stored there last, several runs may be taken as one.
 use Rattle.std.specs.Prelude.{◌≡◌, ℕ, ◌≤◌, cond, List, [], ◌∷◌, ◌++◌, Option, Some, None, IfSome, bytes_eq}
 use Rattle.std.specs.Io.KnownBytes.{Appends}
 use Rattle.aout_core.specs.Contents.{Contents}
@@ -24,7 +24,7 @@ abbrev pub bytes_left : Contents → Stored → Option (List ℕ)
 bytes_left file Kept = Some (encoding file)
 bytes_left file _ = None
 
--- the disk behind these events: at each path is what was stored there last
+-- the disk after these events: at each path is what was stored there last
 abbrev pub disk_after : Disk → List Event → Disk
 disk_after disk [] = disk
 disk_after disk (opened path found ∷ events) = disk_after disk events
@@ -37,7 +37,7 @@ IsOn disk (opened path None ∷ events) = IsOn disk events
 IsOn disk (opened path (Some known) ∷ events) = IfSome (disk path) (λ bytes. known ≡ Some bytes) × IsOn disk events
 IsOn disk (stored path file what ∷ events) = IsOn (with_file disk path (bytes_left file what)) events
 
--- a run of the program: its words and its script, the disk before it, what was asked of the office before and by it, standard
+-- a run of the program: its words and its script, the disk before it, what was asked of the system before and by it, standard
 -- output and standard error before and after it, and its status
 pub record Run (W E : Type 0) : Type 0 where
   pub words : List (List ℕ)
@@ -58,10 +58,10 @@ pub record EndsWell {W E : Type 0} (out_contents : W → Option (List ℕ)) (err
   pub on_disk : IsOn r.disk r.events
   pub no_fault : r.status ≤ 1
 
--- what is at a path behind a run
+-- what is at a path after a run
 abbrev pub file_after : {W E : Type 0} → Run W E → List ℕ → Option (List ℕ)
 file_after r path = disk_after r.disk r.events path
 
--- a run wrote this to standard output, behind what was there
+-- a run wrote this to standard output, after what was there
 abbrev pub Writes : {W E : Type 0} → (W → Option (List ℕ)) → Run W E → List ℕ → Type 0
 Writes out_contents r text = Appends (out_contents r.output_before.device) (out_contents r.output_after.device) text

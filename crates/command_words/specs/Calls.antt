@@ -76,7 +76,7 @@ name_of (Session options forced) = codes "session"
 abbrev pub IsAsked : List (List ℕ) → Call → Type 0
 IsAsked words call = (fault_of v7_app words ≡ []) × (rows : List Row) × (subcommand_of v7_app words ≡ Some (name_of call, rows)) × Asks rows (values_of rows FILE.now) call
 
--- that there was no memory is told from all other causes
+-- that there was no memory is distinguished from all other causes
 abbrev pub fault_of_words : ErrorKind → WordsFault
 fault_of_words OutOfMemory = faults.Memory
 fault_of_words kind = faults.Usage

@@ -1,7 +1,7 @@
 -- Objects in GNU's form, as lists of bytes. (binutils, pdp11-aout)
 --
--- The header has the eight words of the Seventh Edition, and text, data and relocation stand behind it as there. Behind them stand
--- the symbols, 8 bytes each, and behind these the strings, which begin with their own length in four bytes and count them.
+-- The header has the eight words of the Seventh Edition, and text, data and relocation follow it as there. After them come
+-- the symbols, 8 bytes each, and after these the strings, which begin with their own length in four bytes and count them.
 use Rattle.std.specs.Prelude.{ℕ, ◌+◌, ◌*◌, ◌/◌, Bool, ◌&&◌, ◌||◌, ◌==◌, not, nat_lt, if◌then◌else◌, List, [], map, filter, take, drop, replicate, slice_index}
 use Rattle.std.specs.List.{list_any, range_with_len}
 use Rattle.aout_core.specs.declared.header.Header.{Header}

@@ -61,7 +61,7 @@ word_of (BadObject (objects.BadRelocation index)) = index
 word_of (BadObject (objects.BadSymbolNumber index)) = index
 word_of _ = 0
 
--- a cause that lies in the object, or the name, of this number
+-- a cause that is in the object, or the name, of this number
 abbrev pub at : {A : Type 0} → ℕ → Result A Cause → Result A Refusal
 at place (Ok x) = Ok x
 at place (Err cause) = Err (record { cause = cause; place = place })

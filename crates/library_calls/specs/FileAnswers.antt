@@ -1,6 +1,6 @@
 -- What a call says of one file, from its bytes. (strip(1), nm(1), size(1); the refusals: own choice)
 --
--- The file is the one that the bytes begin with; what is behind it is not looked at.
+-- The file is the one that the bytes begin with; what is after it is not looked at.
 use Rattle.std.specs.Prelude.{ℕ, ◌%◌, ◌/◌, Bool, false, eqb, nat_lt, if◌then◌else◌, List, [], ◌∷◌, drop, Option, Some, None, Result, Ok, Err}
 use Rattle.aout_core.specs.declared.file.ReadFault.{ReadFault}
 use Rattle.aout_core.specs.declared.object.ObjectFault.{ObjectFault}
@@ -24,7 +24,7 @@ file_of (Err fault) = Err (BadFile fault)
 abbrev pub file_in : List ℕ → Result Contents Cause
 file_in bytes = file_of (decode bytes)
 
--- the bytes behind the file that they begin with
+-- the bytes after the file that they begin with
 abbrev pub behind_file : List ℕ → List ℕ
 behind_file bytes = drop (file_length (header_in bytes)) bytes
 

@@ -1,6 +1,6 @@
--- What a call says of a link of the objects that bytes hold, one behind another. (ld(1); the refusals: own choice)
+-- What a call says of a link of the objects that bytes hold, one after another. (ld(1); the refusals: own choice)
 --
--- Each object in order is read from the bytes behind the one before it, has to be an object, and is added behind those before it.
+-- Each object in order is read from the bytes after the one before it, has to be an object, and is added after those before it.
 -- The first that is not taken is the refusal. Then all are linked.
 use Rattle.std.specs.Prelude.{ℕ, zero, suc, List, [], ◌∷◌, ◌++◌, length, Option, Some, None, Result, Ok, Err}
 use Rattle.aout_core.specs.Contents.{Contents}

@@ -27,7 +27,7 @@ layout_by true true = Err Excluded
 abbrev pub keep_of : ℕ → Keep
 keep_of bits = if has_bit bits 2 then Nothing else (if has_bit bits 4 then Externals else (if has_bit bits 8 then NotL else All))
 
--- the first eight bytes, and what is behind a NUL left away
+-- the first eight bytes, and what is after a NUL left away
 abbrev pub name_of : List ℕ → List ℕ
 name_of bytes = take 8 (before_nul bytes)
 

@@ -1,7 +1,7 @@
 -- What a call says of a session: edits of a list of objects, a letter each, and the link of what is left. (ld(1); edits: own choice)
 --
 -- `a` adds the next object of the bytes, and `w` withdraws the last one that is kept. All edits are read, each object from the bytes
--- behind the one before it, and the first that is not taken is the refusal. Then they are run: each has a reply, and what is left is
+-- after the one before it, and the first that is not taken is the refusal. Then they are run: each has a reply, and what is left is
 -- linked.
 use Rattle.std.specs.Prelude.{ℕ, ◌+◌, eqb, if◌then◌else◌, List, [], ◌∷◌, ◌++◌, map, Result, Ok, Err}
 use Rattle.link_session.specs.Edits.{Change, addition, withdrawal, Answer, added, refused, withdrew, nothing, answers}
@@ -25,7 +25,7 @@ change_in letter bytes =
     else (if eqb letter 119 then Ok withdrawal
     else Err NoEdit)
 
--- the bytes behind the object of an edit
+-- the bytes after the object of an edit
 abbrev pub behind_edit : ℕ → List ℕ → List ℕ
 behind_edit letter bytes = if eqb letter 97 then behind_file bytes else bytes
 

@@ -1,6 +1,6 @@
 -- What a call shows of a session: the replies to its edits, and the state that they leave. (own choice)
 --
--- The edits are read and run as those of a session that is linked. What the last addition overwrote, and nothing else, is told by
+-- The edits are read and run as those of a session that is linked. What the last addition overwrote, and nothing else, is in
 -- its marks, which take it back.
 use Rattle.std.specs.Prelude.{◌≡◌, ℕ, zero, suc, List, map, Result, Ok, Err}
 use Rattle.link_session.specs.declared.mark.Mark.{Mark}
@@ -40,7 +40,7 @@ abbrev pub asked_in : ℕ → List ℕ → List ℕ → List ℕ → Result Aske
 asked_in form forced letters bytes =
     and_then (at 0 (form_in form)) (λ f. and_then (forced_in forced) (λ names. and_then (changes_in letters bytes) (λ cs. Ok (record { form = f; forced = names; changes = cs }))))
 
--- what is told: the status, the replies to the edits, and the state
+-- what is shown: the status, the replies to the edits, and the state
 pub record Told : Type 0 where
   pub status : ℕ
   pub replies : List ℕ

@@ -1,8 +1,8 @@
--- Which byte stands at which address when a file is loaded. (exec(2), a.out(5))
+-- Which byte is at which address when a file is loaded. (exec(2), a.out(5))
 --
 -- A plain file (0407) and one with pure text (0410) are loaded into one space: text from 0, data from `data_base_in`, and zeros for
--- bss behind data. With split spaces (0411) text is loaded from 0 into the space of instructions, and data from 0 into that of
--- data, with bss behind it. A word has its low byte first. The stack is not told of here.
+-- bss after data. With split spaces (0411) text is loaded from 0 into the space of instructions, and data from 0 into that of
+-- data, with bss after it. A word has its low byte first. The stack is not told of here.
 use Rattle.std.specs.Prelude.{◌≡◌, ℕ, ◌+◌, ◌-◌, ◌/◌, ◌%◌, Bool, false, ◌&&◌, ◌||◌, eqb, if◌then◌else◌, nat_le, nat_lt, Option, Some, None, slice_get}
 use Rattle.aout_core.specs.declared.header.Header.{Header}
 use Rattle.aout_core.specs.declared.symbol.Segment.{Segment}
@@ -16,7 +16,7 @@ pub data Space : Type 0 where
   of_instructions : Space
   of_data : Space
 
--- one space has all segments; of two, one has text, and the other data and bss; any other magic loads nothing
+-- one space has all segments, or one of two has text, and the other data and bss. Any other magic loads nothing
 abbrev pub has_one_space : ℕ → Bool
 has_one_space magic = eqb magic 0o407 || eqb magic 0o410
 

@@ -1,4 +1,4 @@
--- What nm and size tell of a linked file: the names that its link reported undefined, its externals, and its sizes. (nm(1), size(1), ld(1))
+-- What nm and size show of a linked file: the names that its link reported undefined, its externals, and its sizes. (nm(1), size(1), ld(1))
 --
 -- The report is of the objects, and a list is of the file alone; these laws say that they agree.
 use Rattle.std.specs.Prelude.{◌≡◌, ◌≢◌, ◌⊎◌, ℕ, ◌+◌, true, false, ◌&&◌, cond, eqb, if◌then◌else◌, List, [], ◌∷◌, ◌++◌, map, filter, codes, Some, Ok, bytes_eq, IsPermutation}
@@ -69,7 +69,7 @@ segment_letter DataSeg = letter_of (codes "D")
 segment_letter BssSeg = letter_of (codes "B")
 segment_letter _ = letter_of (codes "A")
 
--- the letter of an external in this state, without relocation: a common stands in bss, and only what nothing defines has U
+-- the letter of an external in this state, without relocation: a common is in bss, and only what nothing defines has U
 abbrev pub state_letter : List ℕ → State → ℕ
 state_letter name (Defined segment offset) = segment_letter segment
 state_letter name (Wanted size) =

@@ -1,6 +1,6 @@
 -- What an instruction finds by a word of a linked program. (ld(1), the PDP-11's relative and absolute modes)
 --
--- A word that is relative to the pc is fetched with the pc behind it, so the machine adds the address behind the word to it. In
+-- A word that is relative to the pc is fetched with the pc after it, so the machine adds the address after the word to it. In
 -- the object it finds so many bytes beyond a name or a place there; in the program it finds as many beyond the name's value, or
 -- beyond where that place is now. A call uses the address that it finds in the space of instructions, and an instruction that
 -- fetches or stores uses it in that of data.

@@ -126,7 +126,7 @@ abbrev pub OrderKeepsMeanings : Type 0
 OrderKeepsMeanings = (forced : List (List ℕ)) (os ps : List Contents) (o : Choices) (x y : Outcome) → AreOrders forced os ps o x y → o.keep ≢ Nothing → o.relocatable ≡ false →
     x.report.multiples ≡ [] → (name : List ℕ) → is_among (externals forced os) name ≡ true → MeansTheSame forced os ps o x y name
 
--- a word of k, behind these objects in the one order and those in the other, is relocated in both files, and the name that it
+-- a word of k, after these objects in the one order and those in the other, is relocated in both files, and the name that it
 -- refers to, if it does, means the same
 pub record RefersAlike (forced : List (List ℕ)) (os ps : List Contents) (o : Choices) (x y : Outcome) (before front : List Contents) (k : Contents) (segment : Segment) (i w : ℕ) (r : Reloc) : Type 0 where
   pub one : IsRelocated x.file x.file.symbols os before k segment i w r

@@ -1,6 +1,6 @@
 -- Which symbols are kept. (ld(1), the options `-s`, `-x` and `-X`)
 --
--- Externals go into the table, unless all symbols are dropped. Of the locals all are kept, or those whose names do not begin with
+-- Externals go into the table, unless all symbols are dropped. All locals are kept, or those whose names do not begin with
 -- L, as a compiler's labels do, or none.
 use Rattle.std.specs.Prelude.{ℕ, Bool, true, false, not, ◌&&◌, eqb, List, [], ◌∷◌, codes}
 use Rattle.aout_core.specs.declared.symbol.Symbol.{Symbol}

@@ -19,7 +19,7 @@ findings_of r = record {
 abbrev pub outcome_of : Linked → Outcome
 outcome_of l = record { file = l.file; report = findings_of l.report }
 
--- a result is the link of the objects; Memory is returned only where there is a file
+-- a result is the link of the objects; Memory is returned only if there is a file
 abbrev pub IsLinkOf : Result Linked LinkFault → Result Outcome LinkFault → Type 0
 IsLinkOf (Ok l) x = x ≡ Ok (outcome_of l)
 IsLinkOf (Err Memory) x = IsOk x

@@ -1,8 +1,8 @@
 -- The laws of sessions, each proved by a function of the module `laws`.
 --
--- A withdrawal takes back exactly what an addition did; a name has a mark if and only if its state changed, and its first mark holds the
--- state before; and where the segments of an object start, and by how much its addresses are shifted, follows from the whole list of
--- the objects before it.
+-- A withdrawal takes back exactly what an addition did. A name has a mark if and only if its state changed, and its first mark holds
+-- the state before. Where the segments of an object start, and by how much its addresses are shifted, follows from the whole list
+-- of the objects before it.
 use Rattle.std.specs.Prelude.{◌≡◌, ◌≢◌, ℕ, List, [], ◌∷◌, ◌++◌, Some, slice_get}
 use Rattle.aout_core.specs.declared.symbol.Segment.{Segment}
 use Rattle.aout_core.specs.Contents.{Contents}

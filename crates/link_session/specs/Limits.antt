@@ -18,6 +18,6 @@ limit_passed forced os =
     else (if nat_lt 65535 (length (externals forced os)) then Some NamesFull
     else None)))
 
--- why the object is not added behind these
+-- why the object is not added after these
 abbrev pub refusal : List (List ℕ) → List Contents → Contents → Option AddFault
 refusal forced os o = limit_passed forced (os ++ o ∷ [])

@@ -13,7 +13,7 @@ use Rattle.listings.specs.Octal.{octal, short_octal}
 use Rattle.listings.specs.Drafts.{data_start}
 use Rattle.listings.specs.Names.{shown_name}
 
--- what people are told beside a file; readers pass over it
+-- remarks for people beside a file; readers pass over them
 pub record Remarks : Type 0 where
   pub notes : List (List ℕ)
   pub findings : List (List ℕ)

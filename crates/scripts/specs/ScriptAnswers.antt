@@ -1,7 +1,7 @@
 -- What a reader of the lines of a script returns, call by call. (own choice)
 --
 -- Each call returns the next line that the bytes give, or why there is none, and that is returned for good. What was read and not
--- used waits, less than a block of it, and the device is asked only where that does not tell the next line.
+-- used waits, less than a block of it, and the device is asked only if that does not determine the next line.
 use Rattle.std.specs.Prelude.{◌≡◌, ◌≢◌, ◌↔◌, ◌⊎◌, ◌+◌, ◌≤◌, ℕ, cond, eqb, List, [], ◌∷◌, ◌++◌, drop, length, Option, Some, None, Result, Ok, Err, IfSome, IsSome, IsTrue, string_bytes}
 use Rattle.std.specs.Io.KnownBytes.{prepend_known}
 use Rattle.aout_core.specs.Wires.{Latched}
@@ -36,7 +36,7 @@ pub record Progress (R : Type 0) : Type 0 where
 abbrev pub begun : {R : Type 0} → Latched R → Progress R
 begun wire = record { wire = wire; held = []; line_count = 0; settled = None }
 
--- what a reader has left: the bytes that were read and not taken, and behind them those of its device
+-- what a reader has left: the bytes that were read and not taken, and after them those of its device
 abbrev pub unread : {R : Type 0} → (R → Option (List ℕ)) → List ℕ → Latched R → Option (List ℕ)
 unread remaining held wire = prepend_known held (remaining wire.device)
 
@@ -45,7 +45,7 @@ abbrev pub lines_of : Answer → ℕ
 lines_of (Ok line) = 1
 lines_of (Err stop) = 0
 
--- why there is no line is settled; a line settles nothing but the end behind it
+-- why there is no line is settled; a line settles nothing but the end after it
 abbrev pub Settles : Answer → Option Stop → Type 0
 Settles (Ok line) settled = IfSome settled (λ stop. stop ≡ stops.End)
 Settles (Err stop) settled = settled ≡ Some stop
@@ -56,7 +56,7 @@ IfTold None new holds = Unit {0}
 IfTold (Some xs) None holds = ⊥
 IfTold (Some xs) (Some ys) holds = holds xs ys
 
--- what stands behind the first newline
+-- what comes after the first newline
 abbrev pub behind_line : List ℕ → List ℕ
 behind_line [] = []
 behind_line (b ∷ bs) = cond (eqb b 10) bs (behind_line bs)
@@ -70,11 +70,11 @@ HasNone (b ∷ bs) = (b ≢ 10) × HasNone bs
 abbrev pub HasLine : List ℕ → Type 0
 HasLine bytes = HasNone bytes → ⊥
 
--- behind so many lines these bytes tell the next answer, whatever stands behind them
+-- after so many lines these bytes determine the next answer, whatever comes after them
 abbrev pub NeedsNoMore : ℕ → List ℕ → Type 0
 NeedsNoMore n bytes = HasLine bytes ⊎ ((n ≡ 1000000) × (bytes ≢ []))
 
--- behind so many lines there is one more, which asks for this, and it was taken with its newline
+-- after so many lines there is one more, which asks for this, and it was taken with its newline
 abbrev pub TakesLine : ℕ → List ℕ → List ℕ → Asked → Type 0
 TakesLine n bytes left asks = (left ≡ behind_line bytes) × (given_behind n (lines_in bytes) ≡ and_given asks (given_behind (n + 1) (lines_in left)))
 
@@ -84,7 +84,7 @@ NamesPath (to_add path) = Unit {0}
 NamesPath (to_link path) = Unit {0}
 NamesPath _ = ⊥
 
--- behind so many lines there is none, because of this fault or since the script is at its end
+-- after so many lines there is none, because of this fault or since the script is at its end
 abbrev pub GivesNone : ℕ → List ℕ → Option ScriptFault → Type 0
 GivesNone n bytes fault = given_behind n (lines_in bytes) ≡ record { lines = []; fault = fault }
 
@@ -92,8 +92,8 @@ GivesNone n bytes fault = given_behind n (lines_in bytes) ≡ record { lines = [
 abbrev pub FailsInLine : List ℕ → List ℕ → Type 0
 FailsInLine bytes left = (front : List ℕ) × HasNone front × (length front ≤ 4096) × (bytes ≡ front ++ left)
 
--- behind so many lines, the answer is the next that these bytes give, and leaves those behind it; with a last line that
--- lacks its newline, and with no other, the end is settled; a line that is too long was taken up to the byte that is one too
+-- after so many lines, the answer is the next that these bytes give, and leaves those after it. With a last line that
+-- lacks its newline, and with no other, the end is settled. A line that is too long was taken up to the byte that is one too
 -- many, and of a line too many one byte
 abbrev pub IsNextOf : ℕ → List ℕ → List ℕ → Option Stop → Answer → Type 0
 IsNextOf n bytes left settled (Ok line) = TakesLine n bytes left (asked_by line) × (IsSome settled ↔ HasNone bytes)

@@ -5,7 +5,7 @@ use Rattle.link_session.specs.declared.state.State.{State}
 use Rattle.link_session.specs.Image.{Named}
 use Rattle.symtools.specs.SymbolLines.{octal_word}
 
--- each item by its index, the first of which is this
+-- each item by its index, from this one on
 abbrev pub each_from : {A : Type 0} → (ℕ → A → List ℕ) → ℕ → List A → List ℕ
 each_from encoded i [] = []
 each_from encoded i (x ∷ xs) = encoded i x ++ each_from encoded (i + 1) xs
@@ -13,7 +13,7 @@ each_from encoded i (x ∷ xs) = encoded i x ++ each_from encoded (i + 1) xs
 abbrev pub each : {A : Type 0} → (ℕ → A → List ℕ) → List A → List ℕ
 each encoded xs = each_from encoded 0 xs
 
--- the name of the external at a place; none behind the last one
+-- the name of the external at a place; none after the last one
 abbrev pub name_in : Option (List ℕ × State) → List ℕ
 name_in None = []
 name_in (Some e) = e.0

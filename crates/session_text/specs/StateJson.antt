@@ -1,8 +1,8 @@
 -- What a session knows, as JSON. (own choice; JSON: RFC 8259)
 --
--- One object: the number of objects; the words of text and data, each with its offset in bytes; the size of bss; the external names with
--- what is known of each, the value of which is an offset, a size or a number; the names that are multiply defined; and what the
--- addition of the last object overwrote, in the order in which it did. A string has bytes that print; any other, a quote and a
+-- One object. It has the number of objects, the words of text and data, each with its offset in bytes, and the size of bss. It has
+-- the external names with what is known of each, whose value is an offset, a size or a number, the names that are multiply defined,
+-- and what the addition of the last object overwrote, in order. A string has bytes that print; any other, a quote and a
 -- backslash are `\u00` and two hexadecimal digits.
 use Rattle.std.specs.Prelude.{ℕ, zero, suc, ◌*◌, ◌/◌, ◌%◌, Bool, true, false, ◌&&◌, not, nat_lt, eqb, if◌then◌else◌, List, [], ◌∷◌, ◌++◌, length, codes, decimal}
 use Rattle.std.specs.Fmt.{digit_glyph}

@@ -1,8 +1,8 @@
 -- What a session knows, as lines. (own choice)
 --
--- The words of the merged text and data, each with its offset in bytes, its value, `pc` where it is relative to that, and what it
--- refers to or waits for; the size of bss; each external name with its state; the names that are multiply defined; and what the
--- addition of the last object overwrote, in the order in which it did. Words and offsets have six octal digits, and sizes are decimal.
+-- First come the words of the merged text and data, each with its offset in bytes, its value, `pc` if it is relative to that, and
+-- what it refers to or waits for. Then come the size of bss, each external name with its state, the names that are multiply
+-- defined, and what the addition of the last object overwrote, in order. Words and offsets have six octal digits, and sizes are decimal.
 use Rattle.std.specs.Prelude.{ℕ, ◌*◌, Bool, true, false, eqb, if◌then◌else◌, List, [], ◌∷◌, ◌++◌, codes, decimal}
 use Rattle.aout_core.specs.declared.symbol.Segment.{Segment}
 use Rattle.aout_core.specs.declared.symbol.Segment.TheVariants as segments

@@ -1,7 +1,7 @@
 -- The list that nm writes. (nm(1); that `-p` wins over the other orders: own choice)
 --
 -- The symbols that the options ask for, in the order that they ask for, a line each. With several files, the path of each file
--- stands above its lines; by `-o` it stands before each line instead.
+-- is above its lines; by `-o` it comes before each line instead.
 use Rattle.std.specs.Prelude.{◌≡◌, ◌≢◌, ℕ, Option, Bool, not, ◌&&◌, ◌||◌, cond, eqb, nat_lt, if◌then◌else◌, List, [], ◌∷◌, ◌++◌, filter, reverse, length, codes}
 use Rattle.std.specs.List.{flat_map}
 use Rattle.std.specs.Io.KnownBytes.{Appends}
@@ -43,11 +43,11 @@ arranged o ss =
 abbrev pub shown : NmOptions → Contents → List Symbol
 shown o c = arranged o (filter (is_shown o) c.symbols)
 
--- what stands before each line of a file
+-- what comes before each line of a file
 abbrev pub line_heading : NmOptions → List ℕ → List ℕ
 line_heading o file = if o.each_line then file ++ codes ":" else []
 
--- what stands above the lines of a file, one of so many
+-- what is above the lines of a file, one of so many
 abbrev pub heading : NmOptions → ℕ → List ℕ → List ℕ
 heading o files file = if not o.each_line && nat_lt 1 files then file ++ codes ":\n" else []
 

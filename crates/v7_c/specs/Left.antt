@@ -1,6 +1,6 @@
--- What a call of the library leaves in the rooms of its caller, what it answers, and its status. (own choice)
+-- What a call of the library leaves in the buffers of its caller, what it answers, and its status. (own choice)
 --
--- Bytes are given at the beginning of a room. Where a room is too short nothing is written, and the answer says how many bytes
+-- Bytes are given at the beginning of a buffer. Where a buffer is too short nothing is written, and the answer says how many bytes
 -- there are. A refusal is a number, with the place of what is refused.
 use Rattle.std.specs.declared.alloc.Global.{Global}
 use Rattle.std.specs.Prelude.{◌≡◌, ℕ, ◌||◌, nat_lt, if◌then◌else◌, List, [], ◌++◌, drop, length, Vec, Result, Ok, Err}
@@ -21,7 +21,7 @@ use Rattle.library_calls.specs.StateAnswers.{Asked, IsShown, Told, told_of}
 use Rattle.v7_c.specs.declared.answer.Answer.{Answer}
 use Rattle.v7_c.specs.declared.answer.Counts.{Counts}
 
--- these at the beginning of a room
+-- these at the beginning of a buffer
 abbrev pub put_in : {A : Type 0} → List A → List A → List A
 put_in room bytes = bytes ++ drop (length bytes) room
 
@@ -29,15 +29,15 @@ put_in room bytes = bytes ++ drop (length bytes) room
 abbrev pub refused : Refusal → Answer
 refused r = record { fault = number_of r.cause; word = word_of r.cause; place = r.place; size = 0; report_size = 0 }
 
--- a cause that lies in no object and no name
+-- a cause that is in no object and no name
 abbrev pub of_none : Cause → Refusal
 of_none cause = record { cause = cause; place = 0 }
 
--- so many bytes are given, with this fault: 0, or 60 where they have no room
+-- so many bytes are given, with this fault: 0, or 60 where they do not fit
 abbrev pub given : ℕ → ℕ → ℕ → Answer
 given fault size report_size = record { fault = fault; word = 0; place = 0; size = size; report_size = report_size }
 
--- the status, the answer, and what stands in the room
+-- the status, the answer, and what is in the buffer
 pub record Left : Type 0 where
   pub status : ℕ
   pub answer : Answer

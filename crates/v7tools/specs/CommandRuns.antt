@@ -1,6 +1,6 @@
--- What the program does with its words: which call it runs, what it tells of a fault, and its status. (own choice)
+-- What the program does with its arguments: which call it runs, what it writes of a fault, and its status. (own choice)
 --
--- Words either ask for a call, and then it is run, or they are refused and nothing is asked of the office (Events). Without a fault
+-- Words either ask for a call, and then it is run, or they are refused and nothing is asked of the system (Events). Without a fault
 -- the status is that of the call, and standard error is left alone; with one it is 2, and the line of the fault goes there.
 use Rattle.std.specs.Prelude.{◌≡◌, ◌⊎◌, ℕ, List, [], map, Option, Result, Ok, Err, string_bytes}
 use Rattle.aout_core.specs.Wires.{Latched}
@@ -38,7 +38,7 @@ pub record RunsCall {W : Type 0} (contents : W → Option (List ℕ)) (words : L
   pub asks : AsksFor words call
   pub run : IsCallRun contents script call old new result before after
 
--- the words ask for no call, or memory ran out while they were read: nothing is asked of the office, and nothing is written
+-- the words ask for no call, or memory ran out while they were read: nothing is asked of the system, and nothing is written
 pub record RefusesWords {W : Type 0} (words : List (List ℕ)) (old new : History) (result : Result ℕ CliFault) (before after : Latched W) : Type 0 where
   pub fault : CliFault
   pub of_words : IsOfWords words fault
@@ -56,7 +56,7 @@ abbrev pub Ends : {E : Type 0} → (E → Option (List ℕ)) → Result ℕ CliF
 Ends contents (Ok answer) status before after = (status ≡ answer) × (after ≡ before)
 Ends contents (Err fault) status before after = (status ≡ 2) × PutsUnless after.has_failed (contents before.device) (contents after.device) (fault_line fault)
 
--- what stands around a program: what was asked of the office so far, standard output and standard error
+-- what is around a program: what was asked of the system so far, standard output and standard error
 pub record Surroundings (W E : Type 0) : Type 0 where
   pub asked : History
   pub output : Latched W

@@ -1,4 +1,4 @@
--- What a command asked of its office, which opens and stores its files, in order, and what came of it. (own choice)
+-- What a command asked of the system, which opens and stores its files, in order, and what came of it. (own choice)
 --
 -- No contract can say what a disk holds. It can say what was asked of it: a file was opened, and what its bytes were, or a file was
 -- to be stored, and whether it was. The list of these events, in order, is what a command did.
@@ -6,7 +6,7 @@ use Rattle.std.specs.Prelude.{◌≡◌, ℕ, List, ◌++◌, map, Option, Some,
 use Rattle.aout_core.specs.Contents.{Contents}
 use Rattle.v7tools.specs.declared.office.Stored.{Stored}
 
--- a file could not be opened (`None`), or was, and its bytes are told where they are known; or a file was to be stored
+-- a file could not be opened (`None`), or was, with its bytes if they are known; or a file was to be stored
 pub data Event : Type 0 where
   opened : List ℕ → Option (Option (List ℕ)) → Event
   stored : List ℕ → Contents → Stored → Event

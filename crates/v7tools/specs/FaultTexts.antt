@@ -1,6 +1,6 @@
 -- The texts of faults. (own choice)
 --
--- Each fault has one text, which the program writes behind `v7: `, and a session without it. A fault of a file begins with its path.
+-- Each fault has one text, which the program writes after `v7: `, and a session without it. A fault of a file begins with its path.
 use Rattle.std.specs.Prelude.{ℕ, List, ◌++◌, codes, decimal, String, string_bytes, [], ◌∷◌}
 use Rattle.std.specs.declared.alloc.Global.{Global}
 use Rattle.aout_core.specs.declared.file.ReadFault.{ReadFault}

@@ -66,7 +66,7 @@ ReadsAll old new files loaded = (files ≡ map (λ l. l.0) loaded) × Reads old 
 abbrev pub ReadsNotAll : History → History → List (String Global) → CliFault → Type 0
 ReadsNotAll old new files fault = ((fault ≡ faults.Memory) × Extends old new []) ⊎ ReadsUpTo old new files fault
 
--- a list of files is cut short only where a device failed
+-- a list of files is cut short only if a device failed
 abbrev pub OnlyWriteFailed : List (List ℕ × Contents) → CliFault → Option (List ℕ) → Option (List ℕ) → Type 0
 OnlyWriteFailed files fault old new = fault ≡ faults.WriteFailed
 

@@ -14,7 +14,7 @@ use Rattle.scripts.specs.Scripts.{Asked, to_add, to_withdraw, for_externals, for
 use Rattle.v7tools.specs.SessionSteps.{AddsIf, IsAddOn, IsLinkBy, WithdrawsIf, without_memory}
 use Rattle.v7tools.specs.declared.office.Stored.{Stored}
 
--- a line: what it asked for, what it asked of the office, its answer, its status, and what is kept behind it
+-- a line: what it asked for, what it asked of the system, its answer, its status, and what is kept after it
 pub record LineRun : Type 0 where
   pub line : Asked
   pub events : List Event
@@ -22,7 +22,7 @@ pub record LineRun : Type 0 where
   pub status : ℕ
   pub kept : Kept
 
--- the status of a step that is no link
+-- the status of a step that is not a link
 abbrev pub status_after : Verdict → ℕ
 status_after done = 0
 status_after _ = 1

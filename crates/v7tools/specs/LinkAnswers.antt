@@ -77,7 +77,7 @@ pub record Rejects (forced : List (List ℕ)) (kept : List Labelled) (i : Input)
 abbrev pub WantsMemory : List (List ℕ) → List Labelled → List ℕ → List ℕ → Type 0
 WantsMemory forced kept path bytes = IsReadOf (Err reads.Memory) bytes ⊎ IsOk (with_input forced kept path bytes)
 
--- the link stops at an input, behind those that are kept
+-- the link stops at an input, after those that are kept
 abbrev pub StopsAt : List (List ℕ) → List Labelled → Input → Said → Type 0
 StopsAt forced kept i (refuses (of_input path cause)) = (path ≡ i.path) × Rejects forced kept i cause
 StopsAt forced kept i (breaks path) = path ≡ i.path
@@ -113,8 +113,8 @@ pub record LinksNone (forced : List (List ℕ)) (o : Choices) (inputs : List Inp
   pub taken : TakesAll forced [] inputs kept
   pub none : HasNoLink (link forced (objects kept) o) said
 
--- memory may run out for forced names; if there are none, at the first input, if that wants memory; and if there is no input either, for
--- the link of nothing. Nothing more can be said: once an object has been accepted, memory may have run out there
+-- memory may run out for forced names, or if there are none, at the first input, if that wants memory, or if there is no input either,
+-- for the link of nothing. Nothing more can be said: once an object has been accepted, memory may have run out there
 abbrev pub MayLackMemory : List (List ℕ) → List Input → Type 0
 MayLackMemory [] [] = Unit {0}
 MayLackMemory [] (i ∷ is) = StopsAt [] [] i runs_out

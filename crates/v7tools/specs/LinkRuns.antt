@@ -37,7 +37,7 @@ pub record Reports {W : Type 0} (contents : W → Option (List ℕ)) (f : Findin
   pub write_failed : IfErr result (λ fault. fault ≡ faults.WriteFailed)
   pub writes : Writes contents result before after (report_text f)
 
--- the report goes out only where the file is stored
+-- the report goes out only if the file is stored
 abbrev pub ReportsIf : {W : Type 0} → (W → Option (List ℕ)) → Stored → String Global → Findings → Result ℕ CliFault → Latched W → Latched W → Type 0
 ReportsIf contents Kept out f result before after = Reports contents f result before after
 ReportsIf contents NotCreated out f result before after = (result ≡ Err (faults.CannotCreate out)) × (after ≡ before)

@@ -1,6 +1,6 @@
 -- What `load` returns for the file at a path, by what `read_file` returns for its bytes. (own choice)
 --
--- `load` is `read_file` with the path: the path comes back with the file, or stands in the fault.
+-- `load` is `read_file` with the path: the path comes back with the file, or is in the fault.
 use Rattle.std.specs.Prelude.{◌≡◌, ◌≢◌, Result, Ok, Err, String}
 use Rattle.std.specs.declared.alloc.Global.{Global}
 use Rattle.aout_core.specs.declared.file.ReadFault.{ReadFault}
@@ -15,7 +15,7 @@ read_of (Ok loaded) = Ok loaded.1
 read_of (Err (faults.BadFile path fault)) = Err fault
 read_of (Err _) = Err reads.Memory
 
--- the path comes back with the file, or stands in the fault; that there was no memory is a fault of its own
+-- the path comes back with the file, or is in the fault; that there was no memory is a fault of its own
 abbrev pub IsAtPath : String Global → Result (String Global × Contents) CliFault → Type 0
 IsAtPath path (Ok loaded) = loaded.0 ≡ path
 IsAtPath path (Err (faults.BadFile at fault)) = (at ≡ path) × (fault ≢ reads.Memory)

@@ -1,7 +1,7 @@
 -- What a session does with the lines of a script, and its status. (own choice)
 --
--- Each line is run on what the line before it left (LineRuns). What a session asks of the office, and what it answers, is that of
--- its lines, one behind another, and its status is the largest of theirs. It ends behind the last line, at a fault of the script, or
+-- Each line is run on what the line before it left (LineRuns). What a session asks of the system, and what it answers, is that of
+-- its lines, one after another, and its status is the largest of theirs. It ends after the last line, at a fault of the script, or
 -- where an answer can't be written.
 use Rattle.std.specs.Prelude.{◌≡◌, ◌⊎◌, ℕ, max, List, [], ◌∷◌, ◌++◌, map, Option, Some, None, Result, Ok, Err, IfSome, IsTrue}
 use Rattle.std.specs.List.{flat_map}
@@ -57,7 +57,7 @@ AreLines known lines fault = IfSome known (λ bytes. given bytes ≡ record { li
 abbrev pub AreFirst : Option (List ℕ) → List Asked → Type 0
 AreFirst known lines = IfSome known (λ bytes. (more : List Asked) × ((given bytes).lines ≡ lines ++ more))
 
--- behind these lines the script gives no further one; its device may fail, and memory run out for a line that has a path
+-- after these lines the script gives no further one; its device may fail, and memory run out for a line that has a path
 abbrev pub StopsBehind : Option (List ℕ) → List Asked → CliFault → Type 0
 StopsBehind known lines faults.LongLine = AreLines known lines (Some long_line)
 StopsBehind known lines faults.ManyLines = AreLines known lines (Some many_lines)
@@ -65,7 +65,7 @@ StopsBehind known lines faults.ScriptFailed = AreFirst known lines
 StopsBehind known lines faults.Memory = IfSome known (λ bytes. (a : Asked) × (more : List Asked) × NamesPath a × ((given bytes).lines ≡ lines ++ a ∷ more))
 StopsBehind known lines _ = ⊥
 
--- the lines that were run are all, and the status is the largest of theirs; or behind them the script gave a fault
+-- the lines that were run are all, and the status is the largest of theirs; or after them the script gave a fault
 abbrev pub EndsBehind : Option (List ℕ) → List LineRun → Result ℕ CliFault → Type 0
 EndsBehind script runs (Ok status) = AreLines script (lines_asked runs) None × (status ≡ worst runs)
 EndsBehind script runs (Err fault) = StopsBehind script (lines_asked runs) fault
@@ -77,7 +77,7 @@ pub record RunsLines {W : Type 0} (contents : W → Option (List ℕ)) (forced :
   pub ran : Ran contents o (nothing_kept forced) kept runs old new before after
   pub ends : EndsBehind script runs result
 
--- behind the lines whose answers went out whole one more was run, and of its answer a prefix went out; on a wire that had
+-- after the lines whose answers went out whole one more was run, and of its answer a prefix went out; on a wire that had
 -- failed before it is the first, and nothing went out
 pub record BreaksOff {W : Type 0} (contents : W → Option (List ℕ)) (forced : List (List ℕ)) (o : Choices) (script : Option (List ℕ)) (old new : History) (result : Result ℕ CliFault) (before after : Latched W) : Type 0 where
   pub runs : List LineRun

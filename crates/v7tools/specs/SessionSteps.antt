@@ -47,7 +47,7 @@ IsAddBy remaining wire forced kept path did =
     (did ≡ add_step kept path (input_from forced kept path failing))
     ⊎ ((wire.has_failed ≡ false) × (((did ≡ without_memory kept) × IfSome (remaining wire.device) (WantsMemory forced kept path)) ⊎ IsAddOn (remaining wire.device) forced kept path did))
 
--- memory may run out only where there is a link
+-- memory may run out only if there is a link
 abbrev pub IsLinkBy : List Labelled → Result Outcome LinkFault → Stepped → Type 0
 IsLinkBy kept answer did = (did ≡ link_step kept answer) ⊎ ((did ≡ without_memory kept) × IsOk answer)
 
@@ -89,7 +89,7 @@ pub record Does {W : Type 0} (contents : W → Option (List ℕ)) (did : Stepped
   pub verdict : IfOk result (λ s. verdict_of s ≡ did.verdict)
   pub answer : GoesOut contents did.verdict did.answer result before after
 
--- a step on a command, from the answer and the session behind it
+-- a step on a command, from the answer and the session after it
 abbrev pub TakesStep : {R W : Type 0} → (R → Option (List ℕ)) → (W → Option (List ℕ)) → Choices → Command R → Kept → Kept → Result Step CliFault → Latched W → Latched W → Type 0
 TakesStep remaining contents o command old new result before after =
     (did : Stepped) × IsStepOn remaining old o command did × Changes command did.verdict old new × Does contents did new result before after

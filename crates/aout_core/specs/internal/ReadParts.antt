@@ -1,4 +1,4 @@
--- What the parts of the reader take and return: the header, and the rest behind it.
+-- What the parts of the reader take and return: the header, and the rest after it.
 use Rattle.std.specs.Prelude.{◌≡◌, ℕ, ◌+◌, ◌/◌, ◌<◌, List, [], ◌++◌, length, Option, Result, Ok, Err, IsTrue, false, vec_capacity}
 use Rattle.std.specs.Io.KnownBytes.{Consumes, IsAtEnd, Keeps}
 use Rattle.aout_core.specs.declared.header.Header.{Header}
@@ -24,7 +24,7 @@ pub record EndsEarly (old new : Option (List ℕ)) (before size : ℕ) : Type 0 
   pub taken : Consumes old new bytes
   pub end : IsAtEnd new
 
--- the bytes behind the header were taken, and with it they encode this file
+-- the bytes after the header were taken, and with it they encode this file
 pub record TakesBody (h : Header) (old new : Option (List ℕ)) (c : Contents) : Type 0 where
   pub body : List ℕ
   pub long : 16 + length body ≡ file_length h

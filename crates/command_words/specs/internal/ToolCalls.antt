@@ -6,6 +6,6 @@ use Rattle.command_words.specs.declared.fault.WordsFault.TheVariants as faults
 use Rattle.command_words.specs.declared.words.Call.{Call}
 use Rattle.command_words.specs.Calls.{IsWhole, Asks, name_of}
 
--- a call of this name, with these options and files, fails only where there is no memory
+-- a call of this name, with these options and files, fails only if there is no memory
 abbrev pub HasNoCall : List ℕ → List Row → List (List ℕ) → WordsFault → Type 0
 HasNoCall name rows paths fault = (call : Call) → IsWhole call → name_of call ≡ name → Asks rows paths call → fault ≡ faults.Memory

@@ -15,7 +15,7 @@ use Rattle.link_out.specs.Layouts.{Bases, base}
 use Rattle.link_out.specs.function.Plans.{Plan, common_offset}
 pub use Rattle.link_out.specs.ReservedNames.{etext, edata, end_name}
 
--- the segment that the name is bound to, if it is bound; its address; and the value that is written
+-- the segment that the name is bound to, if it is bound, its address, and the value that is written
 pub record Final : Type 0 where
   pub bound : Option Segment
   pub address : ℕ
@@ -28,7 +28,7 @@ bound_at segment address = record { bound = Some segment; address = address; wri
 abbrev pub waiting : ℕ → Final
 waiting size = record { bound = None; address = 0; written = size }
 
--- a name that nothing defines and that is no common: the ends of text, data and bss have their names
+-- a name that nothing defines and that is not a common: the ends of text, data and bss have their names
 abbrev pub reserved_or_waiting : Bases → List ℕ → Final
 reserved_or_waiting b name =
     if bytes_eq name etext then bound_at TextSeg b.text_end

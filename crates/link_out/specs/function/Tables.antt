@@ -1,6 +1,6 @@
 -- The symbol table and the relocation words that are written. (a.out(5), ld(1))
 --
--- The table has the kept locals of all objects, and behind them the externals by first mention. A relocation word keeps its pc
+-- The table has the kept locals of all objects, and after them the externals by first mention. A relocation word keeps its pc
 -- bit, and names the segment that its word is bound to now, or the number in this table of the name that its word still waits for.
 use Rattle.std.specs.Prelude.{ℕ, ◌+◌, ◌*◌, ◌%◌, Bool, false, ◌||◌, nat_lt, List, [], ◌++◌, map, filter, length, Option, Some, None}
 use Rattle.std.specs.List.{flat_map, list_any}

@@ -17,7 +17,7 @@ abbrev pub finals_from : Choices → Bases → ℕ → Named → List Final
 finals_from o b offset [] = []
 finals_from o b offset (e ∷ es) = final_at o b offset e.0 e.1 ∷ finals_from o b (offset + common_size e.1) es
 
--- the room of the commons among names
+-- the space of the commons among names
 abbrev pub room_in : Named → ℕ
 room_in [] = 0
 room_in (e ∷ es) = common_size e.1 + room_in es

@@ -1,7 +1,7 @@
--- What a linked file means, told by the files that were linked and by the linked file alone. (ld(1))
+-- What a linked file means, by the files that were linked and by the linked file alone. (ld(1))
 --
 -- Each law is about one question: where is this word, this definition now? Is this name reported, and rightly? They follow from
--- the relation of LinkedFrom, and are here for who has one such question; nothing rests on them. CommonsAndLayouts has more of them.
+-- the relation of LinkedFrom, and are here for readers with one such question. Nothing rests on them. CommonsAndLayouts has more of them.
 use Rattle.std.specs.Prelude.{◌≡◌, ◌≢◌, ◌↔◌, ℕ, true, false, eqb, List, [], ◌∷◌, ◌++◌, map, filter, Some, Ok, slice_get}
 use Rattle.std.specs.List.{AllByRecursion}
 use Rattle.aout_core.specs.declared.symbol.Symbol.{Symbol}
@@ -68,7 +68,7 @@ pub record HasTwoDefinitions (os : List Contents) (name : List ℕ) : Type 0 whe
   pub second : IsSaid os name (Defined two at_two)
   pub differ : Defined one at_one ≢ Defined two at_two
 
--- a name is reported as multiply defined exactly where the objects have two definitions of it that differ
+-- a name is reported as multiply defined if and only if the objects have two definitions of it that differ
 abbrev pub MultiplesDiffer : Type 0
 MultiplesDiffer = (forced : List (List ℕ)) (os : List Contents) (o : Choices) (x : Outcome) → link forced os o ≡ Ok x →
     (name : List ℕ) → (is_among x.report.multiples name ≡ true) ↔ HasTwoDefinitions os name

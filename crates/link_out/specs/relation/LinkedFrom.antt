@@ -1,8 +1,8 @@
--- What linking is: when a file and a report come of objects, forced names and options, told by all these alone. (ld(1))
+-- What linking is: when a file and a report come of objects, forced names and options, by all these alone. (ld(1))
 --
--- This relation is what a reader has to believe of the link. It says of a linked file, part by part: that it holds the objects'
--- words, relocated; what its symbol table has, row by row; that with relocation each word still has its relocation word; its
--- entry point; and what is reported. `LinkedExactly` and `LinkedOnce` tie it to the function `link`: both are proved.
+-- This relation is what a reader has to believe of the link. It says of a linked file, part by part, that it holds the objects'
+-- words, relocated, what its symbol table has, row by row, that with relocation each word still has its relocation word, its
+-- entry point, and what is reported. `LinkedExactly` and `LinkedOnce` tie it to the function `link`: both are proved.
 use Rattle.std.specs.Prelude.{◌≡◌, ◌↔◌, ℕ, ◌+◌, ◌*◌, ◌≤◌, true, cond, List, ◌++◌, map, length, Ok}
 use Rattle.std.specs.List.{AllByRecursion}
 use Rattle.aout_core.specs.declared.symbol.Symbol.{Symbol}
@@ -31,7 +31,7 @@ pub record HasHeader (o : Choices) (file : Contents) : Type 0 where
   pub few : length file.symbols ≤ 5461
 
 -- the file and the report are what linking these objects gives; the rows are those of the externals, which the table has
--- behind the locals that are kept
+-- after the locals that are kept
 pub record IsLinkedFrom (forced : List (List ℕ)) (os : List Contents) (o : Choices) (x : Outcome) : Type 0 where
   pub rows : List Symbol
   pub holds : HoldsObjects x.file os
@@ -48,7 +48,7 @@ pub record IsLinkedFrom (forced : List (List ℕ)) (os : List Contents) (o : Cho
   pub entry : IsEntry rows o.entry x.file.header.entry_point x.report.entry_bad
   pub report : IsReported forced os o x
 
--- there is a link exactly where the relation holds
+-- there is a link if and only if the relation holds
 abbrev pub LinkedExactly : Type 0
 LinkedExactly = (forced : List (List ℕ)) (os : List Contents) (o : Choices) (x : Outcome) → AllByRecursion IsObject os → (link forced os o ≡ Ok x) ↔ IsLinkedFrom forced os o x
 

@@ -1,6 +1,6 @@
--- The rows of a linked file's symbol table, told by the objects and the file's header. (a.out(5), ld(1))
+-- The rows of a linked file's symbol table, by the objects and the file's header. (a.out(5), ld(1))
 --
--- Each external has one row. A defined name is moved with its segment; commons that are laid out lie one behind another; and
+-- Each external has one row. A defined name is moved with its segment. Commons that are laid out come one after another, and
 -- the three reserved names may be defined by the linker. Any other row is undefined, with the size that is wanted as its value. The
 -- locals that are kept are moved with their segments, too.
 use Rattle.std.specs.Prelude.{◌≡◌, ℕ, ◌+◌, ◌%◌, cond, eqb, if◌then◌else◌, List, [], ◌∷◌, map, filter, bytes_eq}
@@ -47,7 +47,7 @@ abbrev pub room_for : Choices → State → ℕ
 room_for o (Defined segment offset) = 0
 room_for o (Wanted size) = cond (lays_commons o) (size + size % 2) 0
 
--- rows in order, whose commons lie one behind another, from one address up to the other
+-- rows in order, whose commons lie one after another, from one address up to the other
 abbrev pub AreRows : Header → ℕ → Choices → List Mention → ℕ → List Symbol → ℕ → Type 0
 AreRows h bss o ms at [] end = at ≡ end
 AreRows h bss o ms at (r ∷ rows) end = (st : State) × HasState ms r.name st × (r ≡ row_for h bss o at r.name st) × AreRows h bss o ms (at + room_for o st) rows end

@@ -1,6 +1,6 @@
 -- The words and the relocation words of a linked file, told by the objects, its header and its rows. (a.out(5), ld(1))
 --
--- Each word of each object stands relocated behind those of the objects before it. With relocation, so does its relocation word,
+-- Each word of each object stands relocated after those of the objects before it. With relocation, so does its relocation word,
 -- which keeps its pc bit, and names the segment that the word is bound in now, or the row of the name that it still waits for.
 use Rattle.std.specs.Prelude.{◌≡◌, ℕ, ◌+◌, ◌-◌, ◌*◌, ◌/◌, ◌%◌, ◌≤◌, true, eqb, if◌then◌else◌, List, ◌∷◌, ◌++◌, map, Option, Some, None, slice_get}
 use Rattle.aout_core.specs.declared.symbol.Symbol.{Symbol}
@@ -24,7 +24,7 @@ AreRelocated file rows os segment = (before : List Contents) (k : Contents) (aft
 abbrev pub row_bits : Symbol → ℕ → ℕ
 row_bits r number = if eqb (masked_type r) 0 then 0o10 + 0o20 * number else 2 * (masked_type r - 1)
 
--- the external row that a symbol number of an object names, behind so many locals, and its bits; a number is at most 4,095
+-- the external row that a symbol number of an object names, after so many locals, and its bits; a number is at most 4,095
 pub record IsNamedBy (rows : List Symbol) (locals : ℕ) (k : Contents) (number bits : ℕ) : Type 0 where
   pub symbol : Symbol
   pub row : Symbol
@@ -41,7 +41,7 @@ AreBits rows locals k (Some kinds.DataSeg) number bits = bits ≡ 4
 AreBits rows locals k (Some kinds.BssSeg) number bits = bits ≡ 6
 AreBits rows locals k (Some kinds.External) number bits = IsNamedBy rows locals k number bits
 
--- relocation word i of a segment of k, which is r, stands at its place with its pc bit and what it names now
+-- relocation word i of a segment of k, which is r, is at its place with its pc bit and what it names now
 pub record IsKept (file : Contents) (rows : List Symbol) (locals : ℕ) (before : List Contents) (k : Contents) (segment : Segment) (i : ℕ) (r : Reloc) : Type 0 where
   pub bits : ℕ
   pub are : AreBits rows locals k (kind_of r) (symbol_number r) bits

@@ -33,7 +33,7 @@ abbrev pub CommonsTake : Choices → List Mention → List (List ℕ) → ℕ �
 CommonsTake o ms [] room = room ≡ 0
 CommonsTake o ms (n ∷ ns) room = (st : State) × HasState ms n st × ((rest : ℕ) × (room ≡ room_for o st + rest) × CommonsTake o ms ns rest)
 
--- bss ends there: behind the objects' text and data, the commons, and the objects' bss
+-- bss ends there: after the objects' text and data, the commons, and the objects' bss
 pub record EndsAt (forced : List (List ℕ)) (os : List Contents) (o : Choices) (end : ℕ) : Type 0 where
   pub commons : ℕ
   pub take : CommonsTake o (mentions forced os) (externals forced os) commons
@@ -70,13 +70,13 @@ pub record HasFarWord (number : ℕ) (forced : List (List ℕ)) (os : List Conte
   pub waits : (size ≡ 0) ⊎ (lays_commons o ≡ false)
   pub far : number < length (kept_locals o os) + place_of symbol.name (externals forced os)
 
--- the first of these that applies: the end is over 65,535; there are more than 5,461 symbols; a number is too large
+-- the first of these that applies: the end is over 65,535, there are more than 5,461 symbols, or a number is too large
 abbrev pub IsRefused : List (List ℕ) → List Contents → Choices → LinkFault → Type 0
 IsRefused forced os o DoesNotFit = (end : ℕ) × EndsAt forced os o end × (65535 < end)
 IsRefused forced os o TooManySymbols = (end : ℕ) × EndsAt forced os o end × (end ≤ 65535) × (5461 < entry_count forced os o)
 IsRefused forced os o SymbolNumber = (end : ℕ) × EndsAt forced os o end × (end ≤ 65535) × (entry_count forced os o ≤ 5461) × (o.relocatable ≡ true) × HasFarWord 4095 forced os o
 IsRefused forced os o Memory = ⊥
 
--- the function `link` gives a fault exactly where the link is refused for it
+-- the function `link` gives a fault if and only if the link is refused for it
 abbrev pub RefusedExactly : Type 0
 RefusedExactly = (forced : List (List ℕ)) (os : List Contents) (o : Choices) (fault : LinkFault) → AllByRecursion IsObject os → (link forced os o ≡ Err fault) ↔ IsRefused forced os o fault

@@ -1,7 +1,7 @@
 -- What becomes of the objects' words, and the entry word, by the header and the external symbols of a linked file. (a.out(5), ld(1))
 --
--- The header of a linked file tells where its segments begin, and its symbols where each name is. A word that refers to a segment
--- of its object is moved as far as that segment was; a word that refers to a name has the address of the name added; and a word
+-- The header of a linked file determines where its segments begin, and its symbols where each name is. A word that refers to a segment
+-- of its object is moved as far as that segment was. A word that refers to a name has the address of the name added. A word
 -- relative to the pc is less by its own segment's move. Nothing else is needed to say what linking does to words.
 use Rattle.std.specs.Prelude.{◌≡◌, ℕ, ◌+◌, ◌-◌, ◌*◌, ◌/◌, ◌≤◌, ◌⊎◌, false, cond, ◌&&◌, eqb, if◌then◌else◌, List, [], ◌∷◌, length, Option, Some, None, slice_get, bytes_eq}
 use Rattle.aout_core.specs.declared.header.Header.{Header}
@@ -30,7 +30,7 @@ base_in h bss DataSeg = data_base_in h
 base_in h bss BssSeg = data_base_in h + h.data_size + (h.bss_size - bss)
 base_in h bss _ = 0
 
--- how far a segment of an object is moved, that stands behind the same segment of the objects before it
+-- how far a segment of an object is moved, that comes after the same segment of the objects before it
 abbrev pub move_in : Header → List Contents → List Contents → Contents → Segment → ℕ
 move_in h os before k TextSeg = minus (base_in h (total BssSeg os) TextSeg + total TextSeg before) (own k TextSeg)
 move_in h os before k DataSeg = minus (base_in h (total BssSeg os) DataSeg + total DataSeg before) (own k DataSeg)
@@ -63,7 +63,7 @@ IsAdded h rows os before k (Some kinds.DataSeg) number a = a ≡ move_in h os be
 IsAdded h rows os before k (Some kinds.BssSeg) number a = a ≡ move_in h os before k BssSeg
 IsAdded h rows os before k (Some kinds.External) number a = IsAddressOf rows k number a
 
--- word i of a segment of k, which is w with relocation word r, stands behind that segment of the objects before k: what
+-- word i of a segment of k, which is w with relocation word r, comes after that segment of the objects before k: what
 -- `IsAdded` has for r is added to it, and if it is relative to the pc, how far its own segment was moved is subtracted
 pub record IsRelocated (file : Contents) (rows : List Symbol) (os before : List Contents) (k : Contents) (segment : Segment) (i w : ℕ) (r : Reloc) : Type 0 where
   pub added : ℕ
@@ -71,7 +71,7 @@ pub record IsRelocated (file : Contents) (rows : List Symbol) (os before : List 
   pub word : slice_get (segment_words segment file) (total segment before / 2 + i) ≡ Some (minus (plus w added) (cond (is_pc_relative r) (move_in file.header os before k segment) 0))
 
 -- text and data are as long as the objects' together, so they hold nothing else; bss is at least as long as theirs (the commons
--- in it are told by `AreRows`)
+-- in it are those of `AreRows`)
 pub record HoldsObjects (file : Contents) (os : List Contents) : Type 0 where
   pub text : file.header.text_size ≡ total TextSeg os
   pub «data» : file.header.data_size ≡ total DataSeg os

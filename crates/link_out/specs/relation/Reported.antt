@@ -1,8 +1,8 @@
--- What is reported of a link, told by the mentions. (ld(1); what is a multiple: own choice)
+-- What is reported of a link, by the mentions. (ld(1); what is a multiple: own choice)
 --
 -- Each definition that differs from the first of its name, each reserved name that the objects define or make a common, and
 -- each other name that is undefined. With relocation undefined names are not reported, as a later link may define them. The
--- entry point is told by `IsEntry` in Relocated.
+-- entry point is in `IsEntry` of Relocated.
 use Rattle.std.specs.Prelude.{◌≡◌, ◌≢◌, ℕ, ◌⊎◌, true, false, List, [], ◌∷◌, map}
 use Rattle.aout_core.specs.declared.symbol.Segment.{Segment}
 use Rattle.aout_core.specs.Contents.{Contents}
@@ -13,7 +13,7 @@ use Rattle.link_out.specs.relation.NameStates.{IsFirst, IsWanted}
 use Rattle.link_out.specs.ReservedNames.{reserved_names}
 use Rattle.link_out.specs.Results.{Outcome}
 
--- these are the elements of which it holds, in order
+-- these are the elements for which it holds, in order
 abbrev pub ArePicked : {A : Type 0} → (A → Type 0) → List A → List A → Type 0
 ArePicked P [] picked = picked ≡ []
 ArePicked {A = A} P (x ∷ xs) picked = (P x × ((rest : List A) × (picked ≡ x ∷ rest) × ArePicked P xs rest)) ⊎ ((P x → ⊥) × ArePicked P xs picked)

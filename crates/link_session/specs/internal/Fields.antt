@@ -64,7 +64,7 @@ pub record IsBehind (s : Sizes) (m : Image) (t : Threads) : Type 0 where
   pub text_links : length t.text_links ≡ length m.text_cells
   pub data_links : length t.data_links ≡ length m.data_cells
 
--- the threads once the cells behind these sizes leave their chains, the last first
+-- the threads once the cells after these sizes leave their chains, the last first
 abbrev pub unthreaded_behind : Sizes → Image → Threads → Threads
 unthreaded_behind s m t = record t {
   heads = unthreaded (drop s.text_cells m.text_cells) (drop s.text_cells t.text_links) (unthreaded (drop s.data_cells m.data_cells) (drop s.data_cells t.data_links) t.heads);

@@ -16,6 +16,6 @@ cells_in_scope scope own_shift words relocs = placed_cells scope.externals.now.e
 abbrev pub own_placed : Scope → Words → List Cell
 own_placed scope own = cells_in_scope scope (shift_by scope.shifts own.segment) own.words.now own.relocs.now
 
--- the links of such cells, behind these links, and the heads then
+-- the links of such cells, after these links, and the heads then
 abbrev pub own_threaded : Words → List Cell → List Link → List Link → List Link × List Link
 own_threaded own cells links heads = threaded (place_at own.segment) (length links) cells heads

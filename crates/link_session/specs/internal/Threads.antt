@@ -62,7 +62,7 @@ bound_heads m o heads = cut_heads (next_named m o) (places_of (next_named m o) o
 abbrev pub next_heads : Image → Contents → List Link → List Link
 next_heads m o heads = grown_heads (length (next_named m o)) (bound_heads m o heads)
 
--- the threads with one more object, behind this image
+-- the threads with one more object, after this image
 abbrev pub next_threads : Image → Contents → Threads → Threads
 next_threads m o t = with_datas (next_datas m o) (with_texts (next_texts m o) (record t { heads = next_heads m o t.heads }))
 
@@ -82,7 +82,7 @@ pub record IsThreaded (m : Image) (t : Threads) : Type 0 where
   pub chained : AreChained m.text_cells m.data_cells t.text_links t.data_links t.heads
   pub heads : length t.heads ≡ length m.externals
 
--- the threads cut to so many cells of text and of data and so many heads: the cells behind leave their chains, the last first
+-- the threads cut to so many cells of text and of data and so many heads: the cells after leave their chains, the last first
 abbrev pub cut_threads : ℕ → ℕ → ℕ → Image → Threads → Threads
 cut_threads texts datas names m t = record {
   text_links = take texts t.text_links;

@@ -15,7 +15,7 @@ EndsLine endings.End old new line = HasNone line × Consumes old new line × IsA
 EndsLine endings.Long old new line = (b : ℕ) × HasNone (line ++ b ∷ []) × Consumes old new (line ++ b ∷ [])
 EndsLine endings.Failed old new line = HasNone line × Consumes old new line
 
--- behind so many lines these bytes give no further line
+-- after so many lines these bytes give no further line
 abbrev pub IsStopOf : ℕ → List ℕ → List ℕ → Stop → Type 0
 IsStopOf n bytes left stops.End = (left ≡ []) × GivesNone n bytes None
 IsStopOf n bytes left stops.LongLine = (left ≡ drop 4097 bytes) × GivesNone n bytes (Some long_line)
@@ -23,7 +23,7 @@ IsStopOf n bytes left stops.ManyLines = (left ≡ drop 1 bytes) × GivesNone n b
 IsStopOf n bytes left stops.ReadFailed = FailsInLine bytes left
 IsStopOf n bytes left stops.Memory = ⊥
 
--- a line was taken behind so many others, the last one or not, or why none was
+-- a line was taken after so many others, the last one or not, or why none was
 abbrev pub IsTakenOf : ℕ → List ℕ → List ℕ → List ℕ → Result Bool Stop → Type 0
 IsTakenOf n bytes left line (Ok is_last) = TakesLine n bytes left (asked line) × (is_last ≡ true ↔ HasNone bytes)
 IsTakenOf n bytes left line (Err stop) = IsStopOf n bytes left stop

@@ -50,7 +50,7 @@ IsFinalLink x (Err (faults.NotLinked links.Memory)) = ⊥
 IsFinalLink x (Err (faults.NotLinked fault)) = x ≡ Err fault
 IsFinalLink x (Err _) = ⊥
 
--- an object, or why the file is none
+-- an object, or why the file is not one
 abbrev pub IsCheckOf : String Global → Contents → Result (String Global × Contents) CliFault → Type 0
 IsCheckOf path c (Ok r) = (r.0 ≡ path) × (r.1 ≡ c) × (first_object_fault c ≡ None)
 IsCheckOf path c (Err fault) = (cause : ObjectFault) × (fault ≡ faults.BadObject path cause) × (first_object_fault c ≡ Some cause)

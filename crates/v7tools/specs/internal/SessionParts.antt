@@ -30,7 +30,7 @@ pub record TellsStep {W : Type 0} (contents : W → Option (List ℕ)) (did : St
   pub fault : IsErr result ↔ IsTrue after.has_failed
   pub bytes : Puts result (contents before.device) (contents after.device) did.answer
 
--- a step on a command that is no link was taken
+-- a step on a command that is not a link was taken
 abbrev pub TakesPlainStep : {R W : Type 0} → (R → Option (List ℕ)) → (W → Option (List ℕ)) → Choices → Command R → Kept → Kept → Result ℕ CliFault → Latched W → Latched W → Type 0
 TakesPlainStep remaining contents o command old new result before after =
     (did : Stepped) × IsStepOn remaining old o command did × Changes command did.verdict old new × TellsStep contents did new result before after

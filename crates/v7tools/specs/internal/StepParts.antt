@@ -34,7 +34,7 @@ label_of (Some e) = e.label
 abbrev pub missing_line : List ℕ × State → List ℕ
 missing_line e = cond (is_missing e.0 e.1) (line e.0) []
 
--- what is found behind a path: that the device fails, or what its bytes are, where they are known
+-- what is found after a path: that the device fails, or what its bytes are, where they are known
 abbrev pub IsFound : Option (List ℕ) → Result Contents Cause → Type 0
 IsFound known found = (found ≡ Err (bad_file reads.Device)) ⊎ IfSome known (λ bytes. found ≡ object_in (decode bytes))
 
@@ -58,7 +58,7 @@ IsObjectAddition old new path object (Ok _) = (refusal old.forced (objects old.e
 IsObjectAddition old new path object (Err fault) =
     (new ≡ old) × ((cause : AddFault) × (fault ≡ fault_of_addition path cause) × IsCause (refusal old.forced (objects old.entries) object) cause)
 
--- the file at a path was added, or the fault says why it was not; memory runs out only where it is wanted
+-- the file at a path was added, or the fault says why it was not; memory runs out only if it is wanted
 abbrev pub IsAddition : Option (List ℕ) → Kept → Kept → String Global → Result (Unit {0}) CliFault → Type 0
 IsAddition known old new path (Ok _) = (object : Contents) × IsAccepted known old new (string_bytes path) object
 IsAddition known old new path (Err fault) = (new ≡ old) × (((fault ≡ faults.Memory) × IfSome known (WantsMemory old.forced old.entries (string_bytes path))) ⊎ IsRefusal known old path fault)
@@ -69,7 +69,7 @@ abbrev pub IsAddWorking : Option (List ℕ) → List (List ℕ) → List Labelle
 IsAddWorking (Some bytes) forced kept path did = did ≡ add_step kept path (input_from forced kept path (giving bytes))
 IsAddWorking None forced kept path did = (found : Result Contents Cause) × (found ≢ Err (bad_file reads.Device)) × (did ≡ add_step kept path (kept_with forced kept path found))
 
--- an addition, with its wire before and after: the answer is that of a device that failed exactly where the wire has
+-- an addition, with its wire before and after: the answer is that of a device that failed if and only if the wire has
 abbrev pub IsAddOver : {R : Type 0} → (R → Option (List ℕ)) → Latched R → Latched R → List (List ℕ) → List Labelled → List ℕ → Stepped → Type 0
 IsAddOver remaining from to forced kept path did =
     (IsTrue to.has_failed × (did ≡ add_step kept path (input_from forced kept path failing)))
