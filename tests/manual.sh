@@ -1,11 +1,11 @@
 #!/bin/sh
-# Runs the examples of the manual pages, of README.md and of docs/, and compares what is shown with what comes. It runs
-# nothing but what stands there: in a page the displays, in a document the blocks that are indented by four blanks or
-# more, and of both those alone whose first line begins with "$ ". There a line behind "$ " is typed to the shell, a line
-# behind "> " to the program, and all others are what is shown, standard error too. Each file has a new copy of the
-# folder examples, and its commands run in one shell, so that each sees what those before it left.
+# Runs the examples of the manual pages and of the documents, and compares what is shown with what comes. The examples of a
+# page are its displays, and those of a document its blocks that are indented by four blanks or more; of both, only those
+# whose first line begins with "$ ". There a line after "$ " is typed to the shell, a line after "> " to the program, and all
+# others are what is shown, standard error too. Each file has a new copy of the folder examples, and its commands run in one
+# shell, so that each sees what those before it left. Commands that need a program which is not installed are counted.
 #
-# usage: tests/manual.sh [FILE...]       the programs have to stand in build
+# usage: tests/manual.sh [FILE...]       the programs have to be in build
 set -u
 cd "$(dirname "$0")/.."
 top=$PWD
@@ -20,7 +20,7 @@ export PATH
 LC_ALL=C
 export LC_ALL
 
-# the lines of the blocks with examples, and an empty line behind each block
+# the lines of the blocks with examples, and an empty line after each block
 blocks() {
     case $1 in
     *.md)
@@ -64,8 +64,11 @@ run() {
         part=${typed%.typed}
         line=$(cat "$typed")
         case $line in
-        "sh simulate.sh "*) command -v pdp11 >/dev/null || { echo "$1: not run, as pdp11 is missing: $line"; continue; } ;;
+        "sh simulate.sh "*) needed=pdp11 ;;
+        "pdp11-aout-as "*) needed=pdp11-aout-as ;;
+        *) needed=sh ;;
         esac
+        command -v "$needed" >/dev/null || { echo "$1: not run, as $needed is missing: $line"; skipped=$((skipped + 1)); continue; }
         (exit $status)
         eval "$line" <"$part.input" >"$part.came" 2>&1
         status=$?
@@ -81,11 +84,12 @@ run() {
 
 failed=0
 count=0
+skipped=0
 for file in "$@"; do
     commands "$file"
     run "$file"
     echo "$file: $ran commands"
     count=$((count + ran))
 done
-echo "$count commands of $# files were run"
+echo "$count commands of $# files were run, and $skipped were not"
 exit $failed
