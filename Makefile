@@ -3,7 +3,7 @@ PREFIX ?= /usr/local
 
 # the kits that the gate has passed with; any: another one too
 KITS ?= rattle-kit-13b rattle-kit-13f
-ifneq ($(filter-out clean install,$(or $(MAKECMDGOALS),all)),)
+ifneq ($(filter-out clean install install-lib,$(or $(MAKECMDGOALS),all)),)
 ifneq ($(shell sh tests/kit.sh $(KITS) && echo yes),yes)
 $(error stopped)
 endif
@@ -11,7 +11,7 @@ endif
 
 # tests/prove.py uses all processors by itself
 .NOTPARALLEL:
-.PHONY: all try demo lib check-lib test recheck wrong-bodies memory room bench instructions simulate lesson page check-page \
+.PHONY: all try demo lib install-lib check-lib dist check-dist test recheck wrong-bodies memory room bench instructions simulate lesson page check-page \
 	check-manual check-examples check-explain check-cases check-model check-streams install clean
 
 all: build/v7 build/v7-from-gnu build/v7-object build/v7-explain
@@ -54,28 +54,60 @@ crates/v7_explain/out/v7_explain: crates.txt $(shell find $(EXPLAIN_CRATES) -nam
 	python3 tests/prove.py v7_explain $@
 	touch $@
 
-# the linker as a library, for C and for what can call C: include/v7.h. Of the C library it calls no more than
-# `malloc`, `realloc` and `free`, through the kit's c/liblibc_c.a, which libv7.so holds
+# the linker as a library, for C and for what can call C: include/v7.h. Of the C library it calls no more than `malloc`,
+# `realloc` and `free`, through an object of the kit's c/liblibc_c.a. Both libraries hold that object, and show only the calls of
+# v7.h
+VERSION := $(shell sed -n 's/^.define V7_VERSION "\(.*\)"/\1/p' include/v7.h)
+SONAME := libv7.so.0
+LIBDIR ?= $(PREFIX)/lib
+INCLUDEDIR ?= $(PREFIX)/include
+OBJCOPY ?= objcopy
 KIT = $(dir $(shell rt doc))
 
 lib: build/libv7.a build/libv7.so
 
 build/libv7.a: crates/v7_c/out/libv7_c.a
 	mkdir -p build
-	cp crates/v7_c/out/libv7_c.a build/libv7.a
+	rm -f build/libv7.a
+	$(LD) -r -o build/libv7.o --whole-archive crates/v7_c/out/libv7_c.a --no-whole-archive $(KIT)c/liblibc_c.a
+	$(OBJCOPY) --wildcard --keep-global-symbol='v7_*' build/libv7.o
+	$(AR) rcsD build/libv7.a build/libv7.o
+	rm build/libv7.o
 
-build/libv7.so: build/libv7.a
-	$(CC) -shared -o build/libv7.so -Wl,--whole-archive build/libv7.a -Wl,--no-whole-archive $(KIT)c/liblibc_c.a
+build/$(SONAME): build/libv7.a packaging/libv7.map
+	$(CC) $(CFLAGS) $(LDFLAGS) -shared -o build/$(SONAME) -Wl,-soname,$(SONAME) -Wl,--version-script=packaging/libv7.map -Wl,-z,defs \
+		-Wl,--whole-archive build/libv7.a -Wl,--no-whole-archive
+
+build/libv7.so: build/$(SONAME)
+	ln -sf $(SONAME) build/libv7.so
 
 LIBRARY_CRATES := $(addprefix crates/,aout_core link_session link_options link_out symtools session_text library_calls v7_c)
 crates/v7_c/out/libv7_c.a: crates.txt $(shell find $(LIBRARY_CRATES) -name out -prune -o -type f -print)
 	python3 tests/prove.py v7_c $@
 	touch $@
 
-# calls the library with an input for each fault of each call, and compares what the examples in C, Python and Rust link with
-# what v7 links
+# the libraries, the header, what pkg-config reads, and the manual page; no program is needed
+install-lib: lib
+	mkdir -p $(DESTDIR)$(LIBDIR)/pkgconfig $(DESTDIR)$(INCLUDEDIR) $(SHARE)/man/man3
+	cp build/libv7.a build/$(SONAME) $(DESTDIR)$(LIBDIR)
+	ln -sf $(SONAME) $(DESTDIR)$(LIBDIR)/libv7.so
+	cp include/v7.h $(DESTDIR)$(INCLUDEDIR)
+	sed -e 's|@PREFIX@|$(PREFIX)|' -e 's|@LIBDIR@|$(LIBDIR)|' -e 's|@INCLUDEDIR@|$(INCLUDEDIR)|' -e 's|@VERSION@|$(VERSION)|' \
+		packaging/v7.pc.in >$(DESTDIR)$(LIBDIR)/pkgconfig/v7.pc
+	cp man/*.3 $(SHARE)/man/man3
+
+# installs the library into a folder, calls it there with an input for each fault of each call, and compares what the examples in
+# C, C++, Python and Rust link with what v7 links
 check-lib: lib build/v7
-	CC='$(CC)' sh tests/library.sh $(KIT)c/liblibc_c.a
+	CC='$(CC)' CXX='$(CXX)' sh tests/library.sh
+
+# the release: packages of what was proved and built, in dist. check-dist makes them twice, in two folders, compares them, and runs
+# them in a folder of Debian that has neither the kit nor make nor Python
+dist:
+	python3 packaging/dist.py
+
+check-dist:
+	sh tests/dist.sh all
 
 # the examples' session by the program as it is compiled before any proof, in a folder that is gone at the end; the answers
 # are compared
@@ -202,7 +234,7 @@ check-examples: build/v7 build/v7-from-gnu build/v7-object build/v7-explain buil
 	sh tests/manual.sh
 	python3 tests/statuses.py build/v7-from-gnu build/lesson
 
-# the programs, their manual pages, the documents and the examples; and the library, where `make lib` made it
+# the programs, their manual pages, the documents and the examples
 SHARE = $(DESTDIR)$(PREFIX)/share
 install: build/v7 build/v7-from-gnu build/v7-object build/v7-explain
 	mkdir -p $(DESTDIR)$(PREFIX)/bin $(SHARE)/man/man1 $(SHARE)/man/man5 $(SHARE)/doc/v7
@@ -211,11 +243,6 @@ install: build/v7 build/v7-from-gnu build/v7-object build/v7-explain
 	cp man/*.5 $(SHARE)/man/man5
 	cp -R README.md CHANGES.md CONTRIBUTING.md docs examples $(SHARE)/doc/v7
 	rm $(SHARE)/doc/v7/examples/.gitignore
-	if test -f build/libv7.so; then \
-		mkdir -p $(DESTDIR)$(PREFIX)/lib $(DESTDIR)$(PREFIX)/include && \
-		mkdir -p $(SHARE)/man/man3 && cp man/*.3 $(SHARE)/man/man3 && \
-		cp build/libv7.a build/libv7.so $(DESTDIR)$(PREFIX)/lib && cp include/v7.h $(DESTDIR)$(PREFIX)/include; \
-	fi
 
 clean:
-	rm -rf build
+	rm -rf build dist

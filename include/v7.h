@@ -27,6 +27,9 @@
 #include <stddef.h>
 #include <stdint.h>
 
+/* The version of this header. Until 1.0 a new minor version may change a call, and the number after .so then changes too. */
+#define V7_VERSION "0.4.0"
+
 #ifdef __cplusplus
 extern "C" {
 #endif
@@ -64,6 +67,65 @@ enum v7_fault {
     V7_NO_MEMORY = 50,         /* malloc gave none */
     V7_NO_ROOM = 60            /* a room is too small */
 };
+
+/* What a fault means, in a few words. A number that is not a fault gives "unknown fault". */
+static inline const char *v7_strerror(uint32_t fault)
+{
+    switch (fault) {
+    case V7_NO_FAULT:
+        return "no fault";
+    case V7_NO_OPTION:
+        return "no such option or form";
+    case V7_EXCLUDED:
+        return "options exclude each other";
+    case V7_LONG_NAME:
+        return "the name of the entry point has more than 8 bytes";
+    case V7_CUT_NAMES:
+        return "the size of the forced names is not a multiple of 8";
+    case V7_MANY_NAMES:
+        return "more than 64 names are forced";
+    case V7_TOO_LONG:
+        return "too many words, bytes of bss or symbols";
+    case V7_NO_EDIT:
+        return "no such edit";
+    case V7_SHORT_HEADER:
+        return "short header";
+    case V7_BAD_MAGIC:
+        return "bad magic number";
+    case V7_ODD_SIZE:
+        return "odd size";
+    case V7_TRUNCATED:
+        return "truncated";
+    case V7_NOT_AN_OBJECT:
+        return "not an object";
+    case V7_NO_RELOCATION:
+        return "no relocation";
+    case V7_BAD_RELOCATION:
+        return "bad relocation";
+    case V7_BAD_SYMBOL_NUMBER:
+        return "bad symbol number";
+    case V7_TEXT_FULL:
+        return "text full";
+    case V7_DATA_FULL:
+        return "data full";
+    case V7_BSS_FULL:
+        return "bss full";
+    case V7_NAMES_FULL:
+        return "names full";
+    case V7_DOES_NOT_FIT:
+        return "does not fit";
+    case V7_TOO_MANY_SYMBOLS:
+        return "too many symbols";
+    case V7_SYMBOL_NUMBER:
+        return "symbol number too large";
+    case V7_NO_MEMORY:
+        return "no memory";
+    case V7_NO_ROOM:
+        return "no room";
+    default:
+        return "unknown fault";
+    }
+}
 
 struct v7_answer {
     uint32_t fault;     /* of enum v7_fault */
@@ -147,17 +209,41 @@ uint32_t v7_state(uint32_t form, const unsigned char *forced, size_t forced_size
                   const unsigned char *objects, size_t objects_size, unsigned char *replies, size_t replies_size,
                   unsigned char *room, size_t room_size, struct v7_answer *answer);
 
-/* A word of text or data, and its relocation word: 0 where the word is a number, 2 where it refers to text, 4 to data, 6 to
- * bss, and 8 + 16 * N where it refers to the symbol N of the table, which is an undefined external; and 1 more where the word
- * is relative to the pc. */
+/* A relocation word is one of these kinds, or V7_REFERS_TO(N); and V7_FROM_PC more if the word is relative to the pc.
+ *
+ * A word that refers to text, data or bss holds an address of the object: these count on through text, data and bss, from 0. A
+ * word that refers to a symbol holds what is to be added to the value of the symbol; usually 0. If the word is relative to the pc,
+ * its own address and 2 more are subtracted, since the pc is then the address after the word. So `jsr pc,_f` at address 0 has its
+ * operand at 2, and the operand holds 0177774, which is minus 4. */
+enum v7_relocation {
+    V7_NUMBER = 0,  /* the word does not refer to anything */
+    V7_IN_TEXT = 2,
+    V7_IN_DATA = 4,
+    V7_IN_BSS = 6,
+    V7_FROM_PC = 1  /* added to another one */
+};
+
+/* the relocation word of a word that refers to the symbol N of the table, from 0 to 4,095, an undefined external */
+#define V7_REFERS_TO(n) ((uint16_t)(8 + 16 * (n)))
+
+/* A word of text or data, and its relocation word. */
 struct v7_word {
     uint16_t value;
     uint16_t reloc;
 };
 
-/* A symbol: its name, filled up with NULs, its type word (0 to 4: undefined, absolute, text, data, bss; 32 more where it is
- * external), and its value. Addresses count on through text, data and bss, from 0. An undefined external with a value is a
- * common of so many bytes. */
+/* The type word of a symbol is one of these, and V7_EXTERNAL more if other objects see the symbol. */
+enum v7_segment {
+    V7_UNDEFINED = 0,
+    V7_ABSOLUTE = 1,
+    V7_TEXT = 2,
+    V7_DATA = 3,
+    V7_BSS = 4,
+    V7_EXTERNAL = 32  /* the external bit, added to another one */
+};
+
+/* A symbol: its name, filled up with NULs, its type word, and its value. Addresses count on through text, data and bss, from 0. An
+ * undefined external with a value is a common of so many bytes. */
 struct v7_symbol {
     unsigned char name[8];
     uint16_t type;

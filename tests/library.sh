@@ -1,25 +1,86 @@
 #!/bin/sh
-# The faults of libv7 and its examples. tests/faults.c calls the library with an input for each fault of each call. The examples
-# in C, Python and Rust are compiled, link objects of examples/ as the program does, with the same file, report and status,
-# and run sessions, which compare by themselves. The library and the program link the objects of the large benchmark. What is
-# in C runs under AddressSanitizer and valgrind too. What is missing of Python, Rust and these two is skipped, and named.
+# libv7 as a caller has it: installed into a folder, and found by pkg-config. Its two libraries must show the calls of v7.h and
+# nothing else, and the header must compile as C99, C++98 and C++17. tests/faults.c calls the library with an input for each fault of
+# each call. The examples in C, C++, Python and Rust are compiled, link objects of examples/ as the program does, with the same
+# file, report and status, and run sessions, which compare by themselves. The library and the program link the objects of the large
+# benchmark. What is in C runs under AddressSanitizer and valgrind too. What is missing of the compilers, Python and these two
+# is skipped, and named.
 #
-# usage: CC=cc tests/library.sh HEAP       HEAP is the archive of the kit that calls malloc
+# usage: CC=cc CXX=c++ tests/library.sh
 set -u
 cd "$(dirname "$0")/.."
 top=$PWD
-heap=$1
 room=$(mktemp -d)
 trap 'rm -rf "$room"' EXIT
+make -s install-lib PREFIX="$room/installed" LIBDIR="$room/installed/lib" INCLUDEDIR="$room/installed/include" DESTDIR= || exit 1
 cd "$room"
 cp "$top"/examples/*.o .
 $top/build/v7 ld -s -o bad.o main.o >/dev/null
 failed=0
+if command -v pkg-config >/dev/null; then
+    PKG_CONFIG_PATH=$room/installed/lib/pkgconfig
+    export PKG_CONFIG_PATH
+    compiles=$(pkg-config --cflags v7)
+    links=$(pkg-config --libs v7)
+    version=$(pkg-config --modversion v7)
+else
+    echo "skipped: pkg-config is not there"
+    compiles=-I$room/installed/include
+    links="-L$room/installed/lib -lv7"
+    version=$(sed -n 's/^Version: //p' installed/lib/pkgconfig/v7.pc)
+fi
+archive=$room/installed/lib/libv7.a
+library=$room/installed/lib/libv7.so.0
 
 fail() {
     echo "$1"
     failed=1
 }
+
+# the names that a library shows, and those that the header declares
+sed -n 's/^uint32_t \(v7_[a-z_]*\)(.*/\1/p' installed/include/v7.h | sort >declared
+[ -s declared ] || fail "v7.h declares no call"
+nm -D --defined-only "$library" | awk '{ print $NF }' | sort | diff declared - || fail "libv7.so.0 shows something else than v7.h declares"
+nm -g --defined-only "$archive" | awk 'NF == 3 { print $3 }' | sort | diff declared - || fail "libv7.a shows something else than v7.h declares"
+readelf -d "$library" | grep -q 'Library soname: \[libv7.so.0\]' || fail "the soname of libv7.so.0 is another"
+echo "$(wc -l <declared) calls shown by both libraries"
+
+# the header alone, as C and as C++; each number of a fault has a text of its own; and the version is that of v7.pc
+cat >header.c <<'END'
+#include "v7.h"
+#include <stdio.h>
+#include <string.h>
+
+int main(void)
+{
+    static const unsigned faults[] = {0, 1, 2, 3, 4, 5, 6, 7, 11, 12, 13, 14, 21, 22, 23, 24, 31, 32, 33, 34, 41, 42, 43, 50, 60, 61};
+    unsigned i, j;
+
+    if (V7_REFERS_TO(0) != 010 || V7_REFERS_TO(4095) != 0177770 || V7_REFERS_TO(1) + V7_FROM_PC != 031)
+        return 1;
+    for (i = 0; i < sizeof faults / sizeof *faults; i++)
+        for (j = 0; j < i; j++)
+            if (strcmp(v7_strerror(faults[i]), v7_strerror(faults[j])) == 0)
+                return 2;
+    puts(V7_VERSION);
+    return strcmp(v7_strerror(8), "unknown fault") != 0 || strcmp(v7_strerror(61), "unknown fault") != 0;
+}
+END
+cp header.c header.cpp
+# compiles it with these words, and runs it
+header() {
+    "$@" -pedantic -Wall -Wextra -Werror $compiles -o header && ./header >header.txt || fail "v7.h does not compile, or is wrong: $*"
+    echo "$version" | cmp -s - header.txt || fail "the version of v7.h is not that of v7.pc"
+    echo "v7.h: $*"
+}
+header $CC -std=c99 header.c
+header $CC -std=c11 header.c
+if command -v $CXX >/dev/null; then
+    header $CXX -std=c++98 header.cpp
+    header $CXX -std=c++17 header.cpp
+else
+    echo "skipped: $CXX is not there"
+fi
 
 # the objects of one link are linked by the program and by a command, which prints the line of each file first
 link_both() {
@@ -63,8 +124,8 @@ session() {
 faults() {
     to=$1
     shift
-    $CC -std=c99 -Wall -Wextra -Werror "$@" -o "$to" -I"$top/include" "$top/tests/faults.c" "$top/tests/calls.c" \
-        -Wl,--wrap=malloc -Wl,--wrap=realloc -Wl,--wrap=free "$top/build/libv7.a" "$heap" || exit 1
+    $CC -std=c99 -Wall -Wextra -Werror "$@" -o "$to" $compiles "$top/tests/faults.c" "$top/tests/calls.c" \
+        -Wl,--wrap=malloc -Wl,--wrap=realloc -Wl,--wrap=free "$archive" || exit 1
 }
 
 # runs them
@@ -81,12 +142,24 @@ faulty() {
 
 faults faults -O2
 faulty C ./faults
-$CC -O2 -Wall -o by_c -I"$top/include" "$top/examples/c/link.c" "$top/build/libv7.a" "$heap" || exit 1
-$CC -O2 -Wall -o ran_by_c -I"$top/include" "$top/examples/c/session.c" "$top/build/libv7.a" "$heap" || exit 1
+$CC -O2 -Wall -o by_c $compiles "$top/examples/c/link.c" "$archive" || exit 1
+$CC -O2 -Wall -o ran_by_c $compiles "$top/examples/c/session.c" "$archive" || exit 1
 links C ./by_c
 session C ./ran_by_c
-if $CC -g -fsanitize=address -o by_asan -I"$top/include" "$top/examples/c/link.c" "$top/build/libv7.a" "$heap" 2>/dev/null; then
-    $CC -g -fsanitize=address -o ran_by_asan -I"$top/include" "$top/examples/c/session.c" "$top/build/libv7.a" "$heap" || exit 1
+$CC -O2 -Wall -o by_shared $compiles "$top/examples/c/link.c" $links || exit 1
+$CC -O2 -Wall -o ran_by_shared $compiles "$top/examples/c/session.c" $links || exit 1
+LD_LIBRARY_PATH=$room/installed/lib
+export LD_LIBRARY_PATH
+links "C with libv7.so" ./by_shared
+session "C with libv7.so" ./ran_by_shared
+if command -v $CXX >/dev/null; then
+    for standard in c++98 c++17; do
+        $CXX -std=$standard -O2 -pedantic -Wall -Wextra -Werror -o by_cpp $compiles "$top/examples/cpp/link.cpp" $links || exit 1
+        links "C++ ($standard)" ./by_cpp
+    done
+fi
+if $CC -g -fsanitize=address -o by_asan $compiles "$top/examples/c/link.c" "$archive" 2>/dev/null; then
+    $CC -g -fsanitize=address -o ran_by_asan $compiles "$top/examples/c/session.c" "$archive" || exit 1
     faults faults_asan -g -fsanitize=address
     faulty "C with AddressSanitizer" ./faults_asan
     links "C with AddressSanitizer" ./by_asan
@@ -102,7 +175,7 @@ else
     echo "skipped: valgrind is not there"
 fi
 if command -v python3 >/dev/null; then
-    LIBV7=$top/build/libv7.so
+    LIBV7=$library
     PYTHONDONTWRITEBYTECODE=1
     export LIBV7 PYTHONDONTWRITEBYTECODE
     links Python "python3 $top/examples/python/link.py"
@@ -113,8 +186,9 @@ else
     echo "skipped: python3 is not there"
 fi
 if command -v rustc >/dev/null; then
-    rustc -O -o by_rust -C link-arg="$top/build/libv7.a" -C link-arg="$heap" "$top/examples/rust/link.rs" || exit 1
-    rustc -O -o ran_by_rust -C link-arg="$top/build/libv7.a" -C link-arg="$heap" "$top/examples/rust/session.rs" || exit 1
+    echo "$(rustc --version)"
+    rustc -O -o by_rust -L "$room/installed/lib" -l v7 "$top/examples/rust/link.rs" || exit 1
+    rustc -O -o ran_by_rust -L "$room/installed/lib" -l v7 "$top/examples/rust/session.rs" || exit 1
     links Rust ./by_rust
     session Rust ./ran_by_rust
 else

@@ -47,7 +47,7 @@ int main(int argc, char **argv)
     /* without room the answer says how much is wanted */
     status = v7_link(0, none, 0, none, 0, objects, objects_size, none, 0, none, 0, &answer);
     if (answer.fault != V7_NO_ROOM) {
-        fprintf(stderr, "object %zu: fault %u, word %u\n", answer.place, (unsigned)answer.fault, (unsigned)answer.word);
+        fprintf(stderr, "object %zu: %s, word %u\n", answer.place, v7_strerror(answer.fault), (unsigned)answer.word);
         free(objects);
         return (int)status;
     }

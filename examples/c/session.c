@@ -22,13 +22,13 @@ static const char first_state[] = "  text 000000  012700     a number\n"
                                   "  name _half: undefined\n";
 
 /* mov $4,r0; jsr pc,_half */
-static const struct v7_word main_text[] = {{012700, 0}, {4, 0}, {004767, 0}, {0177770, 031}};
-static const struct v7_symbol main_symbols[] = {{"start", 02, 0}, {"_half", 040, 0}};
+static const struct v7_word main_text[] = {{012700, 0}, {4, 0}, {004767, 0}, {0177770, V7_REFERS_TO(1) + V7_FROM_PC}};
+static const struct v7_symbol main_symbols[] = {{"start", V7_TEXT, 0}, {"_half", V7_UNDEFINED + V7_EXTERNAL, 0}};
 
 /* asr r0; rts pc; and a word of data that holds the address of the first */
-static const struct v7_word half_text[] = {{006200, 0}, {000207, 0}};
-static const struct v7_word half_data[] = {{0, 02}};
-static const struct v7_symbol half_symbols[] = {{"_half", 042, 0}};
+static const struct v7_word half_text[] = {{006200, V7_NUMBER}, {000207, V7_NUMBER}};
+static const struct v7_word half_data[] = {{0, V7_IN_TEXT}};
+static const struct v7_symbol half_symbols[] = {{"_half", V7_TEXT + V7_EXTERNAL, 0}};
 
 static int failed;
 
@@ -57,7 +57,7 @@ static void run(const char *edits, const unsigned char *objects, size_t size, st
                             strlen(edits), to->file, ROOM, to->report, ROOM, &to->answer);
 }
 
-/* whether the state behind the edits is this, as lines */
+/* whether the state after the edits is this, as lines */
 static int shows(const char *edits, const unsigned char *objects, size_t size, const char *state)
 {
     unsigned char room[ROOM], replies[8];

@@ -1,6 +1,6 @@
 //! Links objects by libv7: `link OUT OBJECT...` does what `v7 ld -o OUT OBJECT...` does.
 //!
-//! `rustc -O link.rs -C link-arg=libv7.a -C link-arg=KIT/c/liblibc_c.a` compiles it.
+//! `rustc -O -L FOLDER -l v7 link.rs` compiles it, with the folder that has libv7.
 use std::{env, fs, process};
 
 /// `struct v7_answer` of v7.h.
@@ -14,7 +14,7 @@ struct Answer {
     report_size: usize,
 }
 
-unsafe extern "C" {
+extern "C" {
     fn v7_link(
         options: u32,
         entry: *const u8,

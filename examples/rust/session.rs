@@ -1,6 +1,6 @@
 //! Makes two objects, links them, adds and withdraws, and compares, by libv7.
 //!
-//! `rustc -O session.rs -C link-arg=libv7.a -C link-arg=KIT/c/liblibc_c.a` compiles it.
+//! `rustc -O -L FOLDER -l v7 session.rs` compiles it, with the folder that has libv7.
 use std::process;
 
 /// `struct v7_answer` of v7.h.
@@ -22,7 +22,7 @@ struct Word(u16, u16);
 #[repr(C)]
 struct Symbol([u8; 8], u16, u16);
 
-unsafe extern "C" {
+extern "C" {
     fn v7_make(
         text: *const Word,
         text_count: usize,
