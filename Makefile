@@ -11,7 +11,7 @@ endif
 
 # tests/prove.py uses all processors by itself
 .NOTPARALLEL:
-.PHONY: all try demo lib install-lib check-lib dist check-dist test recheck wrong-bodies memory room bench instructions simulate lesson page check-page \
+.PHONY: all try demo lib install-lib check-lib dist check-dist test gate recheck wrong-bodies memory room bench instructions simulate lesson page check-page \
 	check-manual check-examples check-explain check-cases check-model check-streams install clean
 
 all: build/v7 build/v7-from-gnu build/v7-object build/v7-explain
@@ -127,8 +127,13 @@ demo: build/v7
 	cmp examples/ab.out build/program
 	od -An -v -tx1 build/program
 
-# the gate: what has to be trusted, every proof from nothing, the edits that must fail, the tests, the program's stored run
+# the cases and the tests that are code, compiled without any proof: what fails is named, and a pass proves nothing. The cases
+# are played on disk too, if the programs are built
 test:
+	@python3 tests/unproved.py
+
+# the gate: what has to be trusted, every proof from nothing, the edits that must fail, the tests, the programs' stored runs
+gate:
 	python3 tests/trusted.py
 	python3 tests/edits.py
 	python3 tests/index.py
@@ -211,11 +216,11 @@ check-explain: build/v7 build/v7-explain build/v7-object
 	python3 tests/notes.py build/v7-explain
 	python3 tests/map.py build/v7 build/v7-explain
 
-# plays the cases, docs/CASES.md, with the programs: each must come out as written, and each bad case must be refused with its
-# line. Samples that are in examples too must be the same there
+# plays the cases, docs/CASES.md, with the programs: each must come out as written, and each bad case must be refused as in
+# memory. Samples that are in examples too must be the same there
 check-cases: build/v7 build/v7-from-gnu build/v7-object build/v7-explain
 	python3 tests/cases.py -s
-	python3 tests/cases.py -e crates/cases/data/bad.cases | cmp - tests/bad.answers
+	python3 tests/cases.py -b
 	python3 tests/cases.py
 
 # compares v7 with a second linker, tests/model.py, on 3,000 random cases, always the same

@@ -4,9 +4,13 @@
 usage: tests/cases.py [FILE ..]      plays these files, or all of crates/cases/data
        tests/cases.py -e FILE ..     prints only the first error of each bad case
        tests/cases.py -s             compares the samples with the files of examples/
+       tests/cases.py -b             plays bad.cases: each error must be the one that the engine in memory finds
 """
 import collections
+import contextlib
+import difflib
 import glob
+import io
 import os
 import re
 import subprocess
@@ -239,9 +243,33 @@ def check_samples():
     return differing == 0 and compared > 0
 
 
+def played(words):
+    """The status of a run of these words, and the errors that it prints."""
+    with contextlib.redirect_stdout(io.StringIO()) as printed:
+        status = main(words)
+    return status, re.sub(r"^(ok|skipped|[0-9]+ cases) .*\n", "", printed.getvalue(), flags=re.M)
+
+
+def check_bad():
+    """Plays the bad cases: whether they fail a run, each with the error that crates/cases/stdout has at its end."""
+    name = os.path.relpath(os.path.join(SAMPLES, "bad.cases"))
+    with open(os.path.join(SAMPLES, "..", "stdout"), encoding="ascii") as file:
+        wanted = file.read().split(" failed\n")[1].replace("bad.cases:", f"{name}:")
+    is_good = len(wanted) > 0
+    for words, status in ([name], 1), (["-e", name], 0):
+        ended, came = played(words)
+        for line in difflib.unified_diff(wanted.split("\n"), came.split("\n"), "wanted", "came", lineterm="", n=0):
+            print(line)
+        if ended != status:
+            print(f"{' '.join(words)}: status {ended} in place of {status}")
+        is_good = is_good and ended == status and came == wanted
+    print(f"{len(re.findall('^[^ ]', wanted, re.M))} errors of bad cases compared with those in memory")
+    return is_good
+
+
 def main(words):
-    if words == ["-s"]:
-        return 0 if check_samples() else 1
+    if words in (["-s"], ["-b"]):
+        return 0 if {"-s": check_samples, "-b": check_bad}[words[0]]() else 1
     is_listing_errors = words[:1] == ["-e"]
     files = words[is_listing_errors:] or sorted(glob.glob(os.path.relpath(os.path.join(SAMPLES, "*.case"))))
     all_cases = Run(is_listing_errors)

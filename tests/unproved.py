@@ -1,0 +1,174 @@
+#!/usr/bin/env python3
+"""Plays the cases and runs the tests that are code, each crate compiled without any proof: `make test`.
+
+First the checks of texts, then four crates side by side, and then the cases on disk, if `make` has built the programs of these
+sources. Fails, with what was printed, if any of them fails. A crate with tests is one that has a function with `#[test]`.
+"""
+import difflib
+import glob
+import os
+import re
+import subprocess
+import sys
+import tempfile
+from concurrent.futures import ThreadPoolExecutor, as_completed
+
+TOP = os.path.normpath(os.path.join(os.path.dirname(os.path.abspath(__file__)), ".."))
+TEXTS = ["trusted", "edits", "index"]
+PROGRAMS = ["v7", "v7-from-gnu", "v7-object", "v7-explain"]
+# for a whole run of one crate, on a machine with other work too
+SECONDS = "1800"
+SIDE_BY_SIDE = 4
+
+
+class Failed(Exception):
+    """What was printed by something that failed."""
+
+
+def read(path):
+    with open(path, encoding="utf-8") as file:
+        return file.read()
+
+
+def run(*words, cwd="."):
+    """The exit status of a command, its standard output, and both outputs."""
+    with tempfile.TemporaryFile() as errors:
+        ran = subprocess.run(words, cwd=cwd, stdin=subprocess.DEVNULL, stdout=subprocess.PIPE, stderr=errors, check=False)
+        errors.seek(0)
+        output = ran.stdout.decode("utf-8", "replace")
+        return ran.returncode, output, output + errors.read().decode("utf-8", "replace")
+
+
+def passes(*words):
+    """The last line of a command that has to succeed."""
+    status, _, said = run(*words)
+    if status:
+        raise Failed(said)
+    return said.rstrip().split("\n")[-1]
+
+
+# --- tests that are code
+
+def crates_with_tests():
+    """How many functions with `#[test]` each crate has."""
+    counts = {}
+    for path in sorted(glob.glob("crates/*/src/**/*.rt", recursive=True)):
+        count = len(re.findall(r"^ *#\[test\]", read(path), re.M))
+        if count:
+            name = path.split("/")[1]
+            counts[name] = counts.get(name, 0) + count
+    return counts
+
+
+def run_tests(name, count):
+    """Runs the tests of a crate: each of them has to run."""
+    status, _, said = run("rt", "try", "--test", "--seconds", SECONDS, cwd=f"crates/{name}")
+    found = re.search(r"^test result: ok\. (\d+) passed; 0 failed", said, re.M)
+    if status or not found or int(found[1]) != count:
+        said = re.sub(r"^test .* \.\.\. ok\n", "", said, flags=re.M)
+        raise Failed(f"{said}{count} tests of {name} should have passed, and the status was {status}\n")
+    return f"{count} tests of {name}"
+
+
+# --- cases in memory
+
+ENDED = re.compile(r"^case=(\w+) run=ended status=(\d+)", re.M)
+SUMMARY = re.compile(r"^(\d+) cases played in memory, .*\n", re.M)
+
+
+def written(output):
+    """What each run of `rt try --cases` has printed."""
+    pieces = re.split(r"^== (\w+)\n", output, flags=re.M)
+    return dict(zip(pieces[1::2], pieces[2::2]))
+
+
+def compare(what, wanted, came):
+    lines = difflib.unified_diff(wanted.split("\n"), came.split("\n"), "wanted", "came", lineterm="", n=0)
+    difference = "\n".join(line for line in lines if not line.startswith("@@"))
+    if difference:
+        raise Failed(f"{what}:\n{difference}\n")
+
+
+def errors_in(output):
+    """The errors of bad cases, without what is said of the others."""
+    return re.sub(r"^(ok|skipped) .*\n", "", SUMMARY.sub("", output), flags=re.M)
+
+
+def play_in_memory():
+    """Plays all cases as in the stored run, and then the bad cases, which have to fail the run."""
+    data = {os.path.basename(path): os.path.abspath(path) for path in glob.glob("crates/cases/data/*")}
+    words = [word for name, path in sorted(data.items()) for word in ("--data", f"{name}={path}")]
+    with tempfile.TemporaryDirectory() as room:
+        for name, arguments in ("all", read("crates/cases/args")), ("bad", "bad.cases\n"):
+            for path, text in (name, ""), (name + ".args", arguments):
+                with open(os.path.join(room, path), "w", encoding="utf-8") as file:
+                    file.write(text)
+        words += ["--seconds", SECONDS, "--cases", room]
+        _, output, said = run("rt", "try", *words, cwd="crates/cases")
+    statuses, outputs = dict(ENDED.findall(said)), written(output)
+    if set(statuses) != {"all", "bad"} or set(outputs) != {"all", "bad"}:
+        raise Failed(said)
+    stored = read("crates/cases/stdout")
+    compare("cases in memory", stored, outputs["all"])
+    compare("bad cases in memory", errors_in(stored), errors_in(outputs["bad"]))
+    if (statuses["all"], statuses["bad"]) != ("0", "1"):
+        raise Failed(f"cases in memory: status {statuses['all']}, and {statuses['bad']} with bad cases\n")
+    return SUMMARY.search(stored)[0].rstrip()
+
+
+# --- cases on disk
+
+def play_on_disk():
+    """Plays the cases with the programs, if these are built, and of these sources."""
+    if run("make", "--no-print-directory", "-q", *(f"build/{name}" for name in PROGRAMS))[0]:
+        return f"no cases on disk: build/ has not all of {', '.join(PROGRAMS)}, built from these sources; `make` builds them"
+    passes(sys.executable, "tests/cases.py", "-b")
+    return passes(sys.executable, "tests/cases.py")
+
+
+# --- all of it
+
+class Tally:
+    """What has been run, and whether anything failed."""
+
+    def __init__(self):
+        self.lines = []
+        self.failed = []
+
+    def take(self, name, result):
+        try:
+            line = result()
+            self.lines.append(line)
+            print(line, flush=True)
+        except Failed as failed:
+            self.failed.append(name)
+            print(f"FAILED: {name}\n{str(failed).rstrip()}", flush=True)
+
+    def count(self, pattern):
+        found = (re.match(pattern, line) for line in self.lines)
+        return sum(int(it[1]) for it in found if it)
+
+
+def main():
+    os.chdir(TOP)
+    print("What follows is compiled without proof, so it proves nothing: make gate proves all of it.", flush=True)
+    tally = Tally()
+    for name in TEXTS:
+        tally.take(f"tests/{name}.py", lambda: passes(sys.executable, f"tests/{name}.py"))
+    tally.take("samples", lambda: passes(sys.executable, "tests/cases.py", "-s"))
+    with ThreadPoolExecutor(min(SIDE_BY_SIDE, len(os.sched_getaffinity(0)))) as pool:
+        jobs = {pool.submit(play_in_memory): "cases in memory"}
+        for name, count in sorted(crates_with_tests().items(), key=lambda it: -it[1]):
+            jobs[pool.submit(run_tests, name, count)] = f"tests of {name}"
+        for job in as_completed(jobs):
+            tally.take(jobs[job], job.result)
+    tally.take("cases on disk", play_on_disk)
+    memory, disk = tally.count(r"(\d+) cases played in memory"), tally.count(r"(\d+) cases played on disk")
+    print(f"{memory} cases in memory, {disk} on disk, and {tally.count('([0-9]+) tests of ')} tests passed: nothing was proved")
+    if tally.failed:
+        print(f"{len(tally.failed)} failed: {', '.join(tally.failed)}")
+    return 1 if tally.failed else 0
+
+
+if __name__ == "__main__":
+    sys.exit(main())
