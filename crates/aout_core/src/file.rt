@@ -42,8 +42,8 @@ impl Model for File {
     ghost invariant = { λ a. Fits (contents_of a.parts) };
 }
 
-/// Whether a file may begin with this word: 0405, 0407, 0410 or 0411.
-pub(crate) fn is_magic(magic: u16) -> bool
+/// Whether a file may begin with this word: 0405, 0407, 0410 or 0411. (a.out(5))
+pub fn is_magic(magic: u16) -> bool
     ensures { result ≡ is_magic magic }
 {
     magic == 0o405 || magic == 0o407 || magic == 0o410 || magic == 0o411

@@ -39,7 +39,7 @@ mod word;
 mod writer;
 
 pub use block::{BLOCK_SIZE, Block};
-pub use file::{File, Parts, ReadFault};
+pub use file::{File, Parts, ReadFault, is_magic};
 pub use header::Header;
 pub use name::Name;
 pub use object::{Object, ObjectFault};

@@ -216,8 +216,8 @@ fn mistakes(rt: HostRuntime) {
     }
 }
 
-/// Why a section of so many rows is refused, if it is.
-fn fill(rt: &HostRuntime, count: u16, symbols: bool) -> Option<Reason> {
+/// The mistake of a section of so many rows, if it has one.
+fn fill(rt: &HostRuntime, count: u16, symbols: bool) -> Option<Fault> {
     let mut text = Vec::new(rt.alloc());
     let opened = if symbols {
         b"symbols\n".as_slice()
@@ -235,15 +235,24 @@ fn fill(rt: &HostRuntime, count: u16, symbols: bool) -> Option<Reason> {
         text.extend_from_slice(row.as_str().as_bytes()).ok()?;
     }
     match read_listing(rt.alloc(), &text) {
-        Err(ListingFault::Wrong(fault)) => Some(fault.reason),
+        Err(ListingFault::Wrong(fault)) => Some(fault),
         _ => None,
     }
+}
+
+/// A mistake in the first column of a line.
+fn in_line(line: usize, reason: Reason) -> Option<Fault> {
+    Some(Fault {
+        line,
+        column: 1,
+        reason,
+    })
 }
 
 #[test]
 fn full(rt: HostRuntime) {
     assert!(rt; fill(&rt, 32767, false) == None);
-    assert!(rt; fill(&rt, 32768, false) == Some(Reason::TooManyWords));
+    assert!(rt; fill(&rt, 32768, false) == in_line(32769, Reason::TooManyWords));
     assert!(rt; fill(&rt, 5461, true) == None);
-    assert!(rt; fill(&rt, 5462, true) == Some(Reason::TooManySymbols));
+    assert!(rt; fill(&rt, 5462, true) == in_line(5463, Reason::TooManySymbols));
 }

@@ -1,6 +1,5 @@
 //! What has been read of a file so far.
 ghost use Rattle.std.specs.Prelude.{◌≡◌, ◌<◌};
-ghost use Rattle.aout_core.specs.Contents.{is_magic};
 ghost use Rattle.listings.specs.Drafts.{empty_draft, data_start};
 ghost use Rattle.listings.specs.internal.DraftParts.{draft_of};
 
@@ -54,15 +53,8 @@ impl FileDraft {
     }
 }
 
-/// Whether a file may begin with this number.
-pub(crate) fn has_magic(magic: u16) -> bool
-    ensures { result ≡ is_magic magic }
-{
-    magic == 0o405 || magic == 0o407 || magic == 0o410 || magic == 0o411
-}
-
-/// The address at which data begins.
-pub(crate) fn data_start(magic: u16, text_size: usize) -> usize
+/// The address at which data begins: after text, with magic 0410 at the next multiple of 020000, and with 0411 at 0. (a.out(5))
+pub fn data_start(magic: u16, text_size: usize) -> usize
     requires { text_size < 65536 }
     ensures value { result ≡ data_start magic text_size }
     ensures bound { result < 131072 }

@@ -15,6 +15,7 @@ mod remark;
 mod rows;
 mod write;
 
+pub use draft::data_start;
 pub use fault::{Fault, ListingFault, Reason};
 pub use read::read_listing;
 pub use remark::{Nothing, Remark};

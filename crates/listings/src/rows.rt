@@ -12,10 +12,10 @@ ghost use Rattle.listings.specs.internal.Whole.{IsDraft};
 ghost use Rattle.listings.specs.internal.Answers.{Found, Leaves};
 
 use crate::columns::{Columns, columns_of};
-use crate::draft::{FileDraft, SegmentDraft, data_start, has_magic};
+use crate::draft::{FileDraft, SegmentDraft, data_start};
 use crate::fault::{Reason, RowFault, Section, Word};
 use crate::numbers::{name_at, number_at};
-use aout_core::{Reloc, Symbol};
+use aout_core::{Reloc, Symbol, is_magic};
 use std::alloc::Global;
 
 /// A relocation word, if the file has relocation.
@@ -182,7 +182,7 @@ fn take_magic(draft: &mut FileDraft, second: &[u8]) -> Result<(), RowFault>
         return Err(RowFault::Wrong(0, Reason::TooLate));
     }
     let magic = number_at(1, second)?;
-    if !has_magic(magic) {
+    if !is_magic(magic) {
         return Err(RowFault::Wrong(1, Reason::NoMagic));
     }
     draft.magic = magic;

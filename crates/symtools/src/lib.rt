@@ -36,4 +36,4 @@ pub use fault::ToolFault;
 pub use listing::nm;
 pub use options::NmOptions;
 pub use sizes::size;
-pub use symbol_line::line;
+pub use symbol_line::{letter, line, value_column};

@@ -31,8 +31,8 @@ fn line_text(symbol: &Symbol) -> LineBuffer
     text
 }
 
-/// The value, or blanks for the letters u and U.
-fn value_column(symbol: &Symbol) -> [u8; 6]
+/// The value of a symbol as nm shows it: six octal digits, or six blanks for the letters u and U. (nm(1))
+pub fn value_column(symbol: &Symbol) -> [u8; 6]
     ensures { result ≡ value_column symbol.now }
 {
     if is_shown_undefined(symbol) {
@@ -70,7 +70,8 @@ pub(crate) fn is_shown_undefined(symbol: &Symbol) -> bool
     matches!(letter(symbol), b'u' | b'U')
 }
 
-fn letter(symbol: &Symbol) -> u8
+/// The letter that nm shows for a symbol, by its masked type and, for type 0, its value: see `line`. (nm(1))
+pub fn letter(symbol: &Symbol) -> u8
     ensures { result ≡ letter symbol.now }
 {
     let small = small_letter(symbol);
