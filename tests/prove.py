@@ -4,7 +4,8 @@
 Libraries that do not wait for each other are proved side by side. Each is proved from nothing, by the kit's `rattle` with the
 words of the gate, and the crates above it read its statements and not its proofs. These are kept in build/proved, packed, since
 the gate refuses folders with sources that no crate lists. A library is proved again where its sources, or those of one below
-it, have changed.
+it, have changed. Beside them NAME.verdict has the line by which the prover ends, and NAME.o what a program is linked from: a release
+is made of these.
 """
 import hashlib
 import os
@@ -147,19 +148,22 @@ class Proving:
         return [[*nice, *words] for words in self.kit.library(crate, max(1, jobs // 2) if spare else jobs)]
 
     def run(self, crate):
-        """Runs the commands of a crate in its folder, and prints what the first that fails says. Whether all succeed."""
+        """Runs the commands of a crate in its folder, and returns the line of its verdict. Prints what the first that fails says."""
         how = {"cwd": f"crates/{crate.name}", "stdin": subprocess.DEVNULL, "stdout": subprocess.PIPE, "stderr": subprocess.STDOUT}
+        said = []
         for words in self.commands(crate):
             ran = subprocess.run(words, **how)
             if ran.returncode:
                 sys.stdout.buffer.write(ran.stdout)
-                return False
-        return True
+                return None
+            said += ran.stdout.decode(errors="replace").split("\n")
+        return next((line for line in said if line.startswith("logic=proved ")), None)
 
     def is_kept(self, crate, stamp):
         """Whether the crate is proved already. What it left is unpacked."""
         kept, top = f"{KEPT}/{crate.name}", crate is self.crates[-1]
-        if not os.path.exists(self.file if top else f"{kept}.tar") or not os.path.exists(f"{kept}.stamp"):
+        wanted = [f"{kept}.stamp", f"{kept}.verdict", self.file if top else f"{kept}.tar", *[f"{kept}.o"] * crate.is_program]
+        if not all(map(os.path.exists, wanted)):
             return False
         if read(f"{kept}.stamp") != stamp:
             return False
@@ -168,16 +172,19 @@ class Proving:
                 packed.extractall(self.kit.place)
         return True
 
-    def keep(self, crate, stamp):
-        """Keeps what a crate left, packed, and what its proof rests on."""
+    def keep(self, crate, stamp, verdict):
+        """Keeps what a crate left, packed, with its verdict and what its proof rests on."""
         kept = f"{KEPT}/{crate.name}"
         if os.path.exists(f"{kept}.stamp"):
             os.remove(f"{kept}.stamp")
         if crate is not self.crates[-1]:
             with tarfile.open(f"{kept}.tar", "w") as packed:
                 packed.add(f"{self.kit.place}/{crate.name}.rlib", f"{crate.name}.rlib")
-        with open(f"{kept}.stamp", "w", encoding="utf-8") as file:
-            file.write(stamp)
+        if crate.is_program:
+            shutil.copyfile(f"{self.kit.place}/{crate.name}.o", f"{kept}.o")
+        for kind, text in (("verdict", verdict + "\n"), ("stamp", stamp)):
+            with open(f"{kept}.{kind}", "w", encoding="utf-8") as file:
+                file.write(text)
 
     def prove(self, crate):
         """Proves a crate once those that it waits for are proved, unless it is proved already. Whether it is."""
@@ -188,11 +195,11 @@ class Proving:
             return True
         print(f"{crate.name}: proving {crate.functions()} functions", flush=True)
         begun = time.monotonic()
-        is_proved = self.run(crate)
-        print(f"{crate.name}: {'proved' if is_proved else 'not proved'}, {time.monotonic() - begun:.0f} seconds", flush=True)
-        if is_proved:
-            self.keep(crate, stamp)
-        return is_proved
+        verdict = self.run(crate)
+        print(f"{crate.name}: {'proved' if verdict else 'not proved'}, {time.monotonic() - begun:.0f} seconds", flush=True)
+        if verdict:
+            self.keep(crate, stamp, verdict)
+        return verdict is not None
 
     def whole(self):
         """Proves all, lowest first. Whether all is proved."""

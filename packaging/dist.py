@@ -1,0 +1,358 @@
+#!/usr/bin/env python3
+"""Makes the packages of a release in dist: v7-VERSION-linux-x86_64.tar.gz, v7_VERSION_amd64.deb and SHA256SUMS.
+
+usage: packaging/dist.py           of what tests/prove.py has proved, or proves now
+       packaging/dist.py --kept    of what is in build/proved and crates/v7_c/out, which it does not check: for trials
+
+The programs are linked statically, so they need no library where they run. Two runs for one commit give the same bytes, whatever the
+folder, the user and the date: files have the date of the commit, and belong to root.
+"""
+import glob
+import gzip
+import hashlib
+import os
+import re
+import shutil
+import subprocess
+import sys
+import tarfile
+import tempfile
+from email.utils import formatdate
+
+TOP = os.path.abspath(os.path.join(os.path.dirname(os.path.abspath(__file__)), ".."))
+KEPT = "build/proved"
+# the program that a crate is, and its name in bin; the lesson only makes its page
+PROGRAMS = {"v7": "v7", "v7_from_gnu": "v7-from-gnu", "v7_object": "v7-object", "v7_explain": "v7-explain", "lesson": None}
+PAGE_FILES = ["main.o", "twice.o", "k.o", "l.o"]
+DOCUMENTS = ["README.md", "CHANGES.md", "CONTRIBUTING.md", "docs", "examples"]
+TRIAL = "This is a trial: nothing was checked when these packages were made. Do not publish them.\n"
+
+
+def read(path, mode="r"):
+    with open(path, mode, encoding=None if "b" in mode else "utf-8") as file:
+        return file.read()
+
+
+def write(path, text):
+    os.makedirs(os.path.dirname(path), exist_ok=True)
+    with open(path, "wb") as file:
+        file.write(text.encode() if isinstance(text, str) else text)
+
+
+def run(*words, **how):
+    subprocess.run(words, check=True, **how)
+
+
+def asked(*words):
+    """What a command prints."""
+    return subprocess.run(words, stdout=subprocess.PIPE, check=True, text=True).stdout.strip()
+
+
+def first_line(*words):
+    return asked(*words).split("\n")[0]
+
+
+def digest(path):
+    return hashlib.sha256(read(path, "rb")).hexdigest()
+
+
+class Release:
+    """What a release is made of, and what its packages are called."""
+
+    def __init__(self, is_checked):
+        self.is_checked = is_checked
+        self.version = re.search(r'^#define V7_VERSION "(.*)"$', read("include/v7.h"), re.M)[1]
+        self.commit, self.date, self.author = asked("git", "show", "-s", "--format=%H\n%ct\n%an <%ae>", "HEAD").split("\n")
+        self.date = int(self.date)
+        self.is_clean = not asked("git", "status", "--porcelain")
+        self.kit_version, self.kit = asked("rt", "version"), os.path.dirname(asked("rt", "doc"))
+        self.name = f"v7-{self.version}-linux-x86_64"
+
+    def prove(self):
+        """Proves what is not proved yet."""
+        for crate, out in (*((name, name) for name in PROGRAMS), ("v7_c", "libv7_c.a")):
+            run(sys.executable, "tests/prove.py", crate, f"crates/{crate}/out/{out}")
+
+    def crates(self):
+        """The crates of the repository that the programs and libv7 are made of, and the kit's libraries that they use."""
+        uses = {}
+        for line in read("crates.txt").split("\n"):
+            if line.strip() and not line.startswith("#"):
+                head, _, rest = line.partition(":")
+                uses[head.split()[0]] = rest.split()
+        ours, kits, wanted = set(), {"std"}, [*PROGRAMS, "v7_c"]
+        while wanted:
+            name = wanted.pop()
+            if name in uses and name not in ours:
+                ours.add(name)
+                wanted += uses[name]
+            elif name not in uses:
+                kits.add(name)
+        for name in [*kits]:
+            form = read(f"{self.kit}/rlibs/{name}.rlib/format")
+            kits.update(re.findall(r"^(?:dep|needs|carries) (\w+)", form, re.M))
+        return sorted(ours), sorted(kits)
+
+
+# --- programs and libraries
+
+def link(release, place):
+    """Links each program statically: place/objects has what it is linked from besides the C library, and place/bin the program."""
+    archives = [f"{release.kit}/c/{name}_c.a" for name in ("libos", "liblibc")]
+    os.makedirs(f"{place}/objects")
+    os.makedirs(f"{place}/bin")
+    for crate, name in PROGRAMS.items():
+        whole, program = f"{place}/objects/{name or crate}.o", f"{place}/bin/{name or crate}"
+        run("ld", "-r", "-o", whole, f"{KEPT}/{crate}.o", *archives)
+        run("cc", "-static", "-Wl,--gc-sections", "-o", program, whole)
+        run("strip", program)
+
+
+def libraries(place):
+    """The libraries and what comes with them, installed below place/lib as if it were the folder usr."""
+    flags = ["PREFIX=/usr", "LIBDIR=/usr/lib", "INCLUDEDIR=/usr/include", f"DESTDIR={place}/library", "CFLAGS=", "LDFLAGS="]
+    how = {"env": {key: text for key, text in os.environ.items() if key not in ("MAKEFLAGS", "MFLAGS", "MAKELEVEL")}}
+    for name in ("libv7.a", "libv7.so.0", "libv7.so"):
+        if os.path.lexists(f"build/{name}"):
+            os.remove(f"build/{name}")
+    run("make", "-s", *(["-o", "crates/v7_c/out/libv7_c.a"]), "install-lib", *flags, **how)
+    run("strip", "--strip-unneeded", f"{place}/library/usr/lib/libv7.so.0")
+    run("strip", "-g", "-D", f"{place}/library/usr/lib/libv7.a")
+
+
+def page(place):
+    """The page of the lesson."""
+    return subprocess.run([f"{place}/bin/lesson", "-p", "page", *(f"examples/{name}" for name in PAGE_FILES)],
+                          stdout=subprocess.PIPE, check=True).stdout
+
+
+# --- what comes with them
+
+def debian(*names):
+    """The versions of packages of Debian, where there are any."""
+    versions = []
+    for name in names:
+        ran = subprocess.run(["dpkg-query", "-W", "-f", "${Package} ${Version}", name], stdout=subprocess.PIPE,
+                             stderr=subprocess.DEVNULL, text=True, check=False)
+        versions += [ran.stdout] if ran.returncode == 0 else []
+    return ", ".join(versions) or "not known"
+
+
+def major():
+    """The first number of the compiler's version."""
+    return asked("cc", "-dumpversion").split(".")[0]
+
+
+def provenance(release, place):
+    ours, kits = release.crates()
+    built = sorted(f"bin/{name}" for name in PROGRAMS.values() if name)
+    sums = [f"{digest(f'{place}/{path}')}  {path}" for path in built]
+    sums += [f"{digest(f'{place}/library/usr/{path}')}  {path}" for path in ("include/v7.h", "lib/libv7.a", "lib/libv7.so.0")]
+    verdicts = [f"    {name}: {read(f'{KEPT}/{name}.verdict').strip()}" for name in ours]
+    parts = [
+        f"Where these files of v7 {release.version} come from\n",
+        "" if release.is_checked else TRIAL,
+        f"Commit     {release.commit}{'' if release.is_clean else ', with changes that are not committed'}",
+        f"Date       {formatdate(release.date)}, of the commit",
+        f"Kit        {release.kit_version}",
+        f"Compiler   {first_line('cc', '--version')}",
+        f"Linker     {first_line('ld', '--version')}",
+        f"Packages   {debian('libc6-dev', f'gcc-{major()}', 'binutils', 'dpkg')}\n",
+        "The prover ended with these lines, one for each crate that a program or libv7 contains. `functions` is the number of",
+        "functions that were proved, and `sum` the logic:\n",
+        *verdicts,
+        "\nThese libraries of the kit, which come with it proved, are used too: " + ", ".join(kits) + ".",
+        "\nThe checksums (SHA-256) of what was built, without the differences of the packages:\n",
+        *(f"    {line}" for line in sums),
+        "\nTo rebuild: take the commit, put the command `rt` of that kit on the PATH, and run `make dist` on Debian with the packages",
+        "named above, and python3 and make. Then dist/SHA256SUMS is the same, whatever the folder, the user and the date.",
+        "To link a program again with another C library: `cc -static -o v7 v7.o`, with an object of the folder v7 beside libv7.",
+    ]
+    return "\n".join(part for part in parts if part is not None) + "\n"
+
+
+def licences(release, place):
+    """The licence texts of what is linked in, below place/licences; and NOTICE."""
+    _, kits = release.crates()
+    to = f"{place}/licences"
+    lines, unknown = [], []
+    for name in kits:
+        texts = sorted(glob.glob(f"{release.kit}/rattle/{name}/LICENSE*"))
+        for text in texts:
+            write(f"{to}/{name}/{os.path.basename(text)}", read(text, "rb"))
+        if texts:
+            lines.append(f"- {name}: licences/{name} has its licence texts, as the kit has them.")
+        else:
+            unknown.append(name)
+    system = {"libc6": "/usr/share/doc/libc6/copyright", "gcc": f"/usr/share/doc/gcc-{major()}-base/copyright",
+              "LGPL-2.1": "/usr/share/common-licenses/LGPL-2.1", "GPL-3": "/usr/share/common-licenses/GPL-3"}
+    missing = [path for path in system.values() if not os.path.exists(path)]
+    for name, path in system.items():
+        if os.path.exists(path):
+            write(f"{to}/debian/{name}", read(path, "rb"))
+    return "\n".join([
+        "What the programs and libraries of v7 contain, and under which terms\n",
+        "v7 itself: its owner has not chosen a licence yet. Until then nobody is given leave to copy or to change it.\n",
+        "The programs are linked statically. They contain parts of:\n",
+        "- the GNU C library, under the LGPL 2.1 or later, and files with other notices: licences/debian/libc6 and LGPL-2.1. The folder",
+        "  v7 beside libv7 has the objects to link a program again with another C library;",
+        "- the start-up and support code of GCC, under the GPL 3 with the GCC Runtime Library Exception: licences/debian/gcc and GPL-3.\n",
+        "The programs and libv7 contain code of these libraries of the Rattle kit, most of them ports of crates of Rust:\n",
+        *lines,
+        f"- {', '.join(unknown)}: the licence is unknown, since the kit has no licence text for them.",
+        "- the kit's C code, liblibc_c.a (in libv7 and the programs) and libos_c.a (in the programs): the licence is unknown.",
+        *(f"\nNot found when this was built: {path}" for path in missing),
+    ]) + "\n"
+
+
+def documents(release, place, to):
+    """The documents, the lesson page and the notices."""
+    for name in DOCUMENTS:
+        if os.path.isdir(name):
+            shutil.copytree(name, f"{to}/{name}", ignore=shutil.ignore_patterns(".gitignore", "__pycache__"))
+        else:
+            write(f"{to}/{name}", read(name, "rb"))
+    write(f"{to}/lesson.html", page(place))
+    write(f"{to}/PROVENANCE", provenance(release, place))
+    write(f"{to}/NOTICE", licences(release, place))
+    shutil.copytree(f"{place}/licences", f"{to}/licences")
+
+
+def tree(release, place, root, prefix, libdir):
+    """All files of a package below root/prefix."""
+    shutil.copytree(f"{place}/bin", f"{root}{prefix}/bin", ignore=shutil.ignore_patterns("lesson"))
+    shutil.copytree(f"{place}/library/usr/lib", f"{root}{libdir}", symlinks=True)
+    shutil.copytree(f"{place}/objects", f"{root}{libdir}/v7", ignore=shutil.ignore_patterns("lesson.o"))
+    shutil.copytree(f"{place}/library/usr/include", f"{root}{prefix}/include")
+    for section in "135":
+        for name in sorted(glob.glob(f"man/*.{section}")):
+            write(f"{root}{prefix}/share/man/man{section}/{os.path.basename(name)}", read(name, "rb"))
+    documents(release, place, f"{root}{prefix}/share/doc/v7")
+
+
+def config(path, prefix, libdir):
+    """Lets pkg-config find the library below this prefix."""
+    text = read(path)
+    text = re.sub("^prefix=.*", f"prefix={prefix}", text, flags=re.M)
+    text = re.sub("^libdir=.*", f"libdir={libdir}", text, flags=re.M)
+    write(path, re.sub("^includedir=.*", "includedir=${prefix}/include", text, flags=re.M))
+
+
+# --- packages
+
+def settle(root, date):
+    """Gives each file one mode and the date of the commit."""
+    for at, folders, files in os.walk(root, topdown=False):
+        for name in (*files, *folders):
+            path = f"{at}/{name}"
+            if not os.path.islink(path):
+                is_run = os.path.isdir(path) or os.path.basename(at) == "bin"
+                os.chmod(path, 0o755 if is_run else 0o644)
+            os.utime(path, (date, date), follow_symlinks=False)
+    os.chmod(root, 0o755)
+    os.utime(root, (date, date))
+
+
+def pack(release, root, file):
+    """The tar of a folder, packed by gzip."""
+    def plain(item):
+        item.uid = item.gid = 0
+        item.uname = item.gname = "root"
+        return item
+
+    settle(f"{root}/{release.name}", release.date)
+    with open(file, "wb") as raw, gzip.GzipFile("", "wb", 9, raw, mtime=release.date) as packed:
+        with tarfile.open(fileobj=packed, mode="w", format=tarfile.GNU_FORMAT) as tar:
+            tar.add(f"{root}/{release.name}", release.name, filter=plain, recursive=False)
+            for path in sorted(glob.glob(f"{root}/{release.name}/**", recursive=True)):
+                if path.rstrip("/") != f"{root}/{release.name}":
+                    tar.add(path, os.path.relpath(path, root), filter=plain, recursive=False)
+
+
+def squeeze(path):
+    """Packs a file by gzip without a name and a date."""
+    write(f"{path}.gz", gzip.compress(read(path, "rb"), 9, mtime=0))
+    os.remove(path)
+
+
+CONTROL = """Package: v7
+Version: {version}
+Architecture: amd64
+Maintainer: {author}
+Installed-Size: {size}
+Depends: libc6 (>= {libc})
+Section: devel
+Priority: optional
+Description: object tools of Seventh Edition Unix for the PDP-11
+ This package has a linker (ld), nm, size and strip for object files of the
+ PDP-11, and a link session that can undo each addition exactly. A prover has
+ checked the linker and the undo for every input. libv7 gives them to C and
+ other languages.
+"""
+CHANGELOG = """v7 ({version}) unstable; urgency=medium
+
+  * CHANGES.md has what changed.
+
+ -- {author}  {date}
+"""
+
+
+def newest_libc(path):
+    """The version of the C library that a shared library needs."""
+    found = re.findall(r"GLIBC_([0-9.]+)", asked("objdump", "-T", path))
+    return max(found, key=lambda text: [*map(int, text.split("."))])
+
+
+def package(release, root, file):
+    """The package for Debian of the files below root."""
+    doc = f"{root}/usr/share/doc/v7"
+    for path in glob.glob(f"{root}/usr/share/man/*/*"):
+        squeeze(path)
+    write(f"{doc}/changelog", CHANGELOG.format(version=release.version, author=release.author, date=formatdate(release.date)))
+    squeeze(f"{doc}/changelog")
+    notice = read(f"{doc}/NOTICE")
+    write(f"{doc}/copyright", f"{notice}\nOn Debian, /usr/share/common-licenses has the texts of LGPL-2.1 and GPL-3.\n")
+    os.remove(f"{doc}/NOTICE")
+    write(f"{root}/usr/share/lintian/overrides/v7", "".join(
+        f"v7: statically-linked-binary [usr/bin/{name}]\n" for name in sorted(filter(None, PROGRAMS.values()))))
+    settle(root, release.date)
+    files = sorted(path for path in glob.glob(f"{root}/**", recursive=True) if os.path.isfile(path) and not os.path.islink(path))
+    size = sum((os.path.getsize(path) + 1023) // 1024 for path in files)
+    libc = newest_libc(glob.glob(f"{root}/usr/lib/*/libv7.so.0")[0])
+    sums = "".join(f"{hashlib.md5(read(path, 'rb')).hexdigest()}  {os.path.relpath(path, root)}\n" for path in files)
+    write(f"{root}/DEBIAN/control", CONTROL.format(version=release.version, author=release.author, size=size, libc=libc))
+    write(f"{root}/DEBIAN/md5sums", sums)
+    write(f"{root}/DEBIAN/shlibs", f"libv7 0 v7 (>= {release.version})\n")
+    write(f"{root}/DEBIAN/triggers", "activate-noawait ldconfig\n")
+    settle(root, release.date)
+    how = {"env": {**os.environ, "SOURCE_DATE_EPOCH": str(release.date)}, "stdout": subprocess.DEVNULL}
+    run("dpkg-deb", "--root-owner-group", "--threads-max=1", "-Zxz", "--build", root, file, **how)
+
+
+def main(words):
+    if words not in ([], ["--kept"]):
+        sys.exit(__doc__)
+    os.chdir(TOP)
+    release = Release(not words)
+    if release.is_checked:
+        release.prove()
+    shutil.rmtree("dist", ignore_errors=True)
+    os.makedirs("dist")
+    with tempfile.TemporaryDirectory() as place:
+        link(release, place)
+        libraries(place)
+        tree(release, place, f"{place}/tar/{release.name}", "", "/lib")
+        config(f"{place}/tar/{release.name}/lib/pkgconfig/v7.pc", "${pcfiledir}/../..", "${prefix}/lib")
+        names = [f"{release.name}.tar.gz", f"v7_{release.version}_amd64.deb"]
+        pack(release, f"{place}/tar", f"dist/{names[0]}")
+        shutil.rmtree(f"{place}/licences")
+        libdir = "/usr/lib/x86_64-linux-gnu"
+        tree(release, place, f"{place}/deb", "/usr", libdir)
+        config(f"{place}/deb{libdir}/pkgconfig/v7.pc", "/usr", libdir)
+        package(release, f"{place}/deb", f"dist/{names[1]}")
+    write("dist/SHA256SUMS", "".join(f"{digest(f'dist/{name}')}  {name}\n" for name in names))
+    print(read("dist/SHA256SUMS"), end="")
+
+
+if __name__ == "__main__":
+    main(sys.argv[1:])

@@ -1,0 +1,197 @@
+#!/bin/sh
+# Checks the packages of a release.
+#
+# usage: tests/dist.sh all                     builds them twice, compares them, and runs them: `make check-dist`
+#        tests/dist.sh twice FOLDER            builds them twice, and leaves them in FOLDER/one and FOLDER/two
+#        tests/dist.sh run DIST                runs the packages of the folder DIST
+#        OBJECTS=FOLDER tests/dist.sh ..       a trial: takes the objects of programs and libv7_c.a from this folder, and proves nothing
+#
+# The two builds are of one commit, in two folders, with two file masks, languages and time zones; by two users, if the first is root;
+# and on two dates, if faketime is installed.
+#
+# To run the packages, a folder with Debian's base is made by debootstrap, from the mirror of this machine; with a C compiler and
+# pkg-config, and without the kit, make and Python. Once the package for Debian is installed there, and once the tar is unpacked.
+# Both times the commands of README, the examples of the manual pages, the cases, and the C example with both libraries are run
+# there. What drives the cases, tests/cases.py, runs outside. Wanted: root, Debian's debootstrap and lintian.
+set -u
+cd "$(dirname "$0")/.."
+top=$PWD
+version=$(sed -n 's/^#define V7_VERSION "\(.*\)"/\1/p' include/v7.h)
+name=v7-$version-linux-x86_64
+work=$(mktemp -d)
+chmod 755 "$work"
+trap 'umount "$work/debian/proc" 2>/dev/null; rm -rf "$work"' EXIT
+failed=0
+
+fail() {
+    echo "$1"
+    failed=1
+}
+
+stop() {
+    echo "$1" >&2
+    exit 2
+}
+
+# --- two builds
+
+# puts objects that were not proved in place of proved ones
+take_objects() {
+    mkdir -p "$1/build/proved" "$1/crates/v7_c/out"
+    cp "$OBJECTS"/*.o "$1/build/proved"
+    cp "$OBJECTS/libv7_c.a" "$1/crates/v7_c/out"
+    for crate in $(sed -n 's/^\([a-z0-9_]*\).*:.*/\1/p' "$1/crates.txt"); do
+        echo "not proved: compiled for a trial of the packages" >"$1/build/proved/$crate.verdict"
+    done
+}
+
+# a clone, and its packages, which are made by the words that follow
+build() {
+    to=$1
+    shift
+    git clone -q "$top" "$to" || exit 1
+    if [ -n "${OBJECTS:-}" ]; then
+        take_objects "$to"
+        make="python3 packaging/dist.py --kept"
+    else
+        make="make dist"
+    fi
+    [ "$(id -u)" -ne 0 ] || [ "$1" = sh ] || chown -R 65534:65534 "$to"
+    (cd "$to" && "$@" "$make") || { echo "no packages were built in $to"; exit 1; }
+}
+
+twice() {
+    date=
+    command -v faketime >/dev/null && date="faketime -f +400d" || echo "skipped: faketime is not there, so both builds are of today"
+    user=
+    [ "$(id -u)" -ne 0 ] && echo "skipped: not root, so both builds are by one user" || user="setpriv --reuid=65534 --regid=65534 --clear-groups"
+    build "$work/one" sh -c
+    build "$work/another/folder" env -u MAKEFLAGS TMPDIR=/tmp HOME="$work/another" TZ=Asia/Tokyo LC_ALL=C.UTF-8 $user $date sh -c
+    for folder in one another/folder; do
+        (cd "$work/$folder/dist" && sha256sum -c --quiet SHA256SUMS) || fail "$folder: SHA256SUMS is wrong"
+    done
+    if diff -r "$work/one/dist" "$work/another/folder/dist"; then
+        echo "two builds are equal:"
+        cat "$work/one/dist/SHA256SUMS"
+    else
+        fail "two builds differ"
+    fi
+    mkdir -p "$1"
+    cp -r "$work/one/dist" "$1/one"
+    cp -r "$work/another/folder/dist" "$1/two"
+}
+
+# --- a folder with Debian
+
+debian=$work/debian
+
+# Debian's base, from the mirror of this machine
+make_debian() {
+    mirror=$(apt-get indextargets --format '$(REPO_URI) $(CODENAME)' 'Created-By: Packages' | head -1)
+    debootstrap --variant=minbase --include=gcc,libc6-dev,pkg-config "${mirror#* }" "$debian" "${mirror% *}" >"$work/debootstrap.txt" 2>&1 ||
+        { tail -20 "$work/debootstrap.txt"; stop "debootstrap failed"; }
+    for absent in python3 perl5 make rt; do
+        [ ! -e "$debian/usr/bin/$absent" ] || fail "the folder has $absent"
+    done
+}
+
+# runs a command in the folder, with these programs first
+inside() {
+    chroot "$debian" env -i PATH="$programs:/usr/sbin:/usr/bin:/sbin:/bin" HOME=/root PKG_CONFIG_PATH="$config" LD_LIBRARY_PATH="$libraries" "$@"
+}
+
+# the commands of README, as printed
+readme() {
+    awk '/^## How to get it/ { on = 1 } on && /^    / { found = 1; print substr($0, 5); next } found { exit }' README.md >"$work/readme.sh"
+    [ -s "$work/readme.sh" ] || fail "README.md has no commands"
+    rm -rf "$debian/tmp/readme"
+    mkdir "$debian/tmp/readme"
+    cp "$dist"/* "$work/readme.sh" "$debian/tmp/readme"
+    inside sh -euc 'cd /tmp/readme && . ./readme.sh' >"$work/readme.txt" 2>&1 || fail "the commands of README.md fail"
+    tail -1 "$work/readme.txt" | grep -q '^14+2+0 = 16b = 020b$' || { fail "the commands of README.md print something else"; cat "$work/readme.txt"; }
+    echo "README.md: $(wc -l <"$work/readme.sh") lines were run"
+}
+
+# the examples of the manual pages that are installed
+manual() {
+    rm -rf "$debian/tmp/manual"
+    mkdir -p "$debian/tmp/manual/tests" "$debian/tmp/manual/build"
+    cp tests/manual.sh "$debian/tmp/manual/tests"
+    inside sh -euc 'cd /tmp/manual && mkdir man && cp "$1"/man/man[15]/* man && { gunzip -q man/*.gz 2>/dev/null || :; }
+        cp -r "$1/doc/v7/examples" . && for program in v7 v7-from-gnu v7-object v7-explain; do ln -s "$(command -v $program)" build; done
+        ln -s /bin/false build/lesson
+        sh tests/manual.sh man/*' sh "$share" || fail "an example of the manual differs"
+}
+
+# the cases, driven from outside: each program is a script that runs it in the folder
+cases() {
+    mkdir -p "$work/cases/build" "$work/cases/crates/cases"
+    cp -r tests "$work/cases"
+    cp -r crates/cases/data "$work/cases/crates/cases"
+    cp -r examples "$work/cases"
+    for program in v7 v7-from-gnu v7-object v7-explain; do
+        path=$(inside sh -c 'command -v "$0"' $program)
+        cat >"$work/cases/build/$program" <<END
+#!/bin/sh
+exec /usr/sbin/chroot "$debian" /bin/sh -c 'cd "\$0" && shift 0 && exec "\$@"' "\${PWD#"$debian"}" "$path" "\$@"
+END
+        chmod 755 "$work/cases/build/$program"
+    done
+    (cd "$work/cases" && TMPDIR=$debian/tmp PYTHONDONTWRITEBYTECODE=1 python3 tests/cases.py >"$work/cases.txt") || fail "a case differs"
+    grep -v '^ok \|^skipped ' "$work/cases.txt"
+}
+
+# the C example against the installed header, with the shared library and with the other
+library() {
+    inside sh -euc 'cd /tmp && rm -rf library && mkdir library && cd library && cp "$1"/doc/v7/examples/*.o . &&
+        cc -o shared "$1/doc/v7/examples/c/link.c" $(pkg-config --cflags --libs v7) &&
+        cc -o alone "$1/doc/v7/examples/c/link.c" $(pkg-config --cflags v7) $(pkg-config --libs-only-L v7) -Wl,-Bstatic -lv7 -Wl,-Bdynamic &&
+        cc -o session "$1/doc/v7/examples/c/session.c" $(pkg-config --cflags --libs v7) &&
+        ./session >/dev/null && ./shared one main.o twice.o count.o >/dev/null && ./alone two main.o twice.o count.o >/dev/null &&
+        v7 ld -o three main.o twice.o count.o && cmp one three && cmp two three && test "$(pkg-config --modversion v7)" = "$2"' \
+        sh "$share" "$version" || fail "the C example fails"
+    echo "the C example was compiled and run with both libraries"
+}
+
+# all of these with what is installed
+try_all() {
+    echo "--- $1"
+    manual
+    cases
+    library
+}
+
+run_packages() {
+    dist=$(cd "$1" && pwd)
+    [ "$(id -u)" -eq 0 ] || stop "root is needed to change the root folder"
+    (cd "$dist" && sha256sum -c --quiet SHA256SUMS) || fail "SHA256SUMS is wrong"
+    if command -v lintian >/dev/null; then
+        lintian --fail-on error --tag-display-limit 0 "$dist/v7_${version}_amd64.deb" >"$work/lintian.txt" 2>&1
+        grep '^E:' "$work/lintian.txt" | grep -v licen && fail "lintian reports errors"
+        echo "lintian: $(grep -c '^E:' "$work/lintian.txt") errors, $(grep -c '^W:' "$work/lintian.txt") warnings"
+    else
+        fail "lintian is not there"
+    fi
+    make_debian
+    programs=/usr/local/bin share=/usr/share config= libraries=
+    readme
+    cp "$dist/v7_${version}_amd64.deb" "$debian/tmp/v7.deb"
+    inside dpkg -i /tmp/v7.deb >"$work/dpkg.txt" 2>&1 || { cat "$work/dpkg.txt"; fail "dpkg does not install the package"; }
+    try_all "the package for Debian"
+    inside dpkg -r v7 >"$work/dpkg.txt" 2>&1 || { cat "$work/dpkg.txt"; fail "dpkg does not remove the package"; }
+    tar xzf "$dist/$name.tar.gz" -C "$debian/opt"
+    programs=/opt/$name/bin share=/opt/$name/share config=/opt/$name/lib/pkgconfig libraries=/opt/$name/lib
+    try_all "the tar"
+}
+
+case ${1:-} in
+all)
+    twice "$work/dists"
+    [ $failed -eq 0 ] && run_packages "$work/dists/one"
+    ;;
+twice) twice "$2" ;;
+run) run_packages "$2" ;;
+*) stop "usage: tests/dist.sh all | twice FOLDER | run DIST" ;;
+esac
+[ $failed -eq 0 ] && echo "the packages are right"
+exit $failed
