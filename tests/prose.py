@@ -37,7 +37,9 @@ HABITS = [
 LONGEST = 50
 
 # where a habit has to stay: the file, a text of the line, and why
+MOST_EXCEPTIONS = 40
 EXCEPTIONS = [
+    ("docs/OBJECTS.md", "make MAKEINFO=true all-gas", "a target of GNU binutils"),
 ]
 
 # targets of make that a document may show although .ci/run does not run them, and why
@@ -173,10 +175,10 @@ def habits_in(lines):
             yield start, f"a sentence of {len(text.split())} words: write two", " ".join(text.split()[:6])
 
 
-def excused(line, raw, used):
+def excused(path, raw, used):
+    """Whether an exception names a text of the line."""
     for exception in EXCEPTIONS:
-        path, text, _ = exception
-        if path == line.path and text in raw:
+        if exception[0] == path and exception[1] in raw:
             used.add(exception)
             return True
     return False
@@ -286,29 +288,34 @@ def read(path):
         return file.read()
 
 
+def faults_of(path, text, checked, targets, run):
+    """The faults of one text, each with the number of its line."""
+    lines = text.splitlines()
+    for line, name, shown in habits_in(prose_of(path, lines)):
+        yield line.number, f"{name}: {shown}"
+    if not path.endswith((".rt", ".antt")):
+        for number, raw in enumerate(lines, 1):
+            for fault in sorted(set(dead_in(path, raw))):
+                yield number, fault
+    if path.endswith(".md"):
+        yield from commands_in(path, lines, checked, targets, run)
+
+
 def main():
     chosen = sys.argv[1:]
-    paths = chosen or documents() + manual() + sources()
-    texts = {path: read(path) for path in paths}
+    texts = {path: read(path) for path in chosen or documents() + manual() + sources()}
     faults, used = check_itself(), set()
+    checked, (targets, run) = checked_documents(), make_targets()
     for path, text in texts.items():
         lines = text.splitlines()
-        for line, name, shown in habits_in(prose_of(path, lines)):
-            if not excused(line, lines[line.number - 1], used):
-                faults.append(f"{line.place()}: {name}: {shown}")
-        for number, raw in enumerate(lines, 1):
-            if not path.endswith((".rt", ".antt")):
-                faults += [f"{path}:{number}: {fault}" for fault in sorted(set(dead_in(path, raw)))]
-    if not chosen:
-        named = {path: text for path, text in texts.items() if path.endswith(".md") or path in manual()}
-        faults += unlinked(named)
-        checked, (targets, run) = checked_documents(), make_targets()
-        for path in documents():
-            for number, fault in commands_in(path, texts[path].splitlines(), checked, targets, run):
+        for number, fault in faults_of(path, text, checked, targets, run):
+            if not excused(path, lines[number - 1], used):
                 faults.append(f"{path}:{number}: {fault}")
+    if not chosen:
+        faults += unlinked({path: text for path, text in texts.items() if path.endswith(".md") or path in manual()})
         faults += [f"tests/prose.py: an exception that nothing needs: {exception}" for exception in EXCEPTIONS if exception not in used]
-        if len(EXCEPTIONS) > 40:
-            faults.append(f"tests/prose.py: {len(EXCEPTIONS)} exceptions, and 40 are the most")
+        if len(EXCEPTIONS) > MOST_EXCEPTIONS:
+            faults.append(f"tests/prose.py: {len(EXCEPTIONS)} exceptions, and {MOST_EXCEPTIONS} are the most")
     for fault in faults:
         print(fault)
     print(f"{len(texts)} texts, {len(HABITS) + 1} habits, {len(EXCEPTIONS)} exceptions: {len(faults)} faults")
