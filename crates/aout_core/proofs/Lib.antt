@@ -3,6 +3,7 @@ pub mod DecodingLemmas
 pub mod AlikeLemmas
 pub mod EncodesLemmas
 pub mod NameLemmas
+mod NameOrderLemmas
 pub mod WordFaultLemmas
 pub mod PutsLemmas
 pub mod SymbolLemmas

@@ -1,13 +1,12 @@
 -- The bytes before the first NUL, by the place of that NUL.
-use Rattle.std.proofs.Common.{◌≡◌, ◌==◌, ◌+◌, ◌-◌, ◌≤◌, min, ℕ, Bool, true, false, List, [], ◌∷◌, ◌++◌, length, take, drop, replicate, cond, refl, sym, ap, ◌∙◌, arith, if◌then◌else◌, zero, suc, nat_lt, Some, None, length-take}
+use Rattle.std.proofs.Common.{◌≡◌, ◌==◌, ◌+◌, ◌-◌, ◌≤◌, min, ℕ, Bool, true, false, List, [], ◌∷◌, ◌++◌, length, take, drop, replicate, cond, refl, sym, ap, ◌∙◌, arith, if◌then◌else◌, zero, suc, nat_lt, ltb, Some, None}
 use Rattle.std.proofs.lemmas.Bool.{ltb-false}
-use Rattle.std.proofs.lemmas.List.{take-take, drop-replicate, take_min, take-replicate}
+use Rattle.std.proofs.lemmas.List.{take_all, drop-replicate, take_min, take-replicate}
 use Rattle.std.proofs.Math.Seq.{take-append-add}
 use Rattle.std.specs.List.{position, position_or_len}
 use Rattle.std.proofs.lemmas.List.Recursion.{is_position_or_len}
 use Rattle.std.proofs.lemmas.List.Sums.{prefix_len-le-length}
-use Rattle.std.specs.Prelude.{nat_eq}
-use Rattle.std.specs.Cmp.Lexicographic.{pointwise, same_text, other_text}
+use lib.Lanes.{sel_l, zip2}
 use Rattle.aout_core.specs.Names.{before_nul, padded}
 
 length-chosen : (c : Bool) (b : ℕ) (xs : List ℕ) → length (if c then [] else b ∷ xs) ≡ cond c 0 (1 + length xs)
@@ -32,16 +31,25 @@ only_pad : (m : ℕ) → before_nul (replicate m 0) ≡ []
 only_pad zero = refl
 only_pad (suc m) = refl
 
-pub before_nul-cut_and_padded : (xs : List ℕ) (n m : ℕ) → before_nul (take n (before_nul xs) ++ replicate m 0) ≡ take n (before_nul xs)
-before_nul-cut_and_padded [] zero m = only_pad m
-before_nul-cut_and_padded [] (suc n) m = only_pad m
-before_nul-cut_and_padded (b ∷ xs) zero m = only_pad m
-before_nul-cut_and_padded (b ∷ xs) (suc n) m = by (b == 0) refl (before_nul-cut_and_padded xs n m)
+-- what stands before the first NUL of a front that is filled up with NULs
+pub before_nul-filled : (xs : List ℕ) (n m : ℕ) → before_nul (take n xs ++ replicate m 0) ≡ take n (before_nul xs)
+before_nul-filled [] zero m = only_pad m
+before_nul-filled [] (suc n) m = only_pad m
+before_nul-filled (b ∷ xs) zero m = only_pad m
+before_nul-filled (b ∷ xs) (suc n) m = by (b == 0) (before_nul-filled xs n m)
   where
-    by : (c : Bool) → (b == 0) ≡ c → before_nul (take n (before_nul xs) ++ replicate m 0) ≡ take n (before_nul xs)
-        → before_nul (take (suc n) (if c then [] else b ∷ before_nul xs) ++ replicate m 0) ≡ take (suc n) (if c then [] else b ∷ before_nul xs)
-    by true e h = only_pad m
-    by false e h = ap (λ c. if c then [] else b ∷ before_nul (take n (before_nul xs) ++ replicate m 0)) e ∙ ap (λ l. b ∷ l) h
+    by : (c : Bool) → before_nul (take n xs ++ replicate m 0) ≡ take n (before_nul xs)
+        → (if c then [] else b ∷ before_nul (take n xs ++ replicate m 0)) ≡ take (suc n) (if c then [] else b ∷ before_nul xs)
+    by true h = refl
+    by false h = ap (λ l. b ∷ l) h
+
+pub before_nul-twice : (xs : List ℕ) → before_nul (before_nul xs) ≡ before_nul xs
+before_nul-twice [] = refl
+before_nul-twice (b ∷ xs) = by (b == 0) refl (before_nul-twice xs)
+  where
+    by : (c : Bool) → (b == 0) ≡ c → before_nul (before_nul xs) ≡ before_nul xs → before_nul (if c then [] else b ∷ before_nul xs) ≡ (if c then [] else b ∷ before_nul xs)
+    by true e h = refl
+    by false e h = ap (λ c. if c then [] else b ∷ before_nul (before_nul xs)) e ∙ ap (λ l. b ∷ l) h
 
 pub ruleset by_place = (position_or_len-nul, take-before_nul, length-before_nul-le)
 
@@ -61,34 +69,42 @@ nul_missing xs e = by (nat_lt (position_or_len (λ b. b == 0) xs) (length xs)) r
     by false t h = omega (arith, ltb-false _ _ t, position_or_len-nul xs, length-before_nul-le xs)
 
 -- a name of at most eight bytes, as it is padded
-padded-short : (name : List ℕ) (n : ℕ) → length name ≡ n → n ≤ 8 → padded name ≡ name ++ replicate (8 - n) 0
+pub padded-short : (name : List ℕ) (n : ℕ) → length name ≡ n → n ≤ 8 → padded name ≡ name ++ replicate (8 - n) 0
 padded-short name n e h =
     let split : length name + (8 - n) ≡ 8 = omega arith in
     ap (λ k. take k (name ++ replicate 8 0)) (sym split) ∙ take-append-add name (replicate 8 0) (8 - n) ∙ ap (λ l. name ++ l) (take-replicate (8 - n) 8 0 (omega arith))
 
--- a name as `from_bytes` lays it out
-pub laid_out : (xs bytes : List ℕ) (end : ℕ) → end ≡ min (length (before_nul xs)) 8 → bytes ≡ take end xs ++ drop end (replicate 8 0)
-    → (before_nul bytes ≡ take 8 (before_nul xs)) × (padded (before_nul bytes) ≡ bytes)
-laid_out xs bytes end e b =
-    let name = before_nul xs in
-    let within : length name ≤ length xs = length-before_nul-le xs in
-    let most : end ≤ 8 = omega (arith, e) in
-    let long : length (take 8 name) ≡ end = length-take 8 name ∙ omega (arith, e) in
-    let short : take 8 name ≡ take end xs =
-    sym (take_min 8 name) ∙ ap (λ n. take n name) (omega arith) ∙ ap (take end) (sym (take-before_nul xs)) ∙ take-take end (length name) xs (omega arith) in
-    let pad : drop end (replicate 8 0) ≡ replicate (8 - end) 0 = drop-replicate end 8 0 in
-    let both : take end xs ++ drop end (replicate 8 0) ≡ take 8 name ++ replicate (8 - end) 0 = λ i. sym short i ++ pad i in
-    let form : bytes ≡ take 8 name ++ replicate (8 - end) 0 = b ∙ both in
-    let view : before_nul bytes ≡ take 8 name = ap before_nul form ∙ before_nul-cut_and_padded xs 8 (8 - end) in
-    let pads : padded (take 8 name) ≡ take 8 name ++ replicate (8 - end) 0 = padded-short (take 8 name) end long most in
-    (view, ap padded view ∙ pads ∙ sym form)
+-- the first bytes of a text, filled up to eight with NULs, have the same name
+pub name_filled : (text bytes : List ℕ) (n : ℕ) → n ≡ min (length text) 8 → bytes ≡ take n text ++ drop n (replicate 8 0) → before_nul bytes ≡ take 8 (before_nul text)
+name_filled text bytes n e b =
+    let front : take n text ≡ take 8 text = ap (λ k. take k text) (omega (arith, e)) ∙ take_min 8 text in
+    ap before_nul (b ∙ (λ i. front i ++ drop-replicate n 8 0 i)) ∙ before_nul-filled text 8 (8 - n)
 
--- padded names are alike exactly where the names are
-pub padded_alike : (a b : List ℕ) → padded (before_nul a) ≡ a → padded (before_nul b) ≡ b → pointwise nat_eq a b ≡ pointwise nat_eq (before_nul a) (before_nul b)
-padded_alike a b p q = by (pointwise nat_eq a b) refl (pointwise nat_eq (before_nul a) (before_nul b)) refl
+-- eight bytes cut at their first NUL
+pub cut_padded : (xs cut : List ℕ) → length xs ≡ 8 → cut ≡ take (length (before_nul xs)) xs ++ replicate (8 - length (before_nul xs)) 0
+    → (before_nul cut ≡ before_nul xs) × (padded (before_nul cut) ≡ cut)
+cut_padded xs cut long is =
+    let name = before_nul xs in
+    let end = length name in
+    let within : end ≤ 8 = omega (arith, length-before_nul-le xs) in
+    let view : before_nul cut ≡ name = ap before_nul is ∙ before_nul-filled xs end (8 - end) ∙ take_all end name (omega arith) in
+    (view, ap padded view ∙ padded-short name end refl within ∙ ap (λ l. l ++ replicate (8 - end) 0) (sym (take-before_nul xs)) ∙ sym is)
+
+-- eight lanes of which those below `end` are kept
+pub lanes_kept : (bytes : List ℕ) (end : ℕ) → length bytes ≡ 8 → end ≤ 8
+    → sel_l (zip2 ltb (0 ∷ 1 ∷ 2 ∷ 3 ∷ 4 ∷ 5 ∷ 6 ∷ 7 ∷ []) (replicate 8 end)) bytes (replicate 8 0) ≡ take end bytes ++ replicate (8 - end) 0
+lanes_kept (a ∷ b ∷ c ∷ d ∷ e ∷ f ∷ g ∷ h ∷ []) end long within = by end within
   where
-    by : (x : Bool) → x ≡ pointwise nat_eq a b → (y : Bool) → y ≡ pointwise nat_eq (before_nul a) (before_nul b) → x ≡ y
-    by true e true f = refl
-    by false e false f = refl
-    by true e false f = absurd (other_text (before_nul a) (before_nul b) f (ap before_nul (same_text a b e)))
-    by false e true f = absurd (other_text a b e (sym p ∙ ap padded (same_text (before_nul a) (before_nul b) f) ∙ q))
+    by : (n : ℕ) → n ≤ 8 → sel_l (zip2 ltb (0 ∷ 1 ∷ 2 ∷ 3 ∷ 4 ∷ 5 ∷ 6 ∷ 7 ∷ []) (replicate 8 n)) (a ∷ b ∷ c ∷ d ∷ e ∷ f ∷ g ∷ h ∷ []) (replicate 8 0)
+        ≡ take n (a ∷ b ∷ c ∷ d ∷ e ∷ f ∷ g ∷ h ∷ []) ++ replicate (8 - n) 0
+    by zero l = refl
+    by (suc zero) l = refl
+    by (suc (suc zero)) l = refl
+    by (suc (suc (suc zero))) l = refl
+    by (suc (suc (suc (suc zero)))) l = refl
+    by (suc (suc (suc (suc (suc zero))))) l = refl
+    by (suc (suc (suc (suc (suc (suc zero)))))) l = refl
+    by (suc (suc (suc (suc (suc (suc (suc zero))))))) l = refl
+    by (suc (suc (suc (suc (suc (suc (suc (suc zero)))))))) l = refl
+    by (suc (suc (suc (suc (suc (suc (suc (suc (suc n))))))))) l = absurd (omega arith)
+lanes_kept _ end long within = absurd (omega arith)

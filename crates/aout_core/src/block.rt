@@ -38,7 +38,7 @@ fn bring_front(bytes: &mut [u8; BLOCK_SIZE], start: usize, end: usize) -> usize
     ensures len { result ≡ end - start }
     ensures value { take result bytes.new ≡ slice_range bytes.old start end }
 {
-    if start > 0 {
+    if start > 0 && start < end {
         bytes.rotate_left(start);
     }
     end - start

@@ -111,8 +111,10 @@ impl Item for Symbol {
 
     /// What stands behind a NUL in the name is left out.
     fn from_slice(bytes: &[u8]) -> Symbol {
+        let mut name = [0; 8];
+        name.copy_from_slice(&bytes[..8]);
         Symbol {
-            name: Name::from_bytes(&bytes[..8]),
+            name: Name::from_padded(name),
             type_bits: LittleEndian::read_u16(&bytes[8..10]),
             value: LittleEndian::read_u16(&bytes[10..]),
         }
@@ -135,7 +137,7 @@ fn read_items<T: Item>(bytes: &[u8], count: usize, items: &mut Vec<T>)
     ensures capacity { vec_capacity items.old ≤ vec_capacity items.new }
 {
     for item in bytes[..T::WIDTH * count].chunks_exact(T::WIDTH) {
-        items.push(T::from_slice(item)).unwrap();
+        items.push_reserved(T::from_slice(item));
     }
 }
 

@@ -1,16 +1,16 @@
 //! The name of a symbol.
-ghost use Rattle.std.specs.Prelude.{◌≡◌, ◌≤◌, ◌==◌, position, take, length, Some, nat_eq, refl};
-ghost use Rattle.std.specs.Hash as fed;
+ghost use Rattle.std.specs.Prelude.{◌≡◌, ℕ, ◌-◌, ◌<◌, ◌≤◌, [], ◌∷◌, ◌++◌, get_or, take, replicate, length, Some, nat_eq, refl};
+ghost use Rattle.std.specs.Int.{w64, from_be_bytes};
 ghost use Rattle.std.specs.Ordering.{nat_cmp};
 ghost use Rattle.std.specs.Cmp.{partial_equiv_from_equiv};
-ghost use Rattle.std.specs.Cmp.Lexicographic.{pointwise, slice_cmp, nat_list_eq_equiv, nat_list_cmp_total, texts_po, texts_ties};
-ghost use Rattle.std.specs.Cmp.Rules.{hashing};
-ghost use Rattle.std.proofs.Common.{rules};
+ghost use Rattle.std.specs.Cmp.Lexicographic.{pointwise, slice_cmp, nat_list_eq_equiv, nat_list_cmp_total, texts_po, texts_ties, same_text};
+ghost use Rattle.std.proofs.Common.{sym, ap};
 ghost use Rattle.aout_core.specs.Names.{before_nul, padded};
 
 use std::cmp::Ordering;
 use std::hash::{Hash, Hasher};
 use std::marker::Model;
+use std::simd::prelude::*;
 
 /// The name of a symbol: at most 8 bytes, none of them NUL. Names are compared by their bytes. (a.out(5))
 #[derive(Clone, Copy, Debug)]
@@ -37,21 +37,39 @@ impl Model for Name {
     ghost inverse_ok = { from_padded };
 }
 
-fn nul_at(bytes: &[u8]) -> Option<usize>
-    ensures { result ≡ position (λ b. b == 0) bytes.now }
+/// The places of eight bytes.
+const PLACES: [u8; 8] = [0, 1, 2, 3, 4, 5, 6, 7];
+
+/// How many of eight bytes stand before the first NUL.
+fn end_of(bytes: [u8; 8]) -> usize
+    ensures { result ≡ length (before_nul bytes) }
 {
-    bytes.iter().position(|b| *b == 0)
+    let nuls = u8x8::from_array(bytes).simd_eq(u8x8::splat(0)).to_bitmask();
+    if nuls == 0 {
+        8
+    } else {
+        nuls.trailing_zeros() as usize
+    }
 }
 
-/// How many bytes stand before the first NUL.
-fn end_of(bytes: &[u8]) -> usize
-    ensures count { result ≡ length (before_nul bytes.now) }
-    ensures within { result ≤ length bytes.now }
+/// The first `end` of eight bytes, and NULs after them.
+fn cut_at(bytes: [u8; 8], end: usize) -> [u8; 8]
+    requires { end ≤ 8 }
+    ensures { result ≡ take end bytes ++ replicate (8 - end) 0 }
 {
-    match nul_at(bytes) {
-        Some(n) => n,
-        None => bytes.len(),
-    }
+    u8x8::from_array(PLACES)
+        .simd_lt(u8x8::splat(end as u8))
+        .select(u8x8::from_array(bytes), u8x8::splat(0))
+        .to_array()
+}
+
+/// Eight bytes as one number, the first byte the highest.
+fn number_of(bytes: [u8; 8]) -> u64
+    ensures value { result ≡ from_be_bytes w64 bytes }
+    ensures eight { length bytes ≡ 8 }
+    ensures small { (i : ℕ) → get_or bytes i 0 < 256 }
+{
+    u64::from_be_bytes(bytes)
 }
 
 impl Name {
@@ -59,10 +77,19 @@ impl Name {
     pub fn from_bytes(text: &[u8]) -> Name
         ensures { result ≡ take 8 (before_nul text.now) }
     {
-        let mut padded_bytes = [0u8; 8];
-        let end = end_of(text).min(8);
-        padded_bytes[..end].copy_from_slice(&text[..end]);
-        Name { padded_bytes }
+        let mut bytes = [0; 8];
+        let len = text.len().min(8);
+        bytes[..len].copy_from_slice(&text[..len]);
+        Name::from_padded(bytes)
+    }
+
+    /// The name in eight bytes: those before the first NUL.
+    pub(crate) fn from_padded(bytes: [u8; 8]) -> Name
+        ensures { result ≡ before_nul bytes }
+    {
+        Name {
+            padded_bytes: cut_at(bytes, end_of(bytes)),
+        }
     }
 
     /// The bytes of the name, without padding. (a.out(5))
@@ -72,7 +99,7 @@ impl Name {
         ensures short { length result.now ≤ 8 }
         ensures no_nul { before_nul result.now ≡ result.now }
     {
-        let end = end_of(&self.padded_bytes);
+        let end = end_of(self.padded_bytes);
         &self.padded_bytes[..end]
     }
 
@@ -90,7 +117,7 @@ impl PartialEq for Name {
     ghost laws = { partial_equiv_from_equiv nat_list_eq_equiv };
 
     fn eq(&self, other: &Name) -> bool {
-        self.padded_bytes == other.padded_bytes
+        number_of(self.padded_bytes) == number_of(other.padded_bytes)
     }
 }
 
@@ -118,16 +145,16 @@ impl Ord for Name {
     ghost matches_eq = { texts_ties };
 
     fn cmp(&self, other: &Name) -> Ordering {
-        self.as_bytes().cmp(other.as_bytes())
+        number_of(self.padded_bytes).cmp(&number_of(other.padded_bytes))
     }
 }
 
 impl Hash for Name {
-    ghost hash_input = { fed.slice fed.u8 };
+    ghost hash_input = { λ name. padded name ∷ [] };
 
-    ghost respects_eq = { Prim.search (hashing, rules) };
+    ghost respects_eq = { λ x y h. ap (λ name. padded name ∷ []) (same_text x y (sym h)) };
 
     fn hash<H: Hasher>(&self, state: &mut H) {
-        self.as_bytes().hash(state);
+        state.write(&self.padded_bytes);
     }
 }

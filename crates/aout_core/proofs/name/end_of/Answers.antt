@@ -1,11 +1,19 @@
-use Rattle.aout_core.proofs.NameLemmas.{nul_found, nul_missing, length-before_nul-le}
-use Rattle.std.proofs.Common.{arith}
+use Rattle.std.proofs.Common.{◌≡◌, eqb, length, sym, ap, ◌∙◌, arith, rules, w8}
+use lib.Count.{count_trailing_zeros}
+use Rattle.std.proofs.lemmas.Simd.{bitmask_splat, leading_from_mask_l, trailing_mask_l}
+use Rattle.aout_core.proofs.NameLemmas.{position_or_len-nul}
 use Rattle.aout_core.proofs.name.end_of.Goals as goal
 
-pub returns-in-Some : goal.returns-in-Some
-returns-in-Some c =
-    let count = nul_found c.args.bytes.now c.in-Some.n c.in-Some.ensures in
-    record { count = count; within = omega (arith, count, length-before_nul-le c.args.bytes.now) }
+pub returns-then-nuls-eq0 : goal.returns-then-nuls-eq0
+returns-then-nuls-eq0 c =
+    let bytes = c.args.bytes in
+    let long : length bytes ≡ 8 = search rules in
+    let hits = bitmask_splat w8 eqb bytes 8 0 long (omega arith) in
+    sym (leading_from_mask_l (λ x. eqb x 0) bytes (sym hits ∙ c.if-nuls-eq0.true) ∙ long) ∙ position_or_len-nul bytes
 
-pub returns-in-None : goal.returns-in-None
-returns-in-None c = record { count = nul_missing c.args.bytes.now c.in-None.ensures; within = omega arith }
+pub returns-else-nuls-eq0 : goal.returns-else-nuls-eq0
+returns-else-nuls-eq0 c =
+    let bytes = c.args.bytes in
+    let long : length bytes ≡ 8 = search rules in
+    let hits = bitmask_splat w8 eqb bytes 8 0 long (omega arith) in
+    ap (count_trailing_zeros 64) hits ∙ trailing_mask_l (λ x. eqb x 0) 64 bytes (omega arith) (omega arith) ∙ position_or_len-nul bytes
