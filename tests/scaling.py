@@ -1,0 +1,164 @@
+#!/usr/bin/env python3
+"""Counts by valgrind how the instructions of the programs grow with what they are given, and prints an exponent for each.
+
+A kind of work is done at four sizes, the largest at least 16 times the smallest. What the same command takes without that
+work, its start and the files before it, is subtracted. The exponent is the slope, by least squares, of the logarithm of the
+instructions over that of the size: 1.00 if twice as much takes twice as long, 2.00 if it takes four times as long.
+
+usage: tests/scaling.py V7 V7-EXPLAIN [KIND ..]
+"""
+import math
+import os
+import re
+import shutil
+import struct
+import subprocess
+import sys
+import tempfile
+from concurrent.futures import ThreadPoolExecutor
+
+MOST_SYMBOLS = 5461
+DEFINED, WANTED = 0o42, 0o40
+PLAIN = [(7, 0)] * 100
+
+
+def names(first, count, kind=DEFINED):
+    """So many symbols with names of their own."""
+    return [(f"n{number:05d}", kind, 0) for number in range(first, first + count)]
+
+
+def reference(number):
+    """A word that refers to the symbol with this number."""
+    return 0, 0o10 + 16 * number
+
+
+class Work:
+    """What a command does, in a folder of its own."""
+
+    def __init__(self, v7, explain, folder):
+        self.v7, self.explain, self.folder = v7, explain, folder
+
+    def object(self, name, words=(), symbols=()):
+        """Writes an object: its text, each word with its relocation word, and its symbols, each with type word and value."""
+        header = (0o407, 2 * len(words), 0, 0, 12 * len(symbols), 0, 0, 0)
+        body = [*header, *(word for word, _ in words), *(reloc for _, reloc in words)]
+        with open(f"{self.folder}/{name}", "wb") as file:
+            file.write(struct.pack(f"<{len(body)}H", *body))
+            for symbol, kind, value in symbols:
+                file.write(struct.pack("<8sHH", symbol.encode(), kind, value))
+        return name
+
+    def of_names(self, count, most):
+        """Objects that define so many names in all."""
+        return [self.object(f"n{first}.o", [], names(first, min(most, count - first))) for first in range(0, count, most)]
+
+    def of_words(self, count):
+        """One object more, each of 100 words and 10 names."""
+        return [self.object(f"o{number}.o", PLAIN, names(10 * number, 10)) for number in range(count + 1)]
+
+    def link(self, *files):
+        return [self.v7, "ld", "-s", "-o", "out", *files], ""
+
+    def session(self, lines):
+        return [self.v7, "session"], "".join(f"{line}\n" for line in lines)
+
+    # Each of these answers the command for a size, and the script that it reads; at size 0 the command without the work.
+
+    def objects(self, size):
+        """Links so many objects of 100 words and 10 names."""
+        return self.link(*self.of_words(size))
+
+    def names(self, size):
+        """Links objects with so many names, 3,840 in each."""
+        return self.link(self.object("first.o"), *self.of_names(size, 3840))
+
+    def references(self, size):
+        """Links so many words that refer to 100 names defined before."""
+        words = [reference(number % 100) for number in range(size)]
+        return self.link(self.object("defines.o", [], names(0, 100)), self.object("refers.o", words, names(0, 100, WANTED)))
+
+    def chains(self, size):
+        """Links so many words that wait for one name, which a later object defines."""
+        waits = self.object("waits.o", [reference(0)] * size, names(0, 1, WANTED))
+        return self.link(waits, self.object("defines.o", [], names(0, 1)))
+
+    def scripts(self, size):
+        """Adds an object to a session and withdraws it, so many times."""
+        path = self.object("added.o", [reference(0), (2, 2)], names(0, 1, WANTED))
+        return self.session([f"add {path}", "withdraw"] * size)
+
+    def refused(self, size):
+        """Adds an object with so many new names to a session of 65,532 names, which refuses it."""
+        lines = [f"add {file}" for file in self.of_names(12 * MOST_SYMBOLS, MOST_SYMBOLS)]
+        if size > 0:
+            lines.append(f"add {self.object('refused.o', [], names(70000, size))}")
+        return self.session(lines)
+
+    def nm(self, size):
+        """Lists so many symbols by name."""
+        return [self.v7, "nm", self.object("table.o", [], names(0, size)[::-1])], ""
+
+    def listings(self, size):
+        """Lists so many words that refer to half as many names."""
+        words = [reference(number // 2) for number in range(size)]
+        return [self.explain, self.object("listed.o", words, names(0, size // 2, WANTED))], ""
+
+    def maps(self, size):
+        """Maps the link of so many objects of 100 words and 10 names."""
+        return [self.explain, "-m", *self.of_words(size)], ""
+
+
+KINDS = {
+    "objects": [20, 80, 160, 320],
+    "names": [3840, 15360, 30720, 61440],
+    "references": [2000, 8000, 16000, 32000],
+    "chains": [2000, 8000, 16000, 32000],
+    "scripts": [200, 800, 1600, 3200],
+    "refused": [341, 1365, 2730, 5456],
+    "nm": [341, 1365, 2730, 5456],
+    "listings": [512, 2048, 4096, 8192],
+    "maps": [20, 80, 160, 320],
+}
+# their status is 1 once an addition is refused
+REFUSES = ("refused",)
+
+
+def count(programs, kind, size):
+    """How many instructions a command takes."""
+    with tempfile.TemporaryDirectory() as folder:
+        command, script = getattr(Work(*programs, folder), kind)(size)
+        words = ["valgrind", "--tool=callgrind", "--callgrind-out-file=counts", *command]
+        run = subprocess.run(words, input=script, cwd=folder, capture_output=True, text=True, check=False)
+        if run.returncode != (1 if kind in REFUSES and size > 0 else 0):
+            sys.exit(f"{kind} of size {size} ended with status {run.returncode}: {run.stderr}")
+        with open(f"{folder}/counts", encoding="utf-8") as file:
+            return int(re.search(r"^summary: (\d+)", file.read(), re.M)[1])
+
+
+def slope(points):
+    """The slope of the line nearest to these points."""
+    across, up = (sum(axis) / len(points) for axis in zip(*points))
+    return sum((x - across) * (y - up) for x, y in points) / sum((x - across) ** 2 for x, _ in points)
+
+
+def line(programs, kind):
+    """A kind of work: its exponent, and its instructions at each size."""
+    start, *totals = (count(programs, kind, size) for size in (0, *KINDS[kind]))
+    costs = [(size, total - start) for size, total in zip(KINDS[kind], totals)]
+    exponent = slope([(math.log(size), math.log(cost)) for size, cost in costs])
+    return f"{kind:10} {exponent:5.2f}   " + ", ".join(f"{size:,}: {cost:,}" for size, cost in costs)
+
+
+def main(v7, explain, *kinds):
+    if not shutil.which("valgrind"):
+        print("instructions are counted where valgrind is installed")
+        return
+    programs = os.path.abspath(v7), os.path.abspath(explain)
+    print("how instructions grow: the exponent, and the instructions at four sizes")
+    with ThreadPoolExecutor(os.cpu_count()) as pool:
+        for told in pool.map(lambda kind: line(programs, kind), kinds or KINDS):
+            print(told, flush=True)
+
+
+if __name__ == "__main__":
+    main(*sys.argv[1:])
