@@ -16,6 +16,7 @@ pub mod PlaceLemmas
 pub mod PutBackLemmas
 pub mod MentionedLemmas
 pub mod LimitLemmas
+pub mod NewNameLemmas
 pub mod TotalLemmas
 pub mod AdditionLemmas
 pub mod BackLemmas

@@ -1,17 +1,20 @@
 //! The limits of a session.
-ghost use Rattle.std.specs.Prelude.{◌≡◌, ◌+◌, ◌*◌, ◌^◌, ◌<◌, ◌≤◌, ◌++◌, ◌&&◌, not, length, nat_lt, bytes_eq};
+ghost use Rattle.std.specs.Prelude.{◌≡◌, ◌+◌, ◌*◌, ◌^◌, ◌<◌, ◌≤◌, ◌++◌, ◌&&◌, not, length, nat_lt, bytes_eq, IfOk};
 ghost use Rattle.std.specs.List.{list_any};
 ghost use Rattle.std.specs.Map.{keys_of};
+ghost use Rattle.indexmap.specs.IndexSet.{spare};
 ghost use Rattle.aout_core.specs.WellFormed.{is_external};
 ghost use Rattle.link_session.specs.Mentions.{is_among};
 ghost use Rattle.link_session.specs.Sessions.{IsObject};
 ghost use Rattle.link_session.specs.internal.Fields.{image_in, IsSmall};
 ghost use Rattle.link_session.specs.internal.Additions.{external_names, new_count, next_limit};
+ghost use Rattle.link_session.specs.internal.NewNames.{with_new};
 
 use crate::entry::AddFault;
-use crate::mention::count_external;
 use crate::merged::{Externals, Merged};
 use aout_core::{Name, Object, Symbol};
+use indexmap::IndexSet;
+use std::alloc::{AllocError, Global};
 
 /// The most bytes of text, of data and of bss.
 const MOST_BYTES: usize = 65_534;
@@ -46,8 +49,8 @@ fn is_new(externals: &Externals, before: &[Symbol], symbol: &Symbol) -> bool
     symbol.is_external() && !(contains(externals, &symbol.name) || mentions(before, &symbol.name))
 }
 
-/// How many names the symbols would add. This takes time quadratic in their number, and no memory.
-fn count_new(externals: &Externals, symbols: &[Symbol]) -> usize
+/// How many names the symbols would add. This takes no memory, and time quadratic in their number.
+fn count_again(externals: &Externals, symbols: &[Symbol]) -> usize
     requires { 12 * length symbols.now < 2 ^ 16 }
     ensures { result ≡ new_count (keys_of externals.now.entries) symbols.now }
 {
@@ -60,18 +63,54 @@ fn count_new(externals: &Externals, symbols: &[Symbol]) -> usize
     count
 }
 
-/// Whether the names would be too many. They are counted only where the external symbols could pass the limit.
-fn names_full(externals: &Externals, symbols: &[Symbol]) -> bool
+/// Enters the name that a symbol adds to these externals, if it adds one. There is room for it.
+fn enter_new(fresh: &mut IndexSet<Name>, externals: &Externals, symbol: &Symbol)
+    requires { 0 < spare fresh.old }
+    ensures names { fresh.new.keys ≡ with_new (keys_of externals.now.entries) fresh.old.keys symbol.now }
+    ensures left { spare fresh.old ≤ spare fresh.new + 1 }
+{
+    if symbol.is_external() && !contains(externals, &symbol.name) {
+        let _is_first = fresh.insert(symbol.name).unwrap();
+    }
+}
+
+/// How many names the symbols would add. An error says that memory ran out for these names.
+fn count_by_set(
+    externals: &Externals,
+    symbols: &[Symbol],
+    alloc: Global,
+) -> Result<usize, AllocError>
+    ensures { IfOk result (λ count. count ≡ new_count (keys_of externals.now.entries) symbols.now) }
+{
+    let mut fresh: IndexSet<Name> = IndexSet::with_capacity(alloc, symbols.len())?;
+    for symbol in symbols {
+        enter_new(&mut fresh, externals, symbol);
+    }
+    Ok(fresh.len())
+}
+
+/// How many names the symbols would add. Time is linear in their number, and quadratic only if memory runs out.
+fn count_new(externals: &Externals, symbols: &[Symbol], alloc: Global) -> usize
+    requires { 12 * length symbols.now < 2 ^ 16 }
+    ensures { result ≡ new_count (keys_of externals.now.entries) symbols.now }
+{
+    match count_by_set(externals, symbols, alloc) {
+        Ok(count) => count,
+        Err(_) => count_again(externals, symbols),
+    }
+}
+
+/// Whether the names would be too many. They are counted only if there are so many symbols that they could be.
+fn names_full(externals: &Externals, symbols: &[Symbol], alloc: Global) -> bool
     requires { 12 * length symbols.now < 2 ^ 16 }
     ensures { result ≡ nat_lt 65535 (length externals.now.entries + new_count (keys_of externals.now.entries) symbols.now) }
 {
     let known = externals.len();
-    MOST_NAMES < known + count_external(symbols)
-        && MOST_NAMES < known + count_new(externals, symbols)
+    MOST_NAMES < known + symbols.len() && MOST_NAMES < known + count_new(externals, symbols, alloc)
 }
 
 /// The first limit that the image passes with this object, if it passes one.
-pub(crate) fn limit_passed(image: &Merged, object: &Object) -> Option<AddFault>
+pub(crate) fn limit_passed(image: &Merged, object: &Object, alloc: Global) -> Option<AddFault>
     requires { IsSmall (image_in image.now) }
     ensures limit { result ≡ next_limit (image_in image.now) object.now }
     ensures object { IsObject object.now }
@@ -87,7 +126,7 @@ pub(crate) fn limit_passed(image: &Merged, object: &Object) -> Option<AddFault>
     if MOST_BYTES < image.bss_total as usize + header.bss_size as usize {
         return Some(AddFault::BssFull);
     }
-    if names_full(&image.externals, file.symbols()) {
+    if names_full(&image.externals, file.symbols(), alloc) {
         return Some(AddFault::NamesFull);
     }
     None

@@ -159,7 +159,7 @@ impl Session {
         ensures unchanged { OnErr result (self.new ≡ self.old) }
         ensures handed_back { IfErr result (λ refused. (refused.label ≡ label) × (refused.object ≡ object)) }
     {
-        if let Some(cause) = limit_passed(&self.image, &object) {
+        if let Some(cause) = limit_passed(&self.image, &object, self.alloc) {
             return Err(AddRefused {
                 cause,
                 label,

@@ -8,13 +8,13 @@ use Rattle.link_session.proofs.LimitLemmas.{new_count-le}
 use Rattle.link_session.proofs.limits.names_full.Goals as goal
 
 pub overflow_add-known : goal.overflow_add-known
-overflow_add-known c = omega (arith, filter_le is_external c.args.symbols.now)
+overflow_add-known c = omega (arith, c.len-known.ensures.len)
 
 pub overflow_add-result : goal.overflow_add-result
 overflow_add-result c = omega (arith, new_count-le (keys_of c.args.externals.now.entries) c.args.symbols.now, filter_le is_external c.args.symbols.now)
 
-pub returns-else-known-count_external-gt-MOST_NAMES : goal.returns-else-known-count_external-gt-MOST_NAMES
-returns-else-known-count_external-gt-MOST_NAMES c =
+pub returns-else-known-symbols-gt-MOST_NAMES : goal.returns-else-known-symbols-gt-MOST_NAMES
+returns-else-known-symbols-gt-MOST_NAMES c =
     let few = new_count-le (keys_of c.args.externals.now.entries) c.args.symbols.now in
-    let below : length c.args.externals.now.entries + new_count (keys_of c.args.externals.now.entries) c.args.symbols.now ≤ 65535 = omega (arith, c.len-known.ensures.len) in
-    le-ltb 65535 (c.len-known.result + c.count_external.result) (omega arith) ∙ sym (le-ltb 65535 (length c.args.externals.now.entries + new_count (keys_of c.args.externals.now.entries) c.args.symbols.now) below)
+    let below : length c.args.externals.now.entries + new_count (keys_of c.args.externals.now.entries) c.args.symbols.now ≤ 65535 = omega (arith, c.len-known.ensures.len, few, filter_le is_external c.args.symbols.now) in
+    le-ltb 65535 (c.len-known.result + length c.args.symbols.now) (omega arith) ∙ sym (le-ltb 65535 (length c.args.externals.now.entries + new_count (keys_of c.args.externals.now.entries) c.args.symbols.now) below)

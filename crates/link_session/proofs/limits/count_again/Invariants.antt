@@ -1,7 +1,7 @@
 use Rattle.std.proofs.Common.{◌≡◌, ◌+◌, ◌++◌, drop, take}
 use Rattle.std.specs.Map.{keys_of}
 use Rattle.link_session.specs.internal.Additions.{external_names, new_count}
-use Rattle.link_session.proofs.limits.count_new.Given as goal
+use Rattle.link_session.proofs.limits.count_again.Given as goal
 
 -- the count so far, and what is left to count
 abbrev pub invariant-loop-i : goal.invariant-loop-i

@@ -1,0 +1,17 @@
+use Rattle.std.proofs.Common.{◌≡◌, [], length, ℕ, List, ap, ◌∙◌, arith}
+use Rattle.std.specs.Map.{keys_of}
+use Rattle.std.proofs.lemmas.Grind.{common_steps}
+use Rattle.link_session.specs.internal.NewNames.{with_all_new}
+use Rattle.link_session.proofs.NewNameLemmas.{length-all_new}
+use Rattle.link_session.proofs.limits.count_by_set.Goals as goal
+
+pub enter_new-requires : goal.enter_new-requires
+enter_new-requires c = grind (arith, common_steps)
+
+pub loop-symbol-preserved : goal.loop-symbol-preserved
+loop-symbol-preserved c = grind (arith, common_steps)
+
+pub returns : goal.returns
+returns c =
+    let gathered : c.loop-symbol.fresh.keys ≡ with_all_new (keys_of c.args.externals.now.entries) [] c.args.symbols.now = grind (arith, common_steps) in
+    c.len.ensures.len ∙ ap (λ (l : List (List ℕ)). length l) gathered ∙ length-all_new (keys_of c.args.externals.now.entries) c.args.symbols.now
