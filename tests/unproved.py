@@ -19,6 +19,8 @@ PROGRAMS = ["v7", "v7-from-gnu", "v7-object", "v7-explain"]
 # for a whole run of one crate, on a machine with other work too
 SECONDS = "1800"
 SIDE_BY_SIDE = 4
+# the cases take most of the time, so they are played in so many groups
+GROUPS = 3
 
 
 class Failed(Exception):
@@ -73,13 +75,26 @@ def run_tests(name, count):
 # --- cases in memory
 
 ENDED = re.compile(r"^case=(\w+) run=ended status=(\d+)", re.M)
-SUMMARY = re.compile(r"^(\d+) cases played in memory, .*\n", re.M)
+SUMMARY = re.compile(r"^\d+ cases played in memory, .*\n", re.M)
 
 
-def written(output):
-    """What each run of `rt try --cases` has printed."""
-    pieces = re.split(r"^== (\w+)\n", output, flags=re.M)
-    return dict(zip(pieces[1::2], pieces[2::2]))
+def names_in(path):
+    return re.findall(r"^case (\S+)", read(path), re.M)
+
+
+def weight(path):
+    """About how long a case file takes: how often something is repeated in it. What is short is repeated quickly."""
+    counts = re.findall(r"\* ?(\d+)|^names \S+ (\d+)", read(path), re.M)
+    return 1000 + sum(min(int(one or other), 100_000) for one, other in counts)
+
+
+def shares():
+    """The case files of the stored run in groups that take about the same time."""
+    files = [word for word in read("crates/cases/args").split("\n") if word.endswith(".case")]
+    groups = [[] for _ in range(GROUPS)]
+    for name in sorted(files, key=lambda name: -weight(f"crates/cases/data/{name}")):
+        min(groups, key=lambda group: sum(weight(f"crates/cases/data/{it}") for it in group)).append(name)
+    return [sorted(group) for group in groups if group]
 
 
 def compare(what, wanted, came):
@@ -89,31 +104,55 @@ def compare(what, wanted, came):
         raise Failed(f"{what}:\n{difference}\n")
 
 
-def errors_in(output):
-    """The errors of bad cases, without what is said of the others."""
-    return re.sub(r"^(ok|skipped) .*\n", "", SUMMARY.sub("", output), flags=re.M)
+def stored():
+    """What the stored run prints: the line of each case by its name, and the errors of bad cases."""
+    cases, _, errors = read("crates/cases/stdout").partition(" failed\n")
+    lines = re.findall(r"^(?:ok|skipped) .*\n", cases, re.M)
+    return {re.split("[ ,:\n]", line)[1]: line for line in lines}, errors
 
 
-def play_in_memory():
-    """Plays all cases as in the stored run, and then the bad cases, which have to fail the run."""
+def check_names():
+    """Each case has a name of its own, and a line in the stored run, which has no other."""
+    names = [name for path in sorted(glob.glob("crates/cases/data/*.case")) for name in names_in(path)]
+    twice = sorted({name for name in names if names.count(name) > 1})
+    if twice:
+        raise Failed(f"these names are there twice: {' '.join(twice)}\n")
+    compare("names of cases, beside crates/cases/stdout", "\n".join(sorted(stored()[0])), "\n".join(sorted(names)))
+    return f"{len(names)} names of cases compared with crates/cases/stdout"
+
+
+def try_cases(runs):
+    """Runs the program `cases` once for each of these lists of arguments. The status and the output of each."""
     data = {os.path.basename(path): os.path.abspath(path) for path in glob.glob("crates/cases/data/*")}
     words = [word for name, path in sorted(data.items()) for word in ("--data", f"{name}={path}")]
     with tempfile.TemporaryDirectory() as room:
-        for name, arguments in ("all", read("crates/cases/args")), ("bad", "bad.cases\n"):
-            for path, text in (name, ""), (name + ".args", arguments):
+        for name, arguments in runs.items():
+            for path, text in (name, ""), (name + ".args", "".join(f"{it}\n" for it in arguments)):
                 with open(os.path.join(room, path), "w", encoding="utf-8") as file:
                     file.write(text)
         words += ["--seconds", SECONDS, "--cases", room]
         _, output, said = run("rt", "try", *words, cwd="crates/cases")
-    statuses, outputs = dict(ENDED.findall(said)), written(output)
-    if set(statuses) != {"all", "bad"} or set(outputs) != {"all", "bad"}:
+    pieces = re.split(r"^== (\w+)\n", output, flags=re.M)
+    statuses, outputs = dict(ENDED.findall(said)), dict(zip(pieces[1::2], pieces[2::2]))
+    if set(statuses) != set(runs) or set(outputs) != set(runs):
         raise Failed(said)
-    stored = read("crates/cases/stdout")
-    compare("cases in memory", stored, outputs["all"])
-    compare("bad cases in memory", errors_in(stored), errors_in(outputs["bad"]))
-    if (statuses["all"], statuses["bad"]) != ("0", "1"):
-        raise Failed(f"cases in memory: status {statuses['all']}, and {statuses['bad']} with bad cases\n")
-    return SUMMARY.search(stored)[0].rstrip()
+    return {name: (statuses[name], outputs[name]) for name in runs}
+
+
+def play_in_memory(files, is_first):
+    """Plays the cases of these files, and in the first group the bad cases too, which have to fail the run."""
+    lines, errors = stored()
+    came = try_cases({"good": files, **({"bad": ["bad.cases"]} if is_first else {})})
+    wanted = [lines[name] for file in files for name in names_in(f"crates/cases/data/{file}")]
+    compare("cases in memory", "".join(wanted), SUMMARY.sub("", came["good"][1]))
+    statuses = [came["good"][0]]
+    if is_first:
+        compare("bad cases in memory", errors, re.sub(r"^(ok|skipped) .*\n", "", SUMMARY.sub("", came["bad"][1]), flags=re.M))
+        statuses.append(came["bad"][0])
+    if statuses != ["0", "1"][:len(statuses)]:
+        raise Failed(f"cases in memory: status {statuses[0]}, and {''.join(statuses[1:])} with bad cases\n")
+    played = sum(line.startswith("ok") for line in wanted)
+    return f"{played} cases played in memory, {len(wanted) - played} skipped: {' '.join(files)}"
 
 
 # --- cases on disk
@@ -156,8 +195,11 @@ def main():
     for name in TEXTS:
         tally.take(f"tests/{name}.py", lambda: passes(sys.executable, f"tests/{name}.py"))
     tally.take("samples", lambda: passes(sys.executable, "tests/cases.py", "-s"))
+    tally.take("names of cases", check_names)
     with ThreadPoolExecutor(min(SIDE_BY_SIDE, len(os.sched_getaffinity(0)))) as pool:
-        jobs = {pool.submit(play_in_memory): "cases in memory"}
+        jobs = {}
+        for number, files in enumerate(shares()):
+            jobs[pool.submit(play_in_memory, files, number == 0)] = f"cases of {' '.join(files)}"
         for name, count in sorted(crates_with_tests().items(), key=lambda it: -it[1]):
             jobs[pool.submit(run_tests, name, count)] = f"tests of {name}"
         for job in as_completed(jobs):
