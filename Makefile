@@ -11,7 +11,7 @@ endif
 
 # tests/prove.py uses all processors by itself
 .NOTPARALLEL:
-.PHONY: all try demo lib install-lib check-lib dist check-dist test gate recheck wrong-bodies memory room bench instructions simulate lesson page check-page \
+.PHONY: all try demo lib install-lib wheel check-lib dist check-dist test gate recheck wrong-bodies memory room bench instructions simulate lesson page check-page \
 	check-manual check-examples check-explain check-cases check-model check-streams install clean
 
 all: build/v7 build/v7-from-gnu build/v7-object build/v7-explain
@@ -95,6 +95,10 @@ install-lib: lib
 	sed -e 's|@PREFIX@|$(PREFIX)|' -e 's|@LIBDIR@|$(LIBDIR)|' -e 's|@INCLUDEDIR@|$(INCLUDEDIR)|' -e 's|@VERSION@|$(VERSION)|' \
 		packaging/v7.pc.in >$(DESTDIR)$(LIBDIR)/pkgconfig/v7.pc
 	cp man/*.3 $(SHARE)/man/man3
+
+# the wheel of Python, with the library inside
+wheel: lib
+	python3 packaging/python/backend.py build
 
 # installs the library into a folder, calls it there with an input for each fault of each call, and compares what the examples in
 # C, C++, Python and Rust link with what v7 links

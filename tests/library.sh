@@ -3,8 +3,8 @@
 # nothing else, and the header must compile as C99, C++98 and C++17. tests/faults.c calls the library with an input for each fault of
 # each call. The examples in C, C++, Python and Rust are compiled, link objects of examples/ as the program does, with the same
 # file, report and status, and run sessions, which compare by themselves. The library and the program link the objects of the large
-# benchmark. What is in C runs under AddressSanitizer and valgrind too. What is missing of the compilers, Python and these two
-# is skipped, and named.
+# benchmark. What is in C runs under AddressSanitizer and valgrind too. The wheel of Python is installed into a fresh environment.
+# What is missing of the compilers, Python and these two is skipped, and named.
 #
 # usage: CC=cc CXX=c++ tests/library.sh
 set -u
@@ -148,7 +148,7 @@ links C ./by_c
 session C ./ran_by_c
 $CC -O2 -Wall -o by_shared $compiles "$top/examples/c/link.c" $links || exit 1
 $CC -O2 -Wall -o ran_by_shared $compiles "$top/examples/c/session.c" $links || exit 1
-LD_LIBRARY_PATH=$room/installed/lib
+LD_LIBRARY_PATH=$room/installed/lib${LD_LIBRARY_PATH:+:$LD_LIBRARY_PATH}
 export LD_LIBRARY_PATH
 links "C with libv7.so" ./by_shared
 session "C with libv7.so" ./ran_by_shared
@@ -180,8 +180,24 @@ if command -v python3 >/dev/null; then
     export LIBV7 PYTHONDONTWRITEBYTECODE
     links Python "python3 $top/examples/python/link.py"
     session Python python3 "$top/examples/python/session.py"
+    PYTHONPATH=$top/examples/python python3 "$top/tests/library.py" "$top/include/v7.h" || fail "Python: a check fails"
     mkdir heavy
     PYTHONPATH=$top/examples/python python3 "$top/tests/heavy_library.py" "$top/build/v7" heavy || fail "the large benchmark"
+    unset LIBV7
+    # the wheel, in an environment that has nothing else
+    if python3 -m venv fresh 2>/dev/null; then
+        (cd "$top" && python3 packaging/python/backend.py "$room" >/dev/null) || fail "Python: no wheel is made"
+        mkdir wheel
+        cp "$top"/examples/python/session.py "$top"/examples/python/link.py wheel
+        fresh/bin/pip install -q --no-index --disable-pip-version-check v7-*.whl || fail "Python: the wheel is not installed"
+        links "Python, from the wheel" "env -u LD_LIBRARY_PATH fresh/bin/python wheel/link.py"
+        session "Python, from the wheel" env -u LD_LIBRARY_PATH fresh/bin/python wheel/session.py
+        fresh/bin/pip install -q --no-index --disable-pip-version-check --force-reinstall "$top/packaging/python" ||
+            fail "Python: packaging/python is not installed by pip"
+        session "Python, installed by pyproject.toml" env -u LD_LIBRARY_PATH fresh/bin/python wheel/session.py
+    else
+        echo "skipped: python3 has no venv"
+    fi
 else
     echo "skipped: python3 is not there"
 fi

@@ -66,6 +66,7 @@ run() {
         case $line in
         "sh simulate.sh "*) needed=pdp11 ;;
         "pdp11-aout-as "*) needed=pdp11-aout-as ;;
+        "make "*) needed=make ;;
         *) needed=sh ;;
         esac
         command -v "$needed" >/dev/null || { echo "$1: not run, as $needed is missing: $line"; skipped=$((skipped + 1)); continue; }

@@ -1,61 +1,85 @@
-"""The linker of v7 from Python, by libv7.so. v7.h says what each call is for.
+"""The linker of v7 from Python, by libv7. v7(3) and v7.h say what each call is for.
 
-    import v7
-    # mov $_count,r0, and a word of data that is named so
-    main_o = v7.make(text=[(0o012700, v7.NUMBER), (0, v7.refers_to(0))], symbols=[("_count", v7.UNDEFINED | v7.EXTERNAL, 0)])
-    count_o = v7.make(data=[(21, v7.NUMBER)], symbols=[("_count", v7.DATA | v7.EXTERNAL, 0)])
-    program = v7.link([main_o, count_o])
-    print(program.report, v7.nm(program.file))
+    >>> import v7
+    >>> # mov $_count,r0: a number, and a word that refers to symbol 0
+    >>> main_o = v7.make(text=[(0o012700, v7.NUMBER), (0, v7.refers_to(0))],
+    ...                  symbols=[("_count", v7.UNDEFINED | v7.EXTERNAL, 0)])
+    >>> count_o = v7.make(data=[(21, v7.NUMBER)], symbols=[("_count", v7.DATA | v7.EXTERNAL, 0)])
+    >>> program = v7.link([main_o, count_o])
+    >>> program.status, program.report
+    (0, '')
+    >>> print(v7.nm(program.file), end="")
+    000004 D _count
 
-    session = v7.Session([main_o])
-    session.add(count_o)
-    session.withdraw()
-    print(session.link().report)
-    print(session.text(), session.state()["externals"])
+    >>> session = v7.Session([main_o])
+    >>> session.add(count_o)
+    >>> session.withdraw()
+    >>> print(session.link().report, end="")
+    Undefined:
+    _count
+    >>> session.state()["externals"]
+    [{'name': '_count', 'state': 'undefined', 'value': 0}]
 
-Objects and files are bytes; an address in data or bss counts from the front of text. A fault is raised as `Fault`, with its
-number, the number of the object or edit, and the index of the word. The environment variable LIBV7 is the path of
-libv7.so, where the system's loader does not find it by its name.
+Objects and files are bytes; an address in data or bss counts from the front of text. A fault is raised as `Fault`. A number that does
+not fit its place, as 65,536 for a word, is a ValueError. The library is the file that the environment variable LIBV7 names, or
+else the one beside this module, as in the wheel, or else the one that the system's loader finds.
 """
+from __future__ import annotations
+
 import ctypes
 import json
 import os
-from collections import namedtuple
+from typing import Any, Dict, Iterable, List, NamedTuple, Sequence, Tuple
 
-LIBRARY = ctypes.CDLL(os.environ.get("LIBV7", "libv7.so"))
-NO_ROOM = 60
+_BESIDE = os.path.join(os.path.dirname(os.path.abspath(__file__)), "libv7.so.0")
+_LIBRARY = ctypes.CDLL(os.environ.get("LIBV7") or (_BESIDE if os.path.exists(_BESIDE) else "libv7.so.0"))
+_NO_ROOM = 60
 
 # options of a link
 RELOCATABLE, STRIP, EXTERNALS, NOT_L, PURE, SPLIT, FORCE_COMMONS = (1 << bit for bit in range(7))
 
-# what a link gives: 0, or 1 where there is something to report; the bytes of the file; the lines of the report
-Program = namedtuple("Program", "status file report")
+# options of nm
+NM_EXTERNAL, NM_BY_VALUE, NM_TABLE_ORDER, NM_REVERSE, NM_UNDEFINED = (1 << bit for bit in range(5))
 
-
-# an object in parts: pairs of a word and its relocation word, the size of bss, and triples of a name, a type word and a value
-Parts = namedtuple("Parts", "text data bss symbols")
-
-# type words: one of these, and EXTERNAL where other objects see the name
+# type words: one of these, and EXTERNAL if other objects see the name
 UNDEFINED, ABSOLUTE, TEXT, DATA, BSS = range(5)
 EXTERNAL = 0o40
 
-# relocation words: one of these or of `refers_to`, and FROM_PC added where the word is relative to the pc
+# relocation words: one of these or of `refers_to`, and FROM_PC added if the word is relative to the pc
 NUMBER, IN_TEXT, IN_DATA, IN_BSS = 0, 2, 4, 6
 FROM_PC = 1
 
+Word = Tuple[int, int]
+Symbol = Tuple[str, int, int]
 
-def refers_to(number):
-    """The relocation word of a word that refers to the symbol of this number, an undefined external."""
-    return 0o10 + 0o20 * number
+
+class Program(NamedTuple):
+    """What a link gives: 0, or 1 if there is something to report; the bytes of the file; the lines of the report."""
+
+    status: int
+    file: bytes
+    report: str
+
+
+class Parts(NamedTuple):
+    """An object in parts: pairs of a word and its relocation word, the size of bss in bytes, and triples of a name, a type word
+    and a value."""
+
+    text: List[Word]
+    data: List[Word]
+    bss: int
+    symbols: List[Symbol]
 
 
 # what the faults of v7.h mean, by their numbers
-FAULTS = {
-    1: "no such option",
+FAULTS: Dict[int, str] = {
+    1: "no such option or form",
     2: "options exclude each other",
     3: "the name of the entry point has more than 8 bytes",
+    4: "the size of the forced names is not a multiple of 8",
     5: "more than 64 names are forced",
     6: "too many words, bytes of bss or symbols",
+    7: "no such edit",
     11: "short header",
     12: "bad magic number",
     13: "odd size",
@@ -72,22 +96,23 @@ FAULTS = {
     42: "too many symbols",
     43: "symbol number too large",
     50: "no memory",
+    60: "no room",
 }
 
 
-class Word(ctypes.Structure):
+class _Word(ctypes.Structure):
     _fields_ = [("value", ctypes.c_uint16), ("reloc", ctypes.c_uint16)]
 
 
-class Symbol(ctypes.Structure):
+class _Symbol(ctypes.Structure):
     _fields_ = [("name", ctypes.c_ubyte * 8), ("type", ctypes.c_uint16), ("value", ctypes.c_uint16)]
 
 
-class Counts(ctypes.Structure):
+class _Counts(ctypes.Structure):
     _fields_ = [("text", ctypes.c_size_t), ("data", ctypes.c_size_t), ("symbols", ctypes.c_size_t), ("bss", ctypes.c_uint32)]
 
 
-class Answer(ctypes.Structure):
+class _Answer(ctypes.Structure):
     _fields_ = [
         ("fault", ctypes.c_uint32),
         ("word", ctypes.c_uint32),
@@ -98,71 +123,130 @@ class Answer(ctypes.Structure):
 
 
 class Fault(Exception):
-    def __init__(self, answer):
+    """Why a call gives nothing: `fault` is its number, `place` that of the object or name, and `word` the index of the word.
+
+    >>> try:
+    ...     check(b"")
+    ... except Fault as fault:
+    ...     print(fault.fault, fault)
+    11 short header, object 0
+    """
+
+    def __init__(self, answer: _Answer) -> None:
         text = FAULTS.get(answer.fault, f"fault {answer.fault}")
         where = f" at word {answer.word}" if answer.fault in (23, 24) else ""
         super().__init__(f"{text}{where}, object {answer.place}" if 10 < answer.fault < 40 else text + where)
-        self.fault, self.place, self.word = answer.fault, answer.place, answer.word
+        self.fault: int = answer.fault
+        self.place: int = answer.place
+        self.word: int = answer.word
 
 
-def _slice(data):
-    return ctypes.c_char_p(bytes(data)), ctypes.c_size_t(len(data))
+def refers_to(number: int) -> int:
+    """The relocation word of a word that refers to the symbol of this number, an undefined external.
+
+    >>> refers_to(1) == 0o30
+    True
+    """
+    if not 0 <= number <= 4095:
+        raise ValueError(f"a symbol number is 0 to 4,095, and not {number}")
+    return 0o10 + 0o20 * number
 
 
-def _room(size):
+def _fitting(what: str, number: int, bits: int) -> int:
+    if not 0 <= number < 1 << bits:
+        raise ValueError(f"{what} is 0 to {(1 << bits) - 1}, and not {number}")
+    return number
+
+
+def _number(what: str, number: int) -> ctypes.c_uint32:
+    return ctypes.c_uint32(_fitting(what, number, 32))
+
+
+def _slice(data: bytes) -> List[Any]:
+    data = bytes(data)
+    return [ctypes.c_char_p(data), ctypes.c_size_t(len(data))]
+
+
+def _room(size: int) -> Any:
     return ctypes.create_string_buffer(max(size, 1))
 
 
-def _given(name, *words):
-    """Calls twice: for the size of the result, and for the result."""
-    call, answer = getattr(LIBRARY, name), Answer()
-    call(*words, _room(0), ctypes.c_size_t(0), ctypes.byref(answer))
-    room = _room(answer.size)
-    call(*words, room, ctypes.c_size_t(answer.size), ctypes.byref(answer))
+def _given(name: str, *words: Any, guess: int = 0) -> bytes:
+    """Calls with a room of the guessed size, and again if the result is larger."""
+    call, answer = getattr(_LIBRARY, name), _Answer()
+    for _ in range(2):
+        room = _room(guess)
+        call(*words, room, ctypes.c_size_t(guess), ctypes.byref(answer))
+        if answer.fault != _NO_ROOM:
+            break
+        guess = answer.size
     if answer.fault:
         raise Fault(answer)
     return room.raw[: answer.size]
 
 
-def check(data):
-    """How many bytes the object takes that the bytes begin with."""
-    answer = Answer()
-    if LIBRARY.v7_check(*_slice(data), ctypes.byref(answer)):
+def check(data: bytes) -> int:
+    """How many bytes the object takes that the bytes begin with.
+
+    >>> check(make(text=[(7, NUMBER)]) + b"more")
+    20
+    """
+    answer = _Answer()
+    if _LIBRARY.v7_check(*_slice(data), ctypes.byref(answer)):
         raise Fault(answer)
     return answer.size
 
 
-def strip(data):
+def strip(data: bytes) -> bytes:
+    """The file without its symbols and relocation.
+
+    >>> len(strip(make(text=[(7, NUMBER)])))
+    18
+    """
     return _given("v7_strip", *_slice(data))
 
 
-def size(data):
+def size(data: bytes) -> str:
+    """The line of `v7 size` for a file.
+
+    >>> size(make(text=[(7, NUMBER)], bss=4))
+    '2+0+4 = 6b = 06b\\n'
+    """
     return _given("v7_size", *_slice(data)).decode("latin-1")
 
 
-def nm(data, options=0):
-    return _given("v7_nm", ctypes.c_uint32(options), *_slice(data)).decode("latin-1")
+def nm(data: bytes, options: int = 0) -> str:
+    """The lines of `v7 nm` for a file.
+
+    >>> nm(make(text=[(7, NUMBER)], symbols=[("_f", TEXT | EXTERNAL, 0), ("l", TEXT, 0)]), NM_EXTERNAL)
+    '000000 T _f\\n'
+    """
+    return _given("v7_nm", _number("the options", options), *_slice(data)).decode("latin-1")
 
 
-def _padded(name):
+def _padded(name: str) -> bytes:
     data = name.encode("latin-1")
     if len(data) > 8:
-        raise ValueError("a name has more than 8 bytes")
+        raise ValueError(f"a name has at most 8 bytes, and not {len(data)}: {name}")
     return data.ljust(8, b"\0")
 
 
-def _wanted(options, entry, forced):
-    return [ctypes.c_uint32(options), *_slice(entry.encode("latin-1")), *_slice(b"".join(map(_padded, forced)))]
+def _forced(names: Iterable[str]) -> List[Any]:
+    return _slice(b"".join(map(_padded, names)))
 
 
-def _linked(call, words, replies=()):
+def _wanted(options: int, entry: str, forced: Iterable[str]) -> List[Any]:
+    return [_number("the options", options), *_slice(entry.encode("latin-1")), *_forced(forced)]
+
+
+def _linked(call: Any, words: Sequence[Any], replies: Sequence[Any] = ()) -> Program:
     """Calls twice: for the sizes of the rooms for file and report, and for these."""
-    answer, sizes = Answer(), [0, 0]
+    answer, sizes = _Answer(), [0, 0]
     for _ in range(2):
         rooms = [_room(n) for n in sizes]
         given = [part for room, n in zip(rooms, sizes) for part in (room, ctypes.c_size_t(n))]
         status = call(*words, *replies, *given, ctypes.byref(answer))
-        if answer.fault != NO_ROOM:
+        if answer.fault != _NO_ROOM:
             break
         sizes = [answer.size, answer.report_size]
     if answer.fault:
@@ -171,88 +255,161 @@ def _linked(call, words, replies=()):
     return Program(status, file, report.decode("latin-1"))
 
 
-def link(objects, options=0, entry="", forced=()):
-    """The link of a list of objects. Forced names of more than 8 bytes are refused here."""
-    words = _wanted(options, entry, forced)
-    return _linked(LIBRARY.v7_link, [*words, *_slice(b"".join(objects))])
+def _whole(objects: Iterable[bytes]) -> bytes:
+    """The objects one after another, up to the first that is none. What comes after that one would be taken for its end."""
+    parts: List[bytes] = []
+    for data in objects:
+        try:
+            parts.append(data[: check(data)])
+        except Fault as fault:
+            if fault.fault == 50:
+                raise
+            parts.append(bytes(data) or b"\0")
+            break
+    return b"".join(parts)
 
 
-def _array(kind, items):
-    return (kind * max(len(items), 1))(*items), ctypes.c_size_t(len(items))
+def link(objects: Iterable[bytes], options: int = 0, entry: str = "", forced: Iterable[str] = ()) -> Program:
+    """The link of a list of objects. What follows an object in its bytes is not looked at.
+
+    >>> cut = make(text=[(7, NUMBER)])[:-1]
+    >>> try:
+    ...     link([make(), cut, make(text=[(8, NUMBER)])])
+    ... except Fault as fault:
+    ...     print(fault)
+    truncated, object 1
+    """
+    return _linked(_LIBRARY.v7_link, [*_wanted(options, entry, forced), *_slice(_whole(objects))])
 
 
-def make(text=(), data=(), bss=0, symbols=()):
-    """The object of these parts, as those of `Parts`."""
-    rows = [Symbol((ctypes.c_ubyte * 8)(*_padded(name)), kind, value) for name, kind, value in symbols]
-    words = [_array(Word, [Word(*pair) for pair in pairs]) for pairs in (text, data)]
-    return _given("v7_make", *words[0], *words[1], ctypes.c_uint32(bss), *_array(Symbol, rows))
+def _array(kind: Any, items: Sequence[Any]) -> List[Any]:
+    return [(kind * max(len(items), 1))(*items), ctypes.c_size_t(len(items))]
 
 
-def take_apart(data):
-    """The parts of the object that the bytes begin with."""
-    counts, answer = Counts(), Answer()
+def _word(pair: Word) -> _Word:
+    value, reloc = pair
+    return _Word(_fitting("a word", value, 16), _fitting("a relocation word", reloc, 16))
+
+
+def _symbol(row: Symbol) -> _Symbol:
+    name, kind, value = row
+    return _Symbol((ctypes.c_ubyte * 8)(*_padded(name)), _fitting("a type word", kind, 16), _fitting("a value", value, 16))
+
+
+def make(text: Iterable[Word] = (), data: Iterable[Word] = (), bss: int = 0, symbols: Iterable[Symbol] = ()) -> bytes:
+    """The object of these parts, as those of `Parts`.
+
+    >>> make(*take_apart(make(bss=2, symbols=[("_b", BSS, 0)]))) == make(bss=2, symbols=[("_b", BSS, 0)])
+    True
+    >>> make(text=[(65536, NUMBER)])
+    Traceback (most recent call last):
+    ValueError: a word is 0 to 65535, and not 65536
+    """
+    words = [*_array(_Word, [*map(_word, text)]), *_array(_Word, [*map(_word, data)])]
+    return _given("v7_make", *words, _number("the size of bss", bss), *_array(_Symbol, [*map(_symbol, symbols)]))
+
+
+def take_apart(data: bytes) -> Parts:
+    """The parts of the object that the bytes begin with.
+
+    >>> take_apart(make(text=[(0, refers_to(0))], symbols=[("_f", UNDEFINED | EXTERNAL, 0)]))
+    Parts(text=[(0, 8)], data=[], bss=0, symbols=[('_f', 32, 0)])
+    """
+    counts, answer = _Counts(), _Answer()
     for _ in range(2):
-        rooms = [_array(kind, [kind()] * n) for kind, n in ((Word, counts.text), (Word, counts.data), (Symbol, counts.symbols))]
+        rooms = [_array(kind, [kind()] * n) for kind, n in ((_Word, counts.text), (_Word, counts.data), (_Symbol, counts.symbols))]
         words = [part for room in rooms for part in room]
-        LIBRARY.v7_take_apart(*_slice(data), *words, ctypes.byref(counts), ctypes.byref(answer))
-        if answer.fault != NO_ROOM:
+        _LIBRARY.v7_take_apart(*_slice(data), *words, ctypes.byref(counts), ctypes.byref(answer))
+        if answer.fault != _NO_ROOM:
             break
     if answer.fault:
         raise Fault(answer)
     text, words, rows = (list(room[0])[: room[1].value] for room in rooms)
     pairs = [[(word.value, word.reloc) for word in segment] for segment in (text, words)]
     names = [(bytes(row.name).rstrip(b"\0").decode("latin-1"), row.type, row.value) for row in rows]
-    return Parts(*pairs, counts.bss, names)
+    return Parts(pairs[0], pairs[1], counts.bss, names)
 
 
 class Session:
     """Objects that are added and withdrawn, and linked as they are at any time.
 
-    The library keeps nothing: what is kept here is the list of edits and objects, which each call runs anew. `replies` has,
-    behind a link or a state, a number for each edit: DONE, NOTHING, or that of the limit which the object passed.
+    The library keeps nothing: what is kept here is the objects that were added and not withdrawn, and each call adds them anew. So a
+    session takes the memory of what is in it, and not of its history.
+
+    >>> session = Session([make(text=[(7, NUMBER)])])
+    >>> session.add(make(text=[(8, NUMBER)]))
+    >>> for _ in range(3):
+    ...     session.withdraw()
+    >>> session.replies == [Session.DONE] * 4 + [Session.NOTHING]
+    True
     """
 
-    ADD, WITHDRAW = b"a", b"w"
     DONE, NOTHING = 0, 35
-    LINES, JSON = 0, 1
+    _LINES, _JSON = 0, 1
 
-    def __init__(self, objects=(), entry="", forced=()):
+    def __init__(self, objects: Iterable[bytes] = (), entry: str = "", forced: Iterable[str] = ()) -> None:
         self.entry, self.forced = entry, tuple(forced)
-        self.edits, self.objects, self.replies = b"", b"", []
+        self._kept: List[bytes] = []
+        # of how many additions the library has said whether they were made; and what it said of all edits up to there
+        self._known = 0
+        self._replies: List[int] = []
+        # the size of the last state that was shown
+        self._size = 0
         for data in objects:
             self.add(data)
 
-    def add(self, data):
-        """Adds an object behind those that are there."""
-        self.objects += data[: check(data)]
-        self.edits += self.ADD
+    def add(self, data: bytes) -> None:
+        """Adds an object after those that are there. An object that would pass a limit is not added; `replies` says so."""
+        self._kept.append(bytes(data[: check(data)]))
 
-    def withdraw(self):
+    def withdraw(self) -> None:
         """Withdraws the object that was added last."""
-        self.edits += self.WITHDRAW
+        self._settle()
+        self._replies.append(self.DONE if self._kept else self.NOTHING)
+        del self._kept[-1:]
+        self._known = len(self._kept)
 
-    def link(self, options=0):
-        """The link of what is there."""
-        count = len(self.edits)
-        room = _room(count)
-        words = [*_wanted(options, self.entry, self.forced), *_slice(self.edits), *_slice(self.objects)]
-        program = _linked(LIBRARY.v7_session, words, [room, ctypes.c_size_t(count)])
-        self.replies = list(room.raw[:count])
-        return program
+    @property
+    def replies(self) -> List[int]:
+        """A number for each addition and withdrawal: DONE, NOTHING, or that of the limit which the object would pass."""
+        self._settle()
+        return list(self._replies)
 
-    def text(self):
+    def link(self, options: int = 0) -> Program:
+        """The link of what is there. The status is 1 also if an addition or a withdrawal was not made."""
+        room = _room(len(self._kept))
+        words = [*_wanted(options, self.entry, self.forced), *self._edits()]
+        program = _linked(_LIBRARY.v7_session, words, [room, ctypes.c_size_t(len(self._kept))])
+        self._learn(room)
+        return program._replace(status=max(program.status, int(any(self._replies))))
+
+    def text(self) -> str:
         """What is there, as lines: the words, the names, and what the last addition overwrote."""
-        return self._shown(self.LINES)
+        return self._shown(self._LINES)
 
-    def state(self):
+    def state(self) -> Dict[str, Any]:
         """The same as a dict: of `objects`, `text`, `data`, `bss`, `externals`, `multiples` and `marks`, as v7(3) has them."""
-        return json.loads(self._shown(self.JSON))
+        return json.loads(self._shown(self._JSON))
 
-    def _shown(self, form):
-        """Calls twice: for the size of the state, and for the state and the replies."""
-        words = [ctypes.c_uint32(form), *_slice(b"".join(map(_padded, self.forced))), *_slice(self.edits), *_slice(self.objects)]
-        count = len(self.edits)
-        replies = _room(count)
-        state = _given("v7_state", *words, replies, ctypes.c_size_t(count))
-        self.replies = list(replies.raw[:count])
+    def _edits(self) -> List[Any]:
+        return [*_slice(b"a" * len(self._kept)), *_slice(b"".join(self._kept))]
+
+    def _shown(self, form: int) -> str:
+        room = _room(len(self._kept))
+        words = [ctypes.c_uint32(form), *_forced(self.forced), *self._edits()]
+        state = _given("v7_state", *words, room, ctypes.c_size_t(len(self._kept)), guess=self._size)
+        self._size = len(state)
+        self._learn(room)
         return state.decode("latin-1")
+
+    def _settle(self) -> None:
+        """Asks for what is not known of the last additions."""
+        if self._known < len(self._kept):
+            self._shown(self._LINES)
+
+    def _learn(self, room: Any) -> None:
+        """Takes the replies to the additions, and lets go of what was not added."""
+        replies = room.raw[: len(self._kept)]
+        self._replies += replies[self._known :]
+        self._kept = [data for data, reply in zip(self._kept, replies) if reply == self.DONE]
+        self._known = len(self._kept)
