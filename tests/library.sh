@@ -142,6 +142,15 @@ faulty() {
 
 faults faults -O2
 faulty C ./faults
+$CC -std=c99 -O2 -Wall -Wextra -Werror -pthread -o stack $compiles "$top/tests/stack.c" "$archive" || exit 1
+./stack >stack.txt && echo "32,768 bytes of stack: $(cat stack.txt)" || fail "a call needs more than 32,768 bytes of stack: $(cat stack.txt)"
+# the program of v7(3) lists what v7 nm lists, and refuses what is not a file
+awk '/^\.Bd -literal/ { getline; on = /^#include/ } /^\.Ed/ { on = 0 } on { gsub(/\\e/, "\\"); print }' "$top/man/v7.3" >list.c
+$CC -std=c99 -O2 -Wall -Wextra -Werror -o list $compiles list.c "$archive" || exit 1
+./list <main.o >ours.txt && "$top/build/v7" nm main.o | cmp - ours.txt || fail "the program of v7(3) lists something else"
+./list <list.c 2>ours.txt
+[ $? -eq 2 ] && echo "bad magic number" | cmp - ours.txt || fail "the program of v7(3) does not refuse a file"
+echo "the program of v7(3) lists what v7 nm lists"
 $CC -O2 -Wall -o by_c $compiles "$top/examples/c/link.c" "$archive" || exit 1
 $CC -O2 -Wall -o ran_by_c $compiles "$top/examples/c/session.c" "$archive" || exit 1
 links C ./by_c

@@ -1,0 +1,97 @@
+/* Makes each call of libv7 in a thread with 32,768 bytes of stack, with an object at its limits and with a list of 200 objects. A call
+ * that needs more ends the program at the guard page. tests/library.sh compiles and runs it. */
+#include <pthread.h>
+#include <stdio.h>
+#include <stdlib.h>
+#include <string.h>
+
+#include "v7.h"
+
+enum { STACK = 32768, WORDS = 32767, SYMBOLS = 5461, COUNT = 200, ROOM = 1 << 23 };
+
+static struct v7_word text[WORDS], data[WORDS];
+static struct v7_symbol symbols[SYMBOLS];
+static unsigned char *objects, *room, *more, *replies, edits[COUNT];
+static size_t objects_size, count;
+static unsigned calls, results;
+static const unsigned char none[1];
+
+static void called(uint32_t status, const struct v7_answer *answer)
+{
+    calls++;
+    results += status != 2;
+    if (answer->fault == V7_NO_ROOM || answer->fault == V7_NO_MEMORY)
+        exit(3);
+}
+
+static void *call_all(void *unused)
+{
+    struct v7_answer answer;
+    struct v7_counts counts;
+    uint32_t option;
+
+    called(v7_check(objects, objects_size, &answer), &answer);
+    called(v7_strip(objects, objects_size, room, ROOM, &answer), &answer);
+    called(v7_nm(V7_NM_BY_VALUE, objects, objects_size, room, ROOM, &answer), &answer);
+    called(v7_size(objects, objects_size, room, ROOM, &answer), &answer);
+    for (option = 0; option < 128; option = 2 * option + (option == 0)) {
+        called(v7_link(option, none, 0, none, 0, objects, objects_size, room, ROOM, more, ROOM, &answer), &answer);
+        called(v7_session(option, none, 0, none, 0, edits, count, objects, objects_size, replies, COUNT, room, ROOM, more, ROOM, &answer), &answer);
+    }
+    called(v7_state(V7_LINES, none, 0, edits, count, objects, objects_size, replies, COUNT, room, ROOM, &answer), &answer);
+    called(v7_state(V7_JSON, none, 0, edits, count, objects, objects_size, replies, COUNT, room, ROOM, &answer), &answer);
+    called(v7_take_apart(objects, objects_size, text, WORDS, data, WORDS, symbols, SYMBOLS, &counts, &answer), &answer);
+    called(v7_make(text, counts.text, data, counts.data, counts.bss, symbols, counts.symbols, room, ROOM, &answer), &answer);
+    return unused;
+}
+
+static void call_in_thread(void)
+{
+    pthread_attr_t attributes;
+    pthread_t thread;
+
+    if (pthread_attr_init(&attributes) || pthread_attr_setstacksize(&attributes, STACK) ||
+        pthread_create(&thread, &attributes, call_all, NULL) || pthread_join(thread, NULL))
+        exit(2);
+}
+
+/* an object with so many words that refer to its symbols in turn, appended to the objects */
+static void append(size_t words, size_t names, unsigned number)
+{
+    struct v7_answer answer;
+    size_t i;
+
+    for (i = 0; i < words; i++) {
+        text[i].value = (uint16_t)i;
+        text[i].reloc = V7_REFERS_TO(i % (names < 4096 ? names : 4096));
+    }
+    for (i = 0; i < names; i++) {
+        symbols[i].type = V7_UNDEFINED + V7_EXTERNAL;
+        symbols[i].value = words < WORDS && i % 3 == 0 ? 2 : 0;
+        sprintf((char *)symbols[i].name, "%x", (unsigned)(number * 20 + i) & 0xfffff);
+    }
+    if (v7_make(text, words, data, 0, 0, symbols, names, objects + objects_size, ROOM - objects_size, &answer) != 0)
+        exit(2);
+    objects_size += answer.size;
+}
+
+int main(void)
+{
+    objects = malloc(ROOM);
+    room = malloc(ROOM);
+    more = malloc(ROOM);
+    replies = malloc(COUNT);
+    if (!objects || !room || !more || !replies)
+        return 2;
+    memset(edits, V7_ADD, sizeof edits);
+    count = 1;
+    append(WORDS, SYMBOLS, 0);
+    call_in_thread();
+    objects_size = 0;
+    for (count = 0; count < COUNT; count++)
+        append(150, 25, (unsigned)count);
+    edits[COUNT - 1] = V7_WITHDRAW;
+    call_in_thread();
+    printf("%u calls, %u with a result\n", calls, results);
+    return calls != 48 || results < 40;
+}
