@@ -64,7 +64,7 @@ impl Header {
         if self.flag == 0 { size } else { 0 }
     }
 
-    /// How many bytes of a file stand behind its header.
+    /// How many bytes of a file follow its header.
     pub(crate) fn body_size(&self) -> usize
         ensures { 16 + result ≡ file_length self.now }
     {

@@ -7,7 +7,7 @@ use crate::wire::Wire;
 use std::io::Read;
 use std::marker::Model;
 
-/// The bytes of a file behind its header, read in blocks, and never more of them than are missing. Contracts see
+/// The bytes of a file after its header, read in blocks, and never more of them than are missing. Contracts see
 /// those that were read and not taken, and how many were not read.
 #[derive(Drop)]
 pub(crate) struct Incoming {

@@ -109,7 +109,7 @@ impl Item for Symbol {
 
     ghost is_short = { Prim.search rules };
 
-    /// What stands behind a NUL in the name is left out.
+    /// Bytes after a NUL in the name are left out.
     fn from_slice(bytes: &[u8]) -> Symbol {
         let mut name = [0; 8];
         name.copy_from_slice(&bytes[..8]);

@@ -40,7 +40,7 @@ impl Model for Name {
 /// The places of eight bytes.
 const PLACES: [u8; 8] = [0, 1, 2, 3, 4, 5, 6, 7];
 
-/// How many of eight bytes stand before the first NUL.
+/// How many of eight bytes come before the first NUL.
 fn end_of(bytes: [u8; 8]) -> usize
     ensures { result ≡ length (before_nul bytes) }
 {

@@ -28,7 +28,7 @@ impl Model for Object {
     ghost invariant = { λ a. IsWellFormed a.checked };
 }
 
-/// Why a file is no object. An index counts the words of text and then of data, from 0. (own choice)
+/// Why a file is not an object. An index counts the words of text and then of data, from 0. (own choice)
 #[derive(Clone, Copy, Debug, PartialEq, Eq, Error)]
 pub enum ObjectFault {
     /// 1: the magic is not 0407.
@@ -85,9 +85,9 @@ fn first_bad_word(symbols: &[Symbol], start: u16, relocs: &[Reloc]) -> Option<Ob
 impl Object {
     /// The file as an object. (a.out(5); the refusals: own choice)
     ///
-    /// Errors, the first that applies, and the file is handed back: `NotAnObject`, 1, where the magic is not 0407;
-    /// `NoRelocation`, 2, where the flag is not 0; and for the first bad word, text before data, `BadRelocation`, 3,
-    /// where its kind is 012, 014 or 016, or `BadSymbolNumber`, 4, where its kind is 010 and its number not that of
+    /// Errors, the first that applies, and the file is handed back: `NotAnObject`, 1, if the magic is not 0407, or
+    /// `NoRelocation`, 2, if the flag is not 0. Then, for the first bad word, text before data: `BadRelocation`, 3,
+    /// if its kind is 012, 014 or 016, or `BadSymbolNumber`, 4, where its kind is 010 and its number not that of
     /// an external symbol of type 0.
     pub fn from_file(file: File) -> Result<Object, (File, ObjectFault)>
         ensures object { IfOk result (λ object. object ≡ file) }
@@ -119,7 +119,7 @@ impl Object {
     }
 }
 
-/// Why the file is no object, if it is none.
+/// Why the file is not an object, if it is not.
 fn object_fault(file: &File) -> Option<ObjectFault>
     ensures { result ≡ first_object_fault file.now }
 {

@@ -100,7 +100,7 @@ fn read_header<R: Read>(wire: &mut Wire<R>) -> Result<Header, ReadFault>
     Ok(header)
 }
 
-/// Reads what stands behind the header.
+/// Reads what follows the header.
 fn read_body<R: Read>(alloc: Global, header: Header, wire: &mut Wire<R>) -> Result<File, ReadFault>
     requires header { IsFileHeader header }
     requires works { wire.old.has_failed ≡ false }
@@ -112,13 +112,12 @@ fn read_body<R: Read>(alloc: Global, header: Header, wire: &mut Wire<R>) -> Resu
     Ok(File::from_parts(parts))
 }
 
-/// Reads one file, and leaves what stands behind its symbols. (a.out(5); the refusals: own choice)
+/// Reads one file, and leaves what follows its symbols. (a.out(5); the refusals: own choice)
 ///
-/// Errors, the first that applies: `ShortHeader`, 1, at an early end of the 16 bytes; `BadMagic`, 2, where no file
-/// begins so; `OddSize`, 3, where a size is not whole; `Memory`, 4, where memory runs out for what the header
-/// announces behind it; `Truncated`, 5, at an early end of the rest; and `Device`, 6, wherever the device failed, in
-/// this call or before it. After `BadMagic`, `OddSize` and `Memory` all behind the 16 bytes of the header is still
-/// unread.
+/// Errors, the first that applies: `ShortHeader`, 1, at an early end of the 16 bytes; `BadMagic`, 2, if no file begins so;
+/// `OddSize`, 3, if a size is not whole; `Memory`, 4, if memory runs out for what the header announces. Then `Truncated`,
+/// 5, at an early end of the rest. `Device`, 6, if the device failed, in this call or before it. After `BadMagic`,
+/// `OddSize` and `Memory` all that follows the 16 bytes of the header is still unread.
 pub fn read_file<R: Read>(alloc: Global, wire: &mut Wire<R>) -> Result<File, ReadFault>
     ensures device { (result ≡ Err ReadFault.Device) ↔ IsTrue wire.new.has_failed }
     ensures latched { IsTrue wire.old.has_failed → (wire.new ≡ wire.old) }

@@ -1,6 +1,6 @@
 //! Small objects and devices over memory, for tests. (the format is that of a.out(5), the objects are an own choice)
 //!
-//! Each object is told by its words, with the relocation word of each, and by its symbols: name, type word and value.
+//! Each object is described by its words, with the relocation word of each, and by its symbols: name, type word and value.
 //! All are octal but the values, which are decimal.
 ghost use Rattle.std.specs.Prelude.{◌≡◌, ◌<◌, ◌^◌, ◌-◌, Some};
 ghost use Rattle.aout_core.specs.declared.samples.Failing.TheVariants.{TakesNothing};
@@ -53,7 +53,7 @@ pub const G_O: [u8; 28] = [
     0x5f, 0x67, 0x00, 0x00, 0x00, 0x00, 0x00, 0x00, 0x20, 0x00, 0x00, 0x00,
 ];
 
-/// `i.o`: text 000000, 000000, 000000 (relocation 0, 0, 0); data 000000, 000000 (relocation 0, 0); bss 2 bytes; symbols
+/// `i.o`: text 000000, 000000, 000000 (relocation 0, 0, 0), data 000000, 000000 (relocation 0, 0), bss 2 bytes, symbols
 /// `_etext` 040 0, `_edata` 040 0, `_end` 040 0, `_x` 040 3.
 pub const I_O: [u8; 84] = [
     0x07, 0x01, 0x06, 0x00, 0x04, 0x00, 0x02, 0x00, 0x30, 0x00, 0x00, 0x00, 0x00, 0x00, 0x00, 0x00,
@@ -84,7 +84,7 @@ pub const P_O: [u8; 28] = [
     0xa0, 0x00, 0x87, 0x00, 0x01, 0x00, 0x00, 0x00, 0x00, 0x00, 0x00, 0x00,
 ];
 
-/// `q.o`: text 000207 (relocation 0); data 177774 (relocation 011); symbols `_g` 040 0.
+/// `q.o`: text 000207 (relocation 0), data 177774 (relocation 011), symbols `_g` 040 0.
 pub const Q_O: [u8; 36] = [
     0x07, 0x01, 0x02, 0x00, 0x02, 0x00, 0x00, 0x00, 0x0c, 0x00, 0x00, 0x00, 0x00, 0x00, 0x00, 0x00,
     0x87, 0x00, 0xfc, 0xff, 0x00, 0x00, 0x09, 0x00, 0x5f, 0x67, 0x00, 0x00, 0x00, 0x00, 0x00, 0x00,
@@ -118,7 +118,7 @@ pub const X10_O: [u8; 28] = [
     0x5f, 0x78, 0x00, 0x00, 0x00, 0x00, 0x00, 0x00, 0x20, 0x00, 0x0a, 0x00,
 ];
 
-/// `y1.o`: text 000207 (relocation 0); data 000001 (relocation 0); bss 2 bytes; symbols `_x` 040 3, `_y` 040 4.
+/// `y1.o`: text 000207 (relocation 0), data 000001 (relocation 0), bss 2 bytes, symbols `_x` 040 3, `_y` 040 4.
 pub const Y1_O: [u8; 48] = [
     0x07, 0x01, 0x02, 0x00, 0x02, 0x00, 0x02, 0x00, 0x18, 0x00, 0x00, 0x00, 0x00, 0x00, 0x00, 0x00,
     0x87, 0x00, 0x01, 0x00, 0x00, 0x00, 0x00, 0x00, 0x5f, 0x78, 0x00, 0x00, 0x00, 0x00, 0x00, 0x00,
@@ -280,7 +280,7 @@ impl TestWriter {
         }
     }
 
-    /// A writer that appends to the bytes in `taken`, and fails only where memory runs out. (own choice)
+    /// A writer that appends to the bytes in `taken`, and fails only if memory runs out. (own choice)
     pub fn whole(taken: Vec<u8>) -> TestWriter
         ensures { result ≡ record { taken = taken.items; most = 2 ^ 64 - 1; before_failure = 2 ^ 64 - 1; failure = TakesNothing; calls = 0; flushes = 0 } }
     {

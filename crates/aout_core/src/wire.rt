@@ -58,7 +58,7 @@ impl<D> Wire<D> {
         }
     }
 
-    /// Whether the latch is on. This is no use of the device. (own choice)
+    /// Whether the latch is on. This does not touch the device. (own choice)
     pub fn failed(&self) -> bool
         ensures { result ≡ self.now.has_failed }
     {
@@ -78,8 +78,8 @@ impl<D> Wire<D> {
 }
 
 impl<R: Read> Wire<R> {
-    /// Reads some bytes to the beginning of `buf`, by one call of the device; 0 are read only at its end, or where
-    /// `buf` has no room. What else `buf` holds afterwards is not said, but that a latch that was on leaves it as it
+    /// Reads some bytes to the beginning of `buf`, by one call of the device; 0 are read only at its end, or if
+    /// `buf` is empty. What else `buf` holds afterwards is not said, but that a latch that was on leaves it as it
     /// was. (own choice)
     pub fn read(&mut self, buf: &mut [u8]) -> Result<usize, DeviceFault>
         ensures fault { IsErr result ↔ IsTrue self.new.has_failed }

@@ -9,7 +9,7 @@ use std::marker::Model;
 /// How many names can be forced.
 const MOST: usize = 64;
 
-/// A list of at most 64 different names. It lies in a fixed array, and allocates nothing. Contracts see it as the
+/// A list of at most 64 different names. It is a fixed array, and allocates nothing. Contracts see it as the
 /// list. (ld(1), the option `-u`; the limit: own choice)
 #[derive(Clone, Copy, Debug)]
 pub struct Forced {

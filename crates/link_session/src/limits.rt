@@ -42,7 +42,7 @@ fn contains(externals: &Externals, name: &Name) -> bool
     externals.contains_key(name)
 }
 
-/// Whether a symbol is the first to mention its name, behind these externals and these symbols.
+/// Whether a symbol is the first to mention its name, after these externals and these symbols.
 fn is_new(externals: &Externals, before: &[Symbol], symbol: &Symbol) -> bool
     ensures { result ≡ (is_external symbol.now && not (is_among (keys_of externals.now.entries ++ external_names before.now) symbol.now.name)) }
 {

@@ -25,7 +25,7 @@ pub(crate) fn is_among(names: &[Name], name: &Name) -> bool
 /// What stands for the place of a symbol that is not external: no name has it.
 pub(crate) const NO_PLACE: u16 = u16::MAX;
 
-/// The state at a place; behind the last name, wanted at size 0.
+/// The state at a place; after the last name, wanted at size 0.
 pub(crate) fn state_at(externals: &Externals, place: u16) -> State
     ensures { result ≡ state_at externals.now.entries place }
 {

@@ -28,7 +28,7 @@ pub(crate) struct Merged {
     pub(crate) heads: Vec<Link>,
 }
 
-/// The sizes of an image: what is behind them was added later.
+/// The sizes of an image: what is after them was added later.
 #[derive(Clone, Copy)]
 pub(crate) struct Sizes {
     pub(crate) text_cells: usize,

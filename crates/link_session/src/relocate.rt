@@ -75,7 +75,7 @@ impl Starts {
         }
     }
 
-    /// Those of the object behind one with this header that starts here. (own choice)
+    /// Those of the object after one with this header that starts here. (own choice)
     pub fn behind(&self, header: &Header) -> Starts
         ensures { result ≡ next_starts self.now header.now }
     {
@@ -99,7 +99,7 @@ impl Starts {
     }
 }
 
-/// The shifts of an object that comes next: its segments are put behind those of the image.
+/// The shifts of an object that comes next: its segments are put after those of the image.
 pub(crate) fn next_shifts(image: &Merged, object: &Object) -> Shifts
     requires text { 2 * length image.now.text_cells.items ≤ 65534 }
     requires datas { 2 * length image.now.data_cells.items ≤ 65534 }

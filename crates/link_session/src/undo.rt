@@ -10,7 +10,7 @@ use crate::mark::{Mark, Place};
 use crate::merged::{Externals, Merged, Sizes};
 use crate::state::State;
 
-/// Takes the cells behind these sizes out of their chains, the last first.
+/// Takes the cells after these sizes out of their chains, the last first.
 fn unthread_behind(image: &mut Merged, sizes: &Sizes)
     requires within { IsBehind sizes.now (image_in image.old) (threads_in image.old) }
     ensures image { image_in image.new ≡ image_in image.old }
