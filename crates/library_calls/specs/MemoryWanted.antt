@@ -1,6 +1,6 @@
 -- For which inputs a call may answer that memory ran out, and with which place. (own choice)
 --
--- A call works in stages, and each requests memory only if nothing is refused up to there. The answer does not reveal which request
+-- A call works in stages, and each lacks memory only if nothing is refused up to there. The answer does not reveal which request
 -- failed. So once an object or an edit is accepted, memory may have run out there, whatever is refused later.
 use Rattle.std.specs.Prelude.{◌≡◌, ◌≢◌, ◌⊎◌, ℕ, zero, suc, ◌+◌, ◌<◌, List, [], ◌∷◌, length, IsOk, IsOkAnd}
 use Rattle.aout_core.specs.Contents.{Contents}

@@ -130,8 +130,8 @@ fn run_on(
 /// Does the edits in order, from a session with these forced names and no objects, and links what is left: the
 /// replies, one to each edit, and the link. (ld(1); edits are an own choice)
 ///
-/// Memory is requested for the forced names, for each addition that is accepted, and for the link. The result does not
-/// reveal which of these requests was refused.
+/// Memory may run out for the forced names, for an addition that is accepted, or for the link. The result does not reveal
+/// which.
 ///
 /// Errors: `Memory`, 1, if memory runs out; `Link`, 2, if the link is refused for another cause.
 pub fn run(

@@ -4,7 +4,7 @@
 -- refused, or whose device fails, or for which memory runs out. So where all bytes are known the result is the link of these bytes
 -- or the first refusal, unless a device fails or memory runs out.
 --
--- At each stage (forced names, the header of an input, the addition of its object, the final link) memory is requested only if nothing
+-- At each stage (forced names, the header of an input, the addition of its object, the final link) `Memory` is returned only if nothing
 -- at that stage is refused. The result does not reveal which stage ran out: once an object has been accepted, memory may have run out
 -- there. So of the result as a whole, `Memory` is ruled out only by the first input.
 use Rattle.std.specs.declared.alloc.Global.{Global}

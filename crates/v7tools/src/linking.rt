@@ -46,8 +46,8 @@ fn link_inputs(alloc: Global, session: &Session, options: &Options) -> Result<Li
 /// read, checked and added before the next one is read, and a refusal ends the link. With relocation the file is an
 /// object, which can be linked again. (ld(1))
 ///
-/// Memory is requested for forced names, for what the header of an input announces, for an object that is within all
-/// limits, and for a link that is not refused. The result does not reveal which of these requests was refused.
+/// Memory may run out for forced names, for what the header of an input announces, for an object that is within all
+/// limits, or for a link that is not refused. The result does not reveal which.
 ///
 /// Errors, with the path of the first input that is refused: `BadFile`, 3, if it is not a file or its device failed, now or
 /// before; `BadObject`, 4, if it is not an object; `NotAdded`, 5, if it passes a limit. After the last input: `NotLinked`,
