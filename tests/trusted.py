@@ -19,13 +19,14 @@ import sys
 # folders of what loops and private functions do
 INTERNAL = ["internal"]
 
-# definitions name no constants of the code, but for the ids by which `command_words` knows its options
-IDS = ["command_words"]
+# definitions name no constants of the code, but for the ids by which `command_words` knows its options, and the table of
+# `instructions`, which is data that a reader compares with the manual
+IDS = ["command_words", "instructions"]
 
 os.chdir(os.path.join(os.path.dirname(os.path.abspath(__file__)), ".."))
 LIBRARIES = [
     "aout_core", "link_session", "link_options", "link_out", "scripts", "symtools", "session_text", "link_laws",
-    "command_words", "v7tools", "command_laws", "gnu_objects", "listings", "library_calls", "v7_c",
+    "command_words", "v7tools", "command_laws", "gnu_objects", "listings", "instructions", "library_calls", "v7_c",
 ]
 IMPORT = re.compile(
     r"^ *(?:pub )?(?:ghost )?use Rattle\.(\w+)\.(specs|proofs)\.([\w.]+?)(?:\.\{([^}]*)\}|(?: as (\w+))?);?$"

@@ -1,0 +1,10 @@
+pub mod FieldLemmas
+pub mod LineLemmas
+pub mod SplitLemmas
+pub mod PlainTexts
+pub mod ReadLemmas
+pub mod FieldReadLemmas
+pub mod TableLemmas
+pub mod ReadLineLemmas
+pub mod FoundLemmas
+pub mod AlikeLemmas

@@ -1,0 +1,41 @@
+-- Instructions without their operand words: what the first word alone says, and the first word that says it. (as(1))
+use Rattle.std.specs.Prelude.{ℕ, ◌+◌, ◌*◌, ◌/◌, ◌%◌, ◌||◌, if◌then◌else◌, Option, Some, None}
+use Rattle.instructions.specs.declared.field.Field.{Field}
+use Rattle.instructions.specs.declared.operand.Operand.{Operand}
+use Rattle.instructions.specs.declared.table.Row.{Row}
+use Rattle.instructions.specs.declared.instruction.Instruction.{Instruction}
+use Rattle.instructions.specs.Fields.{place, size}
+use Rattle.instructions.specs.Rows.{row_of}
+use Rattle.instructions.specs.Operands.{operand_of, value_of, takes_word, is_missing}
+
+-- what a field of a word says
+abbrev pub field_operand : Option Field → ℕ → Option Operand
+field_operand None w = None
+field_operand (Some f) w = Some (operand_of f (w / place f % size f))
+
+abbrev pub instruction : Row → ℕ → Instruction
+instruction o w = record { row = o; first = field_operand o.first w; second = field_operand o.second w }
+
+-- the instruction of a word in a row; none has fr6 or fr7
+abbrev pub instruction_in : Option Row → ℕ → Option Instruction
+instruction_in None w = None
+instruction_in (Some o) w =
+    if is_missing (field_operand o.first w) || is_missing (field_operand o.second w) then None else Some (instruction o w)
+
+abbrev pub instruction_of : ℕ → Option Instruction
+instruction_of w = instruction_in (row_of w) w
+
+-- what an operand adds to the base
+abbrev pub added : Option Field → Option Operand → ℕ
+added (Some f) (Some x) = value_of x * place f
+added _ _ = 0
+
+abbrev pub first_word : Instruction → ℕ
+first_word i = i.row.base + added i.row.first i.first + added i.row.second i.second
+
+-- how many operand words follow
+abbrev pub word_count_of : Option Operand → ℕ
+word_count_of x = if takes_word x then 1 else 0
+
+abbrev pub following_words : Instruction → ℕ
+following_words i = word_count_of i.first + word_count_of i.second

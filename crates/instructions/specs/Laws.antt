@@ -1,0 +1,55 @@
+-- What holds of all lists of words and their lines.
+--
+-- Nothing is lost or normalized: encoding what was decoded gives the same words. The first word alone decides the instruction and
+-- the length, if enough words follow it. At one address different words have different texts.
+use Rattle.std.specs.Prelude.{◌≡◌, ℕ, ◌<◌, ◌≤◌, Option, Some, None, List, [], ◌∷◌, length, take, drop}
+use Rattle.std.specs.List.{flat_map}
+use Rattle.instructions.specs.declared.table.Row.{Row}
+use Rattle.instructions.specs.declared.table.TheConstants.{ROWS}
+use Rattle.instructions.specs.Rows.{row_of}
+use Rattle.instructions.specs.declared.instruction.Instruction.{Instruction}
+use Rattle.instructions.specs.declared.line.Line.{Line}
+use Rattle.instructions.specs.declared.line.Line.TheVariants.{Plain, Decoded}
+use Rattle.instructions.specs.Instructions.{instruction_of}
+use Rattle.instructions.specs.Lines.{line_at, line_of, line_length, words_of, lines}
+use Rattle.instructions.specs.Texts.{line_text}
+
+-- the words of a line are those that it was made of
+abbrev pub IdentityLaw : Type 0
+IdentityLaw = (words : List ℕ) (place : ℕ) → place < length words →
+    words_of (line_at words place) ≡ take (line_length (line_at words place)) (drop place words)
+
+abbrev pub shape : Line → Option Instruction
+shape (Plain w) = None
+shape (Decoded i a b) = Some i
+
+-- if two words follow it, what a first word begins does not depend on them
+pub record FirstWordLaw : Type 0 where
+  pub instruction : (w : ℕ) (following : List ℕ) → 2 ≤ length following → shape (line_of (instruction_of w) w following) ≡ instruction_of w
+  pub length : (w : ℕ) (following other : List ℕ) → 2 ≤ length following → 2 ≤ length other →
+      line_length (line_of (instruction_of w) w following) ≡ line_length (line_of (instruction_of w) w other)
+
+-- numbers of 16 bits
+abbrev pub AreWords : List ℕ → Type 0
+AreWords [] = Unit {0}
+AreWords (w ∷ words) = (w < 0o200000) × AreWords words
+
+-- lines with the same text at the same address have the same words
+abbrev pub UnambiguousLaw : Type 0
+UnambiguousLaw = (address : ℕ) (words other : List ℕ) (place there : ℕ) → AreWords words → AreWords other →
+    place < length words → there < length other →
+    line_text address (line_at words place) ≡ line_text address (line_at other there) →
+    words_of (line_at words place) ≡ words_of (line_at other there)
+
+-- every list of words is decoded whole, in lines of one to three words without a gap
+pub record TotalLaw : Type 0 where
+  pub whole : (words : List ℕ) → flat_map words_of (lines words) ≡ words
+  pub short : (line : Line) → (1 ≤ line_length line) × (line_length line ≤ 3)
+
+abbrev pub EachFound : List Row → Type 0
+EachFound [] = Unit {0}
+EachFound (row ∷ rows) = (row_of row.base ≡ Some row) × EachFound rows
+
+-- each row of the table is found at its base, so none is there in vain
+abbrev pub TableLaw : Type 0
+TableLaw = EachFound ROWS

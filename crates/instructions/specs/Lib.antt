@@ -1,0 +1,12 @@
+pub mod Names
+pub mod Fields
+pub mod Rows
+pub mod Modes
+pub mod Operands
+pub mod Instructions
+pub mod Lines
+pub mod References
+pub mod Texts
+pub mod Relocated
+pub mod Alike
+pub mod Laws

@@ -1,0 +1,41 @@
+//! Laws of lines: each is the contract of a function with an empty body, but for `words_again`.
+ghost use Rattle.std.specs.Prelude.{◌≡◌, ◌<◌, length, take, drop};
+ghost use Rattle.instructions.specs.Lines.{line_at, line_length, listed};
+ghost use Rattle.instructions.specs.Laws.{IdentityLaw, FirstWordLaw, TableLaw, TotalLaw, UnambiguousLaw};
+
+use crate::line::{Words, decode, encode};
+
+/// The words of the line that is decoded at a place, which are those of the list. (own choice)
+#[tactic(auto, using(crate::proofs::LineLemmas::start_again, crate::proofs::LineLemmas::identity))]
+pub fn words_again(words: &[u16], place: usize) -> Words
+    requires { place < length words.now }
+    ensures { listed result ≡ take (line_length (line_at words.now place)) (drop place words.now) }
+{
+    encode(&decode(words, place))
+}
+
+/// At each place of every list of words, the words of the line that is decoded there are those of the list. (own choice)
+pub fn identity_law()
+    ensures { IdentityLaw }
+{}
+
+/// The first word alone decides the operation, the modes, the registers and the length of its line, if enough words follow
+/// it. (the handbook of the PDP-11/70)
+pub fn first_word_law()
+    ensures { FirstWordLaw }
+{}
+
+/// Every list of words is decoded whole, in lines of one to three words without a gap. (own choice)
+pub fn total_law()
+    ensures { TotalLaw }
+{}
+
+/// Without references, lines of different words have different texts at one address. (own choice)
+pub fn unambiguous_law()
+    ensures { UnambiguousLaw }
+{}
+
+/// Each row of the table is found at its base, so none is there in vain. (own choice)
+pub fn table_law()
+    ensures { TableLaw }
+{}
