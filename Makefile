@@ -11,8 +11,8 @@ endif
 
 # tests/prove.py uses all processors by itself
 .NOTPARALLEL:
-.PHONY: all try demo lib install-lib wheel check-lib dist check-dist test gate recheck wrong-bodies memory room bench instructions simulate lesson page check-page \
-	check-manual check-examples check-explain check-cases check-model check-streams install clean
+.PHONY: all try demo lib install-lib wheel check-lib dist check-dist test gate recheck wrong-bodies memory room bench instructions simulate \
+	lesson page check-page check-manual check-examples check-explain check-cases planted check-model check-streams install clean
 
 all: build/v7 build/v7-from-gnu build/v7-object build/v7-explain
 
@@ -226,8 +226,14 @@ check-explain: build/v7 build/v7-explain build/v7-object
 # memory. Samples that are in examples too must be the same there
 check-cases: build/v7 build/v7-from-gnu build/v7-object build/v7-explain
 	python3 tests/cases.py -s
+	python3 tests/planted.py -c
 	python3 tests/cases.py -b
 	python3 tests/cases.py
+
+# plants the bugs of docs/PLANTED.md, or those that BUGS names, one after another, and sees that the cases find each: two minutes
+# for a bug, with no proof
+planted:
+	python3 tests/planted.py $(BUGS)
 
 # compares v7 with a second linker, tests/model.py, on 3,000 random cases, always the same
 check-model: build/v7

@@ -5,6 +5,8 @@ usage: tests/cases.py [FILE ..]      plays these files, or all of crates/cases/d
        tests/cases.py -e FILE ..     prints only the first error of each bad case
        tests/cases.py -s             compares the samples with the files of examples/
        tests/cases.py -b             plays bad.cases: each error must be the one that the engine in memory finds
+
+The programs are in build/, or in the folder V7_BUILD.
 """
 import collections
 import contextlib
@@ -21,6 +23,8 @@ from case_files import SAMPLES, contents, make, sample, sample_path
 from case_format import Mistake, cases_in, read_case
 
 TOP = os.path.normpath(os.path.join(os.path.dirname(os.path.abspath(__file__)), ".."))
+# the folder of the programs
+BUILD = os.environ.get("V7_BUILD") or os.path.join(TOP, "build")
 SECONDS = 60
 
 
@@ -122,7 +126,7 @@ def snapshot(room):
 
 def run(step, room):
     given = b"".join(text for _, text in step.given)
-    path = os.path.join(TOP, "build", step.words[0].decode())
+    path = os.path.join(BUILD, step.words[0].decode())
     if not os.access(path, os.X_OK):
         raise Mistake(step.line, f"build/{step.words[0].decode()} is missing")
     try:
