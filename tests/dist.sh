@@ -20,7 +20,7 @@ version=$(sed -n 's/^#define V7_VERSION "\(.*\)"/\1/p' include/v7.h)
 name=v7-$version-linux-x86_64
 work=$(mktemp -d)
 chmod 755 "$work"
-trap 'umount "$work/debian/proc" 2>/dev/null; rm -rf "$work"' EXIT
+trap 'umount "$work/debian/proc" "$work/debian/sys" 2>/dev/null; rm -rf --one-file-system "$work"' EXIT
 failed=0
 
 fail() {
@@ -45,10 +45,11 @@ take_objects() {
     done
 }
 
-# a clone, and its packages, which are made by the words that follow
+# a clone, and its packages, which are made with this file mask by the words that follow
 build() {
     to=$1
-    shift
+    mask=$2
+    shift 2
     git clone -q "$top" "$to" || exit 1
     if [ -n "${OBJECTS:-}" ]; then
         take_objects "$to"
@@ -57,7 +58,7 @@ build() {
         make="make dist"
     fi
     [ "$(id -u)" -ne 0 ] || [ "$1" = sh ] || chown -R 65534:65534 "$to"
-    (cd "$to" && "$@" "$make") || { echo "no packages were built in $to"; exit 1; }
+    (cd "$to" && umask "$mask" && "$@" "$make") || { echo "no packages were built in $to"; exit 1; }
 }
 
 twice() {
@@ -65,8 +66,8 @@ twice() {
     command -v faketime >/dev/null && date="faketime -f +400d" || echo "skipped: faketime is not there, so both builds are of today"
     user=
     [ "$(id -u)" -ne 0 ] && echo "skipped: not root, so both builds are by one user" || user="setpriv --reuid=65534 --regid=65534 --clear-groups"
-    build "$work/one" sh -c
-    build "$work/another/folder" env -u MAKEFLAGS TMPDIR=/tmp HOME="$work/another" TZ=Asia/Tokyo LC_ALL=C.UTF-8 $user $date sh -c
+    build "$work/one" 022 sh -c
+    build "$work/another/folder" 077 env -u MAKEFLAGS TMPDIR=/tmp HOME="$work/another" TZ=Asia/Tokyo LC_ALL=C.UTF-8 $user $date sh -c
     for folder in one another/folder; do
         (cd "$work/$folder/dist" && sha256sum -c --quiet SHA256SUMS) || fail "$folder: SHA256SUMS is wrong"
     done
@@ -90,7 +91,7 @@ make_debian() {
     mirror=$(apt-get indextargets --format '$(REPO_URI) $(CODENAME)' 'Created-By: Packages' | head -1)
     debootstrap --variant=minbase --include=gcc,libc6-dev,pkg-config "${mirror#* }" "$debian" "${mirror% *}" >"$work/debootstrap.txt" 2>&1 ||
         { tail -20 "$work/debootstrap.txt"; stop "debootstrap failed"; }
-    for absent in python3 perl5 make rt; do
+    for absent in python3 make rt; do
         [ ! -e "$debian/usr/bin/$absent" ] || fail "the folder has $absent"
     done
 }
