@@ -141,6 +141,8 @@ gate:
 	python3 tests/trusted.py
 	python3 tests/edits.py
 	python3 tests/index.py
+	python3 tests/quotes.py
+	python3 tests/layers.py
 	rt ci
 
 # one claim proved again, and a broken line refused: docs/TRUST.md

@@ -54,6 +54,7 @@ NOT_IN_CI = {
     "check-page": "needs a browser",
     "lesson": "check-examples runs the program",
     "lib": "check-lib makes it",
+    "wheel": "check-lib makes it",
     "install": "check-dist installs",
     "install-lib": "check-dist installs",
     "dist": "proves twice",
