@@ -1,13 +1,15 @@
 -- How many names an object adds, counted one symbol after the other.
 use Rattle.std.proofs.Common.{◌≡◌, ℕ, Bool, true, false, cond, not, ◌&&◌, ◌||◌, List, [], ◌∷◌, ◌++◌, map, refl, sym, ◌∙◌, ap, subst, length, append_assoc, append-nil}
-use Rattle.std.specs.Prelude.{filter, if◌then◌else◌, nat_eq}
-use Rattle.std.specs.Cmp.Lexicographic.{pointwise}
-use Rattle.indexmap.specs.IndexSet.{insert_key}
+use Rattle.std.specs.Prelude.{filter}
+use Rattle.std.specs.Map.{keys_of}
+use Rattle.std.proofs.lemmas.List.{length-map}
 use Rattle.aout_core.specs.declared.symbol.Symbol.{Symbol}
 use Rattle.aout_core.specs.WellFormed.{is_external}
+use Rattle.link_session.specs.declared.state.State.{State}
+use Rattle.link_session.specs.Image.{Named}
 use Rattle.link_session.specs.Mentions.{is_among, new_names}
 use Rattle.link_session.specs.internal.Additions.{external_names, new_count}
-use Rattle.link_session.specs.internal.NewNames.{with_new, with_all_new}
+use Rattle.link_session.specs.internal.NewNames.{with_name, with_new, with_all_new}
 use Rattle.link_session.proofs.MentionLemmas.{is_among-append, seen_again, new_names-seen}
 
 -- the new names so far, with those that are left
@@ -39,20 +41,20 @@ new_step seen fresh s ss = by_external (is_external s)
 
     by_fresh : (f : Bool) → is_among fresh s.name ≡ f → is_among seen s.name ≡ false →
         fresh ++ new_names (seen ++ fresh) (s.name ∷ external_names ss)
-        ≡ (if f then fresh else fresh ++ s.name ∷ []) ++ new_names (seen ++ (if f then fresh else fresh ++ s.name ∷ [])) (external_names ss)
-    by_fresh true f e = known (among false true e f)
+        ≡ (fresh ++ cond f [] (s.name ∷ [])) ++ new_names (seen ++ (fresh ++ cond f [] (s.name ∷ []))) (external_names ss)
+    by_fresh true f e = known (among false true e f) ∙ (λ i. sym (append-nil fresh) i ++ new_names (seen ++ sym (append-nil fresh) i) (external_names ss))
     by_fresh false f e = unknown (among false false e f)
 
     by_seen : (t : Bool) → is_among seen s.name ≡ t →
         fresh ++ new_names (seen ++ fresh) (s.name ∷ external_names ss)
-        ≡ cond (not t) (insert_key (pointwise nat_eq) fresh s.name) fresh ++ new_names (seen ++ cond (not t) (insert_key (pointwise nat_eq) fresh s.name) fresh) (external_names ss)
+        ≡ cond (not t) (with_name fresh s.name) fresh ++ new_names (seen ++ cond (not t) (with_name fresh s.name) fresh) (external_names ss)
     by_seen true e = known (among true (is_among fresh s.name) e refl)
     by_seen false e = by_fresh (is_among fresh s.name) refl e
 
     by_external : (x : Bool) →
         fresh ++ new_names (seen ++ fresh) (map (λ (t : Symbol). t.name) (cond x (s ∷ filter is_external ss) (filter is_external ss)))
-        ≡ cond (x && not (is_among seen s.name)) (insert_key (pointwise nat_eq) fresh s.name) fresh
-        ++ new_names (seen ++ cond (x && not (is_among seen s.name)) (insert_key (pointwise nat_eq) fresh s.name) fresh) (external_names ss)
+        ≡ cond (x && not (is_among seen s.name)) (with_name fresh s.name) fresh
+        ++ new_names (seen ++ cond (x && not (is_among seen s.name)) (with_name fresh s.name) fresh) (external_names ss)
     by_external true = by_seen (is_among seen s.name) refl
     by_external false = refl
 
@@ -63,3 +65,7 @@ all_new-is seen fresh (s ∷ ss) = all_new-is seen (with_new seen fresh s) ss �
 -- there are as many as the symbols add
 pub length-all_new : (seen : List (List ℕ)) (ss : List Symbol) → length (with_all_new seen [] ss) ≡ new_count seen ss
 length-all_new seen ss = ap (λ (l : List (List ℕ)). length l) (all_new-is seen [] ss) ∙ ap (λ (l : List (List ℕ)). length (new_names l (external_names ss))) (append-nil seen)
+
+-- a name for each entry
+pub length-keys : (es : Named) → length es ≡ length (keys_of es)
+length-keys es = sym (length-map es (λ (e : List ℕ × State). e.0))

@@ -2,18 +2,20 @@
 ghost use Rattle.std.specs.Prelude.{◌≡◌, ◌+◌, ◌*◌, ◌^◌, ◌<◌, ◌≤◌, ◌++◌, ◌&&◌, not, length, nat_lt, bytes_eq, IfOk};
 ghost use Rattle.std.specs.List.{list_any};
 ghost use Rattle.std.specs.Map.{keys_of};
-ghost use Rattle.indexmap.specs.IndexSet.{spare};
+ghost use Rattle.indexmap.specs.IndexMap.{spare};
 ghost use Rattle.aout_core.specs.WellFormed.{is_external};
 ghost use Rattle.link_session.specs.Mentions.{is_among};
 ghost use Rattle.link_session.specs.Sessions.{IsObject};
 ghost use Rattle.link_session.specs.internal.Fields.{image_in, IsSmall};
 ghost use Rattle.link_session.specs.internal.Additions.{external_names, new_count, next_limit};
-ghost use Rattle.link_session.specs.internal.NewNames.{with_new};
+ghost use Rattle.link_session.specs.internal.NewNames.{with_name, with_new};
 
 use crate::entry::AddFault;
+use crate::mention::mention;
 use crate::merged::{Externals, Merged};
+use crate::state::State;
 use aout_core::{Name, Object, Symbol};
-use indexmap::IndexSet;
+use indexmap::IndexMap;
 use std::alloc::{AllocError, Global};
 
 /// The most bytes of text, of data and of bss.
@@ -63,26 +65,36 @@ fn count_again(externals: &Externals, symbols: &[Symbol]) -> usize
     count
 }
 
+/// Enters a name, if it is not there. There is room for it.
+fn enter_name(names: &mut Externals, name: Name)
+    requires { 0 < spare names.old }
+    ensures names { keys_of names.new.entries ≡ with_name (keys_of names.old.entries) name }
+    ensures left { spare names.old ≤ spare names.new + 1 }
+{
+    mention(names, name, State::Wanted(0));
+}
+
 /// Enters the name that a symbol adds to these externals, if it adds one. There is room for it.
-fn enter_new(fresh: &mut IndexSet<Name>, externals: &Externals, symbol: &Symbol)
+fn enter_new(fresh: &mut Externals, externals: &Externals, symbol: &Symbol)
     requires { 0 < spare fresh.old }
-    ensures names { fresh.new.keys ≡ with_new (keys_of externals.now.entries) fresh.old.keys symbol.now }
+    ensures names { keys_of fresh.new.entries ≡ with_new (keys_of externals.now.entries) (keys_of fresh.old.entries) symbol.now }
     ensures left { spare fresh.old ≤ spare fresh.new + 1 }
 {
     if symbol.is_external() && !contains(externals, &symbol.name) {
-        let _is_first = fresh.insert(symbol.name).unwrap();
+        enter_name(fresh, symbol.name);
     }
 }
 
 /// How many names the symbols would add. An error says that memory ran out for these names.
-fn count_by_set(
+fn count_entered(
     externals: &Externals,
     symbols: &[Symbol],
     alloc: Global,
 ) -> Result<usize, AllocError>
     ensures { IfOk result (λ count. count ≡ new_count (keys_of externals.now.entries) symbols.now) }
 {
-    let mut fresh: IndexSet<Name> = IndexSet::with_capacity(alloc, symbols.len())?;
+    let mut fresh: Externals = IndexMap::new(alloc);
+    fresh.reserve(symbols.len())?;
     for symbol in symbols {
         enter_new(&mut fresh, externals, symbol);
     }
@@ -94,7 +106,7 @@ fn count_new(externals: &Externals, symbols: &[Symbol], alloc: Global) -> usize
     requires { 12 * length symbols.now < 2 ^ 16 }
     ensures { result ≡ new_count (keys_of externals.now.entries) symbols.now }
 {
-    match count_by_set(externals, symbols, alloc) {
+    match count_entered(externals, symbols, alloc) {
         Ok(count) => count,
         Err(_) => count_again(externals, symbols),
     }
