@@ -85,7 +85,7 @@ def names_in(path):
 def weight(path):
     """About how long a case file takes: how often something is repeated in it. What is short is repeated quickly."""
     counts = re.findall(r"\* ?(\d+)|^names \S+ (\d+)", read(path), re.M)
-    return 1000 + sum(min(int(one or other), 100_000) for one, other in counts)
+    return 1000 + sum(min(int(one or other), 500_000) for one, other in counts)
 
 
 def shares():
