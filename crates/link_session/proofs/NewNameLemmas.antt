@@ -9,7 +9,7 @@ use Rattle.link_session.specs.declared.state.State.{State}
 use Rattle.link_session.specs.Image.{Named}
 use Rattle.link_session.specs.Mentions.{is_among, new_names}
 use Rattle.link_session.specs.internal.Additions.{external_names, new_count}
-use Rattle.link_session.specs.internal.NewNames.{with_name, with_new, with_all_new}
+use Rattle.link_session.specs.internal.NewNames.{with_entered, with_new, with_all_new}
 use Rattle.link_session.proofs.MentionLemmas.{is_among-append, seen_again, new_names-seen}
 
 -- the new names so far, with those that are left
@@ -47,14 +47,14 @@ new_step seen fresh s ss = by_external (is_external s)
 
     by_seen : (t : Bool) → is_among seen s.name ≡ t →
         fresh ++ new_names (seen ++ fresh) (s.name ∷ external_names ss)
-        ≡ cond (not t) (with_name fresh s.name) fresh ++ new_names (seen ++ cond (not t) (with_name fresh s.name) fresh) (external_names ss)
+        ≡ cond (not t) (with_entered fresh s.name) fresh ++ new_names (seen ++ cond (not t) (with_entered fresh s.name) fresh) (external_names ss)
     by_seen true e = known (among true (is_among fresh s.name) e refl)
     by_seen false e = by_fresh (is_among fresh s.name) refl e
 
     by_external : (x : Bool) →
         fresh ++ new_names (seen ++ fresh) (map (λ (t : Symbol). t.name) (cond x (s ∷ filter is_external ss) (filter is_external ss)))
-        ≡ cond (x && not (is_among seen s.name)) (with_name fresh s.name) fresh
-        ++ new_names (seen ++ cond (x && not (is_among seen s.name)) (with_name fresh s.name) fresh) (external_names ss)
+        ≡ cond (x && not (is_among seen s.name)) (with_entered fresh s.name) fresh
+        ++ new_names (seen ++ cond (x && not (is_among seen s.name)) (with_entered fresh s.name) fresh) (external_names ss)
     by_external true = by_seen (is_among seen s.name) refl
     by_external false = refl
 

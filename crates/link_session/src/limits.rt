@@ -8,7 +8,7 @@ ghost use Rattle.link_session.specs.Mentions.{is_among};
 ghost use Rattle.link_session.specs.Sessions.{IsObject};
 ghost use Rattle.link_session.specs.internal.Fields.{image_in, IsSmall};
 ghost use Rattle.link_session.specs.internal.Additions.{external_names, new_count, next_limit};
-ghost use Rattle.link_session.specs.internal.NewNames.{with_name, with_new};
+ghost use Rattle.link_session.specs.internal.NewNames.{with_entered, with_new};
 
 use crate::entry::AddFault;
 use crate::mention::mention;
@@ -68,7 +68,7 @@ fn count_again(externals: &Externals, symbols: &[Symbol]) -> usize
 /// Enters a name, if it is not there. There is room for it.
 fn enter_name(names: &mut Externals, name: Name)
     requires { 0 < spare names.old }
-    ensures names { keys_of names.new.entries ≡ with_name (keys_of names.old.entries) name }
+    ensures names { keys_of names.new.entries ≡ with_entered (keys_of names.old.entries) name }
     ensures left { spare names.old ≤ spare names.new + 1 }
 {
     mention(names, name, State::Wanted(0));

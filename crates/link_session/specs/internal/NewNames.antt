@@ -5,12 +5,12 @@ use Rattle.aout_core.specs.WellFormed.{is_external}
 use Rattle.link_session.specs.Mentions.{is_among}
 
 -- the names, with one more if it is not among them
-abbrev pub with_name : List (List ℕ) → List ℕ → List (List ℕ)
-with_name names n = names ++ cond (is_among names n) [] (n ∷ [])
+abbrev pub with_entered : List (List ℕ) → List ℕ → List (List ℕ)
+with_entered names n = names ++ cond (is_among names n) [] (n ∷ [])
 
 -- the new names so far, with that of one more symbol if it adds one
 abbrev pub with_new : List (List ℕ) → List (List ℕ) → Symbol → List (List ℕ)
-with_new seen fresh s = cond (is_external s && not (is_among seen s.name)) (with_name fresh s.name) fresh
+with_new seen fresh s = cond (is_external s && not (is_among seen s.name)) (with_entered fresh s.name) fresh
 
 -- the same with those of several symbols
 abbrev pub with_all_new : List (List ℕ) → List (List ℕ) → List Symbol → List (List ℕ)
