@@ -8,12 +8,12 @@
  * other or what it reads. A call takes memory from malloc and gives it back before it returns. Calls share nothing, so threads
  * may make them at once.
  *
- * A call writes its result at the beginning of a room that the caller gives; after the result the room stays as it was. Where
- * a room is too small the fault is V7_NO_ROOM, nothing is written, and the sizes in *ANSWER say how much room is needed. So a
- * call with rooms of size 0 asks for the sizes. With any other fault nothing is written either, and the sizes are 0.
+ * A call writes its result at the beginning of a buffer of the caller; after the result the buffer stays as it was. If a
+ * buffer is too small the fault is V7_NO_ROOM, nothing is written, and *ANSWER has the sizes that are needed. So a call with
+ * buffers of size 0 asks for the sizes. With any other fault nothing is written either, and the sizes are 0.
  *
- * Each call returns a status as the program v7 does: 0; 1 where a link was made and there is something to report; 2 where
- * there is a fault, and so no result. *ANSWER is always filled. docs/LIMITS.md has all limits on one page.
+ * Each call returns a status as the program v7 does: 2 if there is a fault, and so no result, 1 if a link was made and there is
+ * something to report, and otherwise 0. *ANSWER is always filled. docs/LINK.md has all limits.
  *
  * V7_NO_MEMORY comes only at a stage at which nothing is refused. A call takes memory after it has accepted the options, the
  * form, the names and the sizes of parts, and for a file only if it is whole. So V7_NO_MEMORY never comes in place of 1 to 6, or
@@ -37,10 +37,10 @@ extern "C" {
 enum v7_fault {
     V7_NO_FAULT = 0,
     /* what is asked for */
-    V7_NO_OPTION = 1,          /* a bit of OPTIONS is no option, or FORM is no form */
+    V7_NO_OPTION = 1,          /* a bit of OPTIONS is not an option, or FORM is not a form */
     V7_EXCLUDED = 2,           /* options exclude each other: V7_RELOCATABLE and V7_STRIP, V7_PURE or V7_SPLIT; V7_PURE and V7_SPLIT */
     V7_LONG_NAME = 3,          /* the name of the entry point has more than 8 bytes */
-    V7_CUT_NAMES = 4,          /* the size of the forced names is no multiple of 8 */
+    V7_CUT_NAMES = 4,          /* the size of the forced names is not a multiple of 8 */
     V7_MANY_NAMES = 5,         /* more than 64 different names are forced; `place` is the number of the first too many */
     V7_TOO_LONG = 6,           /* more than 32,767 words of text or data, 65,535 bytes of bss, or 5,461 symbols */
     V7_NO_EDIT = 7,            /* an edit is neither V7_ADD nor V7_WITHDRAW; `place` is its number */
@@ -65,7 +65,7 @@ enum v7_fault {
     V7_SYMBOL_NUMBER = 43,     /* with V7_RELOCATABLE, a word refers to a name with a number over 4,095 */
     /* the caller's machine */
     V7_NO_MEMORY = 50,         /* malloc gave none */
-    V7_NO_ROOM = 60            /* a room is too small */
+    V7_NO_ROOM = 60            /* a buffer is too small */
 };
 
 /* What a fault means, in a few words. A number that is not a fault gives "unknown fault". */
@@ -130,11 +130,11 @@ static inline const char *v7_strerror(uint32_t fault)
 struct v7_answer {
     uint32_t fault;     /* of enum v7_fault */
     uint32_t word;      /* V7_BAD_RELOCATION, V7_BAD_SYMBOL_NUMBER: the index of the word, text before data, from 0; else 0 */
-    size_t place;       /* of v7_link, 11 to 34: the number of the object; of v7_session and v7_state, 7 to 24: that of the edit;
-                         * V7_MANY_NAMES: that of the name; all from 0; V7_NO_MEMORY: that of an object or edit which the call
-                         * reached, or 0; else 0 */
+    size_t place;       /* a number, counted from 0. For the faults 11 to 34 of v7_link it is that of the object, for 7 to 24 of
+                         * v7_session and v7_state that of the edit, and for V7_MANY_NAMES that of the name. For V7_NO_MEMORY it
+                         * is that of an object or edit which the call reached, or 0. Otherwise 0 */
     size_t size;        /* the size of the result; of v7_take_apart 0 */
-    size_t report_size; /* v7_link, v7_session: the size of the report; v7_state: the number of replies; else 0 */
+    size_t report_size; /* for v7_link and v7_session the size of the report, for v7_state the number of replies; otherwise 0 */
 };
 
 /* Checks whether BYTES begin with an object, which can be linked. The size is then that of the object, so the next object of a
@@ -160,11 +160,11 @@ uint32_t v7_nm(uint32_t options, const unsigned char *bytes, size_t size, unsign
 uint32_t v7_size(const unsigned char *bytes, size_t size, unsigned char *room, size_t room_size, struct v7_answer *answer);
 
 /* Links OBJECTS in their order, as `v7 ld` does: the linked file goes to ROOM, and the lines of the report to REPORT. Both are
- * written or neither. ENTRY is the name of the entry point, at most 8 bytes, or of size 0 where there is none. FORCED are
+ * written or neither. ENTRY is the name of the entry point, at most 8 bytes, or of size 0 if there is none. FORCED are
  * names that are mentioned before all objects, 8 bytes each, filled up with NULs. Without objects the program is empty. Bytes
  * after an object are the next object: of a file with other bytes after its end, pass as many bytes as v7_check says. Faults,
- * the first that applies: 1 to 3, 4, 5, then for each object in turn 11 to 34, then 41 to 43; V7_NO_MEMORY as said above; and
- * V7_NO_ROOM. */
+ * the first that applies: 1 to 5, then for each object in turn 11 to 34, then 41 to 43. V7_NO_MEMORY comes as said above, and
+ * V7_NO_ROOM last. */
 enum v7_link_option {
     V7_RELOCATABLE = 1,   /* -r: keeps relocation, so that the result is an object */
     V7_STRIP = 2,         /* -s: keeps no symbols; wins over the next two */
@@ -181,11 +181,11 @@ uint32_t v7_link(uint32_t options, const unsigned char *entry, size_t entry_size
 /* Runs EDITS, and links what is left, as v7_link does. Each edit is a letter: V7_ADD adds the next of OBJECTS after those that
  * are kept, and V7_WITHDRAW withdraws the last object that is kept. Bytes after the last object that is added are not looked
  * at, so the first N edits with the same objects give the session as it was after N edits. REPLIES gets a byte for each edit:
- * V7_DONE, V7_NOTHING where there was nothing to withdraw, or 31 to 34 where the object was not added. An edit that was not
+ * V7_DONE, V7_NOTHING if there was nothing to withdraw, or 31 to 34 if the object was not added. An edit that was not
  * made leaves the session as it was, and the status is 1. REPLIES, file and report are all written, or none is; REPLIES needs
- * as many bytes as there are edits. Faults, the first that applies: 1 to 5 as for v7_link; then for each edit in turn
- * V7_NO_EDIT, 11 to 14 (also where there is no further object), and 21 to 24; then 41 to 43; V7_NO_MEMORY as said above; and
- * V7_NO_ROOM. */
+ * as many bytes as there are edits. Faults, the first that applies: 1 to 5 as for v7_link, then for each edit in turn
+ * V7_NO_EDIT, 11 to 14 (also if there is no further object), and 21 to 24, then 41 to 43. V7_NO_MEMORY comes as said above, and
+ * V7_NO_ROOM last. */
 enum v7_edit { V7_ADD = 'a', V7_WITHDRAW = 'w' };
 enum v7_reply { V7_DONE = 0, V7_NOTHING = 35 };
 uint32_t v7_session(uint32_t options, const unsigned char *entry, size_t entry_size, const unsigned char *forced, size_t forced_size,
@@ -194,16 +194,16 @@ uint32_t v7_session(uint32_t options, const unsigned char *entry, size_t entry_s
                     size_t report_size, struct v7_answer *answer);
 
 /* Runs EDITS as v7_session does, and writes what the session then shows, without a link. ROOM gets it as lines, each with its
- * newline, or as one JSON object: the words of the merged text and data, each with its offset in bytes, its value and what it
- * refers to or waits for; the size of bss in bytes; the external names with what is known of each; the names that are multiply
- * defined; and the marks of the last object that is kept: what its addition overwrote, in order, and nothing else. A name may
- * appear more than once, as a common that grows several times: its first mark has what was known of it before the addition, and
- * each later one what the change before it led to. A word appears at most once. Lines have offsets and values in octal and
- * sizes in decimal; a byte of a name that does not print, a blank and a backslash are \ooo there. JSON has all numbers in
- * decimal; a byte of a name that does not print, a quote and a backslash are \u00xx there. v7(3) lists the members of the JSON
- * object. REPLIES are those of v7_session; `report_size` is how many there are. The status is 1 where an
- * edit was not made. State and replies are both written, or neither is. Faults, the first that applies: V7_NO_OPTION for FORM;
- * 4 and 5; then for each edit in turn those of v7_session; V7_NO_MEMORY as said above; and V7_NO_ROOM. */
+ * newline, or as one JSON object. It has the words of the merged text and data, each with its offset in bytes, its value and
+ * what it refers to or waits for. It has the size of bss in bytes, the external names with what is known of each, and the names
+ * that are multiply defined. And it has the marks of the last object that is kept: what its addition overwrote, in order, and
+ * nothing else. A word appears in them at most once. A name may appear more than once, as a common that grows several times:
+ * its first mark has what was known of it before the addition, and each later one what the change before it led to. Lines have
+ * offsets and values in octal and sizes in decimal; a byte of a name that does not print, a blank and a backslash are \ooo there.
+ * JSON has all numbers in decimal; a byte of a name that does not print, a quote and a backslash are \u00xx there. v7(3) lists
+ * the members of the JSON object. REPLIES are those of v7_session; `report_size` is how many there are. The status is 1 if an
+ * edit was not made. State and replies are both written, or neither is. Faults, the first that applies: V7_NO_OPTION for FORM,
+ * 4 and 5, then for each edit in turn those of v7_session. V7_NO_MEMORY comes as said above, and V7_NO_ROOM last. */
 enum v7_form { V7_LINES = 0, V7_JSON = 1 };
 uint32_t v7_state(uint32_t form, const unsigned char *forced, size_t forced_size, const unsigned char *edits, size_t edit_count,
                   const unsigned char *objects, size_t objects_size, unsigned char *replies, size_t replies_size,
@@ -250,8 +250,8 @@ struct v7_symbol {
     uint16_t value;
 };
 
-/* Writes the object of these parts. BSS is in bytes. Faults, the first that applies: V7_TOO_LONG; V7_ODD_SIZE of BSS; for the
- * first word that has it V7_BAD_RELOCATION or V7_BAD_SYMBOL_NUMBER; V7_NO_MEMORY; V7_NO_ROOM. */
+/* Writes the object of these parts. BSS is in bytes. Faults, the first that applies: V7_TOO_LONG, V7_ODD_SIZE of BSS,
+ * V7_BAD_RELOCATION or V7_BAD_SYMBOL_NUMBER for the first word that has it, V7_NO_MEMORY, V7_NO_ROOM. */
 uint32_t v7_make(const struct v7_word *text, size_t text_count, const struct v7_word *data, size_t data_count, uint32_t bss,
                  const struct v7_symbol *symbols, size_t symbol_count, unsigned char *room, size_t room_size, struct v7_answer *answer);
 
@@ -263,9 +263,9 @@ struct v7_counts {
     uint32_t bss;
 };
 
-/* Takes apart the object that BYTES begin with: writes its parts, all or none, and fills *COUNTS. With V7_NO_ROOM *COUNTS says
- * how much room is needed, and with any other fault it is 0. The header's entry point, at which no link looks, is not given.
- * Room is counted in words and symbols. Faults: 11 to 14, 21 to 24, V7_NO_MEMORY, V7_NO_ROOM. */
+/* Takes apart the object that BYTES begin with: writes its parts, all or none, and fills *COUNTS. With V7_NO_ROOM *COUNTS has
+ * the sizes that are needed, and with any other fault it is 0. The header's entry point, at which no link looks, is not given.
+ * Buffers are counted in words and symbols. Faults: 11 to 14, 21 to 24, V7_NO_MEMORY, V7_NO_ROOM. */
 uint32_t v7_take_apart(const unsigned char *bytes, size_t size, struct v7_word *text, size_t text_room, struct v7_word *data,
                        size_t data_room, struct v7_symbol *symbols, size_t symbol_room, struct v7_counts *counts,
                        struct v7_answer *answer);

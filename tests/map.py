@@ -154,7 +154,7 @@ def file_at(path):
 
 
 def limit(label, used, most):
-    """A line of the limits; docs/LIMITS.md has them all."""
+    """A line of the limits; docs/LINK.md has them all."""
     left = f"{most - used:>8}" if used <= most else f"{used - most:>8} over"
     return f"  {label:<14}{used:>8}{most:>8}{left}"
 

@@ -1,7 +1,7 @@
 #!/usr/bin/env python3
 """A second linker: ld, nm, size, strip and session again, in as few words as they take.
 
-It was written from docs/LINK.md, docs/FORMAT.md, docs/LIMITS.md, docs/teaching/BLACKBOARD.md and the
+It was written from docs/LINK.md, docs/FORMAT.md, docs/teaching/BLACKBOARD.md and the
 manual pages, and shares no code with v7. Where these left something open, the program was tried and
 the page was mended. tests/agree.py compares the two on random files.
 
