@@ -3,7 +3,7 @@
 # nothing else, and the header must compile as C99, C++98 and C++17. tests/faults.c calls the library with an input for each fault of
 # each call. The examples in C, C++, Python and Rust are compiled, link objects of examples/ as the program does, with the same
 # file, report and status, and run sessions, which compare by themselves. The library and the program link the objects of the large
-# benchmark. What is in C runs under AddressSanitizer and valgrind too. The wheel of Python is installed into a fresh environment.
+# benchmark. What is in C runs under AddressSanitizer and valgrind too. The commands of docs/LIBRARY.md are run. The wheel of Python is installed into a fresh environment.
 # What is missing of the compilers, Python and these two is skipped, and named.
 #
 # usage: CC=cc CXX=c++ tests/library.sh
@@ -165,6 +165,22 @@ if command -v $CXX >/dev/null; then
     for standard in c++98 c++17; do
         $CXX -std=$standard -O2 -pedantic -Wall -Wextra -Werror -o by_cpp $compiles "$top/examples/cpp/link.cpp" $links || exit 1
         links "C++ ($standard)" ./by_cpp
+    done
+fi
+# what docs/LIBRARY.md shows: each block whose first line begins with one of these programs, in a copy of the examples
+cp -r "$top/examples" page
+"$top/build/v7" ld -o theirs main.o twice.o count.o
+run_shown() {
+    awk -v first="$1" '/^    / { if (!inside) on = index($0, "    " first " ") == 1; inside = 1; if (on) print; next } { inside = 0 }' \
+        "$top/docs/LIBRARY.md" >shown.sh
+    [ -s shown.sh ] || fail "docs/LIBRARY.md shows no command of $1"
+    rm -f page/program
+    (cd page && LIBV7=$library sh -e ../shown.sh) >/dev/null && cmp theirs page/program || fail "docs/LIBRARY.md: the commands of $1"
+    echo "docs/LIBRARY.md: the commands of $1"
+}
+if command -v pkg-config >/dev/null; then
+    for program in cc c++ python3 rustc; do
+        command -v $program >/dev/null && run_shown $program
     done
 fi
 if $CC -g -fsanitize=address -o by_asan $compiles "$top/examples/c/link.c" "$archive" 2>/dev/null; then

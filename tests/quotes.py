@@ -1,45 +1,56 @@
 #!/usr/bin/env python3
-"""Compares what docs/PROOFS.md quotes of the code with the code. A block that is indented by four blanks quotes the file whose
-path, in backquotes, is the last one before it; its comments are the page's own."""
+"""Compares what docs/PROOFS.md quotes of the code, and docs/LIBRARY.md of the examples, with these. A block that is indented by four
+blanks quotes the file whose path, in backquotes, is the last one before it; its comments are the page's own. A block of commands
+is not a quotation."""
 import os
 import re
 import sys
 
 os.chdir(os.path.join(os.path.dirname(os.path.abspath(__file__)), ".."))
-PAGE = "docs/PROOFS.md"
+# each page, a text of it, and what is put in its place to see that the change is found
+PAGES = [
+    ("docs/PROOFS.md", "self.old.entries ≡ []", "self.old.entries ≡ self.new.entries"),
+    ("docs/LIBRARY.md", "session.add(HALF)", "session.add(MAIN)"),
+]
+COMMANDS = ("cc ", "c++ ", "python3 ", "rustc ")
 
 
 def quotes(text):
     """Each quoted line, with its number and the file that it is from."""
-    path = None
+    path, before, typed = None, "", False
     for number, line in enumerate(text.splitlines(), 1):
-        named = re.findall(r"`(crates/[\w/]+\.(?:rt|antt))`", line)
+        named = re.findall(r"`((?:crates|examples)/[\w/]+\.\w+)`", line)
         path = named[-1] if named else path
         quoted = re.match(r"    +(?!//|--)(\S.*)", line)
-        if quoted:
+        typed = typed if before.startswith("    ") else line.strip().startswith(COMMANDS)
+        if quoted and not typed:
             yield number, path, quoted.group(1)
+        before = line
 
 
-def faults_in(text):
+def faults_in(page, text):
     count, faults = 0, []
     for number, path, line in quotes(text):
         count += 1
         with open(path, encoding="utf-8") as file:
             if line not in (known.strip() for known in file):
-                faults.append(f"{PAGE}:{number}: {path} has no such line: {line}")
+                faults.append(f"{page}:{number}: {path} has no such line: {line}")
     return count, faults
 
 
 def main():
-    with open(PAGE, encoding="utf-8") as file:
-        text = file.read()
-    count, faults = faults_in(text)
-    if not count or not faults_in(text.replace("self.old.entries ≡ []", "self.old.entries ≡ self.new.entries"))[1]:
-        faults.append("tests/quotes.py: a changed line is not found")
-    for fault in faults:
-        print(fault)
-    print(f"{PAGE} quotes {count} lines of the code")
-    return 1 if faults else 0
+    failed = False
+    for page, known, changed in PAGES:
+        with open(page, encoding="utf-8") as file:
+            text = file.read()
+        count, faults = faults_in(page, text)
+        if not count or not faults_in(page, text.replace(known, changed))[1]:
+            faults.append(f"tests/quotes.py: a changed line of {page} is not found")
+        for fault in faults:
+            print(fault)
+        print(f"{page} quotes {count} lines")
+        failed = failed or bool(faults)
+    return 1 if failed else 0
 
 
 sys.exit(main())
