@@ -3,7 +3,8 @@
 # nothing else, and the header must compile as C99, C++98 and C++17. tests/faults.c calls the library with an input for each fault of
 # each call. The examples in C, C++, Python and Rust are compiled, link objects of examples/ as the program does, with the same
 # file, report and status, and run sessions, which compare by themselves. The library and the program link the objects of the large
-# benchmark. What is in C runs under AddressSanitizer and valgrind too. The commands of docs/LIBRARY.md are run. The wheel of Python is installed into a fresh environment.
+# benchmark. What is in C runs under AddressSanitizer and valgrind too. The commands of docs/LIBRARY.md are run. The wheel of Python
+# is installed into a fresh environment.
 # What is missing of the compilers, Python and these two is skipped, and named.
 #
 # usage: CC=cc CXX=c++ tests/library.sh
