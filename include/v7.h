@@ -4,7 +4,7 @@
  * Each call takes bytes and gives bytes, and keeps nothing for the next call. An object or a file is the bytes of an a.out
  * file; a list of objects is their bytes one after another, since the header of each says how long it is.
  *
- * Sizes are in bytes. No pointer may be null, even if its size is 0. What a call writes to, and *ANSWER, must not overlap each
+ * Sizes are in bytes. A pointer may be null if its size is 0. What a call writes to, and *ANSWER, must not overlap each
  * other or what it reads. A call takes memory from malloc and gives it back before it returns. Calls share nothing, so threads
  * may make them at once.
  *

@@ -359,11 +359,37 @@ static void check_most_parts(void)
     expect("the most parts", &r, &w);
 }
 
+/* A null pointer, where there are no bytes. The link of no objects has a header alone; a session has no reply. */
+static void check_null(void)
+{
+    static unsigned char bytes[16];
+    const struct span empty = {bytes, sizeof bytes};
+    const struct wanted header = {0, {0, 0, 0, 16, 0}, {0}, {empty}};
+    const struct wanted session_header = {0, {0, 0, 0, 16, 0}, {0}, {{NULL, 0}, empty}};
+    const struct space room = {good[LINK].room[0].at, 16};
+    struct request link = {LINK, 0, {{NULL, 0}, {NULL, 0}, {NULL, 0}}, {room, {NULL, 0}}};
+    const struct request session = {SESSION, 0, {{NULL, 0}, {NULL, 0}, {NULL, 0}, {NULL, 0}}, {{NULL, 0}, room, {NULL, 0}}};
+    const struct request make = {MAKE, 0, {{NULL, 0}, {NULL, 0}, {NULL, 0}}, {room}};
+    const struct request check = {CHECK, 0, {{NULL, 0}}, {{0}}};
+
+    put_word(bytes, 0407);
+    expect("null parts", &make, &header);
+    put_word(bytes + 14, 1);
+    expect("null pointers", &link, &header);
+    expect("null pointers", &session, &session_header);
+    expect_fault("null bytes", &check, V7_SHORT_HEADER, 0, 0);
+    link.room[0] = (struct space){NULL, 0};
+    status_of(&link);
+    if (answer.fault != V7_NO_ROOM || answer.size != 16)
+        failures++;
+}
+
 int main(void)
 {
     size_t n;
 
     check_good();
+    check_null();
     check_all_asked();
     check_damages();
     for (n = 0; n < sizeof limits / sizeof *limits; n++)

@@ -7,7 +7,8 @@
 # is installed into a fresh environment.
 # What is missing of the compilers, Python and these two is skipped, and named.
 #
-# usage: CC=cc CXX=c++ tests/library.sh
+# usage: CC=cc CXX=c++ CASES='500 100' tests/library.sh        with so many links and sessions for the comparison with
+#                                                              tests/model.py
 set -u
 cd "$(dirname "$0")/.."
 top=$PWD
@@ -207,6 +208,7 @@ if command -v python3 >/dev/null; then
     links Python "python3 $top/examples/python/link.py"
     session Python python3 "$top/examples/python/session.py"
     PYTHONPATH=$top/examples/python python3 "$top/tests/library.py" "$top/include/v7.h" || fail "Python: a check fails"
+    PYTHONPATH=$top/examples/python:$top/tests python3 "$top/tests/agree_library.py" ${CASES:-500 100} || fail "the model differs"
     mkdir heavy
     PYTHONPATH=$top/examples/python python3 "$top/tests/heavy_library.py" "$top/build/v7" heavy || fail "the large benchmark"
     unset LIBV7

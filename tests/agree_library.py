@@ -1,0 +1,160 @@
+"""Compares libv7 with the second linker, tests/model.py, on random links and sessions, always the same; in half of them objects are
+damaged. Of a link the status, every byte of the file and the report are compared, or the fault, its object and its word. Of a session
+the same, and the replies to its edits and the names that it shows.
+
+usage: python3 tests/agree_library.py LINKS SESSIONS      with the module v7 on the path
+"""
+import random
+import sys
+from collections import Counter
+
+import agree
+import model
+import v7
+
+BITS = {"r": v7.RELOCATABLE, "s": v7.STRIP, "x": v7.EXTERNALS, "X": v7.NOT_L, "n": v7.PURE, "i": v7.SPLIT, "d": v7.FORCE_COMMONS}
+
+
+def arguments_of(rng, names):
+    """Options that may be given together, a name of the entry point or none, and forced names."""
+    letters = set(rng.choice(["", "", "r", "rd", "n", "i", "s"]) + rng.choice(["", "x", "X", "xX"]) + rng.choice(["", "", "d"]))
+    entry = rng.choice(names) or b"_" if rng.random() < 0.3 else None
+    forced = tuple(dict.fromkeys(rng.choice(names)[:8] for _ in range(rng.choice([0, 0, 1, 3]))))
+    return model.Arguments(letters, {}, [], entry and entry[:8], forced)
+
+
+def objects_of(rng, names, is_damaged):
+    objects = [agree.object_of(rng, names) for _ in range(rng.choice([0, 1, 2, 3, 5]))]
+    if rng.random() < 0.05:
+        objects.insert(rng.randint(0, len(objects)), agree.pack([(0, 0)] * 32767, bss=rng.choice([0, 65534])))
+    if is_damaged and objects:
+        place = rng.randrange(len(objects))
+        objects[place] = agree.damage(rng, rng.choice([objects[place], agree.bad_object_of(rng, names)]))
+    return objects
+
+
+def text(data):
+    return data.decode("latin-1")
+
+
+def linked(merged, arguments):
+    """What the model gives for objects that are read: the status, the file and the report."""
+    link = model.Link(merged, arguments)
+    return 1 if link.report else 0, model.write_file(link.file), text(b"".join(line + b"\n" for line in link.report))
+
+
+def by_model(objects, arguments):
+    merged = model.Merged([], arguments.forced)
+    for place, data in enumerate(objects):
+        try:
+            merged = model.Merged([*merged.objects, model.read_object(data)], merged.forced)
+        except model.Refused as refused:
+            return str(refused), place
+    try:
+        return linked(merged, arguments)
+    except model.Refused as refused:
+        return str(refused), 0
+
+
+def told(fault):
+    """The text of a fault as the model has it, and the number of the object."""
+    where = f" at word {fault.word}" if fault.fault in (23, 24) else ""
+    return v7.FAULTS[fault.fault] + where, fault.place
+
+
+def asked_of(arguments):
+    return {"entry": text(arguments.entry or b""), "forced": [text(name) for name in arguments.forced]}
+
+
+def options_of(arguments):
+    return sum(BITS[letter] for letter in arguments.letters)
+
+
+def by_library(objects, arguments):
+    try:
+        return tuple(v7.link(objects, options_of(arguments), **asked_of(arguments)))
+    except v7.Fault as fault:
+        return told(fault)
+
+
+def link_case(number):
+    """What model and library give for a link."""
+    rng = random.Random(f"link {number}")
+    names = rng.sample(agree.NAMES, rng.choice([2, 3, 5, 8]))
+    arguments = arguments_of(rng, names)
+    objects = objects_of(rng, names, number % 2 == 1)
+    return by_model(objects, arguments), by_library(objects, arguments)
+
+
+def model_edit(states, edit):
+    """The reply of the model to an edit, or the text of what is wrong with its object."""
+    if edit is None:
+        if len(states) > 1:
+            states.pop()
+            return 0
+        return v7.Session.NOTHING
+    try:
+        file = model.read_object(edit)
+    except model.Refused as refused:
+        return str(refused)
+    try:
+        states.append(model.Merged([*states[-1].objects, file], states[-1].forced))
+        return 0
+    except model.Refused as refused:
+        return next(fault for fault, said in v7.FAULTS.items() if said == str(refused))
+
+
+def library_edit(session, edit):
+    try:
+        session.withdraw() if edit is None else session.add(edit)
+    except v7.Fault as fault:
+        return told(fault)[0]
+    return session.replies[-1]
+
+
+def session_case(number):
+    """What model and library give for a session: the replies, the externals, and the link."""
+    rng = random.Random(f"session {number}")
+    names = rng.sample(agree.NAMES, rng.choice([2, 3, 5, 8]))
+    arguments = arguments_of(rng, names)
+    objects = objects_of(rng, names, number % 2 == 1) or [agree.object_of(rng, names)]
+    edits = [rng.choice([None, *objects]) for _ in range(rng.randrange(12))]
+    states, session = [model.Merged([], arguments.forced)], v7.Session(**asked_of(arguments))
+    ours = [library_edit(session, edit) for edit in edits]
+    theirs = [model_edit(states, edit) for edit in edits]
+    shown = [external["name"] for external in session.state()["externals"]]
+    known = [text(name) for name in states[-1].externals]
+    status = int(any(isinstance(reply, int) and reply for reply in theirs))
+    try:
+        given = linked(states[-1], arguments)
+        wanted = max(given[0], status), *given[1:]
+    except model.Refused as refused:
+        wanted = str(refused), 0
+    try:
+        came = tuple(session.link(options_of(arguments)))
+    except v7.Fault as fault:
+        came = told(fault)
+    return (theirs, known, wanted), (ours, shown, came)
+
+
+def kind_of(outcome):
+    """What to count: the status of a link, or that it was refused."""
+    last = outcome[-1] if isinstance(outcome[0], list) else outcome
+    return "refused" if isinstance(last[0], str) else f"status {last[0]}"
+
+
+def main(links, sessions):
+    for name, case, count in (("links", link_case, int(links)), ("sessions", session_case, int(sessions))):
+        kinds = Counter()
+        for number in range(count):
+            wanted, came = case(number)
+            if wanted != came:
+                print(f"{name}, number {number}:\n  the model: {wanted}\n  libv7:     {came}")
+                return 1
+            kinds[kind_of(wanted)] += 1
+        print(f"libv7: {count} {name} as the model: " + ", ".join(f"{kinds[kind]} {kind}" for kind in sorted(kinds)))
+    return 0
+
+
+if __name__ == "__main__":
+    sys.exit(main(*sys.argv[1:]))
