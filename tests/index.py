@@ -8,7 +8,7 @@ import sys
 os.chdir(os.path.join(os.path.dirname(os.path.abspath(__file__)), ".."))
 CELL = re.compile(r"`(\w+)/([\w/]+)::(\w+)`")
 CODE = r"\b(?:fn|const|static|struct|enum|trait) {}\b"
-DEFINITION = r"^(?:abbrev|record|data|def) (?:rec )?(?:pub )?{}(?=[ :]|$)|^ *(?:abbrev |record |data )?pub (?:data |record |abbrev )?{}(?=[ :]|$)"
+DEFINITION = r"^(?:abbrev|unfoldable|record|data|def) (?:rec )?(?:pub )?{}(?=[ :]|$)|^ *(?:abbrev |unfoldable |record |data )?pub (?:data |record |abbrev )?{}(?=[ :]|$)"
 TEST = r"#\[test\]\s+(?:#\[[^\n]*\]\s+)*fn {}\b"
 
 

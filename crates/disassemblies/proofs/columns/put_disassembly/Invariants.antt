@@ -1,0 +1,14 @@
+use Rattle.std.proofs.Common.{◌≡◌, ◌-◌, ◌≤◌, ◌++◌, length}
+use Rattle.std.specs.Prelude.{string_bytes}
+use Rattle.disassemblies.specs.Columns.{lines_from, disassembly}
+use Rattle.disassemblies.proofs.columns.put_disassembly.Given as goal
+
+-- what has been appended, and the lines that are left, are the whole
+abbrev pub invariant-loop-place : goal.invariant-loop-place
+invariant-loop-place l =
+    (string_bytes l.text ++ lines_from (length l.file.text_words - l.place) l.file l.place ≡ string_bytes l.initial.text ++ disassembly l.file)
+    × (l.place ≤ length l.file.text_words)
+    × (l.end ≡ length l.file.text_words)
+
+abbrev pub decreases-loop-place : goal.decreases-loop-place
+decreases-loop-place l = length l.file.text_words - l.place

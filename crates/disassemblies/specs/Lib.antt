@@ -1,0 +1,5 @@
+pub mod Naming
+pub mod Linked
+pub mod Lines
+pub mod Labels
+pub mod Columns

@@ -1,0 +1,67 @@
+-- The lines of a file's text, and their texts with names. (as(1); names and relocated words: own choice)
+--
+-- A line is at a place, which counts the words of text. A relocated word begins no instruction, since a link changes it. Other
+-- lines are those of the words alone, and each operand is named by its relocation word, or without relocation by its address.
+use Rattle.std.specs.Prelude.{ℕ, ◌+◌, ◌*◌, true, eqb, if◌then◌else◌, List, Option, Some, None, slice_get, slice_index}
+use Rattle.aout_core.specs.declared.symbol.Segment.TheVariants.{TextSeg}
+use Rattle.aout_core.specs.declared.reloc.Reloc.{Reloc}
+use Rattle.aout_core.specs.Contents.{Contents}
+use Rattle.instructions.specs.declared.operation.Operation.{Operation}
+use Rattle.instructions.specs.declared.mode.Addressing.{Addressing}
+use Rattle.instructions.specs.declared.operand.Operand.{Operand}
+use Rattle.instructions.specs.declared.operand.Operand.TheVariants.{General, Forward, Backward}
+use Rattle.instructions.specs.declared.reference.Reference.{Reference}
+use Rattle.instructions.specs.declared.reference.References.{References}
+use Rattle.instructions.specs.declared.line.Line.{Line}
+use Rattle.instructions.specs.declared.line.Line.TheVariants.{Plain, Decoded}
+use Rattle.instructions.specs.Modes.{addressing}
+use Rattle.instructions.specs.Instructions.{word_count_of}
+use Rattle.instructions.specs.Relocated.{is_relocated}
+use Rattle.instructions.specs.Lines.{line_at}
+use Rattle.instructions.specs.Texts.{number, branch_target, branch_back_target, first_next, second_next, text_with}
+use Rattle.disassemblies.specs.Naming.{symbol_at, exact, object_reference, relocated_text}
+use Rattle.disassemblies.specs.Linked.{located, linked_reference}
+
+abbrev pub line_in : Contents → ℕ → Line
+line_in c place =
+    if is_relocated (slice_get c.text_reloc place) then Plain (slice_index c.text_words place) else line_at c.text_words place
+
+-- what an operand word refers to, if it has this relocation word or none
+abbrev pub word_reference : Contents → Operation → ℕ → Option Reloc → ℕ → Addressing → Option Reference
+word_reference c operation next (Some r) n a = object_reference c.symbols r n next a
+word_reference c operation next None n a = linked_reference c.header c.symbols operation n next a
+
+abbrev pub general_reference : Contents → Operation → ℕ → Option Reloc → ℕ → Option Addressing → Option Reference
+general_reference c operation next r n None = None
+general_reference c operation next r n (Some a) = word_reference c operation next r n a
+
+-- a branch reaches text
+abbrev pub branch_reference : Contents → ℕ → Option Reference
+branch_reference c target = if eqb c.header.flag 0 then exact (symbol_at c.symbols TextSeg target) else located c.header c.symbols true target
+
+-- what an operand of an instruction at an address refers to
+abbrev pub operand_reference : Contents → Operation → ℕ → ℕ → Option Reloc → Option Operand → Option ℕ → Option Reference
+operand_reference c operation address next r (Some (General m register)) word = general_reference c operation next r (number word) (addressing m register)
+operand_reference c operation address next r (Some (Forward v)) word = branch_reference c (branch_target address v)
+operand_reference c operation address next r (Some (Backward v)) word = branch_reference c (branch_back_target address v)
+operand_reference c operation address next r _ word = None
+
+-- what the operands of the line at a place refer to
+abbrev pub references : Contents → ℕ → Line → References
+references c place (Plain w) = record { first = None; second = None }
+references c place (Decoded i a b) = record {
+  first = operand_reference c i.row.operation (2 * place) (first_next (2 * place)) (slice_get c.text_reloc (place + 1)) i.first a;
+  second = operand_reference c i.row.operation (2 * place) (second_next (2 * place) i.first) (slice_get c.text_reloc (place + 1 + word_count_of i.first)) i.second b;
+}
+
+abbrev pub decoded_text : Contents → ℕ → List ℕ
+decoded_text c place = let line : Line = line_at c.text_words place in text_with (references c place line) (2 * place) line
+
+abbrev pub text_by : Contents → ℕ → Option Reloc → List ℕ
+text_by c place None = decoded_text c place
+text_by c place (Some r) =
+    if is_relocated (Some r) then relocated_text c.symbols r (slice_index c.text_words place) (2 * place) else decoded_text c place
+
+-- the text of the line at a place
+abbrev pub line_text_in : Contents → ℕ → List ℕ
+line_text_in c place = text_by c place (slice_get c.text_reloc place)

@@ -1,0 +1,93 @@
+//! A text in columns.
+ghost use Rattle.std.specs.Prelude.{◌≡◌, ◌<◌, ◌≤◌, ◌+◌, ◌-◌, ◌*◌, ◌++◌, length, take, drop, replicate, OnOk, string_bytes};
+ghost use Rattle.std.specs.List.{flat_map};
+ghost use Rattle.instructions.specs.Lines.{line_length};
+ghost use Rattle.disassemblies.specs.Lines.{line_in};
+ghost use Rattle.disassemblies.specs.Labels.{labels};
+ghost use Rattle.disassemblies.specs.Columns.{word_column, row, lines_from, disassembly};
+
+use crate::label::put_labels;
+use crate::line::{line_in, put_line_text};
+use aout_core::File;
+use instructions::put_six_digits;
+use std::alloc::AllocError;
+
+/// Appends words, each with a blank after it.
+fn put_words(text: &mut String, words: &[u16]) -> Result<(), AllocError>
+    ensures { OnOk result (string_bytes text.new ≡ string_bytes text.old ++ flat_map word_column words.now) }
+{
+    for word in words {
+        put_six_digits(text, *word)?;
+        text.push_str(" ")?;
+    }
+    Ok(())
+}
+
+/// The blanks between so many words, each with a blank after it, and the text of their line.
+fn blanks(count: usize) -> &'static str
+    requires some { 1 ≤ count }
+    requires short { count ≤ 3 }
+    ensures { result.now ≡ replicate (22 - 7 * count) 32 }
+{
+    match count {
+        1 => "               ",
+        2 => "        ",
+        _ => " ",
+    }
+}
+
+/// Appends the line of so many words at a place, in columns.
+fn put_row(text: &mut String, file: &File, place: usize, count: usize) -> Result<(), AllocError>
+    requires within { place + count ≤ length file.now.text_words }
+    requires some { 1 ≤ count }
+    requires short { count ≤ 3 }
+    ensures { OnOk result (string_bytes text.new ≡ string_bytes text.old ++ row file.now place count) }
+{
+    let words = file.text_words();
+    put_six_digits(text, (2 * place) as u16)?;
+    text.push_str("  ")?;
+    put_words(text, &words[place..place + count])?;
+    text.push_str(blanks(count))?;
+    put_line_text(text, file, place)?;
+    text.push_str("\n")
+}
+
+/// Appends the labels and the line of so many words at a place.
+fn put_labelled_row(
+    text: &mut String,
+    file: &File,
+    place: usize,
+    count: usize,
+) -> Result<(), AllocError>
+    requires within { place + count ≤ length file.now.text_words }
+    requires some { 1 ≤ count }
+    requires short { count ≤ 3 }
+    ensures { OnOk result (string_bytes text.new ≡ string_bytes text.old ++ (labels file.now.symbols (2 * place) count ++ row file.now place count)) }
+{
+    let _words = file.text_words();
+    put_labels(text, file.symbols(), (2 * place) as u16, count)?;
+    put_row(text, file, place, count)
+}
+
+/// Appends the labels of the end of the text.
+fn put_end_labels(text: &mut String, file: &File) -> Result<(), AllocError>
+    ensures { OnOk result (string_bytes text.new ≡ string_bytes text.old ++ labels file.now.symbols (2 * length file.now.text_words) 0) }
+{
+    let end = file.text_words().len();
+    put_labels(text, file.symbols(), (2 * end) as u16, 0)
+}
+
+/// Appends the lines of a file's text in columns: the address, two blanks, one to three words in 20 columns, two blanks, and
+/// the text of the line. Labels precede their lines, and those of the end of the text are last. (own choice)
+pub fn put_disassembly(text: &mut String, file: &File) -> Result<(), AllocError>
+    ensures { OnOk result (string_bytes text.new ≡ string_bytes text.old ++ disassembly file.now) }
+{
+    let end = file.text_words().len();
+    let mut place = 0;
+    while place < end {
+        let count = line_in(file, place).length();
+        put_labelled_row(text, file, place, count)?;
+        place += count;
+    }
+    put_end_labels(text, file)
+}

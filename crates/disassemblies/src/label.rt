@@ -1,0 +1,89 @@
+//! Labels: the symbols of text, at their addresses.
+ghost use Rattle.std.specs.Prelude.{◌≡◌, ◌<◌, ◌≤◌, ◌*◌, ◌+◌, ◌++◌, OnOk, string_bytes};
+ghost use Rattle.std.specs.List.{flat_map};
+ghost use Rattle.disassemblies.specs.Labels.{label_at, is_within, label_within, labels};
+
+use crate::naming::is_at;
+use aout_core::{Segment, Symbol};
+use instructions::{put_name, put_octal};
+use std::alloc::AllocError;
+
+/// Appends the label of a symbol of text, if it has this address.
+fn put_label_at(text: &mut String, address: u16, symbol: &Symbol) -> Result<(), AllocError>
+    ensures { OnOk result (string_bytes text.new ≡ string_bytes text.old ++ label_at address symbol.now) }
+{
+    if !is_at(Segment::TextSeg, address, symbol) {
+        return Ok(());
+    }
+    put_name(text, &symbol.name)?;
+    text.push_str(":\n")
+}
+
+/// Whether a symbol of text has an address within a line of so many words.
+fn is_within(address: u16, length: usize, symbol: &Symbol) -> bool
+    requires { length ≤ 3 }
+    ensures { result ≡ is_within address length symbol.now }
+{
+    symbol.type_bits % 0o40 == 2
+        && address < symbol.value
+        && usize::from(symbol.value) < usize::from(address) + 2 * length
+}
+
+/// Appends the label of a symbol of text, if it has an address within a line of so many words.
+fn put_label_within(
+    text: &mut String,
+    address: u16,
+    length: usize,
+    symbol: &Symbol,
+) -> Result<(), AllocError>
+    requires { length ≤ 3 }
+    ensures { OnOk result (string_bytes text.new ≡ string_bytes text.old ++ label_within address length symbol.now) }
+{
+    if !is_within(address, length, symbol) {
+        return Ok(());
+    }
+    put_name(text, &symbol.name)?;
+    text.push_str(" = .+")?;
+    put_octal(text, symbol.value - address)?;
+    text.push_str("\n")
+}
+
+fn put_labels_at(text: &mut String, symbols: &[Symbol], address: u16) -> Result<(), AllocError>
+    ensures { OnOk result (string_bytes text.new ≡ string_bytes text.old ++ flat_map (λ s. label_at address s) symbols.now) }
+{
+    for symbol in symbols {
+        put_label_at(text, address, symbol)?;
+    }
+    Ok(())
+}
+
+fn put_labels_within(
+    text: &mut String,
+    symbols: &[Symbol],
+    address: u16,
+    length: usize,
+) -> Result<(), AllocError>
+    requires { length ≤ 3 }
+    ensures { OnOk result (string_bytes text.new ≡ string_bytes text.old ++ flat_map (λ s. label_within address length s) symbols.now) }
+{
+    for symbol in symbols {
+        put_label_within(text, address, length, symbol)?;
+    }
+    Ok(())
+}
+
+/// Appends the labels of a line of so many words at an address, 0 for the end of the text: a line `NAME:` for each symbol of
+/// text with this address, and then a line `NAME = .+K` for each with an address within the line, K from 1 to 5. Both are in
+/// the order of the table. (as(1); labels within a line: own choice)
+pub fn put_labels(
+    text: &mut String,
+    symbols: &[Symbol],
+    address: u16,
+    length: usize,
+) -> Result<(), AllocError>
+    requires { length ≤ 3 }
+    ensures { OnOk result (string_bytes text.new ≡ string_bytes text.old ++ labels symbols.now address length) }
+{
+    put_labels_at(text, symbols, address)?;
+    put_labels_within(text, symbols, address, length)
+}

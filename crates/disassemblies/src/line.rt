@@ -1,0 +1,165 @@
+//! The lines of a file's text.
+ghost use Rattle.instructions.specs.Lines.{line_length};
+ghost use Rattle.std.specs.Prelude.{◌≡◌, ◌≤◌, ◌<◌, ◌*◌, ◌+◌, ◌++◌, length, slice_get, option_copied, OnOk, string_bytes};
+ghost use Rattle.disassemblies.specs.Lines.{line_in, word_reference, general_reference, branch_reference, operand_reference, references, decoded_text, line_text_in};
+
+use crate::linked::{linked_reference, located};
+use crate::naming::reference_at;
+use crate::relocated::{object_reference, put_relocated};
+use aout_core::{File, Reloc, Segment};
+use instructions::{
+    Addressing, Line, Operand, Operation, Reference, References, branch_back_target, branch_target,
+    decode, is_relocated,
+};
+use std::alloc::AllocError;
+
+/// The relocation word of the word at a place of the text, if the file has relocation.
+fn reloc_at(file: &File, place: usize) -> Option<Reloc>
+    ensures { result ≡ slice_get file.now.text_reloc place }
+{
+    file.text_reloc().get(place).copied()
+}
+
+/// The line at a place of a file's text, which counts words. A word that is relocated begins no instruction: it is plain.
+/// (as(1); relocated words: own choice)
+pub fn line_in(file: &File, place: usize) -> Line
+    requires { place < length file.now.text_words }
+    ensures line { result ≡ line_in file.now place }
+    ensures fits { place + line_length result ≤ length file.now.text_words }
+{
+    let words = file.text_words();
+    if is_relocated(reloc_at(file, place)) {
+        return Line::Plain(words[place]);
+    }
+    decode(words, place)
+}
+
+/// Where an operand is in a text, and what its instruction does.
+#[derive(Clone, Copy)]
+struct Spot {
+    operation: Operation,
+    /// The address of the instruction.
+    address: u16,
+    /// The place of the operand word, if there is one.
+    place: usize,
+    /// The address after the operand word.
+    next: u32,
+}
+
+/// What an operand word refers to.
+fn word_reference(file: &File, spot: Spot, word: u16, addressing: Addressing) -> Option<Reference>
+    requires { spot.next < 0o400000 }
+    ensures { result ≡ word_reference file.now spot.operation spot.next (slice_get file.now.text_reloc spot.place) word addressing }
+{
+    match reloc_at(file, spot.place) {
+        Some(reloc) => object_reference(file.symbols(), reloc, word, spot.next, addressing),
+        None => {
+            let header = file.header();
+            linked_reference(
+                header,
+                file.symbols(),
+                spot.operation,
+                word,
+                spot.next,
+                addressing,
+            )
+        }
+    }
+}
+
+/// What the target of a branch is.
+fn branch_reference(file: &File, target: u16) -> Option<Reference>
+    ensures { result ≡ branch_reference file.now target }
+{
+    let header = file.header();
+    if header.flag == 0 {
+        return reference_at(file.symbols(), Segment::TextSeg, target);
+    }
+    located(header, file.symbols(), true, target)
+}
+
+/// What an operand refers to, if a name is known for it.
+fn operand_reference(
+    file: &File,
+    spot: Spot,
+    operand: Option<Operand>,
+    word: Option<u16>,
+) -> Option<Reference>
+    requires { spot.next < 0o400000 }
+    ensures { result ≡ operand_reference file.now spot.operation spot.address spot.next (slice_get file.now.text_reloc spot.place) operand word }
+{
+    match operand? {
+        Operand::General(mode, register) => {
+            let addressing = mode.addressing(register)?;
+            word_reference(file, spot, word.unwrap_or(0), addressing)
+        }
+        Operand::Forward(offset) => branch_reference(file, branch_target(spot.address, offset)),
+        Operand::Backward(offset) => {
+            branch_reference(file, branch_back_target(spot.address, offset))
+        }
+        Operand::Accumulator(_) | Operand::Register(_) | Operand::Number(_) => None,
+    }
+}
+
+/// What the operands of the line at a place refer to.
+fn references(file: &File, place: usize, line: &Line) -> References
+    requires { 2 * place < 65536 }
+    ensures { result ≡ references file.now place line.now }
+{
+    let Line::Decoded(instruction, word, other) = line else {
+        return References {
+            first: None,
+            second: None,
+        };
+    };
+    let address = (2 * place) as u16;
+    let before = instruction.words_before_second();
+    let first = Spot {
+        operation: instruction.row.operation,
+        address,
+        place: place + 1,
+        next: u32::from(address) + 4,
+    };
+    let second = Spot {
+        place: place + 1 + before,
+        next: first.next + 2 * before as u32,
+        ..first
+    };
+    References {
+        first: operand_reference(file, first, instruction.first, *word),
+        second: operand_reference(file, second, instruction.second, *other),
+    }
+}
+
+/// Appends the text of an instruction or a plain word that is not relocated.
+fn put_decoded(text: &mut String, file: &File, place: usize) -> Result<(), AllocError>
+    requires { place < length file.now.text_words }
+    ensures { OnOk result (string_bytes text.new ≡ string_bytes text.old ++ decoded_text file.now place) }
+{
+    let words = file.text_words();
+    let line = decode(words, place);
+    let references = references(file, place, &line);
+    line.put_text_with((2 * place) as u16, &references, text)
+}
+
+/// Appends the text of the line at a place of a file's text, which counts words. Where a name is known, it is in place of the
+/// number. A relocated word that begins a line is followed by what it refers to, as `000002 / _x+2`. (as(1); names and
+/// relocated words: own choice)
+pub fn put_line_text(text: &mut String, file: &File, place: usize) -> Result<(), AllocError>
+    requires { place < length file.now.text_words }
+    ensures { OnOk result (string_bytes text.new ≡ string_bytes text.old ++ line_text_in file.now place) }
+{
+    let words = file.text_words();
+    match reloc_at(file, place) {
+        Some(reloc) if is_relocated(Some(reloc)) => {
+            put_relocated(
+                text,
+                file.symbols(),
+                reloc,
+                words[place],
+                (2 * place) as u16,
+            )
+        }
+        _ => put_decoded(text, file, place),
+    }
+}

@@ -1,0 +1,73 @@
+//! What the addresses of a linked file refer to.
+ghost use Rattle.std.specs.Prelude.{◌≡◌, ◌<◌};
+ghost use Rattle.disassemblies.specs.Linked.{segment_at, located, jumps, linked_reference};
+
+use crate::naming::{after, reference_at};
+use aout_core::{Header, Segment, Symbol};
+use instructions::{Addressing, Operation, Reference};
+use listings::data_start;
+
+/// The segment in which an address lies, in the space of instructions or in that of data.
+fn segment_at(header: &Header, fetches: bool, address: u16) -> Option<Segment>
+    ensures { result ≡ segment_at header.now fetches address }
+{
+    let is_split = header.magic == 0o411;
+    if address < header.text_size && (fetches || !is_split) {
+        return Some(Segment::TextSeg);
+    }
+    if header.magic == 0o405 || (is_split && fetches) {
+        return None;
+    }
+    let address = usize::from(address);
+    let start = data_start(header.magic, usize::from(header.text_size));
+    let end = start + usize::from(header.data_size);
+    if start <= address && address < end {
+        return Some(Segment::DataSeg);
+    }
+    if end <= address && address < end + usize::from(header.bss_size) {
+        return Some(Segment::BssSeg);
+    }
+    None
+}
+
+/// What an address of the space of instructions or of that of data refers to.
+pub(crate) fn located(
+    header: &Header,
+    symbols: &[Symbol],
+    fetches: bool,
+    address: u16,
+) -> Option<Reference>
+    ensures { result ≡ located header.now symbols.now fetches address }
+{
+    reference_at(symbols, segment_at(header, fetches, address)?, address)
+}
+
+fn jumps(operation: Operation) -> bool
+    ensures { result ≡ jumps operation }
+{
+    match operation {
+        Operation::Jmp | Operation::Jsr => true,
+        _ => false,
+    }
+}
+
+/// What an operand word refers to in a linked file; `next` is the address after it. Whether an immediate number or an index
+/// is an address is not known.
+pub(crate) fn linked_reference(
+    header: &Header,
+    symbols: &[Symbol],
+    operation: Operation,
+    word: u16,
+    next: u32,
+    addressing: Addressing,
+) -> Option<Reference>
+    requires { next < 0o400000 }
+    ensures { result ≡ linked_reference header.now symbols.now operation word next addressing }
+{
+    match addressing {
+        Addressing::Absolute => located(header, symbols, jumps(operation), word),
+        Addressing::Relative => { located(header, symbols, jumps(operation), after(next, word)) }
+        Addressing::RelativeDeferred => located(header, symbols, false, after(next, word)),
+        Addressing::Immediate | Addressing::Indexed => None,
+    }
+}

@@ -1,0 +1,90 @@
+//! The symbols that name numbers.
+ghost use Rattle.std.specs.Prelude.{◌≡◌, ◌<◌};
+ghost use Rattle.std.specs.Prelude.{find};
+ghost use Rattle.aout_core.specs.Words.{plus};
+ghost use Rattle.disassemblies.specs.Naming.{is_at, is_external_at, symbol_at, exact, beyond};
+
+use aout_core::{Segment, Symbol};
+use instructions::Reference;
+
+/// The address so many bytes after another.
+pub(crate) fn after(address: u32, bytes: u16) -> u16
+    requires { address < 0o400000 }
+    ensures { result ≡ plus bytes address }
+{
+    ((u32::from(bytes) + address) % 0o200000) as u16
+}
+
+/// Whether a symbol has this segment and value.
+pub(crate) fn is_at(segment: Segment, value: u16, symbol: &Symbol) -> bool
+    ensures { result ≡ is_at segment value symbol.now }
+{
+    symbol.type_bits % 0o40 == segment.number() && symbol.value == value
+}
+
+/// The first external symbol with this segment and value.
+fn external_at(symbols: &[Symbol], segment: Segment, value: u16) -> Option<Symbol>
+    ensures { result ≡ find (λ s. is_external_at segment value s) symbols.now }
+{
+    let mut left = symbols;
+    while let [symbol, rest @ ..] = left {
+        if symbol.is_external() && is_at(segment, value, symbol) {
+            return Some(*symbol);
+        }
+        left = rest;
+    }
+    None
+}
+
+/// The first symbol with this segment and value.
+fn first_at(symbols: &[Symbol], segment: Segment, value: u16) -> Option<Symbol>
+    ensures { result ≡ find (λ s. is_at segment value s) symbols.now }
+{
+    let mut left = symbols;
+    while let [symbol, rest @ ..] = left {
+        if is_at(segment, value, symbol) {
+            return Some(*symbol);
+        }
+        left = rest;
+    }
+    None
+}
+
+/// The symbol that names an address of a segment, or an absolute number: an external one before the others, and then the
+/// first of the table.
+fn symbol_at(symbols: &[Symbol], segment: Segment, value: u16) -> Option<Symbol>
+    ensures { result ≡ symbol_at symbols.now segment value }
+{
+    match external_at(symbols, segment, value) {
+        Some(symbol) => Some(symbol),
+        None => first_at(symbols, segment, value),
+    }
+}
+
+/// The reference to the symbol that names an address of a segment, or an absolute number.
+pub(crate) fn reference_at(symbols: &[Symbol], segment: Segment, value: u16) -> Option<Reference>
+    ensures { result ≡ exact (symbol_at symbols.now segment value) }
+{
+    match symbol_at(symbols, segment, value) {
+        Some(symbol) => Some(Reference {
+            name: symbol.name,
+            offset: 0,
+        }),
+        None => None,
+    }
+}
+
+/// The reference to an external that the file leaves undefined, and so far beyond it.
+pub(crate) fn reference_beyond(symbol: Option<Symbol>, offset: u16) -> Option<Reference>
+    ensures { result ≡ beyond symbol offset }
+{
+    match symbol {
+        Some(symbol) if symbol.is_external() && symbol.segment() == Segment::Undefined => {
+            Some(Reference {
+                name: symbol.name,
+                offset,
+            })
+        }
+        _ => None,
+    }
+}

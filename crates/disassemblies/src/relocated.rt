@@ -1,0 +1,124 @@
+//! What relocation words refer to.
+ghost use Rattle.std.specs.Prelude.{◌≡◌, ◌<◌, ◌++◌, OnOk, string_bytes};
+ghost use Rattle.disassemblies.specs.Naming.{referred, is_unmoved, object_address, object_reference, meant, segment_word, referred_text, from_the_pc, relocated_text};
+
+use crate::naming::{after, reference_at, reference_beyond};
+use aout_core::{Kind, Reloc, Segment, Symbol};
+use instructions::{Addressing, Reference, put_six_digits};
+use std::alloc::AllocError;
+
+/// What a number refers to by its relocation word.
+fn referred(symbols: &[Symbol], reloc: Reloc, number: u16) -> Option<Reference>
+    ensures { result ≡ referred symbols.now reloc number }
+{
+    match reloc.kind()? {
+        Kind::Absolute => reference_at(symbols, Segment::Absolute, number),
+        Kind::TextSeg => reference_at(symbols, Segment::TextSeg, number),
+        Kind::DataSeg => reference_at(symbols, Segment::DataSeg, number),
+        Kind::BssSeg => reference_at(symbols, Segment::BssSeg, number),
+        Kind::External => reference_beyond(symbols.get(reloc.number() as usize).copied(), number),
+    }
+}
+
+/// Whether a link does not move what a word refers to.
+fn is_unmoved(reloc: Reloc) -> bool
+    ensures { result ≡ is_unmoved reloc }
+{
+    reloc.0 / 2 % 8 == 0
+}
+
+/// What an address refers to that an instruction reaches from the pc.
+fn object_address(symbols: &[Symbol], reloc: Reloc, address: u16) -> Option<Reference>
+    ensures { result ≡ object_address symbols.now reloc address }
+{
+    if reloc.is_pc() {
+        return referred(symbols, reloc, address);
+    }
+    if is_unmoved(reloc) {
+        return reference_at(symbols, Segment::TextSeg, address);
+    }
+    None
+}
+
+/// What an operand word refers to in an object; `next` is the address after it.
+pub(crate) fn object_reference(
+    symbols: &[Symbol],
+    reloc: Reloc,
+    word: u16,
+    next: u32,
+    addressing: Addressing,
+) -> Option<Reference>
+    requires { next < 0o400000 }
+    ensures { result ≡ object_reference symbols.now reloc word next addressing }
+{
+    match addressing {
+        Addressing::Relative | Addressing::RelativeDeferred => {
+            object_address(symbols, reloc, after(next, word))
+        }
+        Addressing::Absolute if !reloc.is_pc() => referred(symbols, reloc, word),
+        Addressing::Immediate | Addressing::Indexed if !reloc.is_pc() && !is_unmoved(reloc) => {
+            referred(symbols, reloc, word)
+        }
+        _ => None,
+    }
+}
+
+/// The address or the number that a word at an address stands for.
+fn meant(reloc: Reloc, word: u16, address: u16) -> u16
+    ensures { result ≡ meant reloc word address }
+{
+    if reloc.is_pc() {
+        word.wrapping_add(address).wrapping_add(2)
+    } else {
+        word
+    }
+}
+
+fn segment_word(reloc: Reloc) -> &'static str
+    ensures { result.now ≡ segment_word reloc }
+{
+    match reloc.kind() {
+        Some(Kind::TextSeg) => "text ",
+        Some(Kind::DataSeg) => "data ",
+        Some(Kind::BssSeg) => "bss ",
+        _ => "the number ",
+    }
+}
+
+/// Appends what a number refers to, with or without a name.
+fn put_referred(
+    text: &mut String,
+    reference: Option<Reference>,
+    reloc: Reloc,
+    number: u16,
+) -> Result<(), AllocError>
+    ensures { OnOk result (string_bytes text.new ≡ string_bytes text.old ++ referred_text reference reloc number) }
+{
+    match reference {
+        Some(reference) => reference.put_text(text),
+        None => {
+            text.push_str(segment_word(reloc))?;
+            put_six_digits(text, number)
+        }
+    }
+}
+
+/// Appends a word at an address that is relocated and begins a line.
+pub(crate) fn put_relocated(
+    text: &mut String,
+    symbols: &[Symbol],
+    reloc: Reloc,
+    word: u16,
+    address: u16,
+) -> Result<(), AllocError>
+    ensures { OnOk result (string_bytes text.new ≡ string_bytes text.old ++ relocated_text symbols.now reloc word address) }
+{
+    let number = meant(reloc, word, address);
+    put_six_digits(text, word)?;
+    text.push_str(" / ")?;
+    put_referred(text, referred(symbols, reloc, number), reloc, number)?;
+    if reloc.is_pc() {
+        text.push_str(", from the pc")?;
+    }
+    Ok(())
+}
