@@ -15,3 +15,4 @@ pub mod ReorderedLinks
 pub mod ReorderedAdditions
 pub mod ReorderedMeanings
 pub mod SingleDefinitions
+mod InstructionLemmas

@@ -4,3 +4,4 @@ pub mod Core
 pub mod CoreLaws
 pub mod Operands
 pub mod Orders
+pub mod Instructions

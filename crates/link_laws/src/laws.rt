@@ -1,6 +1,7 @@
 //! Laws of loaded programs, lists and orders: each is the contract of a function with an empty body.
 ghost use Rattle.link_laws.specs.CoreLaws.{SegmentsLieApart, SpacesAreOne, AddressesFit, WordsAreLoaded, WordsOfRowsAreLoaded, KeepChangesNothing, StrippedIsLoaded, BssIsZero, CommonsAreZero, NothingElse};
 ghost use Rattle.link_laws.specs.Operands.{NamesAreFound, SegmentsAreFound, CallsArrive};
+ghost use Rattle.link_laws.specs.Instructions.{InstructionsAreKept, TextsAreKept};
 ghost use Rattle.link_laws.specs.Listings.{UndefinedAreListed, UndefinedLines, RowLines, ExternalsAreListed, SizesAreSums};
 ghost use Rattle.link_laws.specs.Orders.{OrderAddsAlike, OrderLinksAlike, OrderRefusesAlike, OrderKeepsSizes, OrderReportsAlike, OrderFindsEntry, OrderKeepsMeanings, OrderKeepsReferents, OnceInAnyOrder};
 
@@ -45,6 +46,19 @@ pub fn operand_law()
     ensures names { NamesAreFound }
     ensures segments { SegmentsAreFound }
     ensures calls { CallsArrive }
+{}
+
+/// Linking preserves the instructions of an object if none of the lines of its text begins with a relocated word, and none of its
+/// instructions is cut. (ld(1), the handbook of the PDP-11/70)
+///
+/// - `kept`: in any link, with `-r` and with `-s` too, the file's text decoded from where that of the object begins has its lines
+///   first: as many words each, with the same operations, modes, registers and numbers. An operand word is the word that
+///   relocation makes of that of the object.
+/// - `texts`: if this is so of all objects, the file's text decoded from its beginning has the lines of the objects in order, and
+///   no others.
+pub fn instruction_law()
+    ensures kept { InstructionsAreKept }
+    ensures texts { TextsAreKept }
 {}
 
 /// Lists agree with links: what nm and size show for a linked file is what its link reported, and what its objects
