@@ -11,10 +11,10 @@ use Rattle.aout_core.specs.declared.symbol.Segment.TheVariants.{TextSeg, DataSeg
 use Rattle.aout_core.specs.Words.{plus}
 use Rattle.listings.specs.Drafts.{data_start}
 use Rattle.instructions.specs.declared.operation.Operation.{Operation}
-use Rattle.instructions.specs.declared.operation.Operation.TheVariants.{Jmp, Jsr}
 use Rattle.instructions.specs.declared.mode.Addressing.{Addressing}
 use Rattle.instructions.specs.declared.mode.Addressing.TheVariants as ways
 use Rattle.instructions.specs.declared.reference.Reference.{Reference}
+use Rattle.instructions.specs.Instructions.{jumps}
 use Rattle.disassemblies.specs.Naming.{symbol_at, exact}
 
 -- where data begins
@@ -41,12 +41,6 @@ named_in symbols (Some segment) address = exact (symbol_at symbols segment addre
 
 abbrev pub located : Header → List Symbol → Bool → ℕ → Option Reference
 located h symbols fetches address = named_in symbols (segment_at h fetches address) address
-
--- the next instruction is fetched from the operand
-abbrev pub jumps : Operation → Bool
-jumps Jmp = true
-jumps Jsr = true
-jumps _ = false
 
 -- what an operand word refers to; next is the address after it
 abbrev pub linked_reference : Header → List Symbol → Operation → ℕ → ℕ → Addressing → Option Reference

@@ -1,6 +1,6 @@
 //! What the addresses of a linked file refer to.
 ghost use Rattle.std.specs.Prelude.{◌≡◌, ◌<◌};
-ghost use Rattle.disassemblies.specs.Linked.{segment_at, located, jumps, linked_reference};
+ghost use Rattle.disassemblies.specs.Linked.{segment_at, located, linked_reference};
 
 use crate::naming::{after, reference_at};
 use aout_core::{Header, Segment, Symbol};
@@ -42,15 +42,6 @@ pub(crate) fn located(
     reference_at(symbols, segment_at(header, fetches, address)?, address)
 }
 
-fn jumps(operation: Operation) -> bool
-    ensures { result ≡ jumps operation }
-{
-    match operation {
-        Operation::Jmp | Operation::Jsr => true,
-        _ => false,
-    }
-}
-
 /// What an operand word refers to in a linked file; `next` is the address after it. Whether an immediate number or an index
 /// is an address is not known.
 pub(crate) fn linked_reference(
@@ -65,8 +56,8 @@ pub(crate) fn linked_reference(
     ensures { result ≡ linked_reference header.now symbols.now operation word next addressing }
 {
     match addressing {
-        Addressing::Absolute => located(header, symbols, jumps(operation), word),
-        Addressing::Relative => { located(header, symbols, jumps(operation), after(next, word)) }
+        Addressing::Absolute => located(header, symbols, operation.jumps(), word),
+        Addressing::Relative => { located(header, symbols, operation.jumps(), after(next, word)) }
         Addressing::RelativeDeferred => located(header, symbols, false, after(next, word)),
         Addressing::Immediate | Addressing::Indexed => None,
     }

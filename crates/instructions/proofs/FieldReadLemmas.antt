@@ -18,7 +18,7 @@ use Rattle.instructions.specs.References.{octal}
 use Rattle.instructions.specs.Texts.{register_text, number, signed, in_parentheses, branch_target, branch_back_target}
 use Rattle.instructions.proofs.PlainTexts.{increment_text, index_text, general_text, operand_text}
 use Rattle.instructions.proofs.FieldLemmas.{mode_again, register_again, general_again}
-use Rattle.instructions.proofs.SplitLemmas.{free, other_test, free_append, AreDigits, octal_is, digits_free}
+use Rattle.instructions.proofs.SplitLemmas.{free, other_test, AreDigits, octal_is, clean, clean_append, clean_comma, digits_clean}
 use Rattle.instructions.proofs.ReadLemmas.{Reading, register_read, tail, general_read, general_back, register_back}
 
 -- an operand has its word exactly if it takes one
@@ -136,76 +136,80 @@ field_back fields.Byte v a next address h w = pair_same (digits_value 8 (octal v
 field_back fields.SixBits v a next address h w = pair_same (digits_value 8 (octal v)) v None a (octal_value v (omega arith)) (sym w.is)
 field_back fields.ThreeBits v a next address h w = pair_same (digits_value 8 (octal v)) v None a (octal_value v (omega arith)) (sym w.is)
 
-octal_free : (n : ℕ) → n < 0o200000 → free 44 (octal n) ≡ true
-octal_free n h = digits_free 44 (octal n) (omega arith) (octal_is n h).digits
+octal_clean : (n : ℕ) → n < 0o200000 → clean (octal n) ≡ true
+octal_clean n h = digits_clean (octal n) (octal_is n h).digits
 
-register_free : (r : Register) → free 44 (register_text r) ≡ true
-register_free R0 = refl
-register_free R1 = refl
-register_free R2 = refl
-register_free R3 = refl
-register_free R4 = refl
-register_free R5 = refl
-register_free Sp = refl
-register_free Pc = refl
+register_clean : (r : Register) → clean (register_text r) ≡ true
+register_clean R0 = refl
+register_clean R1 = refl
+register_clean R2 = refl
+register_clean R3 = refl
+register_clean R4 = refl
+register_clean R5 = refl
+register_clean Sp = refl
+register_clean Pc = refl
 
-in_free : (r : Register) → free 44 (in_parentheses r) ≡ true
-in_free R0 = refl
-in_free R1 = refl
-in_free R2 = refl
-in_free R3 = refl
-in_free R4 = refl
-in_free R5 = refl
-in_free Sp = refl
-in_free Pc = refl
+in_clean : (r : Register) → clean (in_parentheses r) ≡ true
+in_clean R0 = refl
+in_clean R1 = refl
+in_clean R2 = refl
+in_clean R3 = refl
+in_clean R4 = refl
+in_clean R5 = refl
+in_clean Sp = refl
+in_clean Pc = refl
 
-increment_free : (r : Register) (n : ℕ) → n < 0o200000 → free 44 (increment_text r n) ≡ true
-increment_free R0 n h = refl
-increment_free R1 n h = refl
-increment_free R2 n h = refl
-increment_free R3 n h = refl
-increment_free R4 n h = refl
-increment_free R5 n h = refl
-increment_free Sp n h = refl
-increment_free Pc n h = octal_free n h
+increment_clean : (r : Register) (n : ℕ) → n < 0o200000 → clean (increment_text r n) ≡ true
+increment_clean R0 n h = refl
+increment_clean R1 n h = refl
+increment_clean R2 n h = refl
+increment_clean R3 n h = refl
+increment_clean R4 n h = refl
+increment_clean R5 n h = refl
+increment_clean Sp n h = refl
+increment_clean Pc n h = octal_clean n h
 
-signed_free : (b : Bool) (n : ℕ) → n < 0o200000 → nat_lt n 0o100000 ≡ b → free 44 (if b then octal n else codes "-" ++ octal (0o200000 - n)) ≡ true
-signed_free true n h e = octal_free n h
-signed_free false n h e = let large : 0o100000 ≤ n = grind (arith, nat_tests) in octal_free (0o200000 - n) (omega arith)
+signed_clean : (b : Bool) (n : ℕ) → n < 0o200000 → nat_lt n 0o100000 ≡ b → clean (if b then octal n else codes "-" ++ octal (0o200000 - n)) ≡ true
+signed_clean true n h e = octal_clean n h
+signed_clean false n h e = let large : 0o100000 ≤ n = grind (arith, nat_tests) in octal_clean (0o200000 - n) (omega arith)
 
-index_free : (r : Register) (n next : ℕ) → n < 0o200000 → free 44 (index_text r n next) ≡ true
-index_free R0 n next h = free_append 44 (signed n) (in_parentheses R0) (signed_free (nat_lt n 0o100000) n h refl) (in_free R0)
-index_free R1 n next h = free_append 44 (signed n) (in_parentheses R1) (signed_free (nat_lt n 0o100000) n h refl) (in_free R1)
-index_free R2 n next h = free_append 44 (signed n) (in_parentheses R2) (signed_free (nat_lt n 0o100000) n h refl) (in_free R2)
-index_free R3 n next h = free_append 44 (signed n) (in_parentheses R3) (signed_free (nat_lt n 0o100000) n h refl) (in_free R3)
-index_free R4 n next h = free_append 44 (signed n) (in_parentheses R4) (signed_free (nat_lt n 0o100000) n h refl) (in_free R4)
-index_free R5 n next h = free_append 44 (signed n) (in_parentheses R5) (signed_free (nat_lt n 0o100000) n h refl) (in_free R5)
-index_free Sp n next h = free_append 44 (signed n) (in_parentheses Sp) (signed_free (nat_lt n 0o100000) n h refl) (in_free Sp)
-index_free Pc n next h = octal_free ((n + next) % 0o200000) (omega arith)
+index_clean : (r : Register) (n next : ℕ) → n < 0o200000 → clean (index_text r n next) ≡ true
+index_clean R0 n next h = clean_append (signed n) (in_parentheses R0) (signed_clean (nat_lt n 0o100000) n h refl) (in_clean R0)
+index_clean R1 n next h = clean_append (signed n) (in_parentheses R1) (signed_clean (nat_lt n 0o100000) n h refl) (in_clean R1)
+index_clean R2 n next h = clean_append (signed n) (in_parentheses R2) (signed_clean (nat_lt n 0o100000) n h refl) (in_clean R2)
+index_clean R3 n next h = clean_append (signed n) (in_parentheses R3) (signed_clean (nat_lt n 0o100000) n h refl) (in_clean R3)
+index_clean R4 n next h = clean_append (signed n) (in_parentheses R4) (signed_clean (nat_lt n 0o100000) n h refl) (in_clean R4)
+index_clean R5 n next h = clean_append (signed n) (in_parentheses R5) (signed_clean (nat_lt n 0o100000) n h refl) (in_clean R5)
+index_clean Sp n next h = clean_append (signed n) (in_parentheses Sp) (signed_clean (nat_lt n 0o100000) n h refl) (in_clean Sp)
+index_clean Pc n next h = octal_clean ((n + next) % 0o200000) (omega arith)
 
-general_free : (m : Mode) (r : Register) (n next : ℕ) → n < 0o200000 → free 44 (general_text m r n next) ≡ true
-general_free modes.Direct r n next h = register_free r
-general_free modes.Deferred r n next h = in_free r
-general_free modes.Increment r n next h = increment_free r n h
-general_free modes.IncrementDeferred r n next h = increment_free r n h
-general_free modes.Decrement r n next h = in_free r
-general_free modes.DecrementDeferred r n next h = in_free r
-general_free modes.Index r n next h = index_free r n next h
-general_free modes.IndexDeferred r n next h = index_free r n next h
+general_clean : (m : Mode) (r : Register) (n next : ℕ) → n < 0o200000 → clean (general_text m r n next) ≡ true
+general_clean modes.Direct r n next h = register_clean r
+general_clean modes.Deferred r n next h = in_clean r
+general_clean modes.Increment r n next h = increment_clean r n h
+general_clean modes.IncrementDeferred r n next h = increment_clean r n h
+general_clean modes.Decrement r n next h = in_clean r
+general_clean modes.DecrementDeferred r n next h = in_clean r
+general_clean modes.Index r n next h = index_clean r n next h
+general_clean modes.IndexDeferred r n next h = index_clean r n next h
 
-floating_free : (b : Bool) (v n next address : ℕ) → v < 0o100 → n < 0o200000 → free 44 (operand_text (if b then operands.Accumulator v else general v) n next address) ≡ true
-floating_free true v n next address h k = octal_free v (omega arith)
-floating_free false v n next address h k = general_free (mode_numbered (v / 8)) (register_numbered (v % 8)) n next k
+floating_clean : (b : Bool) (v n next address : ℕ) → v < 0o100 → n < 0o200000 → clean (operand_text (if b then operands.Accumulator v else general v) n next address) ≡ true
+floating_clean true v n next address h k = octal_clean v (omega arith)
+floating_clean false v n next address h k = general_clean (mode_numbered (v / 8)) (register_numbered (v % 8)) n next k
+
+-- no operand has a blank, a newline or a comma
+pub field_clean : (f : Field) (v n next address : ℕ) → v < size f → n < 0o200000 → clean (operand_text (operand_of f v) n next address) ≡ true
+field_clean fields.Source v n next address h k = general_clean (mode_numbered (v / 8)) (register_numbered (v % 8)) n next k
+field_clean fields.Destination v n next address h k = general_clean (mode_numbered (v / 8)) (register_numbered (v % 8)) n next k
+field_clean fields.Floating v n next address h k = floating_clean (nat_lt v 8) v n next address h k
+field_clean fields.Register v n next address h k = register_clean (register_numbered v)
+field_clean fields.LowRegister v n next address h k = register_clean (register_numbered v)
+field_clean fields.Accumulator v n next address h k = octal_clean v (omega arith)
+field_clean fields.Forward v n next address h k = octal_clean (branch_target address v) (omega arith)
+field_clean fields.Backward v n next address h k = octal_clean (branch_back_target address v) (omega arith)
+field_clean fields.Byte v n next address h k = octal_clean v (omega arith)
+field_clean fields.SixBits v n next address h k = octal_clean v (omega arith)
+field_clean fields.ThreeBits v n next address h k = octal_clean v (omega arith)
 
 pub field_free : (f : Field) (v n next address : ℕ) → v < size f → n < 0o200000 → free 44 (operand_text (operand_of f v) n next address) ≡ true
-field_free fields.Source v n next address h k = general_free (mode_numbered (v / 8)) (register_numbered (v % 8)) n next k
-field_free fields.Destination v n next address h k = general_free (mode_numbered (v / 8)) (register_numbered (v % 8)) n next k
-field_free fields.Floating v n next address h k = floating_free (nat_lt v 8) v n next address h k
-field_free fields.Register v n next address h k = register_free (register_numbered v)
-field_free fields.LowRegister v n next address h k = register_free (register_numbered v)
-field_free fields.Accumulator v n next address h k = octal_free v (omega arith)
-field_free fields.Forward v n next address h k = octal_free (branch_target address v) (omega arith)
-field_free fields.Backward v n next address h k = octal_free (branch_back_target address v) (omega arith)
-field_free fields.Byte v n next address h k = octal_free v (omega arith)
-field_free fields.SixBits v n next address h k = octal_free v (omega arith)
-field_free fields.ThreeBits v n next address h k = octal_free v (omega arith)
+field_free f v n next address h k = clean_comma (operand_text (operand_of f v) n next address) (field_clean f v n next address h k)

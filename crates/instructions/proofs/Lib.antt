@@ -8,3 +8,4 @@ pub mod TableLemmas
 pub mod ReadLineLemmas
 pub mod FoundLemmas
 pub mod AlikeLemmas
+pub mod WholeTextLemmas

@@ -179,18 +179,18 @@ slice_word [] k h l = absurd (omega arith)
 slice_word (x ∷ xs) zero h l = record { is = refl; fits = h.0 }
 slice_word (x ∷ xs) (suc k) h l = slice_word xs k h.1 (omega arith)
 
-word_at : (b : Bool) (words : List ℕ) (k : ℕ) → AreWords words → (b ≡ true → k < length words) → Word b (if b then slice_get words k else None)
+pub word_at : (b : Bool) (words : List ℕ) (k : ℕ) → AreWords words → (b ≡ true → k < length words) → Word b (if b then slice_get words k else None)
 word_at true words k h l = slice_word words k h (l refl)
 word_at false words k h l = record { is = refl; fits = omega arith }
 
-room_first : (a b : Bool) (n : ℕ) → (if a then 1 else 0) + (if b then 1 else 0) ≤ n → a ≡ true → 0 < n
+pub room_first : (a b : Bool) (n : ℕ) → (if a then 1 else 0) + (if b then 1 else 0) ≤ n → a ≡ true → 0 < n
 room_first true b n h e = room b h where
   room : (b : Bool) → 1 + (if b then 1 else 0) ≤ n → 0 < n
   room true h = omega arith
   room false h = omega arith
 room_first false b n h e = absurd cc
 
-room_second : (a b : Bool) (n : ℕ) → (if a then 1 else 0) + (if b then 1 else 0) ≤ n → b ≡ true → (if a then 1 else 0) < n
+pub room_second : (a b : Bool) (n : ℕ) → (if a then 1 else 0) + (if b then 1 else 0) ≤ n → b ≡ true → (if a then 1 else 0) < n
 room_second true true n h e = omega arith
 room_second false true n h e = omega arith
 room_second a false n h e = absurd cc
@@ -223,13 +223,13 @@ row_back None w following address h ws s g = plain_back address w h
 row_back (Some r) w following address h ws s g =
     missing_by (is_missing (field_operand r.first w) || is_missing (field_operand r.second w)) r w following address h ws (s r refl) (g r refl)
 
-words_from : (words : List ℕ) (k : ℕ) → AreWords words → AreWords (drop k words)
+pub words_from : (words : List ℕ) (k : ℕ) → AreWords words → AreWords (drop k words)
 words_from [] zero h = h
 words_from [] (suc k) h = tt
 words_from (x ∷ xs) zero h = h
 words_from (x ∷ xs) (suc k) h = words_from xs k h.1
 
-word_in : (words : List ℕ) (k : ℕ) → AreWords words → slice_index words k < 0o200000
+pub word_in : (words : List ℕ) (k : ℕ) → AreWords words → slice_index words k < 0o200000
 word_in [] k h = omega arith
 word_in (x ∷ xs) zero h = h.0
 word_in (x ∷ xs) (suc k) h = word_in xs k h.1

@@ -1,5 +1,5 @@
 -- Texts that are taken apart at their first separator, and octal numbers that are read back.
-use Rattle.std.proofs.Common.{◌≡◌, ℕ, ◌^◌, ◌<◌, ◌≤◌, Bool, true, false, eqb, if◌then◌else◌, List, [], ◌∷◌, ◌++◌, length, refl, ap, ◌∙◌, arith}
+use Rattle.std.proofs.Common.{◌≡◌, ℕ, ◌^◌, ◌<◌, ◌≤◌, Bool, true, false, eqb, nat_lt, if◌then◌else◌, List, [], ◌∷◌, ◌++◌, length, refl, ap, ◌∙◌, arith}
 use Rattle.std.proofs.lemmas.Bool.Decides.{nat_tests}
 use Rattle.std.proofs.lemmas.Fmt.{digits_is_IsNumeral}
 use Rattle.std.proofs.lemmas.Str.Parse.{digit_from_value}
@@ -83,3 +83,41 @@ octal_is n h =
 pub digits_free : (c : ℕ) (ds : List ℕ) → (c < 48) → AreDigits ds → free c ds ≡ true
 digits_free c [] low h = refl
 digits_free c (d ∷ ds) low h = ap (λ b. if b then false else free c ds) (other_test d c (λ e. omega arith)) ∙ digits_free c ds low h.2
+
+-- neither a blank, a newline nor a comma
+abbrev pub clean : List ℕ → Bool
+clean [] = true
+clean (x ∷ xs) = if nat_lt x 33 then false else (if eqb x 44 then false else clean xs)
+
+clean_parts : (b d : Bool) (xs : List ℕ) → (if b then false else (if d then false else clean xs)) ≡ true → (b ≡ false) × (d ≡ false) × (clean xs ≡ true)
+clean_parts true d xs h = absurd cc
+clean_parts false true xs h = absurd cc
+clean_parts false false xs h = (refl, refl, h)
+
+pub clean_append : (xs ys : List ℕ) → clean xs ≡ true → clean ys ≡ true → clean (xs ++ ys) ≡ true
+clean_append [] ys f g = g
+clean_append (x ∷ xs) ys f g =
+    let t = clean_parts (nat_lt x 33) (eqb x 44) xs f in
+    ap (λ b. if b then false else (if eqb x 44 then false else clean (xs ++ ys))) t.0 ∙ ap (λ b. if b then false else clean (xs ++ ys)) t.1
+    ∙ clean_append xs ys t.2 g
+
+pub clean_comma : (xs : List ℕ) → clean xs ≡ true → free 44 xs ≡ true
+clean_comma [] h = refl
+clean_comma (x ∷ xs) h = let t = clean_parts (nat_lt x 33) (eqb x 44) xs h in ap (λ b. if b then false else free 44 xs) t.1 ∙ clean_comma xs t.2
+
+large_is_other : (x c : ℕ) → nat_lt x 33 ≡ false → c < 33 → eqb x c ≡ false
+large_is_other x c h low = let large : 33 ≤ x = grind (arith, nat_tests) in other_test x c (λ e. omega arith)
+
+pub clean_free : (c : ℕ) (xs : List ℕ) → c < 33 → clean xs ≡ true → free c xs ≡ true
+clean_free c [] low h = refl
+clean_free c (x ∷ xs) low h =
+    let t = clean_parts (nat_lt x 33) (eqb x 44) xs h in ap (λ b. if b then false else free c xs) (large_is_other x c t.0 low) ∙ clean_free c xs low t.2
+
+digit_large : (d : ℕ) → 48 ≤ d → nat_lt d 33 ≡ false
+digit_large d h = grind (arith, nat_tests)
+
+pub digits_clean : (ds : List ℕ) → AreDigits ds → clean ds ≡ true
+digits_clean [] h = refl
+digits_clean (d ∷ ds) h =
+    ap (λ b. if b then false else (if eqb d 44 then false else clean ds)) (digit_large d h.0)
+    ∙ ap (λ b. if b then false else clean ds) (other_test d 44 (λ e. omega (arith, h.0))) ∙ digits_clean ds h.2

@@ -8,7 +8,7 @@ use Rattle.instructions.specs.declared.table.Row.{Row}
 use Rattle.instructions.specs.declared.table.TheConstants.{ROWS}
 use Rattle.instructions.specs.Rows.{begins, row_of}
 use Rattle.instructions.specs.Names.{name_text}
-use Rattle.instructions.proofs.SplitLemmas.{free}
+use Rattle.instructions.proofs.SplitLemmas.{free, clean as spotless}
 
 abbrev pub same_text : List ℕ → List ℕ → Bool
 same_text [] [] = true
@@ -45,6 +45,7 @@ Fits base a = FitsBy (eqb base 0o172400) (eqb base 0o174000) a
 pub record Sound (r : Row) : Type 0 where
   pub letter : (rest : List ℕ) → nat_lt (slice_index (name_text r.operation ++ rest) 0) 58 ≡ false
   pub blank : free 32 (name_text r.operation) ≡ true
+  pub clean : spotless (name_text r.operation) ≡ true
   pub alone : r.first ≡ None → r.second ≡ None
   pub floating : eqb r.base 0o172400 ≡ true → r.first ≡ Some fields.Floating
   pub accumulator : eqb r.base 0o174000 ≡ true → r.first ≡ Some fields.Accumulator
@@ -58,233 +59,233 @@ Each (r ∷ rows) = Sound r × Each rows
 each_sound : Each ROWS
 unfolding layout
 each_sound = (
-  record { letter = λ rest. refl; blank = refl; alone = λ e. refl; floating = λ e. cc; accumulator = λ e. cc; ldf = λ e. absurd cc; found = λ a e. refl },
+  record { letter = λ rest. refl; blank = refl; clean = refl; alone = λ e. refl; floating = λ e. cc; accumulator = λ e. cc; ldf = λ e. absurd cc; found = λ a e. refl },
   (
-    record { letter = λ rest. refl; blank = refl; alone = λ e. refl; floating = λ e. cc; accumulator = λ e. cc; ldf = λ e. absurd cc; found = λ a e. refl },
+    record { letter = λ rest. refl; blank = refl; clean = refl; alone = λ e. refl; floating = λ e. cc; accumulator = λ e. cc; ldf = λ e. absurd cc; found = λ a e. refl },
     (
-      record { letter = λ rest. refl; blank = refl; alone = λ e. refl; floating = λ e. cc; accumulator = λ e. cc; ldf = λ e. absurd cc; found = λ a e. refl },
+      record { letter = λ rest. refl; blank = refl; clean = refl; alone = λ e. refl; floating = λ e. cc; accumulator = λ e. cc; ldf = λ e. absurd cc; found = λ a e. refl },
       (
-        record { letter = λ rest. refl; blank = refl; alone = λ e. refl; floating = λ e. cc; accumulator = λ e. cc; ldf = λ e. absurd cc; found = λ a e. refl },
+        record { letter = λ rest. refl; blank = refl; clean = refl; alone = λ e. refl; floating = λ e. cc; accumulator = λ e. cc; ldf = λ e. absurd cc; found = λ a e. refl },
         (
-          record { letter = λ rest. refl; blank = refl; alone = λ e. refl; floating = λ e. cc; accumulator = λ e. cc; ldf = λ e. absurd cc; found = λ a e. refl },
+          record { letter = λ rest. refl; blank = refl; clean = refl; alone = λ e. refl; floating = λ e. cc; accumulator = λ e. cc; ldf = λ e. absurd cc; found = λ a e. refl },
           (
-            record { letter = λ rest. refl; blank = refl; alone = λ e. refl; floating = λ e. cc; accumulator = λ e. cc; ldf = λ e. absurd cc; found = λ a e. refl },
+            record { letter = λ rest. refl; blank = refl; clean = refl; alone = λ e. refl; floating = λ e. cc; accumulator = λ e. cc; ldf = λ e. absurd cc; found = λ a e. refl },
             (
-              record { letter = λ rest. refl; blank = refl; alone = λ e. refl; floating = λ e. cc; accumulator = λ e. cc; ldf = λ e. absurd cc; found = λ a e. refl },
+              record { letter = λ rest. refl; blank = refl; clean = refl; alone = λ e. refl; floating = λ e. cc; accumulator = λ e. cc; ldf = λ e. absurd cc; found = λ a e. refl },
               (
-                record { letter = λ rest. refl; blank = refl; alone = λ e. refl; floating = λ e. cc; accumulator = λ e. cc; ldf = λ e. absurd cc; found = λ a e. refl },
+                record { letter = λ rest. refl; blank = refl; clean = refl; alone = λ e. refl; floating = λ e. cc; accumulator = λ e. cc; ldf = λ e. absurd cc; found = λ a e. refl },
                 (
-                  record { letter = λ rest. refl; blank = refl; alone = λ e. refl; floating = λ e. cc; accumulator = λ e. cc; ldf = λ e. absurd cc; found = λ a e. refl },
+                  record { letter = λ rest. refl; blank = refl; clean = refl; alone = λ e. refl; floating = λ e. cc; accumulator = λ e. cc; ldf = λ e. absurd cc; found = λ a e. refl },
                   (
-                    record { letter = λ rest. refl; blank = refl; alone = λ e. refl; floating = λ e. cc; accumulator = λ e. cc; ldf = λ e. absurd cc; found = λ a e. refl },
+                    record { letter = λ rest. refl; blank = refl; clean = refl; alone = λ e. refl; floating = λ e. cc; accumulator = λ e. cc; ldf = λ e. absurd cc; found = λ a e. refl },
                     (
-                      record { letter = λ rest. refl; blank = refl; alone = λ e. refl; floating = λ e. cc; accumulator = λ e. cc; ldf = λ e. absurd cc; found = λ a e. refl },
+                      record { letter = λ rest. refl; blank = refl; clean = refl; alone = λ e. refl; floating = λ e. cc; accumulator = λ e. cc; ldf = λ e. absurd cc; found = λ a e. refl },
                       (
-                        record { letter = λ rest. refl; blank = refl; alone = λ e. refl; floating = λ e. cc; accumulator = λ e. cc; ldf = λ e. absurd cc; found = λ a e. refl },
+                        record { letter = λ rest. refl; blank = refl; clean = refl; alone = λ e. refl; floating = λ e. cc; accumulator = λ e. cc; ldf = λ e. absurd cc; found = λ a e. refl },
                         (
-                          record { letter = λ rest. refl; blank = refl; alone = λ e. refl; floating = λ e. cc; accumulator = λ e. cc; ldf = λ e. absurd cc; found = λ a e. refl },
+                          record { letter = λ rest. refl; blank = refl; clean = refl; alone = λ e. refl; floating = λ e. cc; accumulator = λ e. cc; ldf = λ e. absurd cc; found = λ a e. refl },
                           (
-                            record { letter = λ rest. refl; blank = refl; alone = λ e. refl; floating = λ e. cc; accumulator = λ e. cc; ldf = λ e. absurd cc; found = λ a e. refl },
+                            record { letter = λ rest. refl; blank = refl; clean = refl; alone = λ e. refl; floating = λ e. cc; accumulator = λ e. cc; ldf = λ e. absurd cc; found = λ a e. refl },
                             (
-                              record { letter = λ rest. refl; blank = refl; alone = λ e. refl; floating = λ e. cc; accumulator = λ e. cc; ldf = λ e. absurd cc; found = λ a e. refl },
+                              record { letter = λ rest. refl; blank = refl; clean = refl; alone = λ e. refl; floating = λ e. cc; accumulator = λ e. cc; ldf = λ e. absurd cc; found = λ a e. refl },
                               (
-                                record { letter = λ rest. refl; blank = refl; alone = λ e. refl; floating = λ e. cc; accumulator = λ e. cc; ldf = λ e. absurd cc; found = λ a e. refl },
+                                record { letter = λ rest. refl; blank = refl; clean = refl; alone = λ e. refl; floating = λ e. cc; accumulator = λ e. cc; ldf = λ e. absurd cc; found = λ a e. refl },
                                 (
-                                  record { letter = λ rest. refl; blank = refl; alone = λ e. refl; floating = λ e. cc; accumulator = λ e. cc; ldf = λ e. absurd cc; found = λ a e. refl },
+                                  record { letter = λ rest. refl; blank = refl; clean = refl; alone = λ e. refl; floating = λ e. cc; accumulator = λ e. cc; ldf = λ e. absurd cc; found = λ a e. refl },
                                   (
-                                    record { letter = λ rest. refl; blank = refl; alone = λ e. refl; floating = λ e. cc; accumulator = λ e. cc; ldf = λ e. absurd cc; found = λ a e. refl },
+                                    record { letter = λ rest. refl; blank = refl; clean = refl; alone = λ e. refl; floating = λ e. cc; accumulator = λ e. cc; ldf = λ e. absurd cc; found = λ a e. refl },
                                     (
-                                      record { letter = λ rest. refl; blank = refl; alone = λ e. refl; floating = λ e. cc; accumulator = λ e. cc; ldf = λ e. absurd cc; found = λ a e. refl },
+                                      record { letter = λ rest. refl; blank = refl; clean = refl; alone = λ e. refl; floating = λ e. cc; accumulator = λ e. cc; ldf = λ e. absurd cc; found = λ a e. refl },
                                       (
-                                        record { letter = λ rest. refl; blank = refl; alone = λ e. refl; floating = λ e. cc; accumulator = λ e. cc; ldf = λ e. absurd cc; found = λ a e. refl },
+                                        record { letter = λ rest. refl; blank = refl; clean = refl; alone = λ e. refl; floating = λ e. cc; accumulator = λ e. cc; ldf = λ e. absurd cc; found = λ a e. refl },
                                         (
-                                          record { letter = λ rest. refl; blank = refl; alone = λ e. refl; floating = λ e. cc; accumulator = λ e. cc; ldf = λ e. absurd cc; found = λ a e. refl },
+                                          record { letter = λ rest. refl; blank = refl; clean = refl; alone = λ e. refl; floating = λ e. cc; accumulator = λ e. cc; ldf = λ e. absurd cc; found = λ a e. refl },
                                           (
-                                            record { letter = λ rest. refl; blank = refl; alone = λ e. refl; floating = λ e. cc; accumulator = λ e. cc; ldf = λ e. absurd cc; found = λ a e. refl },
+                                            record { letter = λ rest. refl; blank = refl; clean = refl; alone = λ e. refl; floating = λ e. cc; accumulator = λ e. cc; ldf = λ e. absurd cc; found = λ a e. refl },
                                             (
-                                              record { letter = λ rest. refl; blank = refl; alone = λ e. refl; floating = λ e. cc; accumulator = λ e. cc; ldf = λ e. absurd cc; found = λ a e. refl },
+                                              record { letter = λ rest. refl; blank = refl; clean = refl; alone = λ e. refl; floating = λ e. cc; accumulator = λ e. cc; ldf = λ e. absurd cc; found = λ a e. refl },
                                               (
-                                                record { letter = λ rest. refl; blank = refl; alone = λ e. cc; floating = λ e. cc; accumulator = λ e. cc; ldf = λ e. absurd cc; found = λ a e. refl },
+                                                record { letter = λ rest. refl; blank = refl; clean = refl; alone = λ e. cc; floating = λ e. cc; accumulator = λ e. cc; ldf = λ e. absurd cc; found = λ a e. refl },
                                                 (
-                                                  record { letter = λ rest. refl; blank = refl; alone = λ e. cc; floating = λ e. cc; accumulator = λ e. cc; ldf = λ e. absurd cc; found = λ a e. refl },
+                                                  record { letter = λ rest. refl; blank = refl; clean = refl; alone = λ e. cc; floating = λ e. cc; accumulator = λ e. cc; ldf = λ e. absurd cc; found = λ a e. refl },
                                                   (
-                                                    record { letter = λ rest. refl; blank = refl; alone = λ e. cc; floating = λ e. cc; accumulator = λ e. cc; ldf = λ e. absurd cc; found = λ a e. refl },
+                                                    record { letter = λ rest. refl; blank = refl; clean = refl; alone = λ e. cc; floating = λ e. cc; accumulator = λ e. cc; ldf = λ e. absurd cc; found = λ a e. refl },
                                                     (
-                                                      record { letter = λ rest. refl; blank = refl; alone = λ e. cc; floating = λ e. cc; accumulator = λ e. cc; ldf = λ e. absurd cc; found = λ a e. refl },
+                                                      record { letter = λ rest. refl; blank = refl; clean = refl; alone = λ e. cc; floating = λ e. cc; accumulator = λ e. cc; ldf = λ e. absurd cc; found = λ a e. refl },
                                                       (
-                                                        record { letter = λ rest. refl; blank = refl; alone = λ e. cc; floating = λ e. cc; accumulator = λ e. cc; ldf = λ e. absurd cc; found = λ a e. refl },
+                                                        record { letter = λ rest. refl; blank = refl; clean = refl; alone = λ e. cc; floating = λ e. cc; accumulator = λ e. cc; ldf = λ e. absurd cc; found = λ a e. refl },
                                                         (
-                                                          record { letter = λ rest. refl; blank = refl; alone = λ e. cc; floating = λ e. cc; accumulator = λ e. cc; ldf = λ e. absurd cc; found = λ a e. refl },
+                                                          record { letter = λ rest. refl; blank = refl; clean = refl; alone = λ e. cc; floating = λ e. cc; accumulator = λ e. cc; ldf = λ e. absurd cc; found = λ a e. refl },
                                                           (
-                                                            record { letter = λ rest. refl; blank = refl; alone = λ e. cc; floating = λ e. cc; accumulator = λ e. cc; ldf = λ e. absurd cc; found = λ a e. refl },
+                                                            record { letter = λ rest. refl; blank = refl; clean = refl; alone = λ e. cc; floating = λ e. cc; accumulator = λ e. cc; ldf = λ e. absurd cc; found = λ a e. refl },
                                                             (
-                                                              record { letter = λ rest. refl; blank = refl; alone = λ e. cc; floating = λ e. cc; accumulator = λ e. cc; ldf = λ e. absurd cc; found = λ a e. refl },
+                                                              record { letter = λ rest. refl; blank = refl; clean = refl; alone = λ e. cc; floating = λ e. cc; accumulator = λ e. cc; ldf = λ e. absurd cc; found = λ a e. refl },
                                                               (
-                                                                record { letter = λ rest. refl; blank = refl; alone = λ e. cc; floating = λ e. cc; accumulator = λ e. cc; ldf = λ e. absurd cc; found = λ a e. refl },
+                                                                record { letter = λ rest. refl; blank = refl; clean = refl; alone = λ e. cc; floating = λ e. cc; accumulator = λ e. cc; ldf = λ e. absurd cc; found = λ a e. refl },
                                                                 (
-                                                                  record { letter = λ rest. refl; blank = refl; alone = λ e. cc; floating = λ e. cc; accumulator = λ e. cc; ldf = λ e. absurd cc; found = λ a e. refl },
+                                                                  record { letter = λ rest. refl; blank = refl; clean = refl; alone = λ e. cc; floating = λ e. cc; accumulator = λ e. cc; ldf = λ e. absurd cc; found = λ a e. refl },
                                                                   (
-                                                                    record { letter = λ rest. refl; blank = refl; alone = λ e. cc; floating = λ e. cc; accumulator = λ e. cc; ldf = λ e. absurd cc; found = λ a e. refl },
+                                                                    record { letter = λ rest. refl; blank = refl; clean = refl; alone = λ e. cc; floating = λ e. cc; accumulator = λ e. cc; ldf = λ e. absurd cc; found = λ a e. refl },
                                                                     (
-                                                                      record { letter = λ rest. refl; blank = refl; alone = λ e. cc; floating = λ e. cc; accumulator = λ e. cc; ldf = λ e. absurd cc; found = λ a e. refl },
+                                                                      record { letter = λ rest. refl; blank = refl; clean = refl; alone = λ e. cc; floating = λ e. cc; accumulator = λ e. cc; ldf = λ e. absurd cc; found = λ a e. refl },
                                                                       (
-                                                                        record { letter = λ rest. refl; blank = refl; alone = λ e. cc; floating = λ e. cc; accumulator = λ e. cc; ldf = λ e. absurd cc; found = λ a e. refl },
+                                                                        record { letter = λ rest. refl; blank = refl; clean = refl; alone = λ e. cc; floating = λ e. cc; accumulator = λ e. cc; ldf = λ e. absurd cc; found = λ a e. refl },
                                                                         (
-                                                                          record { letter = λ rest. refl; blank = refl; alone = λ e. cc; floating = λ e. cc; accumulator = λ e. cc; ldf = λ e. absurd cc; found = λ a e. refl },
+                                                                          record { letter = λ rest. refl; blank = refl; clean = refl; alone = λ e. cc; floating = λ e. cc; accumulator = λ e. cc; ldf = λ e. absurd cc; found = λ a e. refl },
                                                                           (
-                                                                            record { letter = λ rest. refl; blank = refl; alone = λ e. cc; floating = λ e. cc; accumulator = λ e. cc; ldf = λ e. absurd cc; found = λ a e. refl },
+                                                                            record { letter = λ rest. refl; blank = refl; clean = refl; alone = λ e. cc; floating = λ e. cc; accumulator = λ e. cc; ldf = λ e. absurd cc; found = λ a e. refl },
                                                                             (
-                                                                              record { letter = λ rest. refl; blank = refl; alone = λ e. cc; floating = λ e. cc; accumulator = λ e. cc; ldf = λ e. absurd cc; found = λ a e. refl },
+                                                                              record { letter = λ rest. refl; blank = refl; clean = refl; alone = λ e. cc; floating = λ e. cc; accumulator = λ e. cc; ldf = λ e. absurd cc; found = λ a e. refl },
                                                                               (
-                                                                                record { letter = λ rest. refl; blank = refl; alone = λ e. cc; floating = λ e. cc; accumulator = λ e. cc; ldf = λ e. absurd cc; found = λ a e. refl },
+                                                                                record { letter = λ rest. refl; blank = refl; clean = refl; alone = λ e. cc; floating = λ e. cc; accumulator = λ e. cc; ldf = λ e. absurd cc; found = λ a e. refl },
                                                                                 (
-                                                                                  record { letter = λ rest. refl; blank = refl; alone = λ e. cc; floating = λ e. cc; accumulator = λ e. cc; ldf = λ e. absurd cc; found = λ a e. refl },
+                                                                                  record { letter = λ rest. refl; blank = refl; clean = refl; alone = λ e. cc; floating = λ e. cc; accumulator = λ e. cc; ldf = λ e. absurd cc; found = λ a e. refl },
                                                                                   (
-                                                                                    record { letter = λ rest. refl; blank = refl; alone = λ e. cc; floating = λ e. cc; accumulator = λ e. cc; ldf = λ e. absurd cc; found = λ a e. refl },
+                                                                                    record { letter = λ rest. refl; blank = refl; clean = refl; alone = λ e. cc; floating = λ e. cc; accumulator = λ e. cc; ldf = λ e. absurd cc; found = λ a e. refl },
                                                                                     (
-                                                                                      record { letter = λ rest. refl; blank = refl; alone = λ e. cc; floating = λ e. cc; accumulator = λ e. cc; ldf = λ e. absurd cc; found = λ a e. refl },
+                                                                                      record { letter = λ rest. refl; blank = refl; clean = refl; alone = λ e. cc; floating = λ e. cc; accumulator = λ e. cc; ldf = λ e. absurd cc; found = λ a e. refl },
                                                                                       (
-                                                                                        record { letter = λ rest. refl; blank = refl; alone = λ e. cc; floating = λ e. cc; accumulator = λ e. cc; ldf = λ e. absurd cc; found = λ a e. refl },
+                                                                                        record { letter = λ rest. refl; blank = refl; clean = refl; alone = λ e. cc; floating = λ e. cc; accumulator = λ e. cc; ldf = λ e. absurd cc; found = λ a e. refl },
                                                                                         (
-                                                                                          record { letter = λ rest. refl; blank = refl; alone = λ e. cc; floating = λ e. cc; accumulator = λ e. cc; ldf = λ e. absurd cc; found = λ a e. refl },
+                                                                                          record { letter = λ rest. refl; blank = refl; clean = refl; alone = λ e. cc; floating = λ e. cc; accumulator = λ e. cc; ldf = λ e. absurd cc; found = λ a e. refl },
                                                                                           (
-                                                                                            record { letter = λ rest. refl; blank = refl; alone = λ e. cc; floating = λ e. cc; accumulator = λ e. cc; ldf = λ e. absurd cc; found = λ a e. refl },
+                                                                                            record { letter = λ rest. refl; blank = refl; clean = refl; alone = λ e. cc; floating = λ e. cc; accumulator = λ e. cc; ldf = λ e. absurd cc; found = λ a e. refl },
                                                                                             (
-                                                                                              record { letter = λ rest. refl; blank = refl; alone = λ e. cc; floating = λ e. cc; accumulator = λ e. cc; ldf = λ e. absurd cc; found = λ a e. refl },
+                                                                                              record { letter = λ rest. refl; blank = refl; clean = refl; alone = λ e. cc; floating = λ e. cc; accumulator = λ e. cc; ldf = λ e. absurd cc; found = λ a e. refl },
                                                                                               (
-                                                                                                record { letter = λ rest. refl; blank = refl; alone = λ e. cc; floating = λ e. cc; accumulator = λ e. cc; ldf = λ e. absurd cc; found = λ a e. refl },
+                                                                                                record { letter = λ rest. refl; blank = refl; clean = refl; alone = λ e. cc; floating = λ e. cc; accumulator = λ e. cc; ldf = λ e. absurd cc; found = λ a e. refl },
                                                                                                 (
-                                                                                                  record { letter = λ rest. refl; blank = refl; alone = λ e. cc; floating = λ e. cc; accumulator = λ e. cc; ldf = λ e. absurd cc; found = λ a e. refl },
+                                                                                                  record { letter = λ rest. refl; blank = refl; clean = refl; alone = λ e. cc; floating = λ e. cc; accumulator = λ e. cc; ldf = λ e. absurd cc; found = λ a e. refl },
                                                                                                   (
-                                                                                                    record { letter = λ rest. refl; blank = refl; alone = λ e. cc; floating = λ e. cc; accumulator = λ e. cc; ldf = λ e. absurd cc; found = λ a e. refl },
+                                                                                                    record { letter = λ rest. refl; blank = refl; clean = refl; alone = λ e. cc; floating = λ e. cc; accumulator = λ e. cc; ldf = λ e. absurd cc; found = λ a e. refl },
                                                                                                     (
-                                                                                                      record { letter = λ rest. refl; blank = refl; alone = λ e. cc; floating = λ e. cc; accumulator = λ e. cc; ldf = λ e. absurd cc; found = λ a e. refl },
+                                                                                                      record { letter = λ rest. refl; blank = refl; clean = refl; alone = λ e. cc; floating = λ e. cc; accumulator = λ e. cc; ldf = λ e. absurd cc; found = λ a e. refl },
                                                                                                       (
-                                                                                                        record { letter = λ rest. refl; blank = refl; alone = λ e. cc; floating = λ e. cc; accumulator = λ e. cc; ldf = λ e. absurd cc; found = λ a e. refl },
+                                                                                                        record { letter = λ rest. refl; blank = refl; clean = refl; alone = λ e. cc; floating = λ e. cc; accumulator = λ e. cc; ldf = λ e. absurd cc; found = λ a e. refl },
                                                                                                         (
-                                                                                                          record { letter = λ rest. refl; blank = refl; alone = λ e. cc; floating = λ e. cc; accumulator = λ e. cc; ldf = λ e. absurd cc; found = λ a e. refl },
+                                                                                                          record { letter = λ rest. refl; blank = refl; clean = refl; alone = λ e. cc; floating = λ e. cc; accumulator = λ e. cc; ldf = λ e. absurd cc; found = λ a e. refl },
                                                                                                           (
-                                                                                                            record { letter = λ rest. refl; blank = refl; alone = λ e. cc; floating = λ e. cc; accumulator = λ e. cc; ldf = λ e. absurd cc; found = λ a e. refl },
+                                                                                                            record { letter = λ rest. refl; blank = refl; clean = refl; alone = λ e. cc; floating = λ e. cc; accumulator = λ e. cc; ldf = λ e. absurd cc; found = λ a e. refl },
                                                                                                             (
-                                                                                                              record { letter = λ rest. refl; blank = refl; alone = λ e. cc; floating = λ e. cc; accumulator = λ e. cc; ldf = λ e. absurd cc; found = λ a e. refl },
+                                                                                                              record { letter = λ rest. refl; blank = refl; clean = refl; alone = λ e. cc; floating = λ e. cc; accumulator = λ e. cc; ldf = λ e. absurd cc; found = λ a e. refl },
                                                                                                               (
-                                                                                                                record { letter = λ rest. refl; blank = refl; alone = λ e. cc; floating = λ e. cc; accumulator = λ e. cc; ldf = λ e. absurd cc; found = λ a e. refl },
+                                                                                                                record { letter = λ rest. refl; blank = refl; clean = refl; alone = λ e. cc; floating = λ e. cc; accumulator = λ e. cc; ldf = λ e. absurd cc; found = λ a e. refl },
                                                                                                                 (
-                                                                                                                  record { letter = λ rest. refl; blank = refl; alone = λ e. cc; floating = λ e. cc; accumulator = λ e. cc; ldf = λ e. absurd cc; found = λ a e. refl },
+                                                                                                                  record { letter = λ rest. refl; blank = refl; clean = refl; alone = λ e. cc; floating = λ e. cc; accumulator = λ e. cc; ldf = λ e. absurd cc; found = λ a e. refl },
                                                                                                                   (
-                                                                                                                    record { letter = λ rest. refl; blank = refl; alone = λ e. cc; floating = λ e. cc; accumulator = λ e. cc; ldf = λ e. absurd cc; found = λ a e. refl },
+                                                                                                                    record { letter = λ rest. refl; blank = refl; clean = refl; alone = λ e. cc; floating = λ e. cc; accumulator = λ e. cc; ldf = λ e. absurd cc; found = λ a e. refl },
                                                                                                                     (
-                                                                                                                      record { letter = λ rest. refl; blank = refl; alone = λ e. cc; floating = λ e. cc; accumulator = λ e. cc; ldf = λ e. absurd cc; found = λ a e. refl },
+                                                                                                                      record { letter = λ rest. refl; blank = refl; clean = refl; alone = λ e. cc; floating = λ e. cc; accumulator = λ e. cc; ldf = λ e. absurd cc; found = λ a e. refl },
                                                                                                                       (
-                                                                                                                        record { letter = λ rest. refl; blank = refl; alone = λ e. cc; floating = λ e. cc; accumulator = λ e. cc; ldf = λ e. absurd cc; found = λ a e. refl },
+                                                                                                                        record { letter = λ rest. refl; blank = refl; clean = refl; alone = λ e. cc; floating = λ e. cc; accumulator = λ e. cc; ldf = λ e. absurd cc; found = λ a e. refl },
                                                                                                                         (
-                                                                                                                          record { letter = λ rest. refl; blank = refl; alone = λ e. cc; floating = λ e. cc; accumulator = λ e. cc; ldf = λ e. absurd cc; found = λ a e. refl },
+                                                                                                                          record { letter = λ rest. refl; blank = refl; clean = refl; alone = λ e. cc; floating = λ e. cc; accumulator = λ e. cc; ldf = λ e. absurd cc; found = λ a e. refl },
                                                                                                                           (
-                                                                                                                            record { letter = λ rest. refl; blank = refl; alone = λ e. cc; floating = λ e. cc; accumulator = λ e. cc; ldf = λ e. absurd cc; found = λ a e. refl },
+                                                                                                                            record { letter = λ rest. refl; blank = refl; clean = refl; alone = λ e. cc; floating = λ e. cc; accumulator = λ e. cc; ldf = λ e. absurd cc; found = λ a e. refl },
                                                                                                                             (
-                                                                                                                              record { letter = λ rest. refl; blank = refl; alone = λ e. cc; floating = λ e. cc; accumulator = λ e. cc; ldf = λ e. absurd cc; found = λ a e. refl },
+                                                                                                                              record { letter = λ rest. refl; blank = refl; clean = refl; alone = λ e. cc; floating = λ e. cc; accumulator = λ e. cc; ldf = λ e. absurd cc; found = λ a e. refl },
                                                                                                                               (
-                                                                                                                                record { letter = λ rest. refl; blank = refl; alone = λ e. cc; floating = λ e. cc; accumulator = λ e. cc; ldf = λ e. absurd cc; found = λ a e. refl },
+                                                                                                                                record { letter = λ rest. refl; blank = refl; clean = refl; alone = λ e. cc; floating = λ e. cc; accumulator = λ e. cc; ldf = λ e. absurd cc; found = λ a e. refl },
                                                                                                                                 (
-                                                                                                                                  record { letter = λ rest. refl; blank = refl; alone = λ e. cc; floating = λ e. cc; accumulator = λ e. cc; ldf = λ e. absurd cc; found = λ a e. refl },
+                                                                                                                                  record { letter = λ rest. refl; blank = refl; clean = refl; alone = λ e. cc; floating = λ e. cc; accumulator = λ e. cc; ldf = λ e. absurd cc; found = λ a e. refl },
                                                                                                                                   (
-                                                                                                                                    record { letter = λ rest. refl; blank = refl; alone = λ e. cc; floating = λ e. cc; accumulator = λ e. cc; ldf = λ e. absurd cc; found = λ a e. refl },
+                                                                                                                                    record { letter = λ rest. refl; blank = refl; clean = refl; alone = λ e. cc; floating = λ e. cc; accumulator = λ e. cc; ldf = λ e. absurd cc; found = λ a e. refl },
                                                                                                                                     (
-                                                                                                                                      record { letter = λ rest. refl; blank = refl; alone = λ e. cc; floating = λ e. cc; accumulator = λ e. cc; ldf = λ e. absurd cc; found = λ a e. refl },
+                                                                                                                                      record { letter = λ rest. refl; blank = refl; clean = refl; alone = λ e. cc; floating = λ e. cc; accumulator = λ e. cc; ldf = λ e. absurd cc; found = λ a e. refl },
                                                                                                                                       (
-                                                                                                                                        record { letter = λ rest. refl; blank = refl; alone = λ e. cc; floating = λ e. cc; accumulator = λ e. cc; ldf = λ e. absurd cc; found = λ a e. refl },
+                                                                                                                                        record { letter = λ rest. refl; blank = refl; clean = refl; alone = λ e. cc; floating = λ e. cc; accumulator = λ e. cc; ldf = λ e. absurd cc; found = λ a e. refl },
                                                                                                                                         (
-                                                                                                                                          record { letter = λ rest. refl; blank = refl; alone = λ e. cc; floating = λ e. cc; accumulator = λ e. cc; ldf = λ e. absurd cc; found = λ a e. refl },
+                                                                                                                                          record { letter = λ rest. refl; blank = refl; clean = refl; alone = λ e. cc; floating = λ e. cc; accumulator = λ e. cc; ldf = λ e. absurd cc; found = λ a e. refl },
                                                                                                                                           (
-                                                                                                                                            record { letter = λ rest. refl; blank = refl; alone = λ e. cc; floating = λ e. cc; accumulator = λ e. cc; ldf = λ e. absurd cc; found = λ a e. refl },
+                                                                                                                                            record { letter = λ rest. refl; blank = refl; clean = refl; alone = λ e. cc; floating = λ e. cc; accumulator = λ e. cc; ldf = λ e. absurd cc; found = λ a e. refl },
                                                                                                                                             (
-                                                                                                                                              record { letter = λ rest. refl; blank = refl; alone = λ e. cc; floating = λ e. cc; accumulator = λ e. cc; ldf = λ e. absurd cc; found = λ a e. refl },
+                                                                                                                                              record { letter = λ rest. refl; blank = refl; clean = refl; alone = λ e. cc; floating = λ e. cc; accumulator = λ e. cc; ldf = λ e. absurd cc; found = λ a e. refl },
                                                                                                                                               (
-                                                                                                                                                record { letter = λ rest. refl; blank = refl; alone = λ e. cc; floating = λ e. cc; accumulator = λ e. cc; ldf = λ e. absurd cc; found = λ a e. refl },
+                                                                                                                                                record { letter = λ rest. refl; blank = refl; clean = refl; alone = λ e. cc; floating = λ e. cc; accumulator = λ e. cc; ldf = λ e. absurd cc; found = λ a e. refl },
                                                                                                                                                 (
-                                                                                                                                                  record { letter = λ rest. refl; blank = refl; alone = λ e. cc; floating = λ e. cc; accumulator = λ e. cc; ldf = λ e. absurd cc; found = λ a e. refl },
+                                                                                                                                                  record { letter = λ rest. refl; blank = refl; clean = refl; alone = λ e. cc; floating = λ e. cc; accumulator = λ e. cc; ldf = λ e. absurd cc; found = λ a e. refl },
                                                                                                                                                   (
-                                                                                                                                                    record { letter = λ rest. refl; blank = refl; alone = λ e. cc; floating = λ e. cc; accumulator = λ e. cc; ldf = λ e. absurd cc; found = λ a e. refl },
+                                                                                                                                                    record { letter = λ rest. refl; blank = refl; clean = refl; alone = λ e. cc; floating = λ e. cc; accumulator = λ e. cc; ldf = λ e. absurd cc; found = λ a e. refl },
                                                                                                                                                     (
-                                                                                                                                                      record { letter = λ rest. refl; blank = refl; alone = λ e. cc; floating = λ e. cc; accumulator = λ e. cc; ldf = λ e. absurd cc; found = λ a e. refl },
+                                                                                                                                                      record { letter = λ rest. refl; blank = refl; clean = refl; alone = λ e. cc; floating = λ e. cc; accumulator = λ e. cc; ldf = λ e. absurd cc; found = λ a e. refl },
                                                                                                                                                       (
-                                                                                                                                                        record { letter = λ rest. refl; blank = refl; alone = λ e. cc; floating = λ e. cc; accumulator = λ e. cc; ldf = λ e. absurd cc; found = λ a e. refl },
+                                                                                                                                                        record { letter = λ rest. refl; blank = refl; clean = refl; alone = λ e. cc; floating = λ e. cc; accumulator = λ e. cc; ldf = λ e. absurd cc; found = λ a e. refl },
                                                                                                                                                         (
-                                                                                                                                                          record { letter = λ rest. refl; blank = refl; alone = λ e. cc; floating = λ e. cc; accumulator = λ e. cc; ldf = λ e. absurd cc; found = λ a e. refl },
+                                                                                                                                                          record { letter = λ rest. refl; blank = refl; clean = refl; alone = λ e. cc; floating = λ e. cc; accumulator = λ e. cc; ldf = λ e. absurd cc; found = λ a e. refl },
                                                                                                                                                           (
-                                                                                                                                                            record { letter = λ rest. refl; blank = refl; alone = λ e. cc; floating = λ e. cc; accumulator = λ e. cc; ldf = λ e. absurd cc; found = λ a e. refl },
+                                                                                                                                                            record { letter = λ rest. refl; blank = refl; clean = refl; alone = λ e. cc; floating = λ e. cc; accumulator = λ e. cc; ldf = λ e. absurd cc; found = λ a e. refl },
                                                                                                                                                             (
-                                                                                                                                                              record { letter = λ rest. refl; blank = refl; alone = λ e. cc; floating = λ e. cc; accumulator = λ e. cc; ldf = λ e. absurd cc; found = λ a e. refl },
+                                                                                                                                                              record { letter = λ rest. refl; blank = refl; clean = refl; alone = λ e. cc; floating = λ e. cc; accumulator = λ e. cc; ldf = λ e. absurd cc; found = λ a e. refl },
                                                                                                                                                               (
-                                                                                                                                                                record { letter = λ rest. refl; blank = refl; alone = λ e. cc; floating = λ e. cc; accumulator = λ e. cc; ldf = λ e. absurd cc; found = λ a e. refl },
+                                                                                                                                                                record { letter = λ rest. refl; blank = refl; clean = refl; alone = λ e. cc; floating = λ e. cc; accumulator = λ e. cc; ldf = λ e. absurd cc; found = λ a e. refl },
                                                                                                                                                                 (
-                                                                                                                                                                  record { letter = λ rest. refl; blank = refl; alone = λ e. cc; floating = λ e. cc; accumulator = λ e. cc; ldf = λ e. absurd cc; found = λ a e. refl },
+                                                                                                                                                                  record { letter = λ rest. refl; blank = refl; clean = refl; alone = λ e. cc; floating = λ e. cc; accumulator = λ e. cc; ldf = λ e. absurd cc; found = λ a e. refl },
                                                                                                                                                                   (
-                                                                                                                                                                    record { letter = λ rest. refl; blank = refl; alone = λ e. cc; floating = λ e. cc; accumulator = λ e. cc; ldf = λ e. absurd cc; found = λ a e. refl },
+                                                                                                                                                                    record { letter = λ rest. refl; blank = refl; clean = refl; alone = λ e. cc; floating = λ e. cc; accumulator = λ e. cc; ldf = λ e. absurd cc; found = λ a e. refl },
                                                                                                                                                                     (
-                                                                                                                                                                      record { letter = λ rest. refl; blank = refl; alone = λ e. cc; floating = λ e. cc; accumulator = λ e. cc; ldf = λ e. absurd cc; found = λ a e. refl },
+                                                                                                                                                                      record { letter = λ rest. refl; blank = refl; clean = refl; alone = λ e. cc; floating = λ e. cc; accumulator = λ e. cc; ldf = λ e. absurd cc; found = λ a e. refl },
                                                                                                                                                                       (
-                                                                                                                                                                        record { letter = λ rest. refl; blank = refl; alone = λ e. cc; floating = λ e. cc; accumulator = λ e. cc; ldf = λ e. absurd cc; found = λ a e. refl },
+                                                                                                                                                                        record { letter = λ rest. refl; blank = refl; clean = refl; alone = λ e. cc; floating = λ e. cc; accumulator = λ e. cc; ldf = λ e. absurd cc; found = λ a e. refl },
                                                                                                                                                                         (
-                                                                                                                                                                          record { letter = λ rest. refl; blank = refl; alone = λ e. cc; floating = λ e. cc; accumulator = λ e. cc; ldf = λ e. absurd cc; found = λ a e. refl },
+                                                                                                                                                                          record { letter = λ rest. refl; blank = refl; clean = refl; alone = λ e. cc; floating = λ e. cc; accumulator = λ e. cc; ldf = λ e. absurd cc; found = λ a e. refl },
                                                                                                                                                                           (
-                                                                                                                                                                            record { letter = λ rest. refl; blank = refl; alone = λ e. cc; floating = λ e. cc; accumulator = λ e. cc; ldf = λ e. absurd cc; found = λ a e. refl },
+                                                                                                                                                                            record { letter = λ rest. refl; blank = refl; clean = refl; alone = λ e. cc; floating = λ e. cc; accumulator = λ e. cc; ldf = λ e. absurd cc; found = λ a e. refl },
                                                                                                                                                                             (
-                                                                                                                                                                              record { letter = λ rest. refl; blank = refl; alone = λ e. cc; floating = λ e. cc; accumulator = λ e. cc; ldf = λ e. absurd cc; found = λ a e. refl },
+                                                                                                                                                                              record { letter = λ rest. refl; blank = refl; clean = refl; alone = λ e. cc; floating = λ e. cc; accumulator = λ e. cc; ldf = λ e. absurd cc; found = λ a e. refl },
                                                                                                                                                                               (
-                                                                                                                                                                                record { letter = λ rest. refl; blank = refl; alone = λ e. cc; floating = λ e. cc; accumulator = λ e. cc; ldf = λ e. absurd cc; found = λ a e. refl },
+                                                                                                                                                                                record { letter = λ rest. refl; blank = refl; clean = refl; alone = λ e. cc; floating = λ e. cc; accumulator = λ e. cc; ldf = λ e. absurd cc; found = λ a e. refl },
                                                                                                                                                                                 (
-                                                                                                                                                                                  record { letter = λ rest. refl; blank = refl; alone = λ e. cc; floating = λ e. cc; accumulator = λ e. cc; ldf = λ e. absurd cc; found = λ a e. refl },
+                                                                                                                                                                                  record { letter = λ rest. refl; blank = refl; clean = refl; alone = λ e. cc; floating = λ e. cc; accumulator = λ e. cc; ldf = λ e. absurd cc; found = λ a e. refl },
                                                                                                                                                                                   (
-                                                                                                                                                                                    record { letter = λ rest. refl; blank = refl; alone = λ e. cc; floating = λ e. cc; accumulator = λ e. cc; ldf = λ e. absurd cc; found = λ a e. refl },
+                                                                                                                                                                                    record { letter = λ rest. refl; blank = refl; clean = refl; alone = λ e. cc; floating = λ e. cc; accumulator = λ e. cc; ldf = λ e. absurd cc; found = λ a e. refl },
                                                                                                                                                                                     (
-                                                                                                                                                                                      record { letter = λ rest. refl; blank = refl; alone = λ e. cc; floating = λ e. cc; accumulator = λ e. cc; ldf = λ e. absurd cc; found = λ a e. refl },
+                                                                                                                                                                                      record { letter = λ rest. refl; blank = refl; clean = refl; alone = λ e. cc; floating = λ e. cc; accumulator = λ e. cc; ldf = λ e. absurd cc; found = λ a e. refl },
                                                                                                                                                                                       (
-                                                                                                                                                                                        record { letter = λ rest. refl; blank = refl; alone = λ e. cc; floating = λ e. cc; accumulator = λ e. cc; ldf = λ e. absurd cc; found = λ a e. refl },
+                                                                                                                                                                                        record { letter = λ rest. refl; blank = refl; clean = refl; alone = λ e. cc; floating = λ e. cc; accumulator = λ e. cc; ldf = λ e. absurd cc; found = λ a e. refl },
                                                                                                                                                                                         (
-                                                                                                                                                                                          record { letter = λ rest. refl; blank = refl; alone = λ e. cc; floating = λ e. cc; accumulator = λ e. cc; ldf = λ e. absurd cc; found = λ a e. refl },
+                                                                                                                                                                                          record { letter = λ rest. refl; blank = refl; clean = refl; alone = λ e. cc; floating = λ e. cc; accumulator = λ e. cc; ldf = λ e. absurd cc; found = λ a e. refl },
                                                                                                                                                                                           (
-                                                                                                                                                                                            record { letter = λ rest. refl; blank = refl; alone = λ e. cc; floating = λ e. cc; accumulator = λ e. cc; ldf = λ e. absurd cc; found = λ a e. refl },
+                                                                                                                                                                                            record { letter = λ rest. refl; blank = refl; clean = refl; alone = λ e. cc; floating = λ e. cc; accumulator = λ e. cc; ldf = λ e. absurd cc; found = λ a e. refl },
                                                                                                                                                                                             (
-                                                                                                                                                                                              record { letter = λ rest. refl; blank = refl; alone = λ e. cc; floating = λ e. cc; accumulator = λ e. cc; ldf = λ e. absurd cc; found = λ a e. refl },
+                                                                                                                                                                                              record { letter = λ rest. refl; blank = refl; clean = refl; alone = λ e. cc; floating = λ e. cc; accumulator = λ e. cc; ldf = λ e. absurd cc; found = λ a e. refl },
                                                                                                                                                                                               (
-                                                                                                                                                                                                record { letter = λ rest. refl; blank = refl; alone = λ e. cc; floating = λ e. cc; accumulator = λ e. cc; ldf = λ e. absurd cc; found = λ a e. refl },
+                                                                                                                                                                                                record { letter = λ rest. refl; blank = refl; clean = refl; alone = λ e. cc; floating = λ e. cc; accumulator = λ e. cc; ldf = λ e. absurd cc; found = λ a e. refl },
                                                                                                                                                                                                 (
-                                                                                                                                                                                                  record { letter = λ rest. refl; blank = refl; alone = λ e. cc; floating = λ e. cc; accumulator = λ e. cc; ldf = λ e. absurd cc; found = λ a e. refl },
+                                                                                                                                                                                                  record { letter = λ rest. refl; blank = refl; clean = refl; alone = λ e. cc; floating = λ e. cc; accumulator = λ e. cc; ldf = λ e. absurd cc; found = λ a e. refl },
                                                                                                                                                                                                   (
-                                                                                                                                                                                                    record { letter = λ rest. refl; blank = refl; alone = λ e. cc; floating = λ e. cc; accumulator = λ e. cc; ldf = λ e. absurd cc; found = λ a e. refl },
+                                                                                                                                                                                                    record { letter = λ rest. refl; blank = refl; clean = refl; alone = λ e. cc; floating = λ e. cc; accumulator = λ e. cc; ldf = λ e. absurd cc; found = λ a e. refl },
                                                                                                                                                                                                     (
-                                                                                                                                                                                                      record { letter = λ rest. refl; blank = refl; alone = λ e. cc; floating = λ e. cc; accumulator = λ e. cc; ldf = λ e. absurd cc; found = λ a e. refl },
+                                                                                                                                                                                                      record { letter = λ rest. refl; blank = refl; clean = refl; alone = λ e. cc; floating = λ e. cc; accumulator = λ e. cc; ldf = λ e. absurd cc; found = λ a e. refl },
                                                                                                                                                                                                       (
-                                                                                                                                                                                                        record { letter = λ rest. refl; blank = refl; alone = λ e. cc; floating = λ e. cc; accumulator = λ e. cc; ldf = λ e. absurd cc; found = λ a e. refl },
+                                                                                                                                                                                                        record { letter = λ rest. refl; blank = refl; clean = refl; alone = λ e. cc; floating = λ e. cc; accumulator = λ e. cc; ldf = λ e. absurd cc; found = λ a e. refl },
                                                                                                                                                                                                         (
-                                                                                                                                                                                                          record { letter = λ rest. refl; blank = refl; alone = λ e. cc; floating = λ e. cc; accumulator = λ e. cc; ldf = λ e. absurd cc; found = λ a e. refl },
+                                                                                                                                                                                                          record { letter = λ rest. refl; blank = refl; clean = refl; alone = λ e. cc; floating = λ e. cc; accumulator = λ e. cc; ldf = λ e. absurd cc; found = λ a e. refl },
                                                                                                                                                                                                           (
-                                                                                                                                                                                                            record { letter = λ rest. refl; blank = refl; alone = λ e. cc; floating = λ e. cc; accumulator = λ e. cc; ldf = λ e. absurd cc; found = λ a e. refl },
+                                                                                                                                                                                                            record { letter = λ rest. refl; blank = refl; clean = refl; alone = λ e. cc; floating = λ e. cc; accumulator = λ e. cc; ldf = λ e. absurd cc; found = λ a e. refl },
                                                                                                                                                                                                             (
-                                                                                                                                                                                                              record { letter = λ rest. refl; blank = refl; alone = λ e. cc; floating = λ e. cc; accumulator = λ e. cc; ldf = λ e. absurd cc; found = λ a e. refl },
+                                                                                                                                                                                                              record { letter = λ rest. refl; blank = refl; clean = refl; alone = λ e. cc; floating = λ e. cc; accumulator = λ e. cc; ldf = λ e. absurd cc; found = λ a e. refl },
                                                                                                                                                                                                               (
-                                                                                                                                                                                                                record { letter = λ rest. refl; blank = refl; alone = λ e. cc; floating = λ e. refl; accumulator = λ e. cc; ldf = λ e a. refl; found = λ a e. ap (layout (codes "movf")) e },
+                                                                                                                                                                                                                record { letter = λ rest. refl; blank = refl; clean = refl; alone = λ e. cc; floating = λ e. refl; accumulator = λ e. cc; ldf = λ e a. refl; found = λ a e. ap (layout (codes "movf")) e },
                                                                                                                                                                                                                 (
-                                                                                                                                                                                                                  record { letter = λ rest. refl; blank = refl; alone = λ e. cc; floating = λ e. cc; accumulator = λ e. cc; ldf = λ e. absurd cc; found = λ a e. refl },
+                                                                                                                                                                                                                  record { letter = λ rest. refl; blank = refl; clean = refl; alone = λ e. cc; floating = λ e. cc; accumulator = λ e. cc; ldf = λ e. absurd cc; found = λ a e. refl },
                                                                                                                                                                                                                   (
-                                                                                                                                                                                                                    record { letter = λ rest. refl; blank = refl; alone = λ e. cc; floating = λ e. cc; accumulator = λ e. cc; ldf = λ e. absurd cc; found = λ a e. refl },
+                                                                                                                                                                                                                    record { letter = λ rest. refl; blank = refl; clean = refl; alone = λ e. cc; floating = λ e. cc; accumulator = λ e. cc; ldf = λ e. absurd cc; found = λ a e. refl },
                                                                                                                                                                                                                     (
-                                                                                                                                                                                                                      record { letter = λ rest. refl; blank = refl; alone = λ e. cc; floating = λ e. cc; accumulator = λ e. cc; ldf = λ e. absurd cc; found = λ a e. refl },
+                                                                                                                                                                                                                      record { letter = λ rest. refl; blank = refl; clean = refl; alone = λ e. cc; floating = λ e. cc; accumulator = λ e. cc; ldf = λ e. absurd cc; found = λ a e. refl },
                                                                                                                                                                                                                       (
-                                                                                                                                                                                                                        record { letter = λ rest. refl; blank = refl; alone = λ e. cc; floating = λ e. cc; accumulator = λ e. cc; ldf = λ e. absurd cc; found = λ a e. refl },
+                                                                                                                                                                                                                        record { letter = λ rest. refl; blank = refl; clean = refl; alone = λ e. cc; floating = λ e. cc; accumulator = λ e. cc; ldf = λ e. absurd cc; found = λ a e. refl },
                                                                                                                                                                                                                         (
-                                                                                                                                                                                                                          record { letter = λ rest. refl; blank = refl; alone = λ e. cc; floating = λ e. cc; accumulator = λ e. refl; ldf = λ e. absurd cc; found = λ a e. ap (layout (codes "movf")) e },
+                                                                                                                                                                                                                          record { letter = λ rest. refl; blank = refl; clean = refl; alone = λ e. cc; floating = λ e. cc; accumulator = λ e. refl; ldf = λ e. absurd cc; found = λ a e. ap (layout (codes "movf")) e },
                                                                                                                                                                                                                           (
-                                                                                                                                                                                                                            record { letter = λ rest. refl; blank = refl; alone = λ e. cc; floating = λ e. cc; accumulator = λ e. cc; ldf = λ e. absurd cc; found = λ a e. refl },
+                                                                                                                                                                                                                            record { letter = λ rest. refl; blank = refl; clean = refl; alone = λ e. cc; floating = λ e. cc; accumulator = λ e. cc; ldf = λ e. absurd cc; found = λ a e. refl },
                                                                                                                                                                                                                             (
-                                                                                                                                                                                                                              record { letter = λ rest. refl; blank = refl; alone = λ e. cc; floating = λ e. cc; accumulator = λ e. cc; ldf = λ e. absurd cc; found = λ a e. refl },
+                                                                                                                                                                                                                              record { letter = λ rest. refl; blank = refl; clean = refl; alone = λ e. cc; floating = λ e. cc; accumulator = λ e. cc; ldf = λ e. absurd cc; found = λ a e. refl },
                                                                                                                                                                                                                               (
-                                                                                                                                                                                                                                record { letter = λ rest. refl; blank = refl; alone = λ e. cc; floating = λ e. cc; accumulator = λ e. cc; ldf = λ e. absurd cc; found = λ a e. refl },
+                                                                                                                                                                                                                                record { letter = λ rest. refl; blank = refl; clean = refl; alone = λ e. cc; floating = λ e. cc; accumulator = λ e. cc; ldf = λ e. absurd cc; found = λ a e. refl },
                                                                                                                                                                                                                                 (
-                                                                                                                                                                                                                                  record { letter = λ rest. refl; blank = refl; alone = λ e. cc; floating = λ e. cc; accumulator = λ e. cc; ldf = λ e. absurd cc; found = λ a e. refl },
+                                                                                                                                                                                                                                  record { letter = λ rest. refl; blank = refl; clean = refl; alone = λ e. cc; floating = λ e. cc; accumulator = λ e. cc; ldf = λ e. absurd cc; found = λ a e. refl },
                                                                                                                                                                                                                                   (
-                                                                                                                                                                                                                                    record { letter = λ rest. refl; blank = refl; alone = λ e. cc; floating = λ e. cc; accumulator = λ e. cc; ldf = λ e. absurd cc; found = λ a e. refl },
+                                                                                                                                                                                                                                    record { letter = λ rest. refl; blank = refl; clean = refl; alone = λ e. cc; floating = λ e. cc; accumulator = λ e. cc; ldf = λ e. absurd cc; found = λ a e. refl },
                                                                                                                                                                                                                                     tt,
                                                                                                                                                                                                                                   ),
                                                                                                                                                                                                                                 ),

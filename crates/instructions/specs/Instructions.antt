@@ -1,6 +1,8 @@
 -- Instructions without their operand words: what the first word alone says, and the first word that says it. (as(1))
-use Rattle.std.specs.Prelude.{ℕ, ◌+◌, ◌*◌, ◌/◌, ◌%◌, ◌||◌, if◌then◌else◌, Option, Some, None}
+use Rattle.std.specs.Prelude.{ℕ, ◌+◌, ◌*◌, ◌/◌, ◌%◌, Bool, true, false, ◌||◌, if◌then◌else◌, Option, Some, None}
 use Rattle.instructions.specs.declared.field.Field.{Field}
+use Rattle.instructions.specs.declared.operation.Operation.{Operation}
+use Rattle.instructions.specs.declared.operation.Operation.TheVariants.{Jmp, Jsr}
 use Rattle.instructions.specs.declared.operand.Operand.{Operand}
 use Rattle.instructions.specs.declared.table.Row.{Row}
 use Rattle.instructions.specs.declared.instruction.Instruction.{Instruction}
@@ -24,6 +26,12 @@ instruction_in (Some o) w =
 
 abbrev pub instruction_of : ℕ → Option Instruction
 instruction_of w = instruction_in (row_of w) w
+
+-- the next instruction is fetched from the operand
+abbrev pub jumps : Operation → Bool
+jumps Jmp = true
+jumps Jsr = true
+jumps _ = false
 
 -- what an operand adds to the base
 abbrev pub added : Option Field → Option Operand → ℕ

@@ -2,7 +2,7 @@
 --
 -- Nothing is lost or normalized: encoding what was decoded gives the same words. The first word alone decides the instruction and
 -- the length, if enough words follow it. At one address different words have different texts.
-use Rattle.std.specs.Prelude.{◌≡◌, ℕ, ◌<◌, ◌≤◌, Option, Some, None, List, [], ◌∷◌, length, take, drop}
+use Rattle.std.specs.Prelude.{◌≡◌, ℕ, ◌+◌, ◌*◌, ◌<◌, ◌≤◌, Option, Some, None, List, [], ◌∷◌, ◌++◌, length, take, drop}
 use Rattle.std.specs.List.{flat_map}
 use Rattle.instructions.specs.declared.table.Row.{Row}
 use Rattle.instructions.specs.declared.table.TheConstants.{ROWS}
@@ -40,6 +40,16 @@ UnambiguousLaw = (address : ℕ) (words other : List ℕ) (place there : ℕ) �
     place < length words → there < length other →
     line_text address (line_at words place) ≡ line_text address (line_at other there) →
     words_of (line_at words place) ≡ words_of (line_at other there)
+
+-- the texts of these lines from an address on, with a newline after each
+abbrev pub lines_text : ℕ → List Line → List ℕ
+lines_text address [] = []
+lines_text address (line ∷ ls) = line_text address line ++ 10 ∷ lines_text (address + 2 * line_length line) ls
+
+-- lists of words with the same text at the same address are the same
+abbrev pub UnambiguousTextLaw : Type 0
+UnambiguousTextLaw = (address : ℕ) (words other : List ℕ) → AreWords words → AreWords other →
+    lines_text address (lines words) ≡ lines_text address (lines other) → words ≡ other
 
 -- every list of words is decoded whole, in lines of one to three words without a gap
 pub record TotalLaw : Type 0 where

@@ -74,7 +74,7 @@ impl Instruction {
         Some(Instruction { row, first, second })
     }
 
-    /// The first word, if it is one: an operand with a value that its field has no room for could make it larger than a word. (the
+    /// The first word, if it is one: an operand whose value does not fit its field could make it larger than a word. (the
     /// handbook of the PDP-11/70)
     pub fn first_word(&self) -> u16
         requires { first_word self.now ≤ 0o177777 }

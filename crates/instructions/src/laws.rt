@@ -1,7 +1,7 @@
 //! Laws of lines: each is the contract of a function with an empty body, but for `words_again`.
 ghost use Rattle.std.specs.Prelude.{◌≡◌, ◌<◌, length, take, drop};
 ghost use Rattle.instructions.specs.Lines.{line_at, line_length, listed};
-ghost use Rattle.instructions.specs.Laws.{IdentityLaw, FirstWordLaw, TableLaw, TotalLaw, UnambiguousLaw};
+ghost use Rattle.instructions.specs.Laws.{IdentityLaw, FirstWordLaw, TableLaw, TotalLaw, UnambiguousLaw, UnambiguousTextLaw};
 
 use crate::line::{Words, decode, encode};
 
@@ -30,9 +30,14 @@ pub fn total_law()
     ensures { TotalLaw }
 {}
 
-/// Without references, lines of different words have different texts at one address. (own choice)
+/// Without references, different words have different texts at one address: a reader of the text alone gets the words back. (own
+/// choice)
+///
+/// - `lines`: lines with the same text have the same words.
+/// - `texts`: lists of words are the same if the texts of their lines, with a newline after each, are.
 pub fn unambiguous_law()
-    ensures { UnambiguousLaw }
+    ensures lines { UnambiguousLaw }
+    ensures texts { UnambiguousTextLaw }
 {}
 
 /// Each row of the table is found at its base, so none is there in vain. (own choice)

@@ -1,6 +1,7 @@
 //! The operations and their names.
 ghost use Rattle.std.specs.Prelude.{◌≡◌};
 ghost use Rattle.instructions.specs.Names.{name_text};
+ghost use Rattle.instructions.specs.Instructions.{jumps};
 
 /// What an instruction does, named as the assembler names it. Where as(1) has no name, it is that of the processor
 /// handbook. (as(1), the handbook of the PDP-11/70)
@@ -241,6 +242,16 @@ impl Operation {
             Operation::Movfi => "movfi",
             Operation::Movie => "movie",
             Operation::Movif => "movif",
+        }
+    }
+
+    /// Whether the next instruction is fetched from its operand: `jmp` and `jsr`. (the handbook of the PDP-11/70)
+    pub fn jumps(self) -> bool
+        ensures { result ≡ jumps self }
+    {
+        match self {
+            Operation::Jmp | Operation::Jsr => true,
+            _ => false,
         }
     }
 }
