@@ -16,3 +16,4 @@ pub mod ReorderedAdditions
 pub mod ReorderedMeanings
 pub mod SingleDefinitions
 mod InstructionLemmas
+mod OperandWordLemmas

@@ -5,3 +5,4 @@ pub mod CoreLaws
 pub mod Operands
 pub mod Orders
 pub mod Instructions
+pub mod OperandWords

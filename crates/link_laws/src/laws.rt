@@ -2,6 +2,7 @@
 ghost use Rattle.link_laws.specs.CoreLaws.{SegmentsLieApart, SpacesAreOne, AddressesFit, WordsAreLoaded, WordsOfRowsAreLoaded, KeepChangesNothing, StrippedIsLoaded, BssIsZero, CommonsAreZero, NothingElse};
 ghost use Rattle.link_laws.specs.Operands.{NamesAreFound, SegmentsAreFound, CallsArrive};
 ghost use Rattle.link_laws.specs.Instructions.{InstructionsAreKept, TextsAreKept};
+ghost use Rattle.link_laws.specs.OperandWords.{OperandsGiveNames, OperandsGiveSegments, InstructionsArrive};
 ghost use Rattle.link_laws.specs.Listings.{UndefinedAreListed, UndefinedLines, RowLines, ExternalsAreListed, SizesAreSums};
 ghost use Rattle.link_laws.specs.Orders.{OrderAddsAlike, OrderLinksAlike, OrderRefusesAlike, OrderKeepsSizes, OrderReportsAlike, OrderFindsEntry, OrderKeepsMeanings, OrderKeepsReferents, OnceInAnyOrder};
 
@@ -59,6 +60,24 @@ pub fn operand_law()
 pub fn instruction_law()
     ensures kept { InstructionsAreKept }
     ensures texts { TextsAreKept }
+{}
+
+/// What the machine makes of an operand word of a linked program: in modes 67 and 77 the sum of the word and the address after it, in 27,
+/// in 37 and of an index the word itself, modulo 65,536. The pc bit of the word's relocation word suits the mode: it is set in
+/// modes 67 and 77 alone. (ld(1), the handbook of the PDP-11/70)
+///
+/// - `names`: in a link without `-r` that keeps symbols, a word that refers to a name gives the machine the value of the name's
+///   external symbol more than it does in the object.
+/// - `segments`: a word that refers to a segment of its object gives it more by how far that segment was moved; an absolute one
+///   the same as there.
+/// - `arrive`: in a link that keeps symbols, and if no name is multiply defined, an instruction with mode 67 of a name, and
+///   nothing beyond it, finds the definition of the name in the space in which it looks: `jmp` and `jsr` in that of
+///   instructions, any other in that of data. With split spaces this requires that the definition is in that space, or
+///   absolute.
+pub fn operand_word_law()
+    ensures names { OperandsGiveNames }
+    ensures segments { OperandsGiveSegments }
+    ensures arrive { InstructionsArrive }
 {}
 
 /// Lists agree with links: what nm and size show for a linked file is what its link reported, and what its objects
