@@ -232,7 +232,7 @@ check-cases: build/v7 build/v7-from-gnu build/v7-object build/v7-explain
 	python3 tests/cases.py -b
 	python3 tests/cases.py
 
-# plants the bugs of docs/PLANTED.md, or those that BUGS names, one after another, and sees that the cases find each: two minutes
+# plants the bugs of docs/CASES.md, or those that BUGS names, one after another, and sees that the cases find each: two minutes
 # for a bug, with no proof
 planted:
 	python3 tests/planted.py $(BUGS)
