@@ -24,13 +24,13 @@ pub enum Cause {
     ManyNames,
     /// 6: a part of an object is longer than a header can say.
     TooLong,
-    /// 7: an edit is none.
+    /// 7: a letter is not an edit.
     NoEdit,
-    /// 11 to 14: the bytes begin with no a.out file.
+    /// 11 to 14: the bytes do not begin with an a.out file.
     BadFile(ReadFault),
-    /// 21 to 24: the file is no object.
+    /// 21 to 24: the file is not an object.
     BadObject(ObjectFault),
-    /// 31 to 34: the object has no room after those before it.
+    /// 31 to 34: the object would pass a limit, with those before it.
     NotAdded(AddFault),
     /// 41 to 43: the objects can't be linked.
     NotLinked(LinkFault),
@@ -208,7 +208,7 @@ impl Cause {
         }
     }
 
-    /// The index of the word that is at fault, text before data, from 0; and 0 where it is no word. (own choice)
+    /// The index of the word that is at fault, text before data, from 0; and 0 for other causes. (own choice)
     pub fn word(&self) -> u32
         ensures { result ≡ word_of self.now }
     {

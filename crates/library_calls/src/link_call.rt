@@ -89,10 +89,14 @@ pub(crate) fn program_of(alloc: Global, linked: &Linked) -> Result<Program, Caus
 /// Links the objects that the bytes hold, one after another, in their order. Each is read, checked and added before
 /// the next one is read, and a refusal ends the link. Without bytes there are no objects. (ld(1))
 ///
-/// Errors, the first that applies: `NoOption`, 1, `Excluded`, 2, and `LongName`, 3, where the options or the name of the
-/// entry point are wrong; `CutNames`, 4, and `ManyNames`, 5, where the forced names are; for the first object that is not
-/// taken, with its number, `BadFile`, 11 to 14, where it is no file, `BadObject`, 21 to 24, where it is no object, or
-/// `NotAdded`, 31 to 34, where it passes a limit; after the last object `NotLinked`, 41 to 43, where there is no link;
+/// Errors, the first that applies:
+///
+/// - `NoOption`, 1, `Excluded`, 2, and `LongName`, 3, if the options or the name of the entry point are wrong;
+/// - `CutNames`, 4, and `ManyNames`, 5, if the forced names are wrong;
+/// - for the first object that is not taken, with its number: `BadFile`, 11 to 14, if it is not a file; `BadObject`, 21 to
+///   24, if it is not an object; `NotAdded`, 31 to 34, if it passes a limit;
+/// - `NotLinked`, 41 to 43, if all objects are taken and there is no link of them.
+///
 /// `Memory`, 50, if memory runs out for forced names, for a whole file, for an object that is accepted, or for a link.
 pub fn link(alloc: Global, wanted: &Wanted<'_>, objects: &[u8]) -> Result<Program, Refusal>
     ensures ok { IfOk result (λ program. output_in wanted.now.options wanted.now.entry.now wanted.now.forced.now objects.now ≡ Ok (outputs_of program)) }

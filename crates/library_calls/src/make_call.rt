@@ -101,10 +101,14 @@ fn file_for(alloc: Global, parts: &ObjectParts<'_>) -> Result<File, Cause>
 
 /// The bytes of an object of these parts, with magic 0407 and no entry point. (a.out(5))
 ///
-/// Errors, the first that applies: `TooLong`, 6, where text or data have more than 32,767 words, bss more than 65,535
-/// bytes, or there are more than 5,461 symbols; `BadFile`, 13, where the size of bss is odd; `BadObject`, 23 and 24,
-/// where a relocation word has no kind, or not the number of an undefined external; `Memory`, 50, if memory runs out for
-/// parts that are not too long and whose bss is not odd.
+/// Errors, the first that applies:
+///
+/// - `TooLong`, 6, if text or data have more than 32,767 words, bss more than 65,535 bytes, or there are more than 5,461
+///   symbols;
+/// - `BadFile`, 13, if the size of bss is odd;
+/// - `BadObject`, 23 and 24, if a relocation word has none of the kinds, or not the number of an undefined external.
+///
+/// `Memory`, 50, if memory runs out for parts that are not too long and whose bss is not odd.
 pub fn make(alloc: Global, parts: &ObjectParts<'_>) -> Result<Vec<u8>, Cause>
     ensures ok { IfOk result (λ written. made_of (pieces parts.now.text.now parts.now.data.now parts.now.bss parts.now.symbols.now) ≡ Ok written.items) }
     ensures err { IfErr result (λ cause. cause ≢ Memory

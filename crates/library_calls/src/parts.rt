@@ -13,7 +13,7 @@ pub struct ObjectWord {
 #[repr(C)]
 #[derive(Clone, Copy, Debug, PartialEq, Eq)]
 pub struct SymbolRow {
-    /// The name, filled up with NULs; what is behind a NUL is not looked at.
+    /// The name, filled up with NULs; what follows a NUL is not looked at.
     pub name: [u8; 8],
     /// The type word.
     pub type_bits: u16,

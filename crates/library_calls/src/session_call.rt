@@ -63,9 +63,13 @@ fn run_edits(
 /// bytes hold, one after another, after those that are kept; `w` withdraws the last that is kept. All edits are read
 /// before the first is made. What is after the last object is not looked at. (ld(1); edits: own choice)
 ///
-/// Errors, the first that applies: 1 to 3, `CutNames`, 4, and `ManyNames`, 5, as `link`; for the first edit that can't
-/// be read, with its number, `NoEdit`, 7, where it is another letter, `BadFile`, 11 to 14, where its object is no file,
-/// or `BadObject`, 21 to 24, where it is no object; after the last edit `NotLinked`, 41 to 43, where there is no link;
+/// Errors, the first that applies:
+///
+/// - 1 to 3, `CutNames`, 4, and `ManyNames`, 5, as `link`;
+/// - for the first edit that can't be read, with its number: `NoEdit`, 7, if it is another letter; `BadFile`, 11 to 14, if
+///   its object is not a file; `BadObject`, 21 to 24, if that is not an object;
+/// - `NotLinked`, 41 to 43, if all edits are read and there is no link of what they leave.
+///
 /// `Memory`, 50, if memory runs out for a whole file, for an edit that is accepted, for forced names, or for a link.
 pub fn run_session(
     alloc: Global,

@@ -75,14 +75,18 @@ fn edit_and_show(
     })
 }
 
-/// Adds and withdraws objects as `run_session` does, and tells what the session then shows: as lines where the form is
-/// 0, as `session_text::state_lines` has them, and as JSON where it is 1, as `session_text::state_json` has it. Without
-/// edits it shows the forced names. (own choice)
+/// Adds and withdraws objects as `run_session` does, and returns what the session then shows. With form 0 these are the
+/// lines of `session_text::state_lines`, and with form 1 the JSON of `session_text::state_json`. Without edits it shows the
+/// forced names. (own choice)
 ///
-/// Errors, the first that applies: `NoOption`, 1, where the form is another number; `CutNames`, 4, and `ManyNames`, 5, as
-/// `link`; for the first edit that can't be read, with its number, `NoEdit`, 7, `BadFile`, 11 to 14, or `BadObject`, 21 to
-/// 24, as `run_session`; `Memory`, 50, if memory runs out for a whole file, for an edit that is accepted, for forced
-/// names, or for the state.
+/// Errors, the first that applies:
+///
+/// - `NoOption`, 1, if the form is another number;
+/// - `CutNames`, 4, and `ManyNames`, 5, as `link`;
+/// - for the first edit that can't be read, with its number: `NoEdit`, 7, `BadFile`, 11 to 14, or `BadObject`, 21 to 24, as
+///   `run_session`.
+///
+/// `Memory`, 50, if memory runs out for a whole file, for an edit that is accepted, for forced names, or for the state.
 pub fn show_session(
     alloc: Global,
     form: u32,

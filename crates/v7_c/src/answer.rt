@@ -4,19 +4,19 @@ ghost use Rattle.v7_c.specs.Left.{given, refused};
 
 use library_calls::Refusal;
 
-/// What a call says besides the bytes that it gives. `v7.h` tells the numbers of the faults.
+/// What a call says besides the bytes that it gives. `v7.h` has the numbers of the faults.
 #[repr(C)]
 #[derive(Clone, Copy)]
 pub struct Answer {
-    /// Why the call gives nothing, as a number; 0 where it gives something.
+    /// Why the call gives nothing, as a number; 0 if it gives something.
     pub fault: u32,
-    /// The index of the bad word, where the fault lies in a word.
+    /// The index of the bad word, if the fault is in a word.
     pub word: u32,
-    /// The number of the object, of the forced name, or of the edit, that the fault lies in.
+    /// The number of the object, of the forced name, or of the edit that has the fault.
     pub place: usize,
-    /// How many bytes there are for the first room.
+    /// How many bytes there are for the first buffer.
     pub size: usize,
-    /// How many bytes there are for the second room.
+    /// How many bytes there are for the second buffer.
     pub report_size: usize,
 }
 

@@ -1,6 +1,6 @@
 //! The calls of libv7 for C and for what can call C: `v7.h` says what each is for.
 //!
-//! Each call is one of `library_calls`, and writes what that gives into rooms of the caller.
+//! Each call is one of `library_calls`, and writes what that gives into buffers of the caller.
 #![tactic(auto)]
 
 mod answer;
@@ -23,7 +23,7 @@ use crate::rooms::{
 use library_calls::{ObjectParts, ObjectWord, SymbolRow, Wanted};
 use std::alloc::Global;
 
-/// Checks an object, and tells how many bytes it takes.
+/// Checks an object, and gives how many bytes it takes.
 #[unsafe(no_mangle)]
 pub extern "C" fn v7_check(alloc: Global, bytes: &[u8], answer: &mut Answer) -> u32
     ensures value { answer.new.fault ≢ 50 → left result answer.new [] ≡ counted_by (checked_in bytes.now) }
@@ -182,7 +182,7 @@ pub extern "C" fn v7_session(
     leave_session(ran, replies, room, report, answer)
 }
 
-/// Runs the edits of a session, and tells what it then shows.
+/// Runs the edits of a session, and gives what it then shows.
 #[unsafe(no_mangle)]
 pub extern "C" fn v7_state(
     alloc: Global,

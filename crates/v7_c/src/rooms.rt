@@ -1,4 +1,4 @@
-//! What a call gives, written into the rooms of its caller.
+//! What a call gives, written into the buffers of its caller.
 ghost use Rattle.std.specs.Prelude.{◌≡◌, ◌≤◌, [], length, Ok};
 ghost use Rattle.library_calls.specs.LinkAnswers.{outputs_of};
 ghost use Rattle.library_calls.specs.ObjectParts.{pieces_in};
@@ -9,10 +9,10 @@ ghost use Rattle.v7_c.specs.Left.{apart_left, counted_by, counts_of, items_of, l
 use crate::answer::{Answer, Counts};
 use library_calls::{Cause, ObjectWord, PartLists, Program, Ran, Refusal, Shown, SymbolRow};
 
-/// The fault where a room is too short.
+/// The fault if a buffer is too short.
 const NO_ROOM: u32 = 60;
 
-/// Writes bytes, or what else there is, at the beginning of a room.
+/// Writes bytes, or what else there is, at the beginning of a buffer.
 fn put<T: Copy>(items: &[T], room: &mut [T])
     requires { length items.now ≤ length room.old }
     ensures { room.new ≡ put_in room.old items.now }
@@ -36,7 +36,7 @@ pub(crate) fn leave_count(count: Result<usize, Cause>, answer: &mut Answer) -> u
     }
 }
 
-/// Writes bytes into the room, where they fit.
+/// Writes bytes into the buffer, if they fit.
 pub(crate) fn leave_bytes(
     bytes: Result<Vec<u8>, Cause>,
     room: &mut [u8],
@@ -69,7 +69,7 @@ struct Both<'a> {
     more: &'a [u8],
 }
 
-/// Writes two results into their rooms, where both fit.
+/// Writes two results into their buffers, if both fit.
 fn leave_both(both: &Both<'_>, room: &mut [u8], report: &mut [u8], answer: &mut Answer) -> u32
     ensures { link_left result answer.new room.new report.new
         ≡ output_left (Ok (record { status = both.now.status; file = both.now.bytes.now; report = both.now.more.now })) room.old report.old }
@@ -86,7 +86,7 @@ fn leave_both(both: &Both<'_>, room: &mut [u8], report: &mut [u8], answer: &mut 
     u32::from(both.status)
 }
 
-/// Writes the file of a link and its report into the rooms, where both fit.
+/// Writes the file of a link and its report into the buffers, if both fit.
 fn leave_program(program: &Program, room: &mut [u8], report: &mut [u8], answer: &mut Answer) -> u32
     ensures { link_left result answer.new room.new report.new ≡ output_left (Ok (outputs_of program.now)) room.old report.old }
 {
@@ -98,7 +98,7 @@ fn leave_program(program: &Program, room: &mut [u8], report: &mut [u8], answer: 
     leave_both(&both, room, report, answer)
 }
 
-/// Writes a link into the rooms, where there is one.
+/// Writes a link into the buffers, if there is one.
 pub(crate) fn leave_output(
     program: Result<Program, Refusal>,
     room: &mut [u8],
@@ -116,7 +116,7 @@ pub(crate) fn leave_output(
     }
 }
 
-/// Writes the link of a session and the replies into the rooms, where all fit.
+/// Writes the link of a session and the replies into the buffers, if all fit.
 fn leave_ran(
     ran: &Ran,
     replies: &mut [u8],
@@ -139,7 +139,7 @@ fn leave_ran(
     u32::from(ran.program.status)
 }
 
-/// Writes the link of a session and the replies into the rooms, where there is one.
+/// Writes the link of a session and the replies into the buffers, if there is one.
 pub(crate) fn leave_session(
     ran: Result<Ran, Refusal>,
     replies: &mut [u8],
@@ -158,7 +158,7 @@ pub(crate) fn leave_session(
     }
 }
 
-/// Writes the state of a session and the replies into the rooms, where both fit.
+/// Writes the state of a session and the replies into the buffers, if both fit.
 fn leave_shown(shown: &Shown, room: &mut [u8], replies: &mut [u8], answer: &mut Answer) -> u32
     ensures { link_left result answer.new room.new replies.new ≡ told_left (Ok (told_of shown.now)) room.old replies.old }
 {
@@ -170,7 +170,7 @@ fn leave_shown(shown: &Shown, room: &mut [u8], replies: &mut [u8], answer: &mut 
     leave_both(&both, room, replies, answer)
 }
 
-/// Writes the state of a session and the replies into the rooms, where there is one.
+/// Writes the state of a session and the replies into the buffers, if there is one.
 pub(crate) fn leave_state(
     shown: Result<Shown, Refusal>,
     room: &mut [u8],
@@ -200,7 +200,7 @@ fn counts_of(parts: &PartLists) -> Counts
     }
 }
 
-/// Writes the parts of an object into the rooms, where all fit.
+/// Writes the parts of an object into the buffers, if all fit.
 fn leave_lists(
     parts: &PartLists,
     text: &mut [ObjectWord],
@@ -225,7 +225,7 @@ fn leave_lists(
     0
 }
 
-/// Writes the parts of an object into the rooms, where there are some, and returns the status and their numbers.
+/// Writes the parts of an object into the buffers, if there are some, and returns the status and their numbers.
 pub(crate) fn leave_parts(
     parts: Result<PartLists, Cause>,
     text: &mut [ObjectWord],
