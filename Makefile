@@ -153,7 +153,7 @@ recheck:
 wrong-bodies:
 	sh tests/wrong_bodies.sh $(NAMES)
 
-# the calls of crates/memory, with the first, the second, .. request for memory refused
+# the calls that may be refused memory, of crates/fixtures, with the first, the second, .. request for memory refused
 memory:
 	sh tests/memory.sh
 
@@ -244,7 +244,6 @@ check-model: build/v7
 # the examples of the manual pages and of the documents come out as shown, and so do the faults of v7-from-gnu and the steps of
 # lesson; the gate leaves the programs that they need
 check-examples: build/v7 build/v7-from-gnu build/v7-object build/v7-explain build/lesson
-	cmp crates/write_object/stdout examples/main.o
 	cmp crates/lesson/data/k.o examples/k.o
 	cmp crates/lesson/data/l.o examples/l.o
 	cmp crates/v7_from_gnu/data/squares.gnu examples/squares.gnu

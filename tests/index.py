@@ -1,25 +1,30 @@
 #!/usr/bin/env python3
 """Sees that each name in docs/internals/INDEX.md is there: `CRATE/file::name` as a function, a type or a constant of the code, or as a
-definition where the file is one of specs/; those of the column of tests as tests."""
+definition where the file is one of specs/; those of the column of tests as tests, or `FILE.case::name` as a case."""
 import os
 import re
 import sys
 
 os.chdir(os.path.join(os.path.dirname(os.path.abspath(__file__)), ".."))
-CELL = re.compile(r"`(\w+)/([\w/]+)::(\w+)`")
+CELL = re.compile(r"`(?:(\w+)/)?([\w/]+|\w+\.case)::(\w+)`")
 CODE = r"\b(?:fn|const|static|struct|enum|trait) {}\b"
 DEFINITION = r"^(?:abbrev|unfoldable|record|data|def) (?:rec )?(?:pub )?{}(?=[ :]|$)|^ *(?:abbrev |unfoldable |record |data )?pub (?:data |record |abbrev )?{}(?=[ :]|$)"
+CASE = r"^case {}$"
 TEST = r"#\[test\]\s+(?:#\[[^\n]*\]\s+)*fn {}\b"
 
 
 def fault_of(crate, file, name, column):
+    is_case = column == "Test" and not crate and file.endswith(".case")
     is_definition = file.split("/")[-1][0].isupper()
-    path = f"crates/{crate}/specs/{file}.antt" if is_definition else f"crates/{crate}/src/{file}.rt"
+    if is_case:
+        path = f"crates/cases/data/{file}"
+    else:
+        path = f"crates/{crate}/specs/{file}.antt" if is_definition else f"crates/{crate}/src/{file}.rt"
     if not os.path.exists(path):
         return f"there is no {path}"
     with open(path, encoding="utf-8") as source:
         text = source.read()
-    form = DEFINITION if is_definition else TEST if column == "Test" else CODE
+    form = CASE if is_case else DEFINITION if is_definition else TEST if column == "Test" else CODE
     if re.search(form.replace("{}", re.escape(name)), text, re.M):
         return None
     return f"{path} has no {name}"
@@ -42,8 +47,8 @@ def main():
                 continue
             for column, cell in list(zip(header, cells))[1:]:
                 names = CELL.findall(cell)
-                if not names:
-                    faults.append(f"docs/internals/INDEX.md:{number}: nothing under {column}")
+                if not names or len(names) != cell.count("`") // 2:
+                    faults.append(f"docs/internals/INDEX.md:{number}: nothing, or no place, under {column}")
                 for crate, file, name in names:
                     count += 1
                     fault = fault_of(crate, file, name, column)

@@ -3,7 +3,7 @@
 //! those that the calls make is refused. See tests/memory.sh.
 #![tactic(auto)]
 
-use memory_calls::{Outcome, commands, files, links, programs, script_steps, sessions};
+use fixtures::memory_calls::{Outcome, commands, files, links, programs, script_steps, sessions};
 use std::alloc::Global;
 use std::io;
 

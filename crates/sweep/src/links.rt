@@ -1,7 +1,7 @@
 //! Runs of edits, and links of inputs.
 use aout_core::Wire;
 use aout_core::samples::{B_O, TestReader};
-use link_fixtures::{adding, plain};
+use fixtures::{adding, plain};
 use link_out::{Edit, Keep, run};
 use link_session::Forced;
 use std::alloc::Global;

@@ -33,7 +33,7 @@ enum Call {
     LinkInputs,
 }
 
-/// What is said of each call, and the last of its sizes. More names are no file, and more than 64 are not forced.
+/// What is said of each call, and the last of its sizes. A file has no more names, and no more than 64 can be forced.
 static CALLS: [(&str, Call, u16); 8] = [
     ("bytes put", Call::Put, 5_000),
     ("bytes read", Call::Read, 5_000),

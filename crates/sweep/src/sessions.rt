@@ -1,7 +1,6 @@
 //! Names that are forced, and objects that are added to a session, linked and withdrawn.
 use aout_core::Name;
-use fixtures::{adds, adds_names, file_of};
-use link_fixtures::{Output, output_of, plain, relocatable};
+use fixtures::{Output, adds, adds_names, file_of, output_of, plain, relocatable};
 use link_out::{Keep, Options, finish};
 use link_session::{Forced, Session};
 use std::alloc::{AllocError, Global};

@@ -1,0 +1,137 @@
+//! When what a command prints goes out: how often it is flushed, and that a session's answer is flushed before the next line
+//! is read.
+use aout_core::samples::{C_O, TestReader, TestWriter};
+use aout_core::{File, Wire};
+use fixtures::words;
+use std::alloc::{AllocError, Global};
+use std::cell::Cell;
+use std::io;
+use std::io::{ErrorKind, Read, Write};
+use std::test::Fail;
+use v7tools::{BlockWriter, Office, Outputs, Stored, perform};
+
+/// A file system of `c.o` alone, which keeps each file that it is given.
+#[derive(Drop)]
+struct OneObject;
+
+impl Office for OneObject {
+    type Source = TestReader<'static>;
+
+    fn open(&mut self, path: &str) -> Option<TestReader<'static>> {
+        match path {
+            "c.o" => Some(TestReader::whole(&C_O)),
+            _ => None,
+        }
+    }
+
+    fn store(&mut self, _: &str, _: &File) -> Stored {
+        Stored::Kept
+    }
+}
+
+/// The status of a command over a device for what it prints.
+fn run<R: Read + Drop, W: Write>(
+    alloc: Global,
+    arguments: &[&str],
+    script: R,
+    device: &mut W,
+) -> Result<u8, AllocError> {
+    let mut outputs = Outputs {
+        output: Wire::new(BlockWriter::new(device)),
+        error: Wire::new(TestWriter::whole(Vec::new(alloc))),
+    };
+    let arguments = words(alloc, arguments)?;
+    Ok(perform(alloc, &mut OneObject, script, &mut outputs, arguments))
+}
+
+/// How often the device for what a command prints is flushed.
+fn flushes(alloc: Global, arguments: &[&str], script: &str) -> Result<u32, AllocError> {
+    let mut device = TestWriter::whole(Vec::new(alloc));
+    let script = TestReader::whole(script.as_bytes());
+    let _ = run(alloc, arguments, script, &mut device)?;
+    Ok(device.flushes())
+}
+
+/// The arguments of a command, its script, and how often what it prints is flushed.
+static FLUSHES: [(&[&str], &str, u32); 7] = [
+    (&["session"], "", 0),
+    (&["session"], "withdraw\n", 1),
+    (
+        &["session"],
+        "add c.o\nadd none\nexternals\nundefined\nlink out\nwithdraw\nx\n",
+        7,
+    ),
+    (&["ld", "-o", "out", "c.o"], "", 1),
+    (&["nm", "c.o"], "", 1),
+    (&["size", "c.o"], "", 1),
+    (&["strip", "c.o"], "", 0),
+];
+
+#[test]
+fn outputs_are_flushed(rt: HostRuntime) -> Result<(), Fail> {
+    for (arguments, script, times) in FLUSHES {
+        assert!(rt;
+            flushes(rt.alloc(), arguments, script)? == times,
+            "{times} flushes"
+        );
+    }
+    Ok(())
+}
+
+/// A device that holds what is written to it until it is flushed, and tells how many bytes were flushed.
+#[derive(Drop)]
+struct Held<'a> {
+    waiting: usize,
+    flushed: &'a Cell<usize>,
+}
+
+impl Write for Held<'_> {
+    fn write(&mut self, bytes: &[u8]) -> io::Result<usize> {
+        self.waiting = self.waiting.saturating_add(bytes.len());
+        Ok(bytes.len())
+    }
+
+    fn flush(&mut self) -> io::Result<()> {
+        self.flushed.set(self.waiting);
+        Ok(())
+    }
+}
+
+/// A reader of lines `withdraw`, one at a time. Before each line, and before the end, it looks whether all lines before are
+/// answered by `nothing to withdraw`.
+#[derive(Drop)]
+struct Typist<'a> {
+    lines: TestReader<'a>,
+    answered: usize,
+    flushed: &'a Cell<usize>,
+    was_in_time: &'a Cell<bool>,
+}
+
+impl Read for Typist<'_> {
+    fn read(&mut self, buf: &mut [u8]) -> io::Result<usize> {
+        let is_in_time = self.flushed.get() == self.answered;
+        self.was_in_time.set(self.was_in_time.get() && is_in_time);
+        self.answered = self.answered.saturating_add("nothing to withdraw\n".len());
+        self.lines.read(buf)
+    }
+}
+
+#[test]
+fn answers_before_the_next_line(rt: HostRuntime) -> Result<(), Fail> {
+    let flushed = Cell::new(0);
+    let was_in_time = Cell::new(true);
+    let lines = b"withdraw\nwithdraw\nwithdraw\n";
+    let typist = Typist {
+        lines: TestReader::new(lines, 9, usize::MAX, ErrorKind::Other),
+        answered: 0,
+        flushed: &flushed,
+        was_in_time: &was_in_time,
+    };
+    let mut device = Held {
+        waiting: 0,
+        flushed: &flushed,
+    };
+    let status = run(rt.alloc(), &["session"], typist, &mut device)?;
+    assert!(rt; status == 1 && flushed.get() == 60 && was_in_time.get());
+    Ok(())
+}

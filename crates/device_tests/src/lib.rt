@@ -1,0 +1,32 @@
+//! Tests of what no case can say: devices that fail and how often they are called, texts of faults, calls that may be refused
+//! memory while none is, and the calls below the commands.
+#![tactic(auto)]
+
+#[cfg(test)]
+mod answers;
+#[cfg(test)]
+mod block_writes;
+#[cfg(test)]
+mod fault_texts;
+#[cfg(test)]
+mod faults;
+#[cfg(test)]
+mod library;
+#[cfg(test)]
+mod links;
+#[cfg(test)]
+mod listing_texts;
+#[cfg(test)]
+mod lists;
+#[cfg(test)]
+mod memory;
+#[cfg(test)]
+mod memory_office;
+#[cfg(test)]
+mod pieces;
+#[cfg(test)]
+mod script_calls;
+#[cfg(test)]
+mod steps;
+#[cfg(test)]
+mod wires;

@@ -1,0 +1,232 @@
+//! The calls that take bytes and give bytes: what they give, and why they give nothing.
+use aout_core::samples::{A_O, B_O, C_O, D_O, G_O};
+use aout_core::{ObjectFault, ReadFault};
+use fixtures::{TWO_OBJECTS, UNDEFINED, sized};
+use library_calls::{
+    Cause, ObjectParts, Refusal, Shown, Wanted, check, link, list_symbols, make, run_session,
+    show_session, show_sizes, strip, take_apart,
+};
+use std::alloc::{AllocError, Global};
+use std::test::Fail;
+
+/// With no symbols.
+const STRIPPED: Wanted<'static> = Wanted {
+    options: 2,
+    entry: &[],
+    forced: &[],
+};
+
+/// Two objects, one after the other.
+fn both(alloc: Global, first: &[u8], second: &[u8]) -> Result<Vec<u8>, AllocError> {
+    let mut objects = first.to_vec(alloc)?;
+    objects.extend_from_slice(second)?;
+    Ok(objects)
+}
+
+/// Whether these bytes were given.
+fn gives(given: Result<Vec<u8>, Cause>, bytes: &[u8]) -> bool {
+    match given {
+        Ok(given) => given.as_slice() == bytes,
+        Err(_) => false,
+    }
+}
+
+/// What `v7 ld -s a.o` writes.
+static ONE_OBJECT: &[u8] = b"\x07\x01\x04\0\x02\0\0\0\0\0\0\0\0\0\x01\0\xc0\x15\x04\0\x22\0";
+
+#[test]
+fn calls_on_one_file(rt: HostRuntime) {
+    let alloc = rt.alloc();
+    assert!(rt; check(alloc, &C_O) == Ok(48));
+    assert!(rt; check(alloc, &TWO_OBJECTS) == Err(Cause::BadObject(ObjectFault::NoRelocation)));
+    assert!(rt; gives(strip(alloc, &A_O), ONE_OBJECT));
+    assert!(rt; gives(list_symbols(alloc, 1, &C_O), b"       U _f\n"));
+    assert!(rt; list_symbols(alloc, 32, &C_O).err() == Some(Cause::NoOption));
+    assert!(rt; gives(show_sizes(alloc, &C_O), b"4+0+0 = 4b = 04b\n"));
+}
+
+/// Whether an object that is taken apart is made again of its parts; and whether it is too long with more bss.
+fn is_made_again(alloc: Global, object: &[u8]) -> bool {
+    let Ok(parts) = take_apart(alloc, object) else {
+        return false;
+    };
+    let again = ObjectParts {
+        text: &parts.text,
+        data: &parts.data,
+        bss: u32::from(parts.bss),
+        symbols: &parts.symbols,
+    };
+    let longer = ObjectParts {
+        bss: 65_536,
+        ..again
+    };
+    gives(make(alloc, &again), object) && make(alloc, &longer).err() == Some(Cause::TooLong)
+}
+
+#[test]
+fn parts_of_objects(rt: HostRuntime) {
+    assert!(rt; is_made_again(rt.alloc(), &C_O));
+    let cause = Cause::BadFile(ReadFault::Truncated);
+    assert!(rt; take_apart(rt.alloc(), &A_O[..27]).err() == Some(cause));
+}
+
+/// Whether the link of two objects with these options is this file with this report.
+fn links(alloc: Global, options: u32, two: (&[u8], &[u8]), file: &[u8], report: &str) -> bool {
+    let Ok(objects) = both(alloc, two.0, two.1) else {
+        return false;
+    };
+    let wanted = Wanted {
+        options,
+        ..STRIPPED
+    };
+    match link(alloc, &wanted, &objects) {
+        Ok(given) => {
+            given.status == u8::from(!report.is_empty())
+                && given.file.as_slice() == file
+                && given.report.as_slice() == report.as_bytes()
+        }
+        Err(_) => false,
+    }
+}
+
+#[test]
+fn objects_linked(rt: HostRuntime) {
+    let alloc = rt.alloc();
+    assert!(rt; links(alloc, 2, (&A_O, &B_O), &TWO_OBJECTS, ""));
+    assert!(rt; links(alloc, 0, (&C_O, &G_O), &UNDEFINED, "Undefined:\n_f\n_g\n"));
+}
+
+/// Why there is no link of two objects.
+fn refusal(alloc: Global, wanted: &Wanted<'_>, first: &[u8], second: &[u8]) -> Option<Refusal> {
+    let objects = both(alloc, first, second).ok()?;
+    link(alloc, wanted, &objects).err()
+}
+
+#[test]
+fn wishes_refused(rt: HostRuntime) {
+    let alloc = rt.alloc();
+    let split = Wanted {
+        options: 48,
+        entry: b"_too_long",
+        ..STRIPPED
+    };
+    let cause = Cause::Excluded;
+    assert!(rt; refusal(alloc, &split, &A_O, &B_O) == Some(Refusal { cause, place: 0 }));
+    let cut = Wanted {
+        forced: b"_f",
+        ..STRIPPED
+    };
+    let cause = Cause::CutNames;
+    assert!(rt; refusal(alloc, &cut, &A_O, &B_O) == Some(Refusal { cause, place: 0 }));
+    let cause = Cause::BadFile(ReadFault::Truncated);
+    assert!(rt; refusal(alloc, &STRIPPED, &A_O, &C_O[..47]) == Some(Refusal { cause, place: 1 }));
+}
+
+/// What the edits with two objects give: the replies, the status and the file.
+fn runs(alloc: Global, edits: &[u8], two: (&[u8], &[u8]), want: (&[u8], u8, &[u8])) -> bool {
+    let Ok(objects) = both(alloc, two.0, two.1) else {
+        return false;
+    };
+    match run_session(alloc, &STRIPPED, edits, &objects) {
+        Ok(ran) => {
+            ran.replies.as_slice() == want.0
+                && ran.program.status == want.1
+                && ran.program.file.as_slice() == want.2
+        }
+        Err(_) => false,
+    }
+}
+
+#[test]
+fn replies_to_edits(rt: HostRuntime) -> Result<(), Fail> {
+    let alloc = rt.alloc();
+    let two: (&[u8], &[u8]) = (&A_O, &B_O);
+    assert!(rt; runs(alloc, b"aa", two, (&[0, 0], 0, &TWO_OBJECTS)));
+    assert!(rt; runs(alloc, b"wa", two, (&[35, 0], 1, ONE_OBJECT)));
+    let large = sized(alloc, 65_534)?;
+    let alone = strip(alloc, &large).ok().ok_or("not stripped")?;
+    assert!(rt; runs(alloc, b"aa", (&large, &B_O), (&[0, 31], 1, &alone)));
+    Ok(())
+}
+
+const LINES: u32 = 0;
+
+const JSON: u32 = 1;
+
+/// A name whose bytes but for the first are shown in another way, and what is shown of a session that it is forced in.
+const ODD_NAME: (&[u8], &str) = (
+    b"a\"\\\n\x80 \0\0",
+    "{\"objects\":0,\"text\":[],\"data\":[],\"bss\":0,\"externals\":[{\"name\":\"a\\u0022\\u005c\\u000a\\u0080 \",\"state\":\"undefined\",\"value\":0}],\"multiples\":[],\"marks\":[]}",
+);
+
+const FIRST: &str =
+    "{\"objects\":1,\"text\":[{\"offset\":0,\"value\":2551,\"pc\":false,\"target\":\"number\"},{\"offset\":2,\"value\":65532,\"pc\":true,\"target\":\"external\",\"name\":\"_f\"}],\"data\":[],\"bss\":0,\"externals\":[{\"name\":\"_f\",\"state\":\"undefined\",\"value\":0}],\"multiples\":[],\"marks\":[]}";
+
+const BOTH: &str =
+    "{\"objects\":2,\"text\":[{\"offset\":0,\"value\":2551,\"pc\":false,\"target\":\"number\"},{\"offset\":2,\"value\":2,\"pc\":true,\"target\":\"text\"},{\"offset\":4,\"value\":160,\"pc\":false,\"target\":\"number\"},{\"offset\":6,\"value\":135,\"pc\":false,\"target\":\"number\"}],\"data\":[],\"bss\":0,\"externals\":[{\"name\":\"_f\",\"state\":\"text\",\"value\":6}],\"multiples\":[],\"marks\":[{\"name\":\"_f\",\"was\":{\"state\":\"undefined\",\"value\":0}},{\"segment\":\"text\",\"offset\":2,\"was\":{\"value\":65532,\"pc\":true,\"target\":\"external\",\"name\":\"_f\"}}]}";
+
+/// What is shown after the edits with `c.o` and `d.o`.
+fn shown(alloc: Global, form: u32, forced: &[u8], edits: &[u8]) -> Result<Shown, Refusal> {
+    let Ok(objects) = both(alloc, &C_O, &D_O) else {
+        let cause = Cause::Memory;
+        return Err(Refusal { cause, place: 0 });
+    };
+    show_session(alloc, form, forced, edits, &objects)
+}
+
+/// Whether the edits have these replies, and this state as JSON.
+fn shows(alloc: Global, forced: &[u8], edits: &[u8], replies: &[u8], state: &str) -> bool {
+    match shown(alloc, JSON, forced, edits) {
+        Ok(shown) => {
+            shown.status == u8::from(replies.contains(&35))
+                && shown.replies.as_slice() == replies
+                && shown.state.as_slice() == state.as_bytes()
+        }
+        Err(_) => false,
+    }
+}
+
+#[test]
+fn json_shown(rt: HostRuntime) {
+    let alloc = rt.alloc();
+    assert!(rt; shows(alloc, b"", b"a", &[0], FIRST));
+    assert!(rt; shows(alloc, b"", b"aa", &[0, 0], BOTH));
+    assert!(rt; shows(alloc, b"", b"waaw", &[35, 0, 0, 0], FIRST));
+    assert!(rt; shows(alloc, ODD_NAME.0, b"", &[], ODD_NAME.1));
+}
+
+#[test]
+fn states_refused(rt: HostRuntime) {
+    let alloc = rt.alloc();
+    let cause = Cause::NoOption;
+    assert!(rt; shown(alloc, 2, b"", b"x").err() == Some(Refusal { cause, place: 0 }));
+    let cause = Cause::NoEdit;
+    assert!(rt; shown(alloc, LINES, b"", b"ax").err() == Some(Refusal { cause, place: 1 }));
+    let cause = Cause::BadFile(ReadFault::ShortHeader);
+    assert!(rt; shown(alloc, JSON, b"", b"aaa").err() == Some(Refusal { cause, place: 2 }));
+}
+
+/// Whether the state of 65,534 bytes of text has this size, and ends with this.
+fn ends(alloc: Global, form: u32, size: usize, end: &str) -> Result<bool, Fail> {
+    let large = sized(alloc, 65_534)?;
+    Ok(match show_session(alloc, form, b"", b"a", &large) {
+        Ok(shown) => shown.state.len() == size && shown.state.as_slice().ends_with(end.as_bytes()),
+        Err(_) => false,
+    })
+}
+
+#[test]
+fn large_state_shown(rt: HostRuntime) -> Result<(), Fail> {
+    let last_line = "  text 177774  000000     a number\n";
+    let last =
+        "{\"offset\":65532,\"value\":0,\"pc\":false,\"target\":\"number\"}],\"data\":[],\"bss\":0,\"externals\":[],\"multiples\":[],\"marks\":[]}";
+    assert!(rt; ends(rt.alloc(), LINES, 32_767 * 35, last_line)?);
+    assert!(rt; ends(rt.alloc(), JSON, 1_829_478, last)?);
+    Ok(())
+}
+
+#[test]
+fn causes_numbered(rt: HostRuntime) {
+    let cause = Cause::BadObject(ObjectFault::BadSymbolNumber(7));
+    assert!(rt; cause.number() == 24 && cause.word() == 7);
+}

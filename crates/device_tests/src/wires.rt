@@ -1,0 +1,116 @@
+//! Wires whose device fails once and is then left alone, and what they pass on with no failure.
+use aout_core::Wire;
+use aout_core::samples::{Failing, TestReader, TestWriter};
+use std::alloc::Global;
+use std::io::ErrorKind;
+use std::test::Fail;
+
+/// Failures that another program might take for no failure at all.
+static PASSING: [ErrorKind; 3] = [
+    ErrorKind::Interrupted,
+    ErrorKind::WouldBlock,
+    ErrorKind::TimedOut,
+];
+
+/// Whether a read that fails so turns the latch on, and the device was called once.
+fn is_read_once(kind: ErrorKind) -> bool {
+    let mut wire = Wire::new(TestReader::new(b"ab", 1, 0, kind));
+    let mut room = [0; 2];
+    let is_latched = wire.read(&mut room).is_err() && wire.failed();
+    let is_refused = wire.read(&mut room).is_err() && wire.read(&mut []).is_err();
+    let reader = wire.into_inner();
+    is_latched && is_refused && reader.calls() == 1 && reader.left().len() == 2
+}
+
+#[test]
+fn failed_reads_are_latched(rt: HostRuntime) {
+    for kind in PASSING {
+        assert!(rt; is_read_once(kind));
+    }
+}
+
+/// A wire whose writer fails so from its first byte on.
+fn failing(alloc: Global, kind: ErrorKind) -> Wire<TestWriter> {
+    Wire::new(TestWriter::new(Vec::new(alloc), 1, 0, Failing::Fails(kind)))
+}
+
+/// Whether a wire takes neither bytes nor a flush, and its writer was so often written to and flushed.
+fn is_left_alone(mut wire: Wire<TestWriter>, calls: u32, flushes: u32) -> bool {
+    let is_refused = wire.failed() && wire.put(b"ab").is_err() && wire.flush().is_err();
+    let writer = wire.into_inner();
+    is_refused
+        && writer.calls() == calls
+        && writer.flushes() == flushes
+        && writer.taken().is_empty()
+}
+
+/// Whether a write that fails so turns the latch on, and the device was called once.
+fn is_written_once(alloc: Global, kind: ErrorKind) -> bool {
+    let mut wire = failing(alloc, kind);
+    wire.put(b"ab").is_err() && is_left_alone(wire, 1, 0)
+}
+
+/// Whether a flush that fails so turns the latch on, and the device was called once.
+fn is_flushed_once(alloc: Global, kind: ErrorKind) -> bool {
+    let mut wire = failing(alloc, kind);
+    wire.flush().is_err() && is_left_alone(wire, 0, 1)
+}
+
+#[test]
+fn failed_writes_and_flushes_are_latched(rt: HostRuntime) {
+    for kind in PASSING {
+        assert!(rt; is_written_once(rt.alloc(), kind));
+        assert!(rt; is_flushed_once(rt.alloc(), kind));
+    }
+}
+
+/// Whether a read without room takes nothing and does not fail, and the next one has the bytes.
+fn reads_behind_no_room() -> bool {
+    let mut wire = Wire::new(TestReader::whole(b"ab"));
+    let mut room = [0; 4];
+    let is_nothing = wire.read(&mut []).ok() == Some(0) && !wire.failed();
+    is_nothing && wire.read(&mut room).ok() == Some(2) && room == [b'a', b'b', 0, 0]
+}
+
+#[test]
+fn read_without_room(rt: HostRuntime) {
+    assert!(rt; reads_behind_no_room());
+}
+
+/// How often a writer that takes at most `most` bytes a call is written to for these bytes, where it then has them all.
+fn calls_for(alloc: Global, bytes: &[u8], most: usize) -> Option<u32> {
+    let writer = TestWriter::new(Vec::new(alloc), most, usize::MAX, Failing::TakesNothing);
+    let mut wire = Wire::new(writer);
+    let is_put = wire.put(bytes).is_ok() && !wire.failed();
+    let writer = wire.into_inner();
+    if is_put && writer.taken() == bytes {
+        Some(writer.calls())
+    } else {
+        None
+    }
+}
+
+#[test]
+fn long_puts(rt: HostRuntime) -> Result<(), Fail> {
+    let alloc = rt.alloc();
+    let bytes = vec![in alloc; b'x'; 70_000]?;
+    assert!(rt; calls_for(alloc, &bytes, usize::MAX) == Some(1));
+    assert!(rt; calls_for(alloc, &bytes[..5_001], usize::MAX) == Some(1));
+    assert!(rt; calls_for(alloc, &bytes[..5_001], 512) == Some(10));
+    Ok(())
+}
+
+#[test]
+fn flush_reaches_the_device(rt: HostRuntime) {
+    let mut wire = Wire::new(TestWriter::whole(Vec::new(rt.alloc())));
+    let is_flushed = wire.flush().is_ok() && !wire.failed();
+    assert!(rt; is_flushed && wire.into_inner().flushes() == 1);
+}
+
+#[test]
+fn failed_flush_is_latched(rt: HostRuntime) {
+    let broken = Failing::Fails(ErrorKind::BrokenPipe);
+    let mut wire = Wire::new(TestWriter::new(Vec::new(rt.alloc()), 1, 0, broken));
+    let is_latched = wire.flush().is_err() && wire.failed() && wire.flush().is_err();
+    assert!(rt; is_latched && wire.into_inner().flushes() == 1);
+}

@@ -1,5 +1,0 @@
-//! Tests of listings: read, refused and written.
-#![tactic(auto)]
-
-#[cfg(test)]
-mod object_listings;

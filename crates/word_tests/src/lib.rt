@@ -1,5 +1,0 @@
-//! Tests of the words of a command.
-#![tactic(auto)]
-
-#[cfg(test)]
-mod words;
