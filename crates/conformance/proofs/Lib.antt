@@ -20,3 +20,4 @@ mod StripExamples
 mod MemoryExamples
 mod MemoryOfCalls
 mod TextExamples
+mod InstructionExamples
