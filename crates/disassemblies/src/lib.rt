@@ -4,7 +4,7 @@
 //! symbols name the addresses. `put_line_text` gives the text of a line, `put_labels` the labels before it, and
 //! `put_disassembly` a whole text in columns. Addresses are in bytes from the start of the text, which is at 0.
 //!
-//! An example, which `library_uses` runs:
+//! An example:
 //!
 //! ```
 //! /// The text of a file as instructions, with names.

@@ -4,7 +4,7 @@
 //! words, `Line::put_text` its text at an address, and `encode` its words again. Addresses are in bytes and modulo 65,536, and
 //! each number in a text is octal. The table of instructions is `ROWS`, and `laws` has what is proved of all lists of words.
 //!
-//! An example, which `library_uses` runs:
+//! An example:
 //!
 //! ```
 //! /// Appends the lines of a text that begins at an address, one below the other.
