@@ -33,7 +33,7 @@ build/v7-from-gnu: crates/v7_from_gnu/out/v7_from_gnu
 	mkdir -p build
 	cp crates/v7_from_gnu/out/v7_from_gnu build/v7-from-gnu
 
-crates/v7_from_gnu/out/v7_from_gnu: crates.txt $(shell find crates/aout_core crates/gnu_objects crates/v7_from_gnu -name out -prune -o -type f -print)
+crates/v7_from_gnu/out/v7_from_gnu: crates.txt $(shell find crates/aout_core crates/gnu_objects crates/programs crates/v7_from_gnu -name out -prune -o -type f -print)
 	python3 tests/prove.py v7_from_gnu $@
 	touch $@
 
@@ -41,7 +41,7 @@ build/v7-object: crates/v7_object/out/v7_object
 	mkdir -p build
 	cp crates/v7_object/out/v7_object build/v7-object
 
-crates/v7_object/out/v7_object: crates.txt $(shell find crates/aout_core crates/listings crates/v7_object -name out -prune -o -type f -print)
+crates/v7_object/out/v7_object: crates.txt $(shell find crates/aout_core crates/listings crates/programs crates/v7_object -name out -prune -o -type f -print)
 	python3 tests/prove.py v7_object $@
 	touch $@
 
@@ -49,7 +49,7 @@ build/v7-explain: crates/v7_explain/out/v7_explain
 	mkdir -p build
 	cp crates/v7_explain/out/v7_explain build/v7-explain
 
-EXPLAIN_CRATES := $(addprefix crates/,aout_core link_session link_options link_out symtools command_words gnu_objects listings v7_explain)
+EXPLAIN_CRATES := $(addprefix crates/,aout_core link_session link_options link_out symtools command_words gnu_objects listings programs v7_explain)
 crates/v7_explain/out/v7_explain: crates.txt $(shell find $(EXPLAIN_CRATES) -name out -prune -o -type f -print)
 	python3 tests/prove.py v7_explain $@
 	touch $@
@@ -251,6 +251,9 @@ check-examples: build/v7 build/v7-from-gnu build/v7-object build/v7-explain buil
 	sh tests/heads.sh
 	sh tests/manual.sh
 	python3 tests/statuses.py build/v7-from-gnu build/lesson
+	for program in v7-from-gnu v7-object v7-explain; do \
+		test "$$(build/$$program --version)" = "$$program $(VERSION)" || { echo "$$program --version: not $(VERSION)"; exit 1; }; \
+	done
 
 # the programs, their manual pages, the documents and the examples
 SHARE = $(DESTDIR)$(PREFIX)/share

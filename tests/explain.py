@@ -2,8 +2,9 @@
 
 usage: explain.py V7_EXPLAIN V7_OBJECT V7 [DAMAGED]
 
-Listed twice over, an object has to come back as it was, bytes that a name has behind its NUL aside, and each line has to fit
-80 columns. The status has to be 0 where a session of v7 adds the file, and else 1, with the words of v7 among the notes.
+Listed twice over, an object has to come back as it was, bytes that a name has after its NUL aside. The status has to be 1 if the
+file is damaged, with the words of v7 among the notes; with `-c` it has to be 0 if a session of v7 adds the file, and else 1. A
+program has to be named as one.
 DAMAGED files, cut, changed or enlarged, are tried besides: none may crash the program, or have it take much memory or time.
 """
 import os
@@ -15,6 +16,8 @@ import sys
 import tempfile
 
 EXPLAIN, OBJECT, V7 = (os.path.abspath(p) for p in sys.argv[1:4])
+# what v7 says of files that are not damaged, and not objects
+PROGRAMS = ("not an object", "no relocation")
 DAMAGED = int(sys.argv[4]) if len(sys.argv) > 4 else 0
 TOP = os.path.dirname(os.path.dirname(os.path.abspath(__file__)))
 dice = random.Random(29)
@@ -61,7 +64,7 @@ def made_object():
 
 
 def padded(data):
-    """The object with nothing but NULs behind the NUL of each name."""
+    """The object with nothing but NULs after the NUL of each name."""
     head = struct.unpack("<8H", data[:16])
     at = 16 + 2 * (head[1] + head[2])
     for n in range(at, at + head[4], 12):
@@ -70,7 +73,7 @@ def padded(data):
 
 
 def damaged(data):
-    """A file, cut, with bytes changed, with sizes changed, or with bytes behind it."""
+    """A file, cut, with bytes changed, with sizes changed, or with bytes after it."""
     data = bytearray(data)
     for _ in range(dice.randrange(1, 4)):
         kind = dice.randrange(5)
@@ -112,11 +115,16 @@ def answers(paths):
 
 
 def check(path, answer):
-    """Whether the notes of a file say what v7 says; and its listing."""
+    """Whether a file is named, and its notes say what v7 says; and its listing."""
     status, text = explain(path)
-    assert status == (1 if answer else 0), (path, status, answer)
-    assert answer in " ".join(text.replace("\n/  ", "").split()), (path, answer, text)
-    assert all(len(line) <= 80 for line in text.splitlines()), text
+    named = text.splitlines()[1]
+    if answer in PROGRAMS:
+        assert status == 0 and ", so ld cannot link it" in named, (path, status, answer, text)
+    else:
+        assert status == (1 if answer else 0) and answer in text, (path, status, answer, text)
+    assert (named == "/ an object") == (not answer), (path, answer, text)
+    checked = subprocess.run([EXPLAIN, "-c", path], stdout=subprocess.PIPE, stderr=subprocess.PIPE, timeout=20, preexec_fn=limits)
+    assert (checked.returncode, checked.stdout, checked.stderr == b"") == (1 if answer else 0, b"", not answer), (path, answer, checked)
     return text
 
 

@@ -4,9 +4,9 @@
 usage: tests/map.py V7 V7-EXPLAIN
 
 The links are those of a few lists of objects in examples/, and 200 that are made, the same in each run: objects of some
-words, with names that are defined, wanted as commons and referred to. Who defines a name, who wants it and how often
-an object refers to it are known from the objects as they were made. What is used of each limit is counted in the objects
-and in the linked file. Further links are refused, some because a file can't be read.
+words, with names that are defined, wanted as commons and referred to. Who defines a name, who wants it, and which words
+of an object refer to it are known from the objects as they were made. What is used of each limit is counted in the objects
+and in the linked file. 60 further links are refused, some because a file can't be read.
 """
 import os
 import random
@@ -72,18 +72,18 @@ def parts(text):
 
 
 def names_in(lines):
-    """The names of a part: for each its line, and its lists by their labels."""
+    """The names of a part: for each its line, its lists by their labels, and the lines of words by the objects that use the name."""
     names = {}
-    label = name = ""
+    name = item = ""
     for line in lines:
         if line.startswith(16 * " "):
-            names[name][1][label] += line.strip()
+            names[name][2].setdefault(item.split(" ")[0], []).append(line.strip())
         elif line.startswith("    ") and not line.startswith("       "):
-            label = line[:16].strip()
-            names[name][1][label] = line[16:]
+            item = line[16:]
+            names[name][1].setdefault(line[:16].strip(), []).append(item)
         else:
             name = line[9:]
-            names[name] = (line, {})
+            names[name] = (line, {}, {})
     return names
 
 
@@ -109,22 +109,45 @@ def check_lists(what, names, objects):
     defined = listed(objects, lambda s: s[1] & 0o37, lambda path, s, n: path)
     commons = listed(objects, lambda s: s[1] == 0o40 and s[2], lambda path, s, n: f"{path} ({s[2]})")
     used = listed(objects, lambda s: s[1] == 0o40, lambda path, s, n: f"{path} ({n})")
-    for name, (_, lists) in names.items():
-        wanted = {}
-        if name in defined:
-            wanted["defined in"] = defined[name][0]
-            if defined[name][1:]:
-                wanted["again in"] = ", ".join(defined[name][1:])
-        if name in commons:
-            wanted["common in"] = ", ".join(commons[name])
-        if name in used:
-            wanted["used in"] = ", ".join(used[name])
-        lists = {label: text.replace(",", ", ").replace(",  ", ", ") for label, text in lists.items()}
-        if lists.get("used in", "").startswith("-u"):
-            lists["used in"] = lists["used in"][4:]
-            if not lists["used in"]:
-                del lists["used in"]
-        check(f"{what}: {name}", lists, wanted)
+    for name, (_, lists, _) in names.items():
+        wanted = {
+            "defined in": defined.get(name, [])[:1],
+            "again in": defined.get(name, [])[1:],
+            "common in": commons.get(name, []),
+            "used in": used.get(name, []),
+        }
+        if lists.get("used in", [])[:1] == ["-u"]:
+            wanted["used in"] = ["-u"] + wanted["used in"]
+        check(f"{what}: {name}", lists, {label: items for label, items in wanted.items() if items})
+
+
+def label_before(made, segment, address):
+    """The nearest name that an object gives to an address of a segment, and how far it is; of several the first of the table."""
+    before = [(value, name) for name, kind, value in made.symbols if kind & 0o37 == segment and value <= address]
+    if not before:
+        return ""
+    near = max(value for value, _ in before)
+    name = next(name for value, name in before if value == near)
+    return f"  {name}+{address - near:o}" if near < address else f"  {name}"
+
+
+def word_line(made, starts, word):
+    """The line of a word of an object, whose text and data begin at these addresses."""
+    segment, label, offset = (2, "text", 2 * word) if word < made.text else (3, "data", 2 * (word - made.text))
+    return f"{label} {starts[label] + offset:06o}{label_before(made, segment, 2 * word)}"
+
+
+def check_words(what, names, found, objects):
+    """The words of each name are those of the objects as they were made, each with its address and the label before it."""
+    wanted = {}
+    for place, (row, made) in enumerate(zip(found["Objects"][1:], objects)):
+        starts = {"text": int(row.split()[0], 8), "data": int(row.split()[2], 8)}
+        for number, symbol in enumerate(made.symbols):
+            lines = [word_line(made, starts, word) for word, to in made.references if to == number]
+            if lines:
+                wanted.setdefault(symbol[0], {})[f"{place}.o"] = lines
+    check(f"{what}: words", {name: words for name, (_, _, words) in names.items() if words}, wanted)
+    return sum(len(lines) for words in wanted.values() for lines in words.values())
 
 
 def check_report(what, found, report):
@@ -200,12 +223,12 @@ def check_map(what, options, paths):
     run(V7, "ld", *[word for word in options if word not in ("-s", "-X")], "-x", "-o", "bare", *paths)
     check(f"{what}: limits", found["Limits"], limits_of(options, paths, file_at("out"), end_of(options, sizes)))
     names = names_in(found.get("Externals", []))
-    check(f"{what}: externals", [line for line, _ in names.values()], run(V7, "nm", "-g", "bare")[1].split("\n")[:-1])
+    check(f"{what}: externals", [line for line, _, _ in names.values()], run(V7, "nm", "-g", "bare")[1].split("\n")[:-1])
     return names, found
 
 
 def check_places(what, found, objects):
-    """The segments of each object lie behind those of the object before it."""
+    """The segments of each object follow those of the object before it."""
     begins = {line.split()[0]: int(line.split()[1], 8) for line in found["Segments"]}
     at = [begins["text"], begins["data"], begins["bss"]]
     rows = [line.split() for line in found["Objects"][1:]]
@@ -242,6 +265,50 @@ def check_made(number):
     names, found = check_map(what, options, paths)
     check_lists(what, names, objects)
     check_places(what, found, objects)
+    return check_words(what, names, found, objects)
+
+
+LETTERS = {0o41: "A", 0o42: "T", 0o43: "D", 0o44: "B"}
+# an object that a link has no place for, the fault, and options with which it has none
+TOO_MUCH = [
+    (Made(0, 0, 0, [("_huge", 0o40, 65534)], []), "does not fit", [[], ["-n"], ["-i"], ["-x"], ["-s"], ["-u", "_forced"], ["-r", "-d"]]),
+    (Made(32767, 0, 0, [], []), "text full", OPTIONS),
+    (Made(0, 0, 0, [(f"L{number}", 1, 0) for number in range(5461)], []), "too many symbols", [[], ["-n"], ["-i"], ["-u", "_forced"]]),
+]
+
+
+def line_without_address(objects, name):
+    """The line of a name in a link that has no addresses, by the first definition, or else by a common."""
+    symbols = [symbol for made in objects for symbol in made.symbols if symbol[0] == name and symbol[1] & 0o40]
+    defined = [LETTERS[kind] for _, kind, _ in symbols if kind & 0o37]
+    return f"       {(defined + ['C' for _, _, value in symbols if value] + ['U'])[0]} {name}"
+
+
+def check_made_refused(number):
+    """A link of objects that are made, and of one too many. Returns how many words are placed."""
+    dice = random.Random(1000 + number)
+    objects = [made_object(dice) for _ in range(dice.randrange(1, 5))] + [Made(1, 1, 0, [("_b", 0o40, 0)], [(0, 0)])]
+    more, fault, choices = TOO_MUCH[number % len(TOO_MUCH)]
+    objects.insert(dice.randrange(len(objects) + 1), more)
+    paths = [f"{place}.o" for place in range(len(objects))]
+    for path, made in zip(paths, objects):
+        made.write(path)
+    options = dice.choice(choices)
+    what = f"refused link {number} {' '.join(options)}"
+    status, _, errors = run(V7, "ld", *options, "-o", "out", *paths)
+    check(f"{what}: ld", (status, fault in errors), (2, True))
+    status, text, errors = run(EXPLAIN, "-m", *options, *paths)
+    check(f"{what}: status", (status, errors), (1, ""))
+    found = parts(text)
+    check(f"{what}: fault", found[""][0].split(" at")[0], f"Link of {len(paths)} objects: refused, {fault}")
+    names = names_in(found["Externals"])
+    check_lists(what, names, objects)
+    wanted = [line_without_address(objects, name) for name in names]
+    if fault == "too many symbols":
+        run(V7, "ld", *options, "-x", "-o", "bare", *paths)
+        wanted = run(V7, "nm", "-g", "bare")[1].split("\n")[:-1]
+    check(f"{what}: externals", [line for line, _, _ in names.values()], wanted)
+    return check_words(what, names, found, objects)
 
 
 def check_refused(what, objects, fault, lines):
@@ -309,12 +376,13 @@ def all_refused():
                   ["  end of bss       66028   65535     493 over\n",
                    "        0   32000      20   32020        1  1.o\n",
                    "  commons 200720  200730       8\n",
-                   "    used in     0.o (1), 1.o (0)\n"])
+                   "    used in     0.o (1)\n                text 000000\n    used in     1.o (0)\n"])
     # three times 32,000 of text
     check_refused("text full", [half, half, half], "text full",
                   ["  text             96000   65534   30466 over\n", "  2.o\n",
                    "  175000  32000  000000      0  000000      0  2.o\n",
-                   "\nUndefined\n       U _x\n    used in     0.o (1), 1.o (1), 2.o (1)\n"])
+                   "\nUndefined\n       U _x\n    used in     0.o (1)\n                text 000000\n    used in     1.o (1)\n"
+                   "                text 076400\n    used in     2.o (1)\n                text 175000\n"])
     symbols = Made(0, 0, 0, [(f"L{number}", 1, 0) for number in range(5461)], [])
     check_refused("too many symbols", [symbols, Made(0, 0, 0, [("_x", 0o41, 8)], [])], "too many symbols",
                   ["000010 A _x\n    defined in  1.o\n"])
@@ -326,7 +394,7 @@ def all_refused():
 with tempfile.TemporaryDirectory() as room:
     os.chdir(room)
     examples = check_examples()
-    for link in range(200):
-        check_made(link)
-    refused = all_refused()
-    print(f"{examples} maps of examples, 200 of made links and {refused} of refused ones agree with ld, nm and size")
+    words = sum(check_made(link) for link in range(200))
+    words += sum(check_made_refused(link) for link in range(51))
+    refused = 51 + all_refused()
+    print(f"{examples} maps of examples, 200 of made links and {refused} of refused ones agree with ld, nm and size; {words} words are placed")

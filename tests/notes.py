@@ -15,8 +15,10 @@ import sys
 import tempfile
 
 EXPLAIN = os.path.abspath(sys.argv[1])
-MAGICS = (0o405, 0o407, 0o410, 0o411)
+PROGRAMS = {0o405: "an overlay", 0o407: "a program", 0o410: "a program, pure text", 0o411: "a program, separate text and data"}
 SEGMENTS = {2: "text", 3: "data", 4: "bss"}
+# types of symbols, without the external bit
+TYPES = (0, 1, 2, 3, 4, 0o24, 0o37)
 # of bad relocation words so many are shown one by one
 MOST_BAD = 16
 dice = random.Random(42)
@@ -104,22 +106,27 @@ def wrong(data):
     if len(data) < 16:
         return [(len(data), "short header: the file ends here, and a header has 16 bytes")], None
     file = File(data)
-    if file.magic not in MAGICS:
+    if file.magic not in PROGRAMS:
         return [(0, f"bad magic number: {file.magic:06o}, and not 000405, 000407, 000410 or 000411")], None
     notes = list(bad_sizes(file)) or list(cut_off(file))
     if notes:
         return notes, None
-    if file.magic != 0o407:
-        text = f"not an object: the magic number is {file.magic:06o}, and an object's 000407; a program can't be linked again"
-        return [(0, text)], file
-    if file.flag:
-        text = f"no relocation: the flag is {file.flag:06o}, and an object's 0; a linked or stripped file can't be linked again"
-        return [(14, text)], file
+    if file.magic != 0o407 or file.flag:
+        return [], file
     notes = list(bad_words(file))
     more = len(notes) - MOST_BAD
     if more > 0:
         notes[MOST_BAD:] = [(file.relocation_at, f"and {more} more such relocation words")]
     return notes, file
+
+
+def kind(file, is_damaged):
+    """What a file is, or None if it is damaged."""
+    if file.magic == 0o407 and file.flag == 0:
+        return None if is_damaged else "an object"
+    table = "" if file.table else ", no symbols"
+    refused = "relocation removed, so ld cannot link it again" if file.flag else "not of magic number 407, so ld cannot link it"
+    return f"{PROGRAMS[file.magic]}{table}; {refused}"
 
 
 def odd_header(file):
@@ -129,7 +136,7 @@ def odd_header(file):
         yield 12, f"the unused word, {file.unused:06o}, is ignored"
     more = len(file.data) - file.end
     if more:
-        yield file.end, f"0{more:o} ({more}) bytes behind the symbol table are not read"
+        yield file.end, f"0{more:o} ({more}) bytes after the symbol table are not read"
 
 
 def odd_words(file):
@@ -152,15 +159,16 @@ def odd_symbol(file, number, symbols):
     elif not all(32 < c < 127 for c in name):
         yield 0, "has bytes in its name that do not print"
     if field.rstrip(b"\0") != name:
-        yield 0, "has bytes behind the NUL of its name, which are ignored"
+        yield 0, "has bytes after the NUL of its name, which are ignored"
     first = [other[0] for other in symbols].index(name)
     if first < number:
         yield 0, f"has the name of symbol {first}; names are equal in eight bytes"
     if kind > 0o77:
         yield 8, f"has type {kind:06o}, of which the bits above 77 are ignored"
-    if is_wanted(kind) and value:
-        rounded = ", rounded up to even" if value % 2 else ""
-        yield 10, f"is undefined with value {value:06o}: a common of {value} bytes{rounded}"
+    if kind & 0o37 not in TYPES:
+        yield 8, f"has type {kind:06o}, which the format does not have; it is taken as absolute"
+    if is_wanted(kind) and value % 2:
+        yield 10, f"is undefined with value {value:06o}: a common of {value} bytes, rounded up to even"
     segment = SEGMENTS.get(kind & 0o37)
     if segment:
         begin, end = file.ranges()[segment]
@@ -169,9 +177,12 @@ def odd_symbol(file, number, symbols):
 
 
 def notes_of(data):
-    """All notes of a file, in any order."""
+    """What a file is, and all that is wrong or odd, in any order; and what `-c` says of it."""
     found, file = wrong(data)
-    notes = [f"wrong: byte 0{at:o} ({at}): {text}" for at, text in found]
+    what = kind(file, found) if file else None
+    refused = [f"byte 0{at:o} ({at}): {text}" for at, text in found] or ([what] if what != "an object" else [])
+    notes = [what] if what else []
+    notes += [f"wrong: byte 0{at:o} ({at}): {text}" for at, text in found]
     if file:
         odd = [*odd_header(file), *odd_words(file)]
         symbols = file.symbols()
@@ -179,7 +190,7 @@ def notes_of(data):
             at, title = file.symbols_at + 12 * number, f"symbol {number} {shown(symbol[0])}"
             odd += [(at + place, f"{title} {text}") for place, text in odd_symbol(file, number, symbols)]
         notes += [f"odd: byte 0{at:o} ({at}): {text}" for at, text in odd]
-    return sorted(notes)
+    return sorted(notes), refused
 
 
 def near(edges):
@@ -222,17 +233,33 @@ def files():
     for at in range(2, 10, 2):
         for size in (1, 3, 13, 255):
             yield whole[:at] + struct.pack("<H", size) + whole[at + 2:]
-    for magic in (*MAGICS, 0o404, 0o406, 0o412, 0, 65535):
+    for magic in (*PROGRAMS, 0o404, 0o406, 0o412, 0, 65535):
         yield from (made_file(text, 1, magic, flag) for text in (0, 1, 2) for flag in (0, 1, 65535))
     yield from (made_file(dice.randrange(9), dice.randrange(5)) for _ in range(1000))
 
 
 def explained(paths):
-    """The notes of each file: those that say what is wrong or odd, in one line each."""
+    """The notes of each file: what it is, and what is wrong or odd, each in one line."""
     done = subprocess.run([EXPLAIN, *paths], stdout=subprocess.PIPE, check=False)
-    text = done.stdout.decode("ascii").replace("\n/  ", "")
-    parts = re.split(r"^/ f\d+\.o: 0[0-7]+ \(\d+\) bytes$", text, flags=re.M)[1:]
-    return [sorted(re.findall(r"^/ ((?:wrong|odd): .*)$", part, re.M)) for part in parts]
+    parts = re.split(r"^/ f\d+\.o: 0[0-7]+ \(\d+\) bytes$", done.stdout.decode("ascii"), flags=re.M)[1:]
+    return [sorted(re.findall(r"^/ ((?:wrong: |odd: |an? ).*)$", part, re.M)) for part in parts]
+
+
+def checked(paths):
+    """What `-c` says of each file."""
+    done = subprocess.run([EXPLAIN, "-c", *paths], stdout=subprocess.PIPE, stderr=subprocess.PIPE, check=False)
+    assert (done.returncode, done.stdout) == (1, b""), done
+    lines = {path: [] for path in paths}
+    for line in done.stderr.decode("ascii").splitlines():
+        path, _, text = line.removeprefix("v7-explain: ").partition(": ")
+        lines[path].append(text)
+    return lines
+
+
+def compare(path, data, found, wanted):
+    if found != wanted:
+        print(f"{path}, {data.hex()}:", *set(found) - set(wanted), "and not", *set(wanted) - set(found), sep="\n  ")
+        sys.exit(1)
 
 
 def main():
@@ -241,15 +268,17 @@ def main():
     for path, data in zip(paths, made):
         with open(path, "wb") as file:
             file.write(data)
-    found = explained(paths)
+    found, refused = explained(paths), checked(paths)
     assert len(found) == len(made), (len(found), len(made))
     count = 0
     for path, data, notes in zip(paths, made, found):
-        wanted = notes_of(data)
+        wanted, why = notes_of(data)
         count += len(wanted)
-        if notes != wanted:
-            print(f"{path}, {data.hex()}:", *set(notes) - set(wanted), "and not", *set(wanted) - set(notes), sep="\n  ")
-            sys.exit(1)
+        compare(path, data, notes, wanted)
+        said = [text for text in refused[path] if re.match("byte |a program|an overlay", text)]
+        compare(f"-c {path}", data, said, why)
+        alone = subprocess.run([EXPLAIN, "-c", path], stderr=subprocess.DEVNULL, check=False).returncode
+        compare(f"-c {path}", data, [alone], [1 if why else 0])
     print(f"{count} notes of {len(made)} files compared")
 
 

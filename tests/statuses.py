@@ -99,7 +99,7 @@ def check_refusals():
     with open("good.gnu", "wb") as file:
         file.write(GOOD)
     expect("no folder", run(FROM_GNU, "good.gnu", "missing/out.o"), (2, "", "v7-from-gnu: missing/out.o: cannot create\n"))
-    expect("a word", run(FROM_GNU, "good.gnu"), (2, "", "usage: v7-from-gnu [-S] IN OUT\n"))
+    expect("a word", run(FROM_GNU, "good.gnu"), (2, "", "usage: v7-from-gnu [-S] IN OUT\n       v7-from-gnu --help | --version\n"))
     return len(CHANGES) + 9
 
 

@@ -1,15 +1,16 @@
 //! Files as listings.
-use crate::finding::{tell_odd, tell_wrong};
+use crate::finding::{put_findings, tell_findings};
+use crate::kind::kind_text;
 use crate::likeness::{header_of, is_of_gnu, likeness};
 use crate::listing::{listing_of, put_header};
 use crate::odd::odd_of;
-use crate::reading::{Bytes, read_all};
 use crate::remarks::put_lines;
 use crate::text::put_note;
 use crate::told::Told;
 use crate::words::ListingWords;
-use crate::wrong::{wrong_bytes, wrong_object};
-use aout_core::{File, Object, ReadFault, Wire, read_file};
+use crate::wrong::{wrong_bytes, wrong_words};
+use aout_core::{File, Object, ObjectFault, ReadFault, Wire, read_file};
+use programs::{FileFault, read_all};
 use std::alloc::{AllocError, Global};
 use std::fs;
 use std::io::Write;
@@ -18,31 +19,56 @@ use std::io::Write;
 const GNU_NOTE: &str =
     "this file has the form of GNU's assembler and of 2.11BSD, with symbols of 8 bytes and a table of strings: v7-from-gnu makes an object of it";
 
-/// The bytes of a file, and what of it the explanation needs besides.
-#[derive(Clone, Copy)]
-pub(crate) struct Source<'a> {
-    pub(crate) path: &'a str,
-    pub(crate) bytes: &'a [u8],
-    /// Whether the listing is to be stored.
-    pub(crate) is_stored: bool,
+/// What becomes of an explanation.
+#[derive(Clone, Copy, PartialEq, Eq)]
+enum Purpose {
+    /// It goes to standard output.
+    Show,
+    /// It is stored if nothing is wrong; what is wrong goes to standard error.
+    Store,
+    /// Only why a file is not an object goes to standard error.
+    Check,
 }
 
-/// Adds what is wrong with a file as an object, and returns the file.
-fn tell_object(
+/// The bytes of a file, and what of it the explanation needs besides.
+#[derive(Clone, Copy)]
+struct Source<'a> {
+    path: &'a str,
+    bytes: &'a [u8],
+    purpose: Purpose,
+}
+
+/// The file, and why `ld` does not take it as an object, if it does not.
+fn as_object(file: File) -> (File, Option<ObjectFault>) {
+    match Object::from_file(file) {
+        Ok(object) => (object.into_file(), None),
+        Err((file, fault)) => (file, Some(fault)),
+    }
+}
+
+/// Explains what is wrong with an object, and then what is odd of it.
+fn findings_of(
     alloc: Global,
     told: &mut Told,
-    findings: &mut Vec<String>,
     source: Source<'_>,
-    file: File,
-) -> Result<File, AllocError> {
-    match Object::from_file(file) {
-        Ok(object) => Ok(object.into_file()),
-        Err((file, fault)) => {
-            let wrong = wrong_object(alloc, &file, fault)?;
-            tell_wrong(alloc, told, findings, source.path, source.is_stored, &wrong)?;
-            Ok(file)
+    file: &File,
+    is_damaged: bool,
+) -> Result<Vec<String>, AllocError> {
+    let mut notes = Vec::new(alloc);
+    if is_damaged {
+        let wrong = wrong_words(alloc, file)?;
+        put_findings(alloc, &mut notes, "wrong", &wrong)?;
+        told.status = told.status.max(1);
+        if source.purpose == Purpose::Store {
+            tell_findings(alloc, told, source.path, &wrong)?;
         }
     }
+    let odd = odd_of(alloc, source.bytes, file)?;
+    put_findings(alloc, &mut notes, "odd", &odd)?;
+    if is_of_gnu(alloc, source.bytes, false) {
+        put_note(alloc, &mut notes, GNU_NOTE)?;
+    }
+    Ok(notes)
 }
 
 /// Explains a file, after these notes.
@@ -53,16 +79,23 @@ fn explain_file(
     source: Source<'_>,
     file: File,
 ) -> Result<(), AllocError> {
-    put_header(alloc, notes, file.header())?;
-    let mut findings = Vec::new(alloc);
-    let file = tell_object(alloc, told, &mut findings, source, file)?;
-    let odd = odd_of(alloc, source.bytes, &file)?;
-    tell_odd(alloc, &mut findings, &odd)?;
-    if is_of_gnu(alloc, source.bytes, false) {
-        put_note(alloc, &mut findings, GNU_NOTE)?;
+    let (file, refused) = as_object(file);
+    let kind = kind_text(alloc, file.header(), refused)?;
+    if let Some(text) = &kind {
+        put_note(alloc, notes, text.as_str())?;
     }
+    put_header(alloc, notes, file.header())?;
+    let findings = findings_of(alloc, told, source, &file, kind.is_none())?;
     let listing = listing_of(alloc, &file, notes, &findings)?;
     told.text.extend_from_slice(&listing)
+}
+
+/// What bytes are that are not a file, if it is known.
+fn likeness_of(bytes: &[u8], fault: ReadFault) -> Option<&'static str> {
+    match fault {
+        ReadFault::BadMagic | ReadFault::ShortHeader => likeness(bytes),
+        _ => None,
+    }
 }
 
 /// Explains bytes that are not a file, after these notes.
@@ -73,15 +106,16 @@ fn explain_refused(
     source: Source<'_>,
     fault: ReadFault,
 ) -> Result<(), AllocError> {
-    let known = match fault {
-        ReadFault::BadMagic | ReadFault::ShortHeader => likeness(alloc, source.bytes),
-        _ => None,
-    };
+    let known = likeness_of(source.bytes, fault);
     if let (Some(header), None) = (header_of(source.bytes), known) {
         put_header(alloc, notes, &header)?;
     }
     let wrong = wrong_bytes(alloc, source.bytes, fault)?;
-    tell_wrong(alloc, told, notes, source.path, source.is_stored, &wrong)?;
+    put_findings(alloc, notes, "wrong", &wrong)?;
+    told.status = told.status.max(1);
+    if source.purpose == Purpose::Store {
+        tell_findings(alloc, told, source.path, &wrong)?;
+    }
     if let Some(note) = known {
         put_note(alloc, notes, note)?;
     }
@@ -92,11 +126,7 @@ fn explain_refused(
 }
 
 /// Explains the bytes of a file.
-pub(crate) fn explain_bytes(
-    alloc: Global,
-    told: &mut Told,
-    source: Source<'_>,
-) -> Result<(), AllocError> {
+fn explain_bytes(alloc: Global, told: &mut Told, source: Source<'_>) -> Result<(), AllocError> {
     let path = source.path;
     let size = source.bytes.len();
     let title = format!(in alloc; "{path}: 0{size:o} ({size}) bytes")?;
@@ -109,25 +139,63 @@ pub(crate) fn explain_bytes(
     }
 }
 
+/// Tells why bytes that are not a file are not an object.
+fn tell_refused(
+    alloc: Global,
+    told: &mut Told,
+    source: Source<'_>,
+    fault: ReadFault,
+) -> Result<(), AllocError> {
+    let wrong = wrong_bytes(alloc, source.bytes, fault)?;
+    tell_findings(alloc, told, source.path, &wrong)?;
+    if let Some(text) = likeness_of(source.bytes, fault) {
+        told.fault(source.path, text, 1)?;
+    }
+    if is_of_gnu(alloc, source.bytes, true) {
+        told.fault(source.path, GNU_NOTE, 1)?;
+    }
+    Ok(())
+}
+
+/// Tells why the bytes of a file are not an object, if they are not.
+fn check_bytes(alloc: Global, told: &mut Told, source: Source<'_>) -> Result<(), AllocError> {
+    let file = match read_file(alloc, &mut Wire::new(source.bytes)) {
+        Ok(file) => file,
+        Err(ReadFault::Memory) => return Err(AllocError),
+        Err(fault) => return tell_refused(alloc, told, source, fault),
+    };
+    let (file, refused) = as_object(file);
+    if refused.is_none() {
+        return Ok(());
+    }
+    match kind_text(alloc, file.header(), refused)? {
+        Some(text) => told.fault(source.path, text.as_str(), 1),
+        None => tell_findings(alloc, told, source.path, &wrong_words(alloc, &file)?),
+    }
+}
+
 /// Explains the file at a path.
 fn explain_at(
     rt: &HostRuntime,
     told: &mut Told,
     path: &str,
-    is_stored: bool,
+    purpose: Purpose,
 ) -> Result<(), AllocError> {
     match read_all(rt, path) {
-        Bytes::All(bytes) => {
+        Ok(bytes) => {
             let source = Source {
                 path,
                 bytes: bytes.as_slice(),
-                is_stored,
+                purpose,
             };
-            explain_bytes(rt.alloc(), told, source)
+            match purpose {
+                Purpose::Check => check_bytes(rt.alloc(), told, source),
+                Purpose::Show | Purpose::Store => explain_bytes(rt.alloc(), told, source),
+            }
         }
-        Bytes::NotOpened => told.fault(path, "cannot open", 2),
-        Bytes::Failed => told.fault(path, "read error", 2),
-        Bytes::Memory => Err(AllocError),
+        Err(FileFault::NotOpened) => told.fault(path, "cannot open", 2),
+        Err(FileFault::Failed) => told.fault(path, "read error", 2),
+        Err(FileFault::Memory) => Err(AllocError),
     }
 }
 
@@ -149,11 +217,25 @@ fn store(rt: &HostRuntime, told: &mut Told, path: &str) -> Result<(), AllocError
 /// Tells the listings of the files, or stores them.
 pub(crate) fn explain_files(rt: &HostRuntime, words: &ListingWords) -> Result<Told, AllocError> {
     let mut told = Told::new(rt.alloc());
+    let purpose = if words.out.is_some() {
+        Purpose::Store
+    } else {
+        Purpose::Show
+    };
     for path in &words.files {
-        explain_at(rt, &mut told, path.as_str(), words.out.is_some())?;
+        explain_at(rt, &mut told, path.as_str(), purpose)?;
     }
     if let Some(path) = &words.out {
         store(rt, &mut told, path.as_str())?;
+    }
+    Ok(told)
+}
+
+/// Tells why files are not objects, if they are not.
+pub(crate) fn check_files(rt: &HostRuntime, files: &[String]) -> Result<Told, AllocError> {
+    let mut told = Told::new(rt.alloc());
+    for path in files {
+        explain_at(rt, &mut told, path.as_str(), Purpose::Check)?;
     }
     Ok(told)
 }

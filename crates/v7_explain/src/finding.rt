@@ -22,41 +22,39 @@ pub(crate) fn find(
     Ok(())
 }
 
-/// Tells what is wrong with the file at a path: as notes, and where the listing is to be stored as lines for standard
-/// error.
-pub(crate) fn tell_wrong(
+/// A finding in a line.
+fn finding_text(alloc: Global, finding: &Finding) -> Result<String, AllocError> {
+    let byte = byte_text(alloc, finding.place)?;
+    let text = finding.text.as_str();
+    format!(in alloc; "{byte}: {text}")
+}
+
+/// Adds findings as notes, each after this word.
+pub(crate) fn put_findings(
     alloc: Global,
-    told: &mut Told,
-    lines: &mut Vec<String>,
-    path: &str,
-    is_stored: bool,
+    notes: &mut Vec<String>,
+    word: &str,
     findings: &[Finding],
 ) -> Result<(), AllocError> {
     for finding in findings {
-        let byte = byte_text(alloc, finding.place)?;
-        let text = finding.text.as_str();
-        let note = format!(in alloc; "wrong: {byte}: {text}")?;
-        put_note(alloc, lines, note.as_str())?;
-        told.status = told.status.max(1);
-        if is_stored {
-            let line = format!(in alloc; "{byte}: {text}")?;
-            told.fault(path, line.as_str(), 1)?;
-        }
+        let text = finding_text(alloc, finding)?;
+        let text = text.as_str();
+        let note = format!(in alloc; "{word}: {text}")?;
+        put_note(alloc, notes, note.as_str())?;
     }
     Ok(())
 }
 
-/// Adds what is odd of a file, as notes.
-pub(crate) fn tell_odd(
+/// Adds findings as lines for standard error, of a file that is wrong.
+pub(crate) fn tell_findings(
     alloc: Global,
-    lines: &mut Vec<String>,
+    told: &mut Told,
+    path: &str,
     findings: &[Finding],
 ) -> Result<(), AllocError> {
     for finding in findings {
-        let byte = byte_text(alloc, finding.place)?;
-        let text = finding.text.as_str();
-        let note = format!(in alloc; "odd: {byte}: {text}")?;
-        put_note(alloc, lines, note.as_str())?;
+        let text = finding_text(alloc, finding)?;
+        told.fault(path, text.as_str(), 1)?;
     }
     Ok(())
 }

@@ -1,5 +1,5 @@
-//! What a file is that is no a.out file of the Seventh Edition.
-use aout_core::{Header, ReadFault, Wire, read_file};
+//! What a file is that is not an a.out file of the Seventh Edition.
+use aout_core::{Header, is_magic};
 use gnu_objects::{Refusal, convert};
 use std::alloc::Global;
 
@@ -13,30 +13,13 @@ pub(crate) fn header_of(bytes: &[u8]) -> Option<Header> {
     Some(Header::read(&start))
 }
 
-/// Whether a file may begin with this word.
-fn is_magic(alloc: Global, magic: u16) -> bool {
-    let header = Header {
-        magic,
-        text_size: 0,
-        data_size: 0,
-        bss_size: 0,
-        symbol_size: 0,
-        entry_point: 0,
-        unused: 0,
-        flag: 0,
-    };
-    let bytes = header.to_bytes();
-    let outcome = read_file(alloc, &mut Wire::new(bytes.as_slice()));
-    !matches!(&outcome, Err(ReadFault::BadMagic))
-}
-
-/// Whether a byte stands in texts.
+/// Whether a text may have a byte.
 fn is_of_text(byte: u8) -> bool {
     byte == b'\n' || byte == b'\r' || byte == b'\t' || (b' ' <= byte && byte < 127)
 }
 
 /// What a file with no magic number of ours is, if it is known.
-pub(crate) fn likeness(alloc: Global, bytes: &[u8]) -> Option<&'static str> {
+pub(crate) fn likeness(bytes: &[u8]) -> Option<&'static str> {
     match bytes {
         [] => return Some("the file is empty"),
         [0x7f, b'E', b'L', b'F', ..] => {
@@ -61,15 +44,15 @@ pub(crate) fn likeness(alloc: Global, bytes: &[u8]) -> Option<&'static str> {
         return Some("this is text");
     }
     match bytes {
-        [low, high, ..] if is_magic(alloc, u16::from(*high) + 256 * u16::from(*low)) => {
+        [low, high, ..] if is_magic(u16::from(*high) + 256 * u16::from(*low)) => {
             Some("a magic number with its bytes swapped: each word has its low byte first")
         }
         _ => None,
     }
 }
 
-/// Whether a file is in the form of GNU's assembler and of 2.11BSD, with symbols of 8 bytes and their names behind them.
-/// A file that has no symbols is of both forms, and not told apart; nor one of another magic than 0407.
+/// Whether a file is in the form of GNU's assembler and of 2.11BSD, with symbols of 8 bytes and their names after them.
+/// A file without symbols has both forms, and is not recognized, and neither is one of another magic than 0407.
 pub(crate) fn is_of_gnu(alloc: Global, bytes: &[u8], is_odd: bool) -> bool {
     match header_of(bytes) {
         Some(header) if header.symbol_size > 0 => {}

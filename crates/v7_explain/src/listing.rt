@@ -12,7 +12,7 @@ use std::alloc::{AllocError, Global};
 /// What a magic number says.
 fn magic_text(magic: u16) -> &'static str {
     match magic {
-        0o407 => "magic: normal, data behind text",
+        0o407 => "magic: normal, data after text",
         0o410 => "magic: text can be shared, data at a multiple of 020000",
         0o411 => "magic: text and data in spaces of their own",
         0o405 => "magic: overlay",

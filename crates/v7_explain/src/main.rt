@@ -1,8 +1,10 @@
-//! The program `v7-explain`: an a.out file as a listing, with what is wrong and odd of it, or the map of a link.
+//! The program `v7-explain`: an a.out file as a listing, with what is wrong and odd of it, whether files are objects, or the map of
+//! a link.
 #![tactic(auto)]
 
 mod explaining;
 mod finding;
+mod kind;
 mod likeness;
 mod listing;
 mod map;
@@ -10,10 +12,11 @@ mod map_limits;
 mod map_names;
 mod map_objects;
 mod map_outcome;
+mod map_places;
+mod map_references;
 mod map_text;
 mod odd;
 mod places;
-mod reading;
 mod remarks;
 mod text;
 mod told;
@@ -21,32 +24,36 @@ mod words;
 mod words_in;
 mod wrong;
 
-use explaining::explain_files;
+use explaining::{check_files, explain_files};
 use map::write_map;
+use programs::show;
 use std::process::ExitCode;
 use told::{Told, tell};
 use words::{Asked, what_is_asked};
 
-/// The status where the words ask for nothing.
+const SYNOPSIS: &str =
+    "usage: v7-explain [-o LISTING] FILE...\n       v7-explain -c FILE...\n       v7-explain -m [OPTIONS OF LD] FILE...\n       v7-explain --help | --version\n";
+
+/// The status if the arguments ask for nothing.
 fn usage(rt: &HostRuntime) -> u8 {
-    let _ = rt.eprint(
-        "usage: v7-explain [-o LISTING] FILE...\n       v7-explain -m [OPTIONS OF LD] FILE...\n",
-    );
+    let _ = rt.eprint(SYNOPSIS);
     2
 }
 
-/// The status where memory runs out.
+/// The status if memory runs out.
 fn no_memory(rt: &HostRuntime) -> u8 {
     let _ = rt.eprint("v7-explain: no memory\n");
     2
 }
 
-/// Does what the words ask for, and returns the status.
+/// Does what the arguments ask for, and returns the status.
 fn run(rt: &HostRuntime, asked: Asked) -> u8 {
     let told = match &asked {
         Asked::Nothing => return usage(rt),
+        Asked::Show(shown) => return show(rt, "v7-explain", SYNOPSIS, *shown),
         Asked::Memory => return no_memory(rt),
         Asked::Listing(listing) => explain_files(rt, listing),
+        Asked::Check(files) => check_files(rt, files),
         Asked::Map(call) => write_map(rt, call),
     };
     match told {

@@ -3,6 +3,7 @@ use crate::map_limits::{put_largest, put_limits, sums_of};
 use crate::map_names::{Names, put_externals, put_faults};
 use crate::map_objects::{Gathered, Member, gather};
 use crate::map_outcome::{Made, Outcome, outcome_of};
+use crate::map_places::{Places, starts_of};
 use crate::map_text::put_name;
 use crate::told::Told;
 use command_words::Call;
@@ -11,16 +12,8 @@ use link_session::Session;
 use std::alloc::{AllocError, Global};
 use std::fmt::Write;
 
-/// How many columns a path has behind the numbers of its object.
+/// How many columns a path has after the numbers of its object.
 const PATH: usize = 33;
-
-/// Where each segment of an object lies, or counted from 0 in its merged segment where an object is refused.
-#[derive(Clone, Copy)]
-struct Places {
-    text: u64,
-    data: u64,
-    bss: u64,
-}
 
 /// Adds a line of the segments.
 fn put_segment(text: &mut String, label: &str, from: u64, end: u64) -> Result<(), AllocError> {
@@ -51,35 +44,13 @@ fn put_member(text: &mut String, at: Places, member: &Member) -> Result<(), Allo
     text.push('\n')
 }
 
-/// Adds the objects, the segments of the first of which lie here.
-fn put_members(text: &mut String, first: Places, members: &[Member]) -> Result<(), AllocError> {
+/// Adds the objects.
+fn put_members(text: &mut String, names: &Names<'_>) -> Result<(), AllocError> {
     text.push_str("\nObjects\n    text  bytes    data  bytes     bss  bytes\n")?;
-    let mut at = first;
-    for member in members {
-        put_member(text, at, member)?;
-        at = Places {
-            text: at.text.saturating_add(member.text),
-            data: at.data.saturating_add(member.data),
-            bss: at.bss.saturating_add(member.bss),
-        };
+    for (member, at) in names.gathered.members.iter().zip(names.starts) {
+        put_member(text, *at, member)?;
     }
     Ok(())
-}
-
-/// Where the segments of the first object lie.
-fn first_places(outcome: Option<&Outcome>) -> Places {
-    match outcome {
-        Some(outcome) => Places {
-            text: 0,
-            data: outcome.bases.data_start,
-            bss: outcome.bases.bss_start,
-        },
-        None => Places {
-            text: 0,
-            data: 0,
-            bss: 0,
-        },
-    }
 }
 
 /// Adds what becomes of a link that is made.
@@ -185,20 +156,8 @@ fn put_map(
     put_head(text, names.gathered, outcome)?;
     put_sizes(alloc, text, names, options)?;
     put_faults(alloc, text, names)?;
-    put_members(text, first_places(outcome), &names.gathered.members)?;
+    put_members(text, names)?;
     put_externals(alloc, text, names)
-}
-
-fn names_of<'x>(
-    gathered: &'x Gathered,
-    session: &'x Session,
-    outcome: Option<&'x Outcome>,
-) -> Names<'x> {
-    Names {
-        gathered,
-        session,
-        outcome,
-    }
 }
 
 /// Tells a map, and its status.
@@ -215,19 +174,26 @@ fn tell_names(
 }
 
 /// Tells the map of the objects that were taken.
-fn tell_map<'x>(
+fn tell_map(
     alloc: Global,
     told: &mut Told,
-    session: &'x Session,
+    session: &Session,
     options: &Options,
-    gathered: &'x Gathered,
+    gathered: &Gathered,
 ) -> Result<(), AllocError> {
-    if gathered.refused.is_some() {
-        let names = names_of(gathered, session, None);
-        return tell_names(alloc, told, &names, options);
-    }
-    let outcome = outcome_of(alloc, session, options)?;
-    let names = names_of(gathered, session, Some(&outcome));
+    let outcome = if gathered.refused.is_some() {
+        None
+    } else {
+        Some(outcome_of(alloc, session, options)?)
+    };
+    let outcome = outcome.as_ref();
+    let starts = starts_of(alloc, outcome, &gathered.members)?;
+    let names = Names {
+        gathered,
+        session,
+        outcome,
+        starts: &starts,
+    };
     tell_names(alloc, told, &names, options)
 }
 

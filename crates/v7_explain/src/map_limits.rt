@@ -27,7 +27,7 @@ pub(crate) struct Sums {
     symbols: u64,
 }
 
-/// The sums over all objects, also where a link has no room for them.
+/// The sums over all objects, even if they are over the limits.
 pub(crate) fn sums_of(members: &[Member]) -> Sums {
     let mut sums = Sums {
         text: 0,

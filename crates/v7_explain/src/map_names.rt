@@ -1,23 +1,28 @@
 //! Names of the map: who defines a name, who makes it a common, and who refers to it.
 use crate::map_objects::{Again, Gathered, Member, Use};
 use crate::map_outcome::Outcome;
-use crate::map_text::{end_list, put_front, put_item, put_name};
+use crate::map_places::Places;
+use crate::map_references::{Part, Reference};
+use crate::map_text::{put_front, put_item, put_name};
 use aout_core::{Name, Segment, Symbol};
 use link_out::is_missing;
 use link_session::{Session, State};
 use std::alloc::{AllocError, Global};
+use std::fmt::Write;
 
-/// What the names of a map are told from.
+/// What the map takes its names from.
 #[derive(Clone, Copy)]
 pub(crate) struct Names<'a> {
     pub(crate) gathered: &'a Gathered,
     pub(crate) session: &'a Session,
-    /// What becomes of the link, where no object is refused.
+    /// What becomes of the link, if no object is refused.
     pub(crate) outcome: Option<&'a Outcome>,
+    /// Where the segments of each object lie.
+    pub(crate) starts: &'a [Places],
 }
 
 /// What a symbol says of its name.
-#[derive(Clone, Copy)]
+#[derive(Clone, Copy, PartialEq, Eq)]
 enum Says {
     Defines,
     WantsCommon,
@@ -48,7 +53,7 @@ fn path_of(members: &[Member], object: usize) -> &str {
     }
 }
 
-/// How an object stands in a list: a common with its size in bytes, a mention with the number of words that refer to
+/// An object as an item of a list: a common with its size in bytes, a mention with the number of words that refer to
 /// it.
 fn item(alloc: Global, members: &[Member], used: &Use, what: Says) -> Result<String, AllocError> {
     let Some(object) = used.object else {
@@ -62,7 +67,7 @@ fn item(alloc: Global, members: &[Member], used: &Use, what: Says) -> Result<Str
     }
 }
 
-/// A list of objects: what stands before it, and what their symbols say.
+/// A list of objects: its label, and what their symbols say.
 #[derive(Clone, Copy)]
 struct List {
     label: &'static str,
@@ -89,32 +94,76 @@ const USED: List = List {
     what: Says::Mentions,
 };
 
-/// Adds a list of the objects among the uses.
+/// The segment and the address of a word of an object.
+fn place_of(starts: Places, reference: &Reference) -> (&'static str, u64) {
+    let offset = u64::from(reference.offset);
+    match reference.part {
+        Part::Text => ("text", starts.text.saturating_add(offset)),
+        Part::Data => ("data", starts.data.saturating_add(offset)),
+    }
+}
+
+/// Adds the line of a word that refers to a name: its address, and the label before it.
+fn put_reference(
+    text: &mut String,
+    starts: Places,
+    reference: &Reference,
+) -> Result<(), AllocError> {
+    let (part, address) = place_of(starts, reference);
+    write!(text, "                {part} {address:06o}")?;
+    if let Some(before) = &reference.before {
+        text.push_str("  ")?;
+        put_name(text, &before.name)?;
+        let bytes = before.bytes;
+        if bytes > 0 {
+            write!(text, "+{bytes:o}")?;
+        }
+    }
+    text.push('\n')
+}
+
+/// Adds the lines of the words of an object that refer to a name.
+fn put_references(text: &mut String, names: &Names<'_>, used: &Use) -> Result<(), AllocError> {
+    let end = used.first.saturating_add(used.words);
+    let references = names.gathered.references.get(used.first..end);
+    let starts = names.starts.get(used.object.unwrap_or(0)).copied();
+    if let (Some(references), Some(starts)) = (references, starts) {
+        for reference in references {
+            put_reference(text, starts, reference)?;
+        }
+    }
+    Ok(())
+}
+
+/// Adds a list of the objects among the uses, and for those that use a name their words.
 fn put_list(
     alloc: Global,
     text: &mut String,
-    members: &[Member],
+    names: &Names<'_>,
     uses: &[Use],
     list: List,
 ) -> Result<(), AllocError> {
     let List { label, what } = list;
-    let mut column = 0;
+    let members = names.gathered.members.as_slice();
     for used in uses {
         if is_said(used, what) {
             let item = item(alloc, members, used, what)?;
-            put_item(text, &mut column, label, item.as_str())?;
+            put_item(text, label, item.as_str())?;
+            if what == Says::Mentions {
+                put_references(text, names, used)?;
+            }
         }
     }
-    end_list(text, column)
+    Ok(())
 }
 
-/// The uses up to the first definition, and those behind it.
+/// The uses up to the first definition, and those after it.
 fn at_definition(uses: &[Use]) -> (&[Use], &[Use]) {
-    let behind = match uses.iter().position(is_definition) {
+    let end = match uses.iter().position(is_definition) {
         Some(place) => place.saturating_add(1),
         None => uses.len(),
     };
-    match uses.split_at_checked(behind) {
+    match uses.split_at_checked(end) {
         Some(parts) => parts,
         None => (uses, &[]),
     }
@@ -155,16 +204,11 @@ fn is_reserved(names: &Names<'_>, name: &Name) -> bool {
     }
 }
 
-/// Adds the line of a name as `nm` has it; without its address where the link is refused.
-fn put_line(
-    alloc: Global,
-    text: &mut String,
-    names: &Names<'_>,
-    symbol: &Symbol,
-) -> Result<(), AllocError> {
+/// Adds the line of a name as `nm` has it; without its address if the link is refused.
+fn put_line(text: &mut String, names: &Names<'_>, symbol: &Symbol) -> Result<(), AllocError> {
     match row_of(names, &symbol.name) {
-        Some(row) => put_front(alloc, text, &row, true)?,
-        None => put_front(alloc, text, symbol, false)?,
+        Some(row) => put_front(text, &row, true)?,
+        None => put_front(text, symbol, false)?,
     }
     put_name(text, &symbol.name)?;
     text.push('\n')
@@ -195,33 +239,32 @@ fn put_known(
     let Some(symbol) = telling(uses) else {
         return Ok(());
     };
-    let members = names.gathered.members.as_slice();
-    let (front, behind) = at_definition(uses);
-    put_line(alloc, text, names, &symbol)?;
-    put_list(alloc, text, members, front, DEFINED)?;
-    put_list(alloc, text, members, behind, AGAIN)?;
-    put_list(alloc, text, members, uses, COMMON)?;
-    put_list(alloc, text, members, uses, USED)
+    let (front, rest) = at_definition(uses);
+    put_line(text, names, &symbol)?;
+    put_list(alloc, text, names, front, DEFINED)?;
+    put_list(alloc, text, names, rest, AGAIN)?;
+    put_list(alloc, text, names, uses, COMMON)?;
+    put_list(alloc, text, names, uses, USED)
 }
 
 /// Which names a part of the map has.
 #[derive(Clone, Copy)]
-enum Part {
+enum Section {
     Left,
     Multiple,
     All,
 }
 
-/// Whether a name stands in the part.
-fn stands_in(names: &Names<'_>, part: Part, uses: &[Use]) -> bool {
+/// Whether a part has a name.
+fn has_name(names: &Names<'_>, section: Section, uses: &[Use]) -> bool {
     let Some(first) = uses.first() else {
         return false;
     };
     let name = &first.symbol.name;
-    match part {
-        Part::Left => is_left(uses),
-        Part::Multiple => { is_again(&names.gathered.agains, name) || is_reserved(names, name) }
-        Part::All => true,
+    match section {
+        Section::Left => is_left(uses),
+        Section::Multiple => { is_again(&names.gathered.agains, name) || is_reserved(names, name) }
+        Section::All => true,
     }
 }
 
@@ -230,13 +273,13 @@ fn put_part(
     alloc: Global,
     text: &mut String,
     names: &Names<'_>,
-    part: Part,
+    section: Section,
     title: &str,
 ) -> Result<(), AllocError> {
     let mut is_titled = false;
     let uses = names.gathered.uses.as_slice();
     for group in uses.chunk_by(|a, b| a.symbol.name == b.symbol.name) {
-        if stands_in(names, part, group) {
+        if has_name(names, section, group) {
             if !is_titled {
                 text.push_str(title)?;
                 is_titled = true;
@@ -253,8 +296,14 @@ pub(crate) fn put_faults(
     text: &mut String,
     names: &Names<'_>,
 ) -> Result<(), AllocError> {
-    put_part(alloc, text, names, Part::Left, "\nUndefined\n")?;
-    put_part(alloc, text, names, Part::Multiple, "\nMultiply defined\n")
+    put_part(alloc, text, names, Section::Left, "\nUndefined\n")?;
+    put_part(
+        alloc,
+        text,
+        names,
+        Section::Multiple,
+        "\nMultiply defined\n",
+    )
 }
 
 /// Adds all externals.
@@ -263,5 +312,5 @@ pub(crate) fn put_externals(
     text: &mut String,
     names: &Names<'_>,
 ) -> Result<(), AllocError> {
-    put_part(alloc, text, names, Part::All, "\nExternals\n")
+    put_part(alloc, text, names, Section::All, "\nExternals\n")
 }

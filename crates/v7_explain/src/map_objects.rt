@@ -1,6 +1,7 @@
 //! The objects of a link: what each brings, and what a session says of it.
+use crate::map_references::{Reference, count_of, references_of};
 use crate::told::Told;
-use aout_core::{File, Kind, Name, Object, ObjectFault, ReadFault, Reloc, Symbol, Wire, read_file};
+use aout_core::{File, Name, Object, ObjectFault, ReadFault, Symbol, Wire, read_file};
 use link_session::{AddFault, Forced, Session};
 use std::alloc::{AllocError, Global};
 use std::fs;
@@ -15,13 +16,15 @@ pub(crate) struct Member {
     pub(crate) symbols: u64,
 }
 
-/// An external symbol of an object, and how many of the object's words refer to it.
+/// An external symbol of an object, and the words of the object that refer to it.
 #[derive(Clone, Copy)]
 pub(crate) struct Use {
     /// The object, counted from 0; none for a forced name.
     pub(crate) object: Option<usize>,
     pub(crate) symbol: Symbol,
-    pub(crate) words: u32,
+    /// The first of the words among all references, and how many there are.
+    pub(crate) first: usize,
+    pub(crate) words: usize,
 }
 
 /// A definition in an object that differs from the first of its name.
@@ -36,8 +39,9 @@ pub(crate) struct Again {
 pub(crate) struct Gathered {
     pub(crate) members: Vec<Member>,
     pub(crate) uses: Vec<Use>,
+    pub(crate) references: Vec<Reference>,
     pub(crate) agains: Vec<Again>,
-    /// The first object that a session refuses, counted from 0, and why. Those behind it were not added either.
+    /// The first object that a session refuses, counted from 0, and why. Those after it were not added either.
     pub(crate) refused: Option<(usize, AddFault)>,
 }
 
@@ -87,37 +91,29 @@ fn tell_unread(
     }
 }
 
-/// Counts for each symbol the relocation words that refer to it.
-fn count_words(relocs: &[Reloc], counts: &mut Vec<u32>) {
-    for reloc in relocs {
-        let number = reloc.number() as usize;
-        if matches!(reloc.kind(), Some(Kind::External)) && number < counts.len() {
-            counts[number] = counts[number].saturating_add(1);
-        }
-    }
-}
-
-/// Adds the external symbols of an object.
+/// Adds the external symbols of an object, and the words that refer to them.
 fn put_uses(
     alloc: Global,
-    uses: &mut Vec<Use>,
+    gathered: &mut Gathered,
     object: usize,
     file: &File,
 ) -> Result<(), AllocError> {
-    let symbols = file.symbols();
-    let mut counts = vec![in alloc; 0u32; symbols.len()]?;
-    count_words(file.text_reloc(), &mut counts);
-    count_words(file.data_reloc(), &mut counts);
-    for (symbol, words) in symbols.iter().zip(counts.iter()) {
+    let references = references_of(alloc, file)?;
+    let before = gathered.references.len();
+    let mut first = 0usize;
+    for (number, symbol) in file.symbols().iter().enumerate() {
+        let words = count_of(references.get(first..).unwrap_or(&[]), number);
         if symbol.is_external() {
-            uses.push(Use {
+            gathered.uses.push(Use {
                 object: Some(object),
                 symbol: *symbol,
-                words: *words,
+                first: before.saturating_add(first),
+                words,
             })?;
         }
+        first = first.saturating_add(words);
     }
-    Ok(())
+    gathered.references.extend_from_slice(&references)
 }
 
 /// Adds the forced names, each as an external that is mentioned.
@@ -131,6 +127,7 @@ fn put_forced(uses: &mut Vec<Use>, forced: &Forced) -> Result<(), AllocError> {
         uses.push(Use {
             object: None,
             symbol,
+            first: 0,
             words: 0,
         })?;
     }
@@ -189,7 +186,7 @@ fn take(
 ) -> Result<(), AllocError> {
     let index = gathered.members.len();
     let label = String::from_str(alloc, path)?;
-    put_uses(alloc, &mut gathered.uses, index, object.file())?;
+    put_uses(alloc, gathered, index, object.file())?;
     let member = member_of(alloc, path, object.file())?;
     gathered.members.push(member)?;
     if gathered.refused.is_some() {
@@ -198,7 +195,7 @@ fn take(
     add(session, gathered, label, index, object)
 }
 
-/// Takes the objects of a link in order; what is no object is told. The uses are sorted by name then, and those of a
+/// Takes the objects of a link in order; and reports what is not an object. The uses are then sorted by name, and those of a
 /// name are in the order of the objects, forced names first.
 pub(crate) fn gather(
     rt: &HostRuntime,
@@ -211,6 +208,7 @@ pub(crate) fn gather(
     let mut gathered = Gathered {
         members: Vec::new(alloc),
         uses: Vec::new(alloc),
+        references: Vec::new(alloc),
         agains: Vec::new(alloc),
         refused: None,
     };

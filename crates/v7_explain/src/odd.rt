@@ -5,6 +5,7 @@ use crate::text::shown;
 use crate::words_in::{Contents, is_wanted, meant};
 use aout_core::{File, Header, Kind, Name, Reloc, Segment, Symbol};
 use std::alloc::{AllocError, Global};
+use symtools::letter;
 
 /// The name of a segment, and where it lies.
 fn segment_of(segments: &Segments, symbol: &Symbol) -> Option<(&'static str, Range)> {
@@ -34,7 +35,7 @@ struct Titled<'a> {
     title: &'a str,
 }
 
-/// Adds a common, and that its size is odd.
+/// Adds a common of an odd size.
 fn find_common(
     alloc: Global,
     findings: &mut Vec<Finding>,
@@ -45,19 +46,36 @@ fn find_common(
         place,
         title,
     } = at;
-    if !is_wanted(symbol) || symbol.value == 0 {
+    let size = symbol.value;
+    if !is_wanted(symbol) || size % 2 == 0 {
         return Ok(());
     }
-    let size = symbol.value;
-    let rounded = if size % 2 == 0 {
-        ""
-    } else {
-        ", rounded up to even"
-    };
     let text = format!(in alloc;
-        "{title} is undefined with value {size:06o}: a common of {size} bytes{rounded}"
+        "{title} is undefined with value {size:06o}: a common of {size} bytes, rounded up to even"
     )?;
     find(findings, place.saturating_add(10), text)
+}
+
+/// Whether the format has a type like that of a symbol. `nm` shows the letter of an absolute for those that it does not have.
+fn has_type(symbol: &Symbol) -> bool {
+    symbol.segment() != Segment::Other || !matches!(letter(symbol), b'a' | b'A')
+}
+
+/// Adds a type that the format does not have.
+fn find_type(alloc: Global, findings: &mut Vec<Finding>, at: Titled<'_>) -> Result<(), AllocError> {
+    let Titled {
+        symbol,
+        place,
+        title,
+    } = at;
+    if has_type(symbol) {
+        return Ok(());
+    }
+    let bits = symbol.type_bits;
+    let text = format!(in alloc;
+        "{title} has type {bits:06o}, which the format does not have; it is taken as absolute"
+    )?;
+    find(findings, place.saturating_add(8), text)
 }
 
 /// Adds a value that lies outside of its segment.
@@ -136,7 +154,7 @@ fn find_name_bytes(
     find(findings, place, text)
 }
 
-/// Whether the bytes of a name behind its NUL are not NULs too.
+/// Whether the bytes of a name after its NUL are not NULs too.
 fn has_rest(bytes: &[u8], place: usize, symbol: &Symbol) -> bool {
     let Some(field) = bytes.get(place..place.saturating_add(8)) else {
         return false;
@@ -229,12 +247,13 @@ fn find_symbol(
     find_name_bytes(alloc, findings, at)?;
     if has_rest(bytes, place, symbol) {
         let text = format!(in alloc;
-            "{title} has bytes behind the NUL of its name, which are ignored"
+            "{title} has bytes after the NUL of its name, which are ignored"
         )?;
         find(findings, place, text)?;
     }
     find_alike(alloc, findings, at, number, first)?;
     find_type_bits(alloc, findings, at)?;
+    find_type(alloc, findings, at)?;
     find_common(alloc, findings, at)?;
     find_value(alloc, findings, at, &segments)
 }
@@ -247,7 +266,7 @@ struct Relocated {
     reloc: Reloc,
 }
 
-/// Adds what is odd of a word, whose relocation word stands at a place of the file.
+/// Adds what is odd of a word, whose relocation word has this place in the file.
 fn find_word(
     alloc: Global,
     findings: &mut Vec<Finding>,
@@ -310,7 +329,7 @@ fn find_words(
     Ok(())
 }
 
-/// Adds words of the header that are ignored, and bytes behind the table.
+/// Adds words of the header that are ignored, and bytes after the table.
 fn find_ignored(
     alloc: Global,
     findings: &mut Vec<Finding>,
@@ -328,10 +347,10 @@ fn find_ignored(
         find(findings, 12, text)?;
     }
     let end = Places::of(header).end;
-    let behind = bytes.len().saturating_sub(end);
-    if behind > 0 {
+    let more = bytes.len().saturating_sub(end);
+    if more > 0 {
         let text = format!(in alloc;
-            "0{behind:o} ({behind}) bytes behind the symbol table are not read"
+            "0{more:o} ({more}) bytes after the symbol table are not read"
         )?;
         find(findings, end, text)?;
     }

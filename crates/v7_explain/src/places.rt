@@ -1,7 +1,8 @@
-//! Where the parts of a file stand, by the sizes in its header, and where they lie in memory.
+//! The places of the parts of a file, by the sizes in its header, and their addresses in memory.
 use aout_core::Header;
+use listings::data_start;
 
-/// The bytes of a file at which its parts begin, and the first behind them.
+/// The bytes of a file at which its parts begin, and the first after them.
 #[derive(Clone, Copy)]
 pub(crate) struct Places {
     pub(crate) text: usize,
@@ -51,14 +52,14 @@ pub(crate) struct Range {
 }
 
 impl Range {
-    /// Whether an address lies in the segment, or at its end.
+    /// Whether an address is in the segment, or at its end.
     pub(crate) fn has(&self, address: u16) -> bool {
         let address = u32::from(address);
         self.start <= address && address <= self.end
     }
 }
 
-/// Where text, data and bss lie in memory.
+/// The addresses of text, data and bss in memory.
 #[derive(Clone, Copy)]
 pub(crate) struct Segments {
     pub(crate) text: Range,
@@ -66,21 +67,11 @@ pub(crate) struct Segments {
     pub(crate) bss: Range,
 }
 
-/// Where data begins: behind text, in the files of `-n` at the next multiple of 020000, and in those of `-i` at 0.
-fn data_start(header: &Header) -> u32 {
-    let text = u32::from(header.text_size);
-    match header.magic {
-        0o410 => (text + 8191) / 8192 * 8192,
-        0o411 => 0,
-        _ => text,
-    }
-}
-
 impl Segments {
     /// The addresses that a header announces.
     pub(crate) fn of(header: &Header) -> Segments {
         let text_end = u32::from(header.text_size);
-        let data = data_start(header);
+        let data = data_start(header.magic, usize::from(header.text_size)) as u32;
         let data_end = data.saturating_add(u32::from(header.data_size));
         let bss_end = data_end.saturating_add(u32::from(header.bss_size));
         Segments {

@@ -1,7 +1,5 @@
 //! What a listing remarks of a file.
-ghost use Rattle.std.specs.Prelude.{◌≡◌, ◌≤◌, ◌++◌, ◌∷◌, [], map, string_bytes, OnOk, IfOk};
-ghost use Rattle.symtools.specs.SymbolLines.{small_letter, letter};
-ghost use Rattle.aout_core.specs.WellFormed.{masked_type};
+ghost use Rattle.std.specs.Prelude.{◌≡◌, ◌++◌, ◌∷◌, [], map, string_bytes, OnOk, IfOk};
 ghost use Rattle.listings.specs.Listing.{remarked, note_lines, text_of};
 ghost use Rattle.v7_explain.specs.Said.{printed_byte, printed, word_said};
 
@@ -9,6 +7,7 @@ use crate::words_in::put_word_text;
 use aout_core::{Reloc, Symbol};
 use listings::Remark;
 use std::alloc::{AllocError, Global};
+use symtools::letter;
 
 /// The notes of a file, and its symbols, to which relocation words refer.
 #[derive(Clone, Copy)]
@@ -89,34 +88,6 @@ fn word_text(
     let mut text = Vec::new(alloc);
     put_word_text(&mut text, symbols, at, word, reloc)?;
     Ok(text)
-}
-
-fn small_letter(symbol: &Symbol) -> u8
-    ensures letter { result ≡ small_letter (masked_type symbol.now) symbol.now.value }
-    ensures small { 97 ≤ result }
-{
-    match symbol.type_bits % 0o40 {
-        0 if symbol.value == 0 => b'u',
-        0 => b'c',
-        2 => b't',
-        3 => b'd',
-        4 => b'b',
-        0o24 => b'r',
-        0o37 => b'f',
-        _ => b'a',
-    }
-}
-
-/// The letter that nm has for a symbol.
-fn letter(symbol: &Symbol) -> u8
-    ensures { result ≡ letter symbol.now }
-{
-    let small = small_letter(symbol);
-    if symbol.is_external() {
-        small - (b'a' - b'A')
-    } else {
-        small
-    }
 }
 
 impl Remark for Explained<'_> {

@@ -2,9 +2,6 @@
 use std::alloc::{AllocError, Global};
 use std::fmt::Write;
 
-/// How many columns a line of notes has at most.
-const WIDTH: usize = 79;
-
 /// A name as it is shown: a byte that does not print, a blank and a backslash as `\ooo`. An empty name is `\000`.
 pub(crate) fn shown(alloc: Global, name: &[u8]) -> Result<String, AllocError> {
     let mut text = String::new(alloc);
@@ -22,23 +19,13 @@ pub(crate) fn shown(alloc: Global, name: &[u8]) -> Result<String, AllocError> {
     Ok(text)
 }
 
-/// Adds a note, in lines that are broken at blanks. A line has no slash yet.
+/// Adds a note. The slash of its line is not there yet.
 pub(crate) fn put_note(
     alloc: Global,
-    lines: &mut Vec<String>,
+    notes: &mut Vec<String>,
     note: &str,
 ) -> Result<(), AllocError> {
-    let mut line = String::new(alloc);
-    for word in note.split(' ') {
-        let end = line.len().saturating_add(word.len()).saturating_add(2);
-        if end > WIDTH && line.len() > 3 {
-            lines.push(line)?;
-            line = String::from_str(alloc, "  ")?;
-        }
-        line.push(' ')?;
-        line.push_str(word)?;
-    }
-    lines.push(line)?;
+    notes.push(format!(in alloc; " {note}")?)?;
     Ok(())
 }
 

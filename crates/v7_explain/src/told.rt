@@ -31,7 +31,7 @@ impl Told {
     }
 }
 
-/// Writes what is told to the standard streams, and returns the status.
+/// Writes the text and the lines to the standard streams, and returns the status.
 pub(crate) fn tell(rt: &HostRuntime, told: &Told) -> u8 {
     let written = rt.write_all(&told.text);
     let _ = rt.eprint(told.errors.as_str());

@@ -1,44 +1,73 @@
-//! The words of the command.
+//! The arguments of the command.
 use command_words::{Call, WordsFault, parse};
+use programs::{Shown, shown_by};
 use std::alloc::AllocError;
 use std::{env, io};
 
 /// A listing of files.
 #[derive(Drop)]
 pub(crate) struct ListingWords {
-    /// The path of the listing, where it is not for standard output.
+    /// The path of the listing, if it is not for standard output.
     pub(crate) out: Option<String>,
     /// The paths of the files, at least one.
     pub(crate) files: Vec<String>,
 }
 
-/// What the words ask for.
+/// What the arguments ask for.
 #[derive(Drop)]
 pub(crate) enum Asked {
     Nothing,
     Memory,
+    Show(Shown),
     /// Listings of files.
     Listing(ListingWords),
-    /// The map of a link, as the words of `ld` ask for it.
+    /// Whether these files, at least one, are objects.
+    Check(Vec<String>),
+    /// The map of a link, as the arguments of `ld` ask for it.
     Map(Call),
 }
 
-/// The words behind the program's name, and behind `-m` if they begin with it; then `ld` stands in its place.
-fn words(rt: &HostRuntime) -> io::Result<(bool, Vec<String>)> {
-    let mut words = Vec::new(rt.alloc());
-    let mut is_map = false;
-    for word in env::args(rt)?.skip(1) {
-        if words.is_empty() && word.as_str() == "-m" {
-            is_map = true;
-            words.push(String::from_str(rt.alloc(), "ld")?)?;
-        } else {
-            words.push(word)?;
-        }
-    }
-    Ok((is_map, words))
+/// What the first argument asks for. The arguments after it are not looked at for these options, since `-m` takes those of `ld`.
+#[derive(Clone, Copy, PartialEq, Eq)]
+enum First {
+    Listing,
+    Check,
+    Map,
+    Show(Shown),
 }
 
-/// The link that the words of `ld` ask for.
+fn first_asked(word: &str) -> First {
+    match word {
+        "-c" => First::Check,
+        "-m" => First::Map,
+        _ => match shown_by(word) {
+            Some(shown) => First::Show(shown),
+            None => First::Listing,
+        },
+    }
+}
+
+/// What the first argument asks for, and the other arguments; those of a map begin with `ld`.
+fn arguments(rt: &HostRuntime) -> io::Result<(First, Vec<String>)> {
+    let mut words = Vec::new(rt.alloc());
+    let mut first = None;
+    for word in env::args(rt)?.skip(1) {
+        if first.is_some() {
+            words.push(word)?;
+            continue;
+        }
+        let asked = first_asked(word.as_str());
+        first = Some(asked);
+        match asked {
+            First::Listing => words.push(word)?,
+            First::Map => words.push(String::from_str(rt.alloc(), "ld")?)?,
+            First::Check | First::Show(_) => {}
+        }
+    }
+    Ok((first.unwrap_or(First::Listing), words))
+}
+
+/// The link that the arguments of `ld` ask for.
 fn map_asked(rt: &HostRuntime, words: Vec<String>) -> Asked {
     match parse(rt.alloc(), words) {
         Ok(call) => Asked::Map(call),
@@ -47,7 +76,15 @@ fn map_asked(rt: &HostRuntime, words: Vec<String>) -> Asked {
     }
 }
 
-/// The listing that the words ask for: `-o` and a path, if it stands first, and files.
+/// Whether these are paths, of which the first is not an option.
+fn are_files(files: &[String]) -> bool {
+    match files.first() {
+        Some(first) => !first.as_str().starts_with('-'),
+        None => false,
+    }
+}
+
+/// The listing that the arguments ask for: `-o` and a path, if they are first, and files.
 fn listing_asked(rt: &HostRuntime, words: Vec<String>) -> Result<Asked, AllocError> {
     let mut out = None;
     let mut wants_out = false;
@@ -58,23 +95,32 @@ fn listing_asked(rt: &HostRuntime, words: Vec<String>) -> Result<Asked, AllocErr
             wants_out = false;
         } else if out.is_none() && files.is_empty() && word.as_str() == "-o" {
             wants_out = true;
-        } else if files.is_empty() && word.as_str().starts_with('-') {
-            return Ok(Asked::Nothing);
         } else {
             files.push(word)?;
         }
     }
-    if files.is_empty() {
-        return Ok(Asked::Nothing);
+    if are_files(&files) {
+        Ok(Asked::Listing(ListingWords { out, files }))
+    } else {
+        Ok(Asked::Nothing)
     }
-    Ok(Asked::Listing(ListingWords { out, files }))
 }
 
-/// What the words behind the program's name ask for.
+fn check_asked(files: Vec<String>) -> Asked {
+    if are_files(&files) {
+        Asked::Check(files)
+    } else {
+        Asked::Nothing
+    }
+}
+
+/// What the arguments after the program's name ask for.
 pub(crate) fn what_is_asked(rt: &HostRuntime) -> Asked {
-    match words(rt) {
-        Ok((true, words)) => map_asked(rt, words),
-        Ok((false, words)) => listing_asked(rt, words).unwrap_or(Asked::Memory),
+    match arguments(rt) {
+        Ok((First::Show(shown), _)) => Asked::Show(shown),
+        Ok((First::Map, words)) => map_asked(rt, words),
+        Ok((First::Check, words)) => check_asked(words),
+        Ok((First::Listing, words)) => listing_asked(rt, words).unwrap_or(Asked::Memory),
         Err(error) => match error.kind() {
             io::ErrorKind::OutOfMemory => Asked::Memory,
             _ => Asked::Nothing,

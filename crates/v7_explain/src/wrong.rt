@@ -1,13 +1,13 @@
-//! What `v7 ld` refuses.
+//! What is damaged in a file.
 use crate::finding::{Finding, find};
 use crate::likeness::header_of;
 use crate::places::Places;
 use crate::text::shown;
 use crate::words_in::is_wanted;
-use aout_core::{File, Header, Kind, ObjectFault, ReadFault, Reloc, Symbol};
+use aout_core::{File, Header, Kind, ReadFault, Reloc, Symbol};
 use std::alloc::{AllocError, Global};
 
-/// How many bad relocation words are told one by one.
+/// How many bad relocation words are shown one by one.
 const MOST: u32 = 16;
 
 /// Adds a size that is odd.
@@ -69,7 +69,7 @@ fn truncated_text(alloc: Global, header: &Header, size: usize) -> Result<String,
     )
 }
 
-/// What is wrong with bytes that are no file.
+/// What is wrong with bytes that are not a file.
 pub(crate) fn wrong_bytes(
     alloc: Global,
     bytes: &[u8],
@@ -102,7 +102,7 @@ pub(crate) fn wrong_bytes(
     Ok(findings)
 }
 
-/// Why a symbol is none that a word may refer to.
+/// Why a word may not refer to a symbol.
 fn unwanted_text(alloc: Global, symbols: &[Symbol], number: u16) -> Result<String, AllocError> {
     let count = symbols.len();
     match symbols.get(usize::from(number)) {
@@ -171,8 +171,8 @@ fn find_words(
     Ok((index, bad))
 }
 
-/// The bad words of a file, the first of them one by one.
-fn wrong_words(alloc: Global, file: &File) -> Result<Vec<Finding>, AllocError> {
+/// The bad relocation words of a file, the first of them one by one.
+pub(crate) fn wrong_words(alloc: Global, file: &File) -> Result<Vec<Finding>, AllocError> {
     let mut findings = Vec::new(alloc);
     let so_far = find_words(alloc, &mut findings, file, file.text_reloc(), (0, 0))?;
     let (_, bad) = find_words(alloc, &mut findings, file, file.data_reloc(), so_far)?;
@@ -180,36 +180,6 @@ fn wrong_words(alloc: Global, file: &File) -> Result<Vec<Finding>, AllocError> {
         let more = bad - MOST;
         let text = format!(in alloc; "and {more} more such relocation words")?;
         find(&mut findings, Places::of(file.header()).relocation, text)?;
-    }
-    Ok(findings)
-}
-
-/// What is wrong with a file that is no object.
-pub(crate) fn wrong_object(
-    alloc: Global,
-    file: &File,
-    fault: ObjectFault,
-) -> Result<Vec<Finding>, AllocError> {
-    let mut findings = Vec::new(alloc);
-    let header = file.header();
-    match fault {
-        ObjectFault::NotAnObject => {
-            let magic = header.magic;
-            let text = format!(in alloc;
-                "not an object: the magic number is {magic:06o}, and an object's 000407; a program can't be linked again"
-            )?;
-            find(&mut findings, 0, text)?;
-        }
-        ObjectFault::NoRelocation => {
-            let flag = header.flag;
-            let text = format!(in alloc;
-                "no relocation: the flag is {flag:06o}, and an object's 0; a linked or stripped file can't be linked again"
-            )?;
-            find(&mut findings, 14, text)?;
-        }
-        ObjectFault::BadRelocation(_) | ObjectFault::BadSymbolNumber(_) => {
-            return wrong_words(alloc, file);
-        }
     }
     Ok(findings)
 }

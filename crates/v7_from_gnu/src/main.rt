@@ -6,11 +6,21 @@ mod lines;
 use aout_core::{DeviceFault, Wire, write_file};
 use gnu_objects::{Refusal, convert};
 use lines::{fault_line, refusal_line};
-use std::io::Read;
+use programs::{FileFault, Shown, read_all, show, shown_by};
+use std::alloc::AllocError;
 use std::process::ExitCode;
 use std::{env, fs, io};
 
-/// The arguments: `-S`, which drops symbols for a debugger, and two paths.
+const SYNOPSIS: &str = "usage: v7-from-gnu [-S] IN OUT\n       v7-from-gnu --help | --version\n";
+
+/// What the arguments ask for: to show something, or a conversion.
+#[derive(Drop)]
+enum Asked {
+    Show(Shown),
+    Convert(Words),
+}
+
+/// The arguments of a conversion: `-S`, which drops symbols for a debugger, and two paths.
 #[derive(Drop)]
 struct Words {
     drops: bool,
@@ -51,17 +61,12 @@ fn refused(rt: &HostRuntime, path: &str, bytes: &[u8], refusal: Refusal) -> Faul
 }
 
 /// All bytes of a file.
-fn read_all(rt: &HostRuntime, path: &str) -> Result<Vec<u8>, Fault> {
-    let Ok(mut file) = fs::open(rt, path) else {
-        return Err(device_fault(rt, path, "cannot open"));
-    };
-    let mut bytes = Vec::new(rt.alloc());
-    match file.read_to_end(&mut bytes) {
-        Ok(_) => Ok(bytes),
-        Err(error) => match error.kind() {
-            io::ErrorKind::OutOfMemory => Err(Fault::Memory),
-            _ => Err(device_fault(rt, path, "read error")),
-        },
+fn bytes_at(rt: &HostRuntime, path: &str) -> Result<Vec<u8>, Fault> {
+    match read_all(rt, path) {
+        Ok(bytes) => Ok(bytes),
+        Err(FileFault::NotOpened) => Err(device_fault(rt, path, "cannot open")),
+        Err(FileFault::Failed) => Err(device_fault(rt, path, "read error")),
+        Err(FileFault::Memory) => Err(Fault::Memory),
     }
 }
 
@@ -69,7 +74,7 @@ fn read_all(rt: &HostRuntime, path: &str) -> Result<Vec<u8>, Fault> {
 fn convert_file(rt: &HostRuntime, words: &Words) -> Result<(), Fault> {
     let from = words.from.as_str();
     let to = words.to.as_str();
-    let bytes = read_all(rt, from)?;
+    let bytes = bytes_at(rt, from)?;
     let object = match convert(rt.alloc(), &bytes, words.drops) {
         Ok(object) => object,
         Err(refusal) => return Err(refused(rt, from, &bytes, refusal)),
@@ -83,11 +88,16 @@ fn convert_file(rt: &HostRuntime, words: &Words) -> Result<(), Fault> {
     }
 }
 
-/// What the arguments ask for, if they ask for anything.
-fn asked(rt: &HostRuntime) -> io::Result<Option<Words>> {
+/// What the first argument asks to be shown, if it asks for that.
+fn first_shown(arguments: &[String]) -> Option<Shown> {
+    shown_by(arguments.first()?.as_str())
+}
+
+/// The conversion that the arguments ask for: `-S`, if it is first, and two paths.
+fn conversion(rt: &HostRuntime, arguments: Vec<String>) -> Result<Option<Words>, AllocError> {
     let mut drops = false;
     let mut paths = Vec::new(rt.alloc());
-    for word in env::args(rt)?.skip(1) {
+    for word in arguments {
         if paths.is_empty() && !drops && word.as_str() == "-S" {
             drops = true;
         } else {
@@ -101,6 +111,21 @@ fn asked(rt: &HostRuntime) -> io::Result<Option<Words>> {
         return Ok(None);
     }
     Ok(Some(Words { drops, from, to }))
+}
+
+/// What the arguments ask for, if they ask for anything.
+fn what_is_asked(rt: &HostRuntime) -> io::Result<Option<Asked>> {
+    let mut arguments = Vec::new(rt.alloc());
+    for argument in env::args(rt)?.skip(1) {
+        arguments.push(argument)?;
+    }
+    if let Some(shown) = first_shown(&arguments) {
+        return Ok(Some(Asked::Show(shown)));
+    }
+    match conversion(rt, arguments)? {
+        Some(words) => Ok(Some(Asked::Convert(words))),
+        None => Ok(None),
+    }
 }
 
 /// Tells a fault on standard error, and returns the status.
@@ -118,13 +143,14 @@ fn told(rt: &HostRuntime, fault: Fault) -> u8 {
 }
 
 fn usage(rt: &HostRuntime) -> u8 {
-    let _ = rt.eprint("usage: v7-from-gnu [-S] IN OUT\n");
+    let _ = rt.eprint(SYNOPSIS);
     2
 }
 
 fn main(rt: HostRuntime) -> ExitCode {
-    let status = match asked(&rt) {
-        Ok(Some(words)) => match convert_file(&rt, &words) {
+    let status = match what_is_asked(&rt) {
+        Ok(Some(Asked::Show(shown))) => show(&rt, "v7-from-gnu", SYNOPSIS, shown),
+        Ok(Some(Asked::Convert(words))) => match convert_file(&rt, &words) {
             Ok(()) => 0,
             Err(fault) => told(&rt, fault),
         },

@@ -3,12 +3,21 @@
 
 use aout_core::{DeviceFault, Wire, write_file};
 use listings::{Fault, ListingFault, read_listing};
+use programs::{FileFault, Shown, read_all, show, shown_by};
 use std::alloc::{AllocError, Global};
-use std::io::Read;
 use std::process::ExitCode;
 use std::{env, fs, io};
 
-/// The words of the command: two paths.
+const SYNOPSIS: &str = "usage: v7-object LISTING FILE\n       v7-object --help | --version\n";
+
+/// What the arguments ask for: to show something, or to make a file of a listing.
+#[derive(Drop)]
+enum Asked {
+    Show(Shown),
+    Make(Words),
+}
+
+/// Two paths.
 #[derive(Drop)]
 struct Words {
     listing: String,
@@ -61,17 +70,12 @@ fn mistake(rt: &HostRuntime, path: &str, fault: Fault) -> Refused {
 }
 
 /// All bytes of a file.
-fn read_all(rt: &HostRuntime, path: &str) -> Result<Vec<u8>, Refused> {
-    let Ok(mut file) = fs::open(rt, path) else {
-        return Err(device_fault(rt, path, "cannot open"));
-    };
-    let mut bytes = Vec::new(rt.alloc());
-    match file.read_to_end(&mut bytes) {
-        Ok(_) => Ok(bytes),
-        Err(error) => match error.kind() {
-            io::ErrorKind::OutOfMemory => Err(Refused::Memory),
-            _ => Err(device_fault(rt, path, "read error")),
-        },
+fn bytes_at(rt: &HostRuntime, path: &str) -> Result<Vec<u8>, Refused> {
+    match read_all(rt, path) {
+        Ok(bytes) => Ok(bytes),
+        Err(FileFault::NotOpened) => Err(device_fault(rt, path, "cannot open")),
+        Err(FileFault::Failed) => Err(device_fault(rt, path, "read error")),
+        Err(FileFault::Memory) => Err(Refused::Memory),
     }
 }
 
@@ -79,7 +83,7 @@ fn read_all(rt: &HostRuntime, path: &str) -> Result<Vec<u8>, Refused> {
 fn make_file(rt: &HostRuntime, words: &Words) -> Result<(), Refused> {
     let from = words.listing.as_str();
     let to = words.to.as_str();
-    let text = read_all(rt, from)?;
+    let text = bytes_at(rt, from)?;
     let file = match read_listing(rt.alloc(), &text) {
         Ok(file) => file,
         Err(ListingFault::Wrong(fault)) => return Err(mistake(rt, from, fault)),
@@ -94,19 +98,27 @@ fn make_file(rt: &HostRuntime, words: &Words) -> Result<(), Refused> {
     }
 }
 
-/// The two paths of the command, if it has two and no option.
-fn asked(rt: &HostRuntime) -> io::Result<Option<Words>> {
-    let mut paths = Vec::new(rt.alloc());
-    for word in env::args(rt)?.skip(1) {
-        paths.push(word)?;
+/// What the first argument asks to be shown, if it asks for that.
+fn first_shown(arguments: &[String]) -> Option<Shown> {
+    shown_by(arguments.first()?.as_str())
+}
+
+/// What the arguments ask for: they are one of the options, or two paths.
+fn what_is_asked(rt: &HostRuntime) -> io::Result<Option<Asked>> {
+    let mut arguments = Vec::new(rt.alloc());
+    for argument in env::args(rt)?.skip(1) {
+        arguments.push(argument)?;
     }
-    let (Some(to), Some(listing), None) = (paths.pop(), paths.pop(), paths.pop()) else {
+    if let Some(shown) = first_shown(&arguments) {
+        return Ok(Some(Asked::Show(shown)));
+    }
+    let (Some(to), Some(listing), None) = (arguments.pop(), arguments.pop(), arguments.pop()) else {
         return Ok(None);
     };
     if listing.as_str().starts_with('-') {
         return Ok(None);
     }
-    Ok(Some(Words { listing, to }))
+    Ok(Some(Asked::Make(Words { listing, to })))
 }
 
 /// Reports a fault on standard error, and returns the status.
@@ -124,13 +136,14 @@ fn told(rt: &HostRuntime, refused: Refused) -> u8 {
 }
 
 fn usage(rt: &HostRuntime) -> u8 {
-    let _ = rt.eprint("usage: v7-object LISTING FILE\n");
+    let _ = rt.eprint(SYNOPSIS);
     2
 }
 
 fn main(rt: HostRuntime) -> ExitCode {
-    let status = match asked(&rt) {
-        Ok(Some(words)) => match make_file(&rt, &words) {
+    let status = match what_is_asked(&rt) {
+        Ok(Some(Asked::Show(shown))) => show(&rt, "v7-object", SYNOPSIS, shown),
+        Ok(Some(Asked::Make(words))) => match make_file(&rt, &words) {
             Ok(()) => 0,
             Err(refused) => told(&rt, refused),
         },
