@@ -1,4 +1,4 @@
-//! An office over a folder in memory, and its devices.
+//! The files of a case, in a folder in memory, and their devices.
 use crate::folder::Folder;
 use crate::machine::Machine;
 use crate::texts::is;
@@ -170,7 +170,7 @@ impl Write for Sink<'_> {
     }
 }
 
-/// An office over the files of a folder.
+/// What opens and stores the files of a folder.
 #[derive(Drop)]
 pub(crate) struct Desk<'a> {
     machine: &'a Machine<'a>,
