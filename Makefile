@@ -49,7 +49,7 @@ build/v7-explain: crates/v7_explain/out/v7_explain
 	mkdir -p build
 	cp crates/v7_explain/out/v7_explain build/v7-explain
 
-EXPLAIN_CRATES := $(addprefix crates/,aout_core link_session link_options link_out symtools command_words gnu_objects listings programs v7_explain)
+EXPLAIN_CRATES := $(addprefix crates/,aout_core link_session link_options link_out symtools command_words gnu_objects listings instructions disassemblies programs v7_explain)
 crates/v7_explain/out/v7_explain: crates.txt $(shell find $(EXPLAIN_CRATES) -name out -prune -o -type f -print)
 	python3 tests/prove.py v7_explain $@
 	touch $@
@@ -223,6 +223,7 @@ check-explain: build/v7 build/v7-explain build/v7-object
 	python3 tests/listings.py build/v7-explain build/v7-object
 	python3 tests/notes.py build/v7-explain
 	python3 tests/map.py build/v7 build/v7-explain
+	python3 tests/disassembly.py build/v7-explain
 
 # plays the cases, docs/CASES.md, with the programs: each must come out as written, and each bad case must be refused as in
 # memory. Samples that are in examples too must be the same there

@@ -1,9 +1,11 @@
 //! The examples at the heads of the crates, word for word.
 use anyhow::{Result, anyhow};
 use aout_core::{File, Object, Wire, read_file, strip_file, write_file};
+use disassemblies::put_disassembly;
+use instructions::Lines;
 use link_out::{Keep, Layout, Options, finish};
 use link_session::Session;
-use std::alloc::Global;
+use std::alloc::{AllocError, Global};
 use std::io::{Read, Write};
 use symtools::{NmOptions, nm, size};
 
@@ -53,4 +55,23 @@ pub(crate) fn list<W: Write>(
     let files = vec![in alloc; (path, file)]?;
     nm(alloc, &files, options, out)?;
     Ok(size(&files, out)?)
+}
+
+/// Appends the lines of a text that begins at an address, one below the other.
+pub(crate) fn put_lines(words: &[u16], start: u16, text: &mut String) -> Result<(), AllocError> {
+    let mut address = start;
+    for line in Lines::new(words) {
+        line.put_text(address, text)?;
+        text.push_str("\n")?;
+        address = address.wrapping_add(2 * line.length() as u16);
+    }
+    Ok(())
+}
+
+/// The text of a file as instructions, with names.
+pub(crate) fn disassembly(alloc: Global, bytes: &[u8]) -> Result<String> {
+    let file = read_file(alloc, &mut Wire::new(bytes))?;
+    let mut text = String::new(alloc);
+    put_disassembly(&mut text, &file)?;
+    Ok(text)
 }

@@ -5,9 +5,10 @@ mod heads;
 
 use anyhow::{Result, anyhow};
 use aout_core::{Header, Object, Wire, read_file};
-use heads::{list, new_names, program_of, strip_copy};
+use heads::{disassembly, list, new_names, program_of, put_lines, strip_copy};
 use link_session::{Session, Starts};
 use std::alloc::{AllocError, Global};
+use std::io::Read;
 use std::{env, fs, io};
 
 fn object_at(rt: &HostRuntime, path: &str) -> Result<Object> {
@@ -43,6 +44,23 @@ fn strip(rt: &HostRuntime, path: &str) -> Result<()> {
     Ok(())
 }
 
+/// Prints the text of the file at a path as instructions.
+fn disassemble(rt: &HostRuntime, path: &str) -> Result<()> {
+    let mut bytes = Vec::new(rt.alloc());
+    fs::open(rt, path)?.read_to_end(&mut bytes)?;
+    let text = disassembly(rt.alloc(), &bytes)?;
+    print!(rt; "{text}")?;
+    Ok(())
+}
+
+/// Prints words as instructions at an address.
+fn show_words(rt: &HostRuntime) -> Result<()> {
+    let mut text = String::new(rt.alloc());
+    put_lines(&[0o012700, 5, 0o104401], 0o1000, &mut text)?;
+    print!(rt; "{text}")?;
+    Ok(())
+}
+
 fn program_name(alloc: Global) -> Result<String, AllocError> {
     String::from_str(alloc, "program")
 }
@@ -52,6 +70,7 @@ fn bring_all(rt: &HostRuntime, session: &mut Session) -> Result<()> {
     for path in paths(rt)? {
         add(rt, session, path.as_str())?;
         strip(rt, path.as_str())?;
+        disassemble(rt, path.as_str())?;
     }
     Ok(())
 }
@@ -88,5 +107,6 @@ fn main(rt: HostRuntime) -> Result<()> {
     let mut session = Session::new(rt.alloc());
     bring_all(&rt, &mut session)?;
     list_program(&rt, &session)?;
+    show_words(&rt)?;
     Ok(show_second(&rt)?)
 }

@@ -1,4 +1,5 @@
-//! Files as listings.
+//! Files as listings, or their texts as instructions.
+use crate::disassembly::disassembly_of;
 use crate::finding::{put_findings, tell_findings};
 use crate::kind::kind_text;
 use crate::likeness::{header_of, is_of_gnu, likeness};
@@ -26,6 +27,8 @@ enum Purpose {
     Show,
     /// It is stored if nothing is wrong; what is wrong goes to standard error.
     Store,
+    /// The text alone goes to standard output, as instructions.
+    Disassemble,
     /// Only why a file is not an object goes to standard error.
     Check,
 }
@@ -63,6 +66,9 @@ fn findings_of(
             tell_findings(alloc, told, source.path, &wrong)?;
         }
     }
+    if source.purpose == Purpose::Disassemble {
+        return Ok(notes);
+    }
     let odd = odd_of(alloc, source.bytes, file)?;
     put_findings(alloc, &mut notes, "odd", &odd)?;
     if is_of_gnu(alloc, source.bytes, false) {
@@ -84,10 +90,16 @@ fn explain_file(
     if let Some(text) = &kind {
         put_note(alloc, notes, text.as_str())?;
     }
-    put_header(alloc, notes, file.header())?;
+    if source.purpose != Purpose::Disassemble {
+        put_header(alloc, notes, file.header())?;
+    }
     let findings = findings_of(alloc, told, source, &file, kind.is_none())?;
-    let listing = listing_of(alloc, &file, notes, &findings)?;
-    told.text.extend_from_slice(&listing)
+    let text = if source.purpose == Purpose::Disassemble {
+        disassembly_of(alloc, &file, notes, &findings)?
+    } else {
+        listing_of(alloc, &file, notes, &findings)?
+    };
+    told.text.extend_from_slice(&text)
 }
 
 /// What bytes are that are not a file, if it is known.
@@ -190,7 +202,9 @@ fn explain_at(
             };
             match purpose {
                 Purpose::Check => check_bytes(rt.alloc(), told, source),
-                Purpose::Show | Purpose::Store => explain_bytes(rt.alloc(), told, source),
+                Purpose::Show | Purpose::Store | Purpose::Disassemble => {
+                    explain_bytes(rt.alloc(), told, source)
+                }
             }
         }
         Err(FileFault::NotOpened) => told.fault(path, "cannot open", 2),
@@ -227,6 +241,15 @@ pub(crate) fn explain_files(rt: &HostRuntime, words: &ListingWords) -> Result<To
     }
     if let Some(path) = &words.out {
         store(rt, &mut told, path.as_str())?;
+    }
+    Ok(told)
+}
+
+/// Tells the texts of the files as instructions.
+pub(crate) fn disassemble_files(rt: &HostRuntime, files: &[String]) -> Result<Told, AllocError> {
+    let mut told = Told::new(rt.alloc());
+    for path in files {
+        explain_at(rt, &mut told, path.as_str(), Purpose::Disassemble)?;
     }
     Ok(told)
 }

@@ -2,6 +2,7 @@
 //! a link.
 #![tactic(auto)]
 
+mod disassembly;
 mod explaining;
 mod finding;
 mod kind;
@@ -24,7 +25,7 @@ mod words;
 mod words_in;
 mod wrong;
 
-use explaining::{check_files, explain_files};
+use explaining::{check_files, disassemble_files, explain_files};
 use map::write_map;
 use programs::show;
 use std::process::ExitCode;
@@ -32,7 +33,7 @@ use told::{Told, tell};
 use words::{Asked, what_is_asked};
 
 const SYNOPSIS: &str =
-    "usage: v7-explain [-o LISTING] FILE...\n       v7-explain -c FILE...\n       v7-explain -m [OPTIONS OF LD] FILE...\n       v7-explain --help | --version\n";
+    "usage: v7-explain [-o LISTING] FILE...\n       v7-explain -c FILE...\n       v7-explain -d FILE...\n       v7-explain -m [OPTIONS OF LD] FILE...\n       v7-explain --help | --version\n";
 
 /// The status if the arguments ask for nothing.
 fn usage(rt: &HostRuntime) -> u8 {
@@ -54,6 +55,7 @@ fn run(rt: &HostRuntime, asked: Asked) -> u8 {
         Asked::Memory => return no_memory(rt),
         Asked::Listing(listing) => explain_files(rt, listing),
         Asked::Check(files) => check_files(rt, files),
+        Asked::Disassembly(files) => disassemble_files(rt, files),
         Asked::Map(call) => write_map(rt, call),
     };
     match told {

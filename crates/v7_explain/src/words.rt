@@ -21,6 +21,8 @@ pub(crate) enum Asked {
     Show(Shown),
     /// Listings of files.
     Listing(ListingWords),
+    /// The texts of these files, at least one, as instructions.
+    Disassembly(Vec<String>),
     /// Whether these files, at least one, are objects.
     Check(Vec<String>),
     /// The map of a link, as the arguments of `ld` ask for it.
@@ -31,6 +33,7 @@ pub(crate) enum Asked {
 #[derive(Clone, Copy, PartialEq, Eq)]
 enum First {
     Listing,
+    Disassembly,
     Check,
     Map,
     Show(Shown),
@@ -39,6 +42,7 @@ enum First {
 fn first_asked(word: &str) -> First {
     match word {
         "-c" => First::Check,
+        "-d" => First::Disassembly,
         "-m" => First::Map,
         _ => match shown_by(word) {
             Some(shown) => First::Show(shown),
@@ -61,7 +65,7 @@ fn arguments(rt: &HostRuntime) -> io::Result<(First, Vec<String>)> {
         match asked {
             First::Listing => words.push(word)?,
             First::Map => words.push(String::from_str(rt.alloc(), "ld")?)?,
-            First::Check | First::Show(_) => {}
+            First::Check | First::Disassembly | First::Show(_) => {}
         }
     }
     Ok((first.unwrap_or(First::Listing), words))
@@ -106,6 +110,14 @@ fn listing_asked(rt: &HostRuntime, words: Vec<String>) -> Result<Asked, AllocErr
     }
 }
 
+fn disassembly_asked(files: Vec<String>) -> Asked {
+    if are_files(&files) {
+        Asked::Disassembly(files)
+    } else {
+        Asked::Nothing
+    }
+}
+
 fn check_asked(files: Vec<String>) -> Asked {
     if are_files(&files) {
         Asked::Check(files)
@@ -120,6 +132,7 @@ pub(crate) fn what_is_asked(rt: &HostRuntime) -> Asked {
         Ok((First::Show(shown), _)) => Asked::Show(shown),
         Ok((First::Map, words)) => map_asked(rt, words),
         Ok((First::Check, words)) => check_asked(words),
+        Ok((First::Disassembly, words)) => disassembly_asked(words),
         Ok((First::Listing, words)) => listing_asked(rt, words).unwrap_or(Asked::Memory),
         Err(error) => match error.kind() {
             io::ErrorKind::OutOfMemory => Asked::Memory,

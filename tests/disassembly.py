@@ -1,0 +1,385 @@
+#!/usr/bin/env python3
+"""Compares what `v7-explain -d` prints with what this script computes from docs/OBJECTS.md and v7-explain(1).
+
+usage: disassembly.py V7_EXPLAIN
+
+Each of the 65,536 words is the first word of a line four times, each time with two other words after it: 262,144 lines. Then 400 made
+files are compared, objects and linked ones, with names, labels and relocated words. The table of instructions and the rules of names
+are written here anew. If GNU's assembler for the PDP-11 is installed, it assembles the text back to the same words, the floating
+instructions aside.
+"""
+import os
+import random
+import shutil
+import struct
+import subprocess
+import sys
+import tempfile
+
+EXPLAIN = os.path.abspath(sys.argv[1])
+FOUR_PAIRS = [(0o000005, 0o177774), (0o177777, 0o000000), (0o100000, 0o077776), (0o012345, 0o165432)]
+NOP = 0o000240
+REGISTERS = "r0 r1 r2 r3 r4 r5 sp pc".split()
+
+# operands, then names: an asterisk is for the letter b of the instruction on bytes, at 0100000 more
+TABLE = """
+-   000241 clc 000242 clv 000244 clz 000250 cln 000261 sec 000262 sev 000264 sez 000270 sen
+-   000000 halt 000001 wait 000002 rti 000003 bpt 000004 iot 000005 reset 000006 rtt 000240 nop 000257 ccc 000277 scc
+-   170000 cfcc 170001 setf 170002 seti 170011 setd 170012 setl
+D   000100 jmp 000300 swab 005000 clr* 005100 com* 005200 inc* 005300 dec* 005400 neg* 005500 adc* 005600 sbc* 005700 tst*
+D   006000 ror* 006100 rol* 006200 asr* 006300 asl* 006700 sxt 006500 mfpi 006600 mtpi 106500 mfpd 106600 mtpd
+D   170100 ldfps 170200 stfps 170300 stst
+SD  010000 mov* 020000 cmp* 030000 bit* 040000 bic* 050000 bis* 060000 add 160000 sub
+RD  004000 jsr 074000 xor
+DR  070000 mul 071000 div 072000 ash 073000 ashc
+L   000200 rts
+B   000400 br 001000 bne 001400 beq 002000 bge 002400 blt 003000 bgt 003400 ble 100000 bpl 100400 bmi 101000 bhi
+B   101400 blos 102000 bvc 102400 bvs 103000 bcc 103400 bcs
+RO  077000 sob
+X   104400 sys 104000 emt
+M   006400 mark
+P   000230 spl
+F   170400 clrf 170500 tstf 170600 absf 170700 negf
+FA  171000 mulf 171400 modf 172000 addf 172400 movf 173000 subf 173400 cmpf 174400 divf 177400 movof
+AF  174000 movf 176000 movfo
+AD  175000 movei 175400 movfi
+DA  176400 movie 177000 movif
+"""
+# how many bits each letter has
+BITS = {"S": 6, "D": 6, "F": 6, "R": 3, "L": 3, "A": 2, "B": 8, "O": 6, "X": 8, "M": 6, "P": 3}
+# and the lowest of them, the others begin at bit 0
+SHIFT = {"S": 6, "R": 6, "A": 6}
+
+
+def table():
+    """For each first word its name, and for each operand its letter and the value in the field."""
+    found = {}
+    for line in TABLE.split("\n"):
+        if not line:
+            continue
+        letters, *pairs = line.split()
+        letters = letters.strip("-")
+        count = 1
+        for letter in letters:
+            count <<= BITS[letter]
+        for base, name in zip(pairs[::2], pairs[1::2]):
+            both = [(int(base, 8), name.strip("*"))]
+            if name.endswith("*"):
+                both.append((0o100000 + int(base, 8), name.strip("*") + "b"))
+            for first, called in both:
+                for word in range(first, first + count):
+                    assert word not in found, oct(word)
+                    fields = [(letter, word >> SHIFT.get(letter, 0) & (1 << BITS[letter]) - 1) for letter in letters]
+                    if any(letter == "F" and value in (6, 7) for letter, value in fields):
+                        continue
+                    found[word] = (called, fields)
+    return found
+
+
+FOUND = table()
+
+
+def has_word(letter, value):
+    """Whether an operand is followed by a word of its own."""
+    if letter not in "SDF" or (letter == "F" and value < 8):
+        return False
+    mode, register = value >> 3, value & 7
+    return mode >= 6 or (mode in (2, 3) and register == 7)
+
+
+def octal(number):
+    return "%o" % number
+
+
+def signed(number):
+    return octal(number) if number < 0o100000 else "-" + octal(0o200000 - number)
+
+
+class File:
+    """A file of text words, with relocation words or without, and symbols as (name, type word, value)."""
+
+    def __init__(self, words, relocation=None, symbols=(), magic=0o407, data=(), data_relocation=(), bss=0):
+        self.words, self.relocation, self.symbols, self.magic = words, relocation, symbols, magic
+        self.data, self.data_relocation, self.bss = data, data_relocation, bss
+
+    def encoded(self):
+        flag = 0 if self.relocation is not None else 1
+        header = [self.magic, 2 * len(self.words), 2 * len(self.data), self.bss, 12 * len(self.symbols), 0, 0, flag]
+        body = [*header, *self.words, *self.data]
+        if flag == 0:
+            body += [*self.relocation, *self.data_relocation]
+        return struct.pack("<%dH" % len(body), *body) + b"".join(struct.pack("<8sHH", *symbol) for symbol in self.symbols)
+
+    # names
+
+    def exact(self, kind, value):
+        """The name of a value of a segment: an external one first."""
+        named = [symbol for symbol in self.symbols if symbol[1] & 0o37 == kind and symbol[2] == value]
+        named.sort(key=lambda symbol: symbol[1] & 0o40 == 0)
+        return shown(named[0][0]) if named else None
+
+    def referred(self, relocation, number):
+        """What a number refers to by the kind of its relocation word."""
+        kind = relocation >> 1 & 7
+        if kind < 4:
+            return self.exact(kind + 1, number)
+        index = relocation >> 4
+        if kind == 4 and index < len(self.symbols):
+            name, of, _ = self.symbols[index]
+            if of & 0o40 and of & 0o37 == 0:
+                return shown(name) + ("" if number == 0 else "+" + octal(number) if number < 0o100000 else "-" + octal(0o200000 - number))
+        return None
+
+    def located(self, address, fetches):
+        """The name of an address in a linked file."""
+        text, data, bss = 2 * len(self.words), 2 * len(self.data), self.bss
+        split = self.magic == 0o411
+        if address < text and (fetches or not split):
+            return self.exact(2, address)
+        if self.magic == 0o405 or (split and fetches):
+            return None
+        start = {0o407: text, 0o410: -(-text // 0o20000) * 0o20000, 0o411: 0}[self.magic]
+        if start <= address < start + data:
+            return self.exact(3, address)
+        if start + data <= address < start + data + bss:
+            return self.exact(4, address)
+        return None
+
+    def reference(self, name, mode, register, word, after, place):
+        """The name in place of an operand word, which has this place in the text."""
+        address = (word + after) & 0o177777
+        if self.relocation is None:
+            jumps = name in ("jmp", "jsr")
+            if register == 7 and mode >= 6:
+                return self.located(address, jumps and mode == 6)
+            return self.located(word, jumps) if register == 7 and mode == 3 else None
+        relocation = self.relocation[place]
+        if register == 7 and mode >= 6:
+            if relocation & 1:
+                return self.referred(relocation, address)
+            return self.exact(2, address) if relocation & 0o16 == 0 else None
+        if relocation & 1:
+            return None
+        if relocation & 0o16 == 0 and not (register == 7 and mode == 3):
+            return None
+        return self.referred(relocation, word)
+
+    def target(self, address):
+        name = self.exact(2, address) if self.relocation is not None else self.located(address, True)
+        return name or octal(address)
+
+    # lines
+
+    def operand(self, name, letter, value, word, after, address, place):
+        if letter in "XMP":
+            return octal(value)
+        if letter in "RL":
+            return REGISTERS[value]
+        if letter == "A" or (letter == "F" and value < 8):
+            return "fr%d" % value
+        if letter == "B":
+            return self.target((address + 2 + 2 * (value if value < 128 else value - 256)) & 0o177777)
+        if letter == "O":
+            return self.target((address + 2 - 2 * value) & 0o177777)
+        mode, number = value >> 3, value & 7
+        register = REGISTERS[number]
+        star = "*" if mode & 1 and mode > 1 else ""
+        if mode == 0:
+            return register
+        if mode in (1, 4, 5):
+            return star + ("-" if mode > 1 else "") + "(%s)" % register
+        if not has_word(letter, value):
+            return star + "(%s)+" % register
+        named = self.reference(name, mode, number, word, after, place)
+        if mode < 6:
+            return star + "$" + (named or octal(word))
+        if number == 7:
+            return star + (named or octal((word + after) & 0o177777))
+        return star + (named or signed(word)) + "(%s)" % register
+
+    def plain(self, place):
+        """A word that begins no instruction; a relocated one with what it refers to."""
+        word = self.words[place]
+        if not self.is_relocated(place):
+            return "%06o" % word
+        relocation = self.relocation[place]
+        number = (word + 2 * place + 2) & 0o177777 if relocation & 1 else word
+        of = {1: "text", 2: "data", 3: "bss"}.get(relocation >> 1 & 7, "the number")
+        referred = self.referred(relocation, number) or "%s %06o" % (of, number)
+        return "%06o / %s%s" % (word, referred, ", from the pc" if relocation & 1 else "")
+
+    def is_relocated(self, place):
+        return self.relocation is not None and self.relocation[place] & 0o17 != 0
+
+    def line(self, place):
+        """The length and the text of the line at a place."""
+        if self.is_relocated(place) or self.words[place] not in FOUND:
+            return 1, self.plain(place)
+        name, fields = FOUND[self.words[place]]
+        length = 1 + sum(has_word(*field) for field in fields)
+        if place + length > len(self.words):
+            return 1, self.plain(place)
+        if self.words[place] >> 8 == 0o172400 >> 8 and fields[0][1] < 8:
+            name = "ldf"
+        texts, next_place = [], place + 1
+        for letter, value in fields:
+            word = self.words[next_place] if has_word(letter, value) else None
+            texts.append(self.operand(name, letter, value, word, 2 * next_place + 2, 2 * place, next_place))
+            next_place += has_word(letter, value)
+        return length, name + (" " if texts else "") + ",".join(texts)
+
+    def labels(self, address, length):
+        of_text = [(shown(name), value) for name, kind, value in self.symbols if kind & 0o37 == 2]
+        return [name + ":" for name, value in of_text if value == address] + [
+            "%s = .+%o" % (name, value - address) for name, value in of_text if address < value < address + 2 * length
+        ]
+
+    def disassembly(self):
+        place, lines = 0, []
+        while place < len(self.words):
+            length, text = self.line(place)
+            words = " ".join("%06o" % word for word in self.words[place : place + length])
+            lines += self.labels(2 * place, length)
+            lines.append("%06o  %-20s  %s" % (2 * place, words, text))
+            place += length
+        return lines + self.labels(2 * place, 0)
+
+
+def shown(padded):
+    """A name: no number, no register."""
+    name = padded.split(b"\0")[0].decode("latin-1")
+    if not name:
+        return "\\000"
+    registers = REGISTERS + ["fr%d" % number for number in range(6)]
+    usual = "ABCDEFGHIJKLMNOPQRSTUVWXYZabcdefghijklmnopqrstuvwxyz0123456789_.~"
+    texts = [byte if byte in usual else "\\%03o" % ord(byte) for byte in name]
+    if name[0] in "0123456789" or name in registers:
+        texts[0] = "\\%03o" % ord(name[0])
+    return "".join(texts)
+
+
+def compare(made, folder, what):
+    """Compares the lines of a file but for the notes, and returns how many there are."""
+    path = os.path.join(folder, "file")
+    with open(path, "wb") as out:
+        out.write(made.encoded())
+    done = subprocess.run([EXPLAIN, "-d", path], capture_output=True, check=False)
+    if done.stderr or done.returncode not in (0, 1):
+        sys.exit("%s: status %d, %r" % (what, done.returncode, done.stderr))
+    lines = [line for line in done.stdout.decode("latin-1").split("\n")[:-1] if not line.startswith("/")]
+    wanted = made.disassembly()
+    for number, (got, want) in enumerate(zip(lines, wanted)):
+        if got != want:
+            sys.exit("%s: line %d is\n%s\nand should be\n%s" % (what, number + 1, got, want))
+    if len(lines) != len(wanted):
+        sys.exit("%s: %d lines, and should be %d" % (what, len(lines), len(wanted)))
+    return len(wanted)
+
+
+def each_first_word(folder):
+    """All first words with each of four pairs. Two words `nop` end what the pair begins. Returns the texts' words."""
+    texts, words, firsts = [], [], 0
+    for pair in FOUR_PAIRS:
+        for first in range(0o200000):
+            words += [first, *pair, NOP, NOP]
+            if len(words) > 32767 - 5:
+                texts.append(words)
+                words = []
+    texts.append(words)
+    for number, text in enumerate(texts):
+        made = File(text)
+        places, place = set(), 0
+        while place < len(text):
+            places.add(place)
+            place += made.line(place)[0]
+        firsts += sum(place in places for place in range(0, len(text), 5))
+        compare(made, folder, "first words, text %d" % number)
+    assert firsts == 4 * 0o200000, firsts
+    return texts
+
+
+def made_name(dice):
+    of = dice.choice([b"ab_.~9", bytes(range(1, 256)), b"_"])
+    name = bytes(dice.choice(of) for _ in range(dice.randrange(9)))
+    return dice.choice([name, name, b"r0", b"sp", b"fr5", b"fr6", b"_main", b"7up"]).ljust(8, b"\0")
+
+
+def made_file(dice):
+    """A file of a few words of text, whose symbols and operands often meet."""
+    magic, relocated = dice.choice([(0o407, 1), (0o407, 1), (0o407, 0), (0o410, 0), (0o411, 0), (0o405, 0)])
+    count, data, bss = dice.randrange(1, 40), [0] * dice.randrange(9), 2 * dice.randrange(9)
+    frequent = [0o016700, 0o012700, 0o004767, 0o000137, 0o000167, 0o013737, 0o017777, 0o016160, 0o000401, 0o077002, 0o172467, 0o005067, 0o067077]
+    near = lambda: dice.choice([dice.randrange(0, 2 * count + 40), -dice.randrange(0, 2 * count + 8) & 0o177777, dice.randrange(65536)])
+    words = [dice.choice([dice.choice(frequent), near(), near()]) for _ in range(count)]
+    kinds = [2, 2, 0o42, 0o42, 3, 0o43, 4, 0o44, 1, 0o41, 0o40, 0o40, 0, 0o37, 0o24]
+    start = {0o410: 0o20000, 0o411: 0}.get(magic, 2 * count)
+    value = lambda: dice.choice([dice.randrange(0, 2 * count + 2), start + dice.randrange(0, 2 * len(data) + bss + 2), near()])
+    symbols = [(made_name(dice), dice.choice(kinds), value()) for _ in range(dice.randrange(60))]
+    relocation = None
+    if relocated:
+        usual = [0, 0, 0, 1, 2, 3, 4, 5, 6, 7]
+        some = lambda: dice.choice([0, 0, 0, dice.choice(usual), dice.randrange(8, 10) + 16 * dice.randrange(64), dice.randrange(65536)])
+        relocation = [some() for _ in words]
+    return File(words, relocation, symbols, magic, data, [0] * len(data), bss)
+
+
+def assembled(text, words, folder):
+    """Whether GNU's assembler makes these words of a text, the floating instructions aside: these are given to it as words."""
+    made, lines, place = File(text), [], 0
+    while place < len(text):
+        length, line = made.line(place)
+        name = line.split(" ")[0]
+        if name[0] in "01" or text[place] >= 0o170000:
+            lines += [".word 0%o" % word for word in text[place : place + length]]
+        else:
+            lines.append(for_gnu(line, 2 * place))
+        place += length
+    source, output, binary = (os.path.join(folder, name) for name in ("source.s", "source.o", "source.bin"))
+    with open(source, "w", encoding="ascii") as out:
+        out.write("\n".join(lines) + "\n")
+    prefix = words[: -len("as")]
+    subprocess.run([words, "-o", output, source], check=True)
+    subprocess.run([prefix + "objcopy", "-O", "binary", "-j", ".text", output, binary], check=True)
+    with open(binary, "rb") as read:
+        got = read.read()
+    return got[: 2 * len(text)] == struct.pack("<%dH" % len(text), *text)
+
+
+def for_gnu(line, address):
+    """A line as GNU's assembler reads it: octal numbers begin with 0, an address is written from the instruction on."""
+    name, _, operands = line.partition(" ")
+    name = {"sys": "trap"}.get(name, name)
+    texts = []
+    for operand in operands.split(",") if operands else []:
+        star, rest = ("*", operand[1:]) if operand.startswith("*") else ("", operand)
+        if rest.startswith("$"):
+            rest = "$0" + rest[1:]
+        elif rest[0] in "-0123456789" and "(" in rest and rest[1] != "(":
+            rest = rest.replace("-", "-0", 1) if rest[0] == "-" else "0" + rest
+        elif rest[0] in "0123456789":
+            number = int(rest, 8)
+            is_address = name not in ("trap", "emt", "mark", "spl")
+            rest = ".+%d" % (number - address) if is_address else "0" + rest
+        texts.append(star + rest)
+    return name + (" " + ",".join(texts) if texts else "")
+
+
+def main():
+    with tempfile.TemporaryDirectory() as folder:
+        texts = each_first_word(folder)
+        print("262,144 first words with two words after each are shown as computed")
+        dice, count = random.Random(47), 0
+        for number in range(400):
+            count += compare(made_file(dice), folder, "made file %d" % number)
+        print("400 made files are shown as computed, %d lines with their labels" % count)
+        assembler = next((name for name in ("pdp11-aout-as", "pdp11-dec-aout-as") if shutil.which(name)), None)
+        if assembler is None:
+            print("not assembled back, as GNU's assembler for the PDP-11 is not installed")
+            return
+        for text in texts:
+            if not assembled(text, assembler, folder):
+                sys.exit("%s makes other words" % assembler)
+        print("%s makes the same words of the text" % assembler)
+
+
+main()
