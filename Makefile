@@ -14,7 +14,7 @@ endif
 .PHONY: all try demo lib install-lib wheel check-lib dist check-dist test gate recheck wrong-bodies memory room bench instructions simulate \
 	lesson page check-page check-manual check-examples check-explain check-cases planted check-model check-streams install clean
 
-all: build/v7 build/v7-from-gnu build/v7-object build/v7-explain
+all: build/v7 build/v7-from-gnu build/v7-object build/v7-explain build/v7-lesson
 
 SOURCES := crates.txt $(shell find crates \( -name out -o -path crates/cases \) -prune -o -type f -print)
 
@@ -184,23 +184,26 @@ simulate: build/v7
 	echo '21 doubled is 42' | cmp - build/doubled.txt
 
 # adds the objects FILES to a session one by one and takes them out again, and shows each state; docs/teaching/LESSON.md
-lesson: build/lesson
-	build/lesson $(or $(FILES),examples/k.o examples/l.o)
+lesson: build/v7-lesson
+	build/v7-lesson $(or $(FILES),examples/k.o examples/l.o)
 
-# the same in every order as one page, which a browser shows from the disk
-PAGE_FILES := $(foreach file,main.o twice.o k.o l.o,examples/$(file))
-page: build/lesson
-	build/lesson -p page $(or $(FILES),$(PAGE_FILES)) >build/lesson.new || { rm build/lesson.new; exit 2; }
+# the same in every order as one page, which a browser shows from the disk, with the lessons of examples/lessons.txt; of other
+# FILES the page has the lessons in the file QUESTIONS, if it is given
+PAGE_FILES := $(foreach file,main.o twice.o k.o l.o double.o,examples/$(file))
+LESSONS = $(if $(FILES),$(QUESTIONS),examples/lessons.txt)
+page: build/v7-lesson
+	build/v7-lesson -p page $(addprefix -q ,$(LESSONS)) $(or $(FILES),$(PAGE_FILES)) >build/lesson.new || { rm build/lesson.new; exit 2; }
 	mv build/lesson.new build/lesson.html
 
-# opens the page in Chromium, goes through all its states, and compares them with what lesson, v7 ld and v7 nm print. It
-# needs Debian's chromium, chromium-driver and python3-selenium
-check-page: build/v7 build/lesson
-	python3 tests/page.py build/lesson build/v7 page $(PAGE_FILES)
+# opens the page in Chromium, goes through all its states, and compares them with what v7-lesson, v7 ld and v7 nm print; looks
+# at its layout in many sizes, in Firefox too; and takes its lessons by keys. It needs Debian's chromium, chromium-driver and
+# python3-selenium, and firefox-esr for Firefox
+check-page: build/v7 build/v7-lesson
+	python3 tests/page.py build/v7-lesson build/v7 page examples/lessons.txt $(PAGE_FILES)
 
-build/lesson: crates/lesson/out/lesson
+build/v7-lesson: crates/lesson/out/lesson
 	mkdir -p build
-	cp crates/lesson/out/lesson build/lesson
+	cp crates/lesson/out/lesson build/v7-lesson
 
 LESSON_CRATES := $(addprefix crates/,aout_core link_session link_options link_out symtools session_text lesson)
 crates/lesson/out/lesson: crates.txt $(shell find $(LESSON_CRATES) -name out -prune -o -type f -print)
@@ -243,24 +246,25 @@ check-model: build/v7
 	python3 tests/agree.py build/v7
 
 # the examples of the manual pages and of the documents come out as shown, and so do the faults of v7-from-gnu and the steps of
-# lesson; the gate leaves the programs that they need
-check-examples: build/v7 build/v7-from-gnu build/v7-object build/v7-explain build/lesson
+# v7-lesson; the gate leaves the programs that they need
+check-examples: build/v7 build/v7-from-gnu build/v7-object build/v7-explain build/v7-lesson
 	cmp crates/lesson/data/k.o examples/k.o
 	cmp crates/lesson/data/l.o examples/l.o
 	cmp crates/v7_from_gnu/data/squares.gnu examples/squares.gnu
 	cmp crates/v7_object/data/main.lst examples/main.lst
 	sh tests/heads.sh
 	sh tests/manual.sh
-	python3 tests/statuses.py build/v7-from-gnu build/lesson
+	python3 tests/statuses.py build/v7-from-gnu build/v7-lesson
 	for program in v7-from-gnu v7-object v7-explain; do \
 		test "$$(build/$$program --version)" = "$$program $(VERSION)" || { echo "$$program --version: not $(VERSION)"; exit 1; }; \
 	done
 
 # the programs, their manual pages, the documents and the examples
 SHARE = $(DESTDIR)$(PREFIX)/share
-install: build/v7 build/v7-from-gnu build/v7-object build/v7-explain
-	mkdir -p $(DESTDIR)$(PREFIX)/bin $(SHARE)/man/man1 $(SHARE)/man/man5 $(SHARE)/doc/v7
-	cp build/v7 build/v7-from-gnu build/v7-object build/v7-explain $(DESTDIR)$(PREFIX)/bin
+install: build/v7 build/v7-from-gnu build/v7-object build/v7-explain build/v7-lesson
+	mkdir -p $(DESTDIR)$(PREFIX)/bin $(SHARE)/man/man1 $(SHARE)/man/man5 $(SHARE)/doc/v7 $(SHARE)/v7
+	cp build/v7 build/v7-from-gnu build/v7-object build/v7-explain build/v7-lesson $(DESTDIR)$(PREFIX)/bin
+	cp -R page $(SHARE)/v7
 	cp man/*.1 $(SHARE)/man/man1
 	cp man/*.5 $(SHARE)/man/man5
 	cp -R README.md CHANGES.md CONTRIBUTING.md docs examples $(SHARE)/doc/v7

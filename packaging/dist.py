@@ -21,9 +21,9 @@ from email.utils import formatdate
 
 TOP = os.path.abspath(os.path.join(os.path.dirname(os.path.abspath(__file__)), ".."))
 KEPT = "build/proved"
-# the program that a crate is, and its name in bin; the lesson only makes its page
-PROGRAMS = {"v7": "v7", "v7_from_gnu": "v7-from-gnu", "v7_object": "v7-object", "v7_explain": "v7-explain", "lesson": None}
-PAGE_FILES = ["main.o", "twice.o", "k.o", "l.o"]
+# the program that a crate is, and its name in bin
+PROGRAMS = {"v7": "v7", "v7_from_gnu": "v7-from-gnu", "v7_object": "v7-object", "v7_explain": "v7-explain", "lesson": "v7-lesson"}
+PAGE_FILES = ["main.o", "twice.o", "k.o", "l.o", "double.o"]
 DOCUMENTS = ["README.md", "CHANGES.md", "CONTRIBUTING.md", "docs", "examples"]
 TRIAL = "This is a trial: nothing was checked when these packages were made. Do not publish them.\n"
 
@@ -105,7 +105,7 @@ def link(release, place):
     os.makedirs(f"{place}/objects")
     os.makedirs(f"{place}/bin")
     for crate, name in PROGRAMS.items():
-        whole, program = f"{place}/objects/{name or crate}.o", f"{place}/bin/{name or crate}"
+        whole, program = f"{place}/objects/{name}.o", f"{place}/bin/{name}"
         run("ld", "-r", "-o", whole, f"{KEPT}/{crate}.o", *archives)
         run("cc", "-static", "-Wl,--gc-sections", "-o", program, whole)
         run("strip", program)
@@ -125,7 +125,7 @@ def libraries(place):
 
 def page(place):
     """The page of the lesson."""
-    return subprocess.run([f"{place}/bin/lesson", "-p", "page", *(f"examples/{name}" for name in PAGE_FILES)],
+    return subprocess.run([f"{place}/bin/v7-lesson", "-p", "page", "-q", "examples/lessons.txt", *(f"examples/{name}" for name in PAGE_FILES)],
                           stdout=subprocess.PIPE, check=True).stdout
 
 
@@ -148,7 +148,7 @@ def major():
 
 def provenance(release, place):
     ours, kits = release.crates()
-    built = sorted(f"bin/{name}" for name in PROGRAMS.values() if name)
+    built = sorted(f"bin/{name}" for name in PROGRAMS.values())
     sums = [f"{digest(f'{place}/{path}')}  {path}" for path in built]
     sums += [f"{digest(f'{place}/library/usr/{path}')}  {path}" for path in ("include/v7.h", "lib/libv7.a", "lib/libv7.so.0")]
     verdicts = [f"    {name}: {read(f'{KEPT}/{name}.verdict').strip()}" for name in ours]
@@ -223,9 +223,10 @@ def documents(release, place, to):
 
 def tree(release, place, root, prefix, libdir):
     """All files of a package below root/prefix."""
-    shutil.copytree(f"{place}/bin", f"{root}{prefix}/bin", ignore=shutil.ignore_patterns("lesson"))
+    shutil.copytree(f"{place}/bin", f"{root}{prefix}/bin")
+    shutil.copytree("page", f"{root}{prefix}/share/v7/page")
     shutil.copytree(f"{place}/library/usr/lib", f"{root}{libdir}", symlinks=True)
-    shutil.copytree(f"{place}/objects", f"{root}{libdir}/v7", ignore=shutil.ignore_patterns("lesson.o"))
+    shutil.copytree(f"{place}/objects", f"{root}{libdir}/v7")
     shutil.copytree(f"{place}/library/usr/include", f"{root}{prefix}/include")
     for section in "135":
         for name in sorted(glob.glob(f"man/*.{section}")):
@@ -317,7 +318,7 @@ def package(release, root, file):
     write(f"{doc}/copyright", f"{notice}\nOn Debian, /usr/share/common-licenses has the texts of LGPL-2.1 and GPL-3.\n")
     os.remove(f"{doc}/NOTICE")
     write(f"{root}/usr/share/lintian/overrides/v7", "".join(
-        f"v7: statically-linked-binary [usr/bin/{name}]\n" for name in sorted(filter(None, PROGRAMS.values()))))
+        f"v7: statically-linked-binary [usr/bin/{name}]\n" for name in sorted(PROGRAMS.values())))
     settle(root, release.date)
     files = sorted(path for path in glob.glob(f"{root}/**", recursive=True) if os.path.isfile(path) and not os.path.islink(path))
     size = sum((os.path.getsize(path) + 1023) // 1024 for path in files)

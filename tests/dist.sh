@@ -119,8 +119,7 @@ manual() {
     mkdir -p "$debian/tmp/manual/tests" "$debian/tmp/manual/build"
     cp tests/manual.sh "$debian/tmp/manual/tests"
     inside sh -euc 'cd /tmp/manual && mkdir man && cp "$1"/man/man[15]/v7* man && { gunzip -q man/*.gz 2>/dev/null || :; }
-        cp -r "$1/doc/v7/examples" . && for program in v7 v7-from-gnu v7-object v7-explain; do ln -s "$(command -v $program)" build; done
-        ln -s /bin/false build/lesson
+        cp -r "$1/doc/v7/examples" . && for program in v7 v7-from-gnu v7-object v7-explain v7-lesson; do ln -s "$(command -v $program)" build; done
         sh tests/manual.sh man/*' sh "$share" || fail "an example of the manual differs"
 }
 

@@ -1,8 +1,9 @@
 #!/usr/bin/env python3
-"""Opens the page of the lesson in Chromium, from the disk, and compares what stands on it, in every state, with what `lesson`
-prints of the same objects, and the addresses with what `v7 ld` and `v7 nm` say. Pictures of four states go to docs/pictures.
+"""Opens the page of the lesson in Chromium, from the disk, and compares what it shows, in every state, with what `v7-lesson`
+prints for the same objects, and the addresses with what `v7 ld` and `v7 nm` say. Then it looks at the layout in many sizes, in
+Firefox too if it is installed, and takes the tour and the lessons by keys alone. Pictures of five states go to docs/pictures.
 
-usage: tests/page.py LESSON V7 PAGE FILE...     PAGE is the folder with the script and the styles; four FILEs
+usage: tests/page.py LESSON V7 PAGE QUESTIONS FILE...     PAGE is the folder with the scripts and the styles; five FILEs
 """
 import json
 import os
@@ -13,37 +14,42 @@ import sys
 import tempfile
 from itertools import permutations
 
-SYSTEM = "/usr/bin/python3"
-PACKAGES = "Debian's packages are chromium, chromium-driver and python3-selenium"
-
-try:
-    from selenium import webdriver
-    from selenium.webdriver.chrome.service import Service
-    from selenium.webdriver.common.action_chains import ActionChains
-    from selenium.webdriver.common.keys import Keys
-except ImportError:
-    if os.path.exists(SYSTEM) and os.path.realpath(sys.executable) != os.path.realpath(SYSTEM):
-        os.execv(SYSTEM, [SYSTEM, *sys.argv])  # the system's Python has the package, where another one comes first
-    sys.exit(f"not run, as python3-selenium is missing; {PACKAGES}")
+from page_browser import Chromium, Keys, firefox
+from page_layout import PLANTS, look, look_everywhere, look_in_firefox
+from page_objects import object_like_c, ten
+from page_use import use_all
 
 LAYOUTS = {"plain": [], "-n": ["-n"], "-i": ["-i"], "-r": ["-r"]}
 PICTURES = "docs/pictures"
 
-# what stands on the page, as lines of text; a word is its segment and the texts of its parts
+# what the page shows, as lines of text; a word is its segment and the texts of its parts
 READ = """
 const text = (element) => element ? element.textContent : "";
 const part = (element, name) => text(element.querySelector(`.${name}`));
 const all = (selector, of) => [...document.querySelectorAll(selector)].map(of);
+const one = (id) => { const element = document.getElementById(id); return element.checkVisibility() ? element.textContent : ""; };
 return {
     words: all(".word", (row) => ({
         segment: row.id.split("-")[0], number: Number(row.id.split("-")[1]),
         ...Object.fromEntries(["offset", "value", "pc", "target", "place", "sum", "of", "tag"].map((name) => [name, part(row, name)])) })),
     bss: text(document.querySelector("#bss .size")),
-    names: all(".name", (row) => [text(row.querySelector("th")), text(row.querySelector(".known > span")), part(row, "address")]),
-    marks: all("#last-marks .was", text), sums: all("#last-marks .sum", text), done: all(".done .was", text),
-    table: part(document, "table"), report: part(document, "report"), step: part(document, "step"),
-    refused: text(document.querySelector("main .refused")), notes: all("main .note", text),
+    names: all(".name", (row) => [text(row.querySelector("b")), part(row, "state"), part(row, "address")]),
+    marks: all(".overwrote .was", text), sums: all(".overwrote .sum", text),
+    done: all(".undone .was", text), undone: all(".undone .sum", text),
+    table: one("table"), report: one("report"), step: one("status"), refused: one("refused"), note: one("note"),
     hash: location.hash, focus: document.activeElement.id };
+"""
+
+# opens all folds, by pieces, as clicks on them do
+UNFOLD = """
+for (let count = 0; count < 50 && document.querySelector(".fold"); count++) {
+    for (const fold of document.querySelectorAll(".fold")) {
+        const [, object, part, start, end] = fold.dataset.key.split(" ");
+        unfold(Number(object), part, Number(start), Number(end));
+    }
+    showChosen(true);
+}
+return document.querySelectorAll(".fold").length;
 """
 
 faults = []
@@ -67,14 +73,14 @@ class Tools:
     def __init__(self, lesson, v7, page, room):
         self.lesson, self.v7, self.page, self.room = (os.path.abspath(path) for path in (lesson, v7, page, room))
 
-    def page_of(self, files, name="lesson.html"):
+    def page_of(self, files, name="lesson.html", questions=""):
         path = os.path.join(self.room, name)
         with open(path, "wb") as out:
-            subprocess.run([self.lesson, "-p", self.page, *files], stdout=out, check=True)
+            subprocess.run([self.lesson, "-p", self.page, *(["-q", questions] if questions else []), *files], stdout=out, check=True)
         return path
 
     def step(self, number, files):
-        """The lines of a step, behind the first."""
+        """The lines of a step, after the first."""
         if not files:
             return ["nothing"]
         done = subprocess.run([self.lesson, "-n", str(number), *files], capture_output=True, text=True, check=True)
@@ -96,43 +102,20 @@ class Tools:
         return {"header": header, "segments": {"text": text, "data": words}, "table": table, "report": report}
 
 
-class Page:
-    """The page in the browser."""
-
-    def __init__(self, path, width=1280, height=720):
-        options = webdriver.ChromeOptions()
-        for word in ("--headless=new", "--no-sandbox", "--disable-dev-shm-usage"):
-            options.add_argument(word)
-        options.set_capability("goog:loggingPrefs", {"browser": "ALL"})
-        self.driver = webdriver.Chrome(service=Service("/usr/bin/chromedriver"), options=options)
-        metrics = {"width": width, "height": height, "deviceScaleFactor": 1, "mobile": False}
-        self.driver.execute_cdp_cmd("Emulation.setDeviceMetricsOverride", metrics)
-        self.url = "file://" + path
-        self.open("")
-
-    def open(self, address):
-        self.driver.get("about:blank")
-        self.driver.get(self.url + address)
-
-    def type(self, *keys):
-        for key in keys:
-            ActionChains(self.driver, duration=0).send_keys(key).perform()
-
-    def click(self, name):
-        self.driver.find_element("id", name).click()
+class Page(Chromium):
+    """The page in Chromium; at the end it has made no errors and loaded no files."""
 
     def read(self):
-        return self.driver.execute_script(READ)
+        return self.run(READ)
 
     def quit(self):
-        faults.extend(f"the console: {entry['message']}" for entry in self.driver.get_log("browser") if entry["level"] == "SEVERE")
-        loaded = self.driver.execute_script("return performance.getEntriesByType('resource').length")
-        same("files that the page loads", loaded, 0)
-        self.driver.quit()
+        faults.extend(f"the console: {message}" for message in self.errors())
+        same("files that the page loads", self.run("return performance.getEntriesByType('resource').length"), 0)
+        super().quit()
 
 
 def lines_on(shown):
-    """What stands on the page, as the lines that `lesson` has."""
+    """What the page shows, as the lines that `v7-lesson` has."""
     lines = [words_of(f"{word['segment']} {word['offset']} {word['value']} {word['pc']} {word['target']}") for word in shown["words"]]
     lines += [f"bss {shown['bss']}"] if shown["bss"] else []
     lines += [f"name {name}: {known}" for name, known, _ in shown["names"]]
@@ -148,8 +131,12 @@ def sum_of(text):
 
 
 def compare_sums(shown, what):
+    """A binding adds the name's place to the word; putting it back subtracts the place."""
     for text in shown["sums"]:
-        same(f"{what}: {text}", sum_of(text)[1], True)
+        same(f"{what}: {text}", ("+" in text, sum_of(text)[1]), (True, True))
+    for text in shown["undone"]:
+        now, place, was = (int(number, 8) for number in re.findall(r"[0-7]{6}", text))
+        same(f"{what}: {text}", ("\u2212" in text, was), (True, (now - place) % 65536))
 
 
 def compare_state(tools, page, what, step, files):
@@ -188,12 +175,12 @@ def compare_addresses(tools, page, what, files):
             same(where, shown["refused"], f"refused: {linked['refused']}")
             continue
         compare_words(shown, linked, where)
-        same(f"{where}: table", shown["table"], linked["table"] or "empty\n")
-        same(f"{where}: report", shown["report"], linked["report"])
+        same(f"{where}: table", shown["table"] + "\n", linked["table"] or "empty\n")
+        same(f"{where}: report", shown["report"].rstrip("\n") + "\n", linked["report"])
         for name, _, address in shown["names"]:
             line = [line for line in linked["table"].splitlines() if line[9:] == name and line[7].isupper()]
             if address and line:
-                same(f"{where}: {name}", address, "none" if line[0][7] in "UC" else line[0][:6])
+                same(f"{where}: {name}", address, "no address" if line[0][7] in "UC" else line[0][:6])
     page.type("a")
 
 
@@ -233,9 +220,20 @@ def program(tools, files):
         here = files[:number]
         what = " ".join(os.path.basename(file) for file in here)
         page.type(str(number))
+        page.run(UNFOLD)
         compare_state(tools, page, what, number, here)
         compare_addresses(tools, page, what, here)
     page.quit()
+
+
+def every_state(tools, page, files):
+    """Each list of five objects, reached by its address: the words, names and marks."""
+    orders = [order for count in range(1, 6) for order in permutations(range(5), count)]
+    for order in orders:
+        page.run("location.hash = arguments[0]", "objects=" + ",".join(str(number + 1) for number in order))
+        page.wait("return location.hash.length < 2 || view.list.join() === arguments[0]", ",".join(map(str, order)))
+        compare_state(tools, page, f"the list {order}", len(order), [files[number] for number in order])
+    same("lists of five objects", len(orders), 325)
 
 
 def clicks(tools, page, files):
@@ -249,10 +247,11 @@ def clicks(tools, page, files):
     page.click("withdraw")
     compare_state(tools, page, "click withdraw", 3, files[:2])
     page.click("back")
-    same("step back", page.read()["hash"], "#objects=1,2")
+    page.wait("return location.hash === '#objects=1,2'")
     page.click("back")
-    same("step back twice", page.read()["hash"], "#objects=1")
+    page.wait("return location.hash === '#objects=1'")
     page.click("forth")
+    page.wait("return location.hash === '#objects=1,2'")
     same("step forth", lines_on(page.read()), lines_on(added))
     page.click("addresses")
     page.click("layout1")
@@ -267,43 +266,47 @@ def clicks(tools, page, files):
 def by_keyboard(tools, page, files):
     """Without a pointer: the tabulator reaches each button, and Enter presses it."""
     page.open("")
-    for _ in range(40):
+    for _ in range(60):
         page.type(Keys.TAB)
         if page.read()["focus"] == "add2":
             break
     page.type(Keys.ENTER)
     compare_state(tools, page, "Enter", 1, files[1:2])
-    page.type("1", Keys.ARROW_LEFT, Keys.ARROW_RIGHT)
+    page.type("1", Keys.ARROW_LEFT)
+    page.wait("return location.hash === '#objects=2'")
+    page.type(Keys.ARROW_RIGHT)
+    page.wait("return location.hash === '#objects=2,1'")
     compare_state(tools, page, "1, and arrows", 2, [files[1], files[0]])
 
 
-def looks(page, what):
-    """Nothing is cut off, and the last word stands on the screen."""
-    seen = page.driver.execute_script("""
-        const rows = [...document.querySelectorAll(".word")];
-        const bar = document.querySelector(".bar").getBoundingClientRect();
-        const last = rows[rows.length - 1].getBoundingClientRect();
-        const cut = rows.filter((row) => row.scrollWidth > row.clientWidth + 1).map((row) => row.id);
-        const main = document.querySelector("main");
-        return [cut, last.bottom <= innerHeight && last.top >= bar.bottom, main.scrollWidth <= main.clientWidth];""")
-    same(f"{what}: cut off, last word seen, no bar below", seen, [[], True, True])
-
-
 def pictures(page):
-    """Pictures of four states."""
+    """Pictures of five states."""
     os.makedirs(PICTURES, exist_ok=True)
-    states = {"waits": "objects=1", "bound": "objects=1,2", "withdrawn": "objects=1&withdrawn=2", "addresses": "objects=1,2,3,4&addresses=-n"}
+    states = {"first": "", "waits": "objects=1", "bound": "objects=1,2", "withdrawn": "objects=1&withdrawn=2", "addresses": "objects=1,2,3,4&addresses=-n"}
     for name, address in states.items():
         page.open("#" + address)
-        looks(page, name)
-        page.driver.save_screenshot(f"{PICTURES}/{name}.png")
+        page.picture(f"{PICTURES}/{name}.png")
 
 
 def states_in(path):
     with open(path, encoding="utf-8") as file:
         text = file.read()
-    data = json.loads(re.search(r'id="lesson">\n(.*?)</script>', text, re.S).group(1))
+    data = json.loads(re.search(r'id="data">\n(.*?)</script>', text, re.S).group(1))
     return data, len(text.encode())
+
+
+def scripts(folder):
+    """The scripts are short, and so are their functions."""
+    total = 0
+    for name in sorted(os.listdir(folder)):
+        if name.endswith(".js"):
+            with open(os.path.join(folder, name), encoding="utf-8") as file:
+                lines = file.read().splitlines()
+            total += len(lines)
+            starts = [i for i, line in enumerate(lines) if re.match(r"function |const \w+ = \(.*=> \{$", line)]
+            long = [lines[start] for start in starts if lines[start:].index("}" if lines[start].startswith("function") else "};") >= 39]
+            same(f"long functions of {name}", (long, len(starts) > 0), ([], True))
+    same("lines of scripts", (total <= 1200, total > 0), (True, True))
 
 
 def counts(tools, files):
@@ -327,7 +330,7 @@ def object_of(words, symbols):
 
 
 def large(tools, files):
-    """Objects of thousands of words: the page says how much it shows, and has the words that changed."""
+    """Objects of thousands of words: the page has the words that changed, and folds others."""
     words = [(number % 1000, 0o10 if number % 1500 == 700 else 0) for number in range(6000)]
     given = []
     for number in range(5):
@@ -341,9 +344,37 @@ def large(tools, files):
     page = Page(path)
     page.type("1", "5")
     shown = page.read()
-    same("the note", "of 6000 words" in " ".join(shown["notes"]), True)
     same("what changed", sorted(word["number"] for word in shown["words"] if word["tag"] == "bound"), [1400, 4400, 7400, 10400])
+    same("words that are not folded", 4 < len(shown["words"]) < 100, True)
     page.quit()
+
+
+def five_of_500(tools):
+    """Each word of five objects of 500 words can be reached, in the image and in each link; what changed is never folded."""
+    given = []
+    for number in range(5):
+        given.append(os.path.join(tools.room, f"five{number}.o"))
+        with open(given[-1], "wb") as out:
+            out.write(object_like_c(number, 500, 5))
+    path = tools.page_of(given, "five.html")
+    same("bytes of five objects of 500 words", os.path.getsize(path) <= 5_000_000, True)
+    page = Page(path)
+    for order in ("1,2,3,4,5", "5,3,1", "2,4"):
+        here = [given[int(number) - 1] for number in order.split(",")]
+        page.open(f"#objects={order}")
+        marks = [mark.split() for mark in page.read()["marks"]]
+        changed = {(part[0], part[1]) for part in marks if part[0] in ("text", "data") and part[2] == "was"}
+        bound = {(word["segment"], word["offset"]) for word in page.read()["words"] if word["tag"] == "bound"}
+        same(f"{order}: what changed is not folded", bound, changed)
+        before = len(page.read()["words"])
+        page.run("document.querySelector('.fold').click()")
+        same(f"{order}: a click on a fold shows more words", 0 < len(page.read()["words"]) - before <= 64, True)
+        same(f"{order}: folds that are left", page.run(UNFOLD), 0)
+        shown = compare_state(tools, page, f"five objects, {order}", len(here), here)
+        same(f"{order}: words", len(shown["words"]), 500 * len(here))
+        compare_addresses(tools, page, f"five objects, {order}", here)
+    page.quit()
+    return path
 
 
 def refusals(tools, files):
@@ -353,10 +384,61 @@ def refusals(tools, files):
         out.write(source.read()[:-5])
     for path, text in ((cut, "truncated"), (os.path.join(tools.room, "nothing.o"), "cannot open"), (tools.lesson, "bad magic number")):
         done = subprocess.run([tools.lesson, "-p", tools.page, files[0], path], capture_output=True, text=True)
-        same(f"{path}", (done.returncode, done.stdout, done.stderr), (2, "", f"lesson: {path}: {text}\n"))
-    for words in ([], ["-p"], ["-p", tools.page], ["-n", files[0]], ["-n", "0", files[0]], ["-n", "3", files[0]], ["-x", files[0]]):
+        same(f"{path}", (done.returncode, done.stdout, done.stderr), (2, "", f"v7-lesson: {path}: {text}\n"))
+    for words in ([], ["-p"], ["-p", tools.page], ["-p", tools.page, "-q", files[0]], ["-n", files[0]], ["-n", "0", files[0]], ["-n", "3", files[0]],
+                  ["-x", files[0]]):
         done = subprocess.run([tools.lesson, *words], capture_output=True, text=True)
-        same(f"lesson {words}", (done.returncode, done.stdout, done.stderr[:8]), (2, "", "lesson: "))
+        same(f"v7-lesson {words}", (done.returncode, done.stdout, done.stderr[:11]), (2, "", "v7-lesson: "))
+
+
+QUESTIONS = [
+    ("ask Which?", 1, "no lesson has begun"),
+    ("lesson One\nadd nothing.o", 2, "no step adds nothing.o"),
+    ("lesson One\nadd main.o\nadd main.o", 3, "no step adds main.o"),
+    ("lesson One\n\nwithdraw", 3, "there is nothing to withdraw"),
+    ("lesson One\nlink -s", 2, "there is no link -s"),
+    ("lesson One\nadd main.o\nask Which?\nword text 12", 4, "there is no word text 12"),
+    ("lesson One\nadd main.o\nask Which?\nword text 3", 4, "there is no word text 3"),
+    ("lesson One\nadd main.o\nask Which?\nword data 0", 4, "there is no word data 0"),
+    ("lesson One\nadd main.o\nask Which?\nword bss 0", 4, "there is no word bss 0"),
+    ("lesson One\nadd main.o\nask Which?\nname _nothing", 4, "there is no name _nothing"),
+    ("lesson One\nadd main.o\nask Which?\nadd twice.o", 4, "the question of line 3 has no answer"),
+    ("lesson One\nask Which?", 2, "the question has no answer"),
+    ("lesson One\nword text 0", 2, "an answer to no question"),
+    ("lesson One\nask", 2, "ask is followed by a text"),
+    ("# One\nlesson One\nshow main.o", 3, "show begins no line of a lesson"),
+]
+
+
+def bad_questions(tools, files):
+    """A line that refers to no word, name or step: no page, and the line's number."""
+    path = os.path.join(tools.room, "bad.txt")
+    for text, line, fault in QUESTIONS:
+        with open(path, "w", encoding="ascii") as out:
+            out.write(text + "\n")
+        done = subprocess.run([tools.lesson, "-p", tools.page, "-q", path, *files], capture_output=True, text=True)
+        same(f"questions: {text}", (done.returncode, done.stdout, done.stderr), (2, "", f"v7-lesson: {path}: line {line}: {fault}\n"))
+
+
+def lesson_answers(tools, path):
+    """The answers of the lessons are true: the word that a question names is the one that its step changes."""
+    data, _ = states_in(path)
+    states = {tuple(state["list"]): state for state in data["states"] if "marks" in state}
+    here, asked, words = [], "", []
+    for word, *rest in data["lessons"]:
+        if word == "lesson":
+            here = []
+        elif word == "ask":
+            asked, words = rest[0], []
+        elif word == "word":
+            words.append(tuple(rest))
+        elif word in ("add", "withdraw"):
+            longer = [*here, rest[0]] if word == "add" else here
+            marks = [(mark[0], mark[1]) for mark in states[tuple(longer)]["marks"] if mark[0] != "name"]
+            if words and ("change" in asked or "put back" in asked):
+                same(f"the answer to: {asked}", sorted(words), sorted(marks))
+            here, words = (longer if word == "add" else here[:-1]), []
+    same("lessons", sum(line[0] == "lesson" for line in data["lessons"]), 3)
 
 
 def full(tools, files):
@@ -373,25 +455,70 @@ def full(tools, files):
     page.quit()
 
 
+def layouts(tools, default, files, five):
+    """The layout of three pages, in all sizes and in both browsers; and faults that are planted."""
+    folder = os.path.join(tools.room, "ten")
+    os.makedirs(folder)
+    for name, content in ten().items():
+        with open(os.path.join(os.path.dirname(os.path.abspath(__file__)), "data", "page", name), "rb") as stored:
+            same(f"tests/data/page/{name}", stored.read() == content, True)
+        with open(os.path.join(folder, name), "wb") as out:
+            out.write(content)
+    compiled = tools.page_of(sorted(os.path.join(folder, name) for name in os.listdir(folder)), "ten.html")
+    program_page = tools.page_of(files, "program.html")
+    pages = {"the default page": default, "five objects": program_page, "five of 500 words": five, "ten objects": compiled}
+    page = Page()
+    counts = look_everywhere(page, pages, faults)
+    for what, script in PLANTS.items():
+        page.load(default)
+        page.size(1280, 720)
+        page.open("#objects=1,2")
+        page.run(script)
+        planted, _ = [], {}
+        look(page, what, planted, {})
+        same(f"planted: {what}", len(planted) > 0, True)
+    page.quit()
+    print("looked at in Chromium: " + ", ".join(f"{count} {name}" for name, count in sorted(counts.items())), flush=True)
+    same("nothing was counted of", [name for name, count in counts.items() if count == 0], [])
+    if firefox():
+        counts = look_in_firefox(pages, faults)
+        print("looked at in Firefox: " + ", ".join(f"{count} {name}" for name, count in sorted(counts.items())))
+        same("nothing was counted in Firefox of", [name for name, count in counts.items() if count == 0], [])
+    else:
+        print("not looked at in Firefox, as it is not installed: Debian's package is firefox-esr")
+    return compiled
+
+
 def main():
-    lesson, v7, page_folder, *files = sys.argv[1:]
-    if not all(os.path.exists(path) for path in ("/usr/bin/chromium", "/usr/bin/chromedriver")):
-        sys.exit(f"not run, as chromium or chromedriver is missing; {PACKAGES}")
+    lesson, v7, page_folder, questions, *files = sys.argv[1:]
     with tempfile.TemporaryDirectory() as room:
         tools = Tools(lesson, v7, page_folder, room)
+        scripts(page_folder)
         refusals(tools, files)
+        bad_questions(tools, files)
         counts(tools, files)
-        page = Page(tools.page_of(files))
+        default = tools.page_of(files, "default.html", questions)
+        lesson_answers(tools, default)
+        page = Page(tools.page_of(files[:4]))
         clicks(tools, page, files)
         by_keyboard(tools, page, files)
         page.open("")
-        walk(tools, page, files, [])
+        walk(tools, page, files[:4], [])
+        page.quit()
+        page = Page(default)
+        every_state(tools, page, files)
         pictures(page)
         page.quit()
         examples = os.path.dirname(files[0])
-        program(tools, [os.path.join(examples, name) for name in ("start.o", "print.o", "main.o", "twice.o", "count.o")])
+        five = [os.path.join(examples, name) for name in ("start.o", "print.o", "main.o", "twice.o", "count.o")]
+        program(tools, five)
         large(tools, files)
         full(tools, files)
+        print(f"{compared} things of states were compared", flush=True)
+        compiled = layouts(tools, default, five, five_of_500(tools))
+        page = Page(default)
+        use_all(page, default, compiled, same)
+        page.quit()
     print(f"{compared} things were compared")
     for fault in faults[:20]:
         print(fault)

@@ -1,5 +1,5 @@
 #!/usr/bin/env python3
-"""Compares the statuses and the lines of v7-from-gnu, for each reason to refuse an object, and those of lesson, for each step.
+"""Compares the statuses and the lines of v7-from-gnu, for each reason to refuse an object, and those of v7-lesson, for each step.
 
 usage: statuses.py V7_FROM_GNU LESSON
 
@@ -112,7 +112,7 @@ def check_steps(*names):
     for number, step in enumerate(steps, 1):
         expect(f"{names}: step {number}", run(LESSON, "-n", str(number), *paths), (0, step, ""))
     more = str(len(steps) + 1)
-    expect(f"{names}: step {more}", run(LESSON, "-n", more, *paths), (2, "", f"lesson: there are {len(steps)} steps\n"))
+    expect(f"{names}: step {more}", run(LESSON, "-n", more, *paths), (2, "", f"v7-lesson: there are {len(steps)} steps\n"))
     expect(f"{names}: step 0", run(LESSON, "-n", "0", *paths)[0:2], (2, ""))
     return len(steps)
 
@@ -123,4 +123,4 @@ with tempfile.TemporaryDirectory() as room:
     shown = check_steps("k.o", "l.o") + check_steps("main.o", "twice.o", "count.o") + check_steps("a.o")
     if failed:
         sys.exit(1)
-    print(f"v7-from-gnu: {objects} lines and statuses compared; lesson: {shown} steps")
+    print(f"v7-from-gnu: {objects} lines and statuses compared; v7-lesson: {shown} steps")

@@ -1,8 +1,8 @@
-//! JSON. What is put behind another value of a list or object has a comma before it.
+//! JSON. What is put after another value of a list or object has a comma before it.
 use std::alloc::AllocError;
 use std::fmt::Write;
 
-/// Adds a comma, except at the beginning of a list or an object and behind a key.
+/// Adds a comma, except at the beginning of a list or an object and after a key.
 fn put_comma(out: &mut String) -> Result<(), AllocError> {
     match out.as_bytes().last() {
         None | Some(b'[' | b'{' | b':') => Ok(()),
@@ -80,6 +80,15 @@ pub(crate) fn put_numbers(out: &mut String, numbers: &[usize]) -> Result<(), All
     begin(out, '[')?;
     for number in numbers {
         put_number(out, *number as u64)?;
+    }
+    out.push(']')
+}
+
+/// Adds words as a list.
+pub(crate) fn put_words(out: &mut String, words: &[u16]) -> Result<(), AllocError> {
+    begin(out, '[')?;
+    for word in words {
+        put_word(out, *word)?;
     }
     out.push(']')
 }

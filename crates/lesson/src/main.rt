@@ -1,17 +1,21 @@
-//! The program `lesson`, for a class: what a linker knows after each addition and withdrawal, as text or as a page.
+//! The program `v7-lesson`, for a class: what a linker knows after each addition and withdrawal, as text or as a page.
 #![tactic(auto)]
 
-mod entries;
 mod files;
+mod fronts;
 mod given;
 mod json;
 mod lines;
 mod links;
 mod marks;
+mod numbers;
 mod page;
 mod parts;
+mod questions;
+mod sources;
 mod states;
 mod steps;
+mod symbols;
 mod walk;
 mod words;
 
@@ -28,18 +32,27 @@ fn run(rt: &HostRuntime, session: &mut Session) -> Result<()> {
     match asked {
         Asked::All => play(rt, session, files, All::Steps),
         Asked::Step(step) => play(rt, session, files, All::Only(step)),
-        Asked::Page(folder) => write_page(rt, session, folder.as_str(), files),
+        Asked::Page(folder) => write_page(rt, session, folder.as_str(), None, files),
+        Asked::Lessons(folder, questions) => {
+            write_page(
+                rt,
+                session,
+                folder.as_str(),
+                Some(questions.as_str()),
+                files,
+            )
+        }
     }
 }
 
-/// The status where something is wrong, which is told.
+/// Reports an error, and returns the status for it.
 fn fail(rt: &HostRuntime, error: &Error) -> u8 {
-    match format!(in rt.alloc(); "lesson: {error}\n") {
+    match format!(in rt.alloc(); "v7-lesson: {error}\n") {
         Ok(text) => {
             let _ = rt.eprint(text.as_str());
         }
         Err(_) => {
-            let _ = rt.eprint("lesson: no memory\n");
+            let _ = rt.eprint("v7-lesson: no memory\n");
         }
     }
     2

@@ -55,14 +55,10 @@ fn put_state_mark(
     }
 }
 
-/// Adds the marks of the last addition, as a list of at most so many.
-pub(crate) fn put_marks(
-    out: &mut String,
-    session: &Session,
-    most: usize,
-) -> Result<(), AllocError> {
+/// Adds the marks of the last addition, as a list.
+pub(crate) fn put_marks(out: &mut String, session: &Session) -> Result<(), AllocError> {
     begin(out, '[')?;
-    for mark in session.last_marks().iter().take(most) {
+    for mark in session.last_marks() {
         begin(out, '[')?;
         match *mark {
             Mark::CellWas(place, cell) => put_cell_mark(out, session, place, cell)?,

@@ -4,7 +4,7 @@ use aout_core::{Name, Segment};
 use link_session::{Cell, Session, State, Target};
 use std::alloc::AllocError;
 
-/// What a word refers to is a number in its segment: that of its value, counted from behind the word where it is
+/// What a word refers to is a number in its segment: that of its value, counted from the word after it if it is
 /// relative to the pc.
 pub(crate) fn place_meant(value: u16, pc: bool, offset: u16) -> u16 {
     if pc {
@@ -58,19 +58,37 @@ pub(crate) fn put_cell(
     put_word(out, place_meant(cell.value, cell.pc, offset))
 }
 
+/// The kind of a state, from 0 for undefined over common, text, data and bss to 5 for a number, and its number.
+pub(crate) fn state_numbers(state: State) -> (u32, u16) {
+    match state {
+        State::Wanted(0) => (0, 0),
+        State::Wanted(size) => (1, size),
+        State::Defined(Segment::TextSeg, offset) => (2, offset),
+        State::Defined(Segment::DataSeg, offset) => (3, offset),
+        State::Defined(Segment::BssSeg, offset) => (4, offset),
+        State::Defined(_, value) => (5, value),
+    }
+}
+
 /// Adds three values: a name, the kind of its state, and the number of that.
 pub(crate) fn put_state(out: &mut String, name: &Name, state: State) -> Result<(), AllocError> {
+    let (kind, number) = state_numbers(state);
     put_bytes(out, "", name.as_bytes())?;
-    let (kind, number) = match state {
-        State::Wanted(0) => ("undefined", 0),
-        State::Wanted(size) => ("common", size),
-        State::Defined(Segment::TextSeg, offset) => ("text", offset),
-        State::Defined(Segment::DataSeg, offset) => ("data", offset),
-        State::Defined(Segment::BssSeg, offset) => ("bss", offset),
-        State::Defined(_, value) => ("number", value),
-    };
-    put_text(out, kind)?;
+    put_number(out, u64::from(kind))?;
     put_word(out, number)
+}
+
+/// What a cell refers to or waits for, as a number: that of the segment as above, or from 8 on twice the number of the
+/// name, and 1 more where the word is relative to the pc.
+pub(crate) fn target_number(cell: Cell) -> u32 {
+    let number = match cell.target {
+        Target::Absolute => 0,
+        Target::TextSeg => 1,
+        Target::DataSeg => 2,
+        Target::BssSeg => 3,
+        Target::External(index) => u32::from(index) + 4,
+    };
+    2 * number + u32::from(cell.pc)
 }
 
 /// Adds names as a list.

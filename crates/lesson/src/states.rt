@@ -1,31 +1,44 @@
 //! The states that a session can be in, as JSON.
-use crate::entries::put_entries;
 use crate::files::object_in;
-use crate::given::{Choice, Given};
-use crate::json::{begin, put_key, put_number, put_numbers, put_text, put_word};
-use crate::links::{Shown, put_links};
+use crate::fronts::{fronts_of, put_last_front};
+use crate::given::Given;
+use crate::json::{begin, put_bytes, put_key, put_numbers, put_text};
+use crate::links::{links_of, put_links};
 use crate::marks::put_marks;
-use crate::parts::{put_names, put_state};
+use crate::numbers::{Computed, Numbers};
+use crate::parts::put_names;
 use crate::walk::Walk;
 use anyhow::{Result, anyhow};
-use aout_core::Name;
 use link_session::{AddFault, Session};
 use std::alloc::{AllocError, Global};
 
-/// Adds the names with what is known of them, as a list of at most so many.
-fn put_externals(out: &mut String, session: &Session, most: usize) -> Result<(), AllocError> {
-    put_key(out, "names")?;
-    begin(out, '[')?;
-    for index in 0..session.external_count() {
-        if usize::from(index) < most
-            && let Some((name, state)) = session.external(index)
-        {
-            put_state(out, &name, state)?;
+/// The state before the last object was added.
+#[derive(Drop)]
+struct Before {
+    numbers: Numbers,
+    name_count: u16,
+}
+
+impl Before {
+    /// The state before the first one, which has nothing.
+    fn none(alloc: Global) -> Before {
+        Before {
+            numbers: Numbers::none(alloc),
+            name_count: 0,
         }
     }
-    out.push(']')?;
-    put_key(out, "nameCount")?;
-    put_word(out, session.external_count())
+}
+
+/// Adds the names from this one on, as a list.
+fn put_new_names(out: &mut String, session: &Session, first: u16) -> Result<(), AllocError> {
+    put_key(out, "newNames")?;
+    begin(out, '[')?;
+    for index in first..session.external_count() {
+        if let Some((name, _)) = session.external(index) {
+            put_bytes(out, "", name.as_bytes())?;
+        }
+    }
+    out.push(']')
 }
 
 /// Adds the sizes of the merged segments, text and data in words.
@@ -41,36 +54,44 @@ fn put_sizes(out: &mut String, session: &Session) -> Result<(), AllocError> {
     )
 }
 
-/// Adds the names that are multiply defined.
-fn put_multiples(out: &mut String, names: &[Name], most: usize) -> Result<(), AllocError> {
-    put_key(out, "multiples")?;
-    put_names(out, names.get(..most).unwrap_or(names))
-}
-
-/// Adds the state of a session.
+/// Adds the state of a session, as far as it differs from the state before the last object was added, and returns what
+/// the next states are compared with.
 fn put_session(
     alloc: Global,
     out: &mut String,
     session: &Session,
-    shown: Shown<'_>,
-) -> Result<(), AllocError> {
+    walk: &Walk,
+    givens: &[Given],
+    before: &Before,
+) -> Result<Before> {
+    let fronts = fronts_of(Vec::new(alloc), session)?;
+    let links = links_of(alloc, session)?;
+    let computed = Computed {
+        session,
+        fronts: &fronts,
+        links: &links,
+    };
+    let numbers = Numbers::of(alloc, computed, givens, walk.list())?;
     begin(out, '{')?;
     put_key(out, "list")?;
-    put_numbers(out, shown.list)?;
+    put_numbers(out, walk.list())?;
     put_sizes(out, session)?;
-    put_key(out, "entries")?;
-    let most = shown.choice.most;
-    put_entries(out, session, shown.choice.givens, shown.list)?;
-    put_externals(out, session, most)?;
-    put_multiples(out, session.multiples(), most)?;
+    put_key(out, "front")?;
+    put_last_front(out, &fronts)?;
+    put_new_names(out, session, before.name_count)?;
+    numbers.put(out, &before.numbers)?;
+    put_key(out, "multiples")?;
+    put_names(out, session.multiples())?;
     put_key(out, "marks")?;
-    put_marks(out, session, most)?;
-    put_key(out, "markCount")?;
-    put_number(out, session.last_marks().len() as u64)?;
+    put_marks(out, session)?;
     put_key(out, "links")?;
-    put_links(alloc, out, session, shown)?;
+    put_links(alloc, out, &links)?;
     out.push('}')?;
-    out.push('\n')
+    out.push('\n')?;
+    Ok(Before {
+        numbers,
+        name_count: session.external_count(),
+    })
 }
 
 /// Adds that an object is refused where these are there.
@@ -121,13 +142,6 @@ fn step_to(
     Ok(refused)
 }
 
-fn shown_in<'a>(walk: &'a Walk, choice: Choice<'a>) -> Shown<'a> {
-    Shown {
-        choice,
-        list: walk.list(),
-    }
-}
-
 /// Whether an object was withdrawn.
 fn withdraw(session: &mut Session) -> bool {
     session.withdraw().is_some()
@@ -138,19 +152,26 @@ pub(crate) fn put_states(
     alloc: Global,
     out: &mut String,
     session: &mut Session,
-    choice: Choice<'_>,
+    givens: &[Given],
 ) -> Result<()> {
-    let mut walk = Walk::new(choice.givens.len(), Vec::new(alloc));
+    let mut walk = Walk::new(givens.len(), Vec::new(alloc));
+    let mut trail = Vec::new(alloc);
     begin(out, '[')?;
-    put_session(alloc, out, session, shown_in(&walk, choice))?;
+    let first = Before::none(alloc);
+    trail.push(put_session(alloc, out, session, &walk, givens, &first)?)?;
     for _ in 0..walk.steps() {
         match walk.next() {
-            Some(object) => match step_to(alloc, session, &mut walk, choice.givens, object)? {
-                None => put_session(alloc, out, session, shown_in(&walk, choice))?,
+            Some(object) => match step_to(alloc, session, &mut walk, givens, object)? {
+                None => {
+                    let before = trail.last().unwrap_or(&first);
+                    let now = put_session(alloc, out, session, &walk, givens, before)?;
+                    trail.push(now)?;
+                }
                 Some(cause) => put_refused(alloc, out, walk.list(), object, cause)?,
             },
             None if walk.withdraw() => {
                 let _ = withdraw(session);
+                let _ = trail.pop();
             }
             None => break,
         }

@@ -16,7 +16,7 @@ pub(crate) struct Walk {
 }
 
 impl Walk {
-    /// The walk through the lists of so many objects, at the empty one. The room is for a list.
+    /// The walk through the lists of so many objects, at the empty one. `room` is an empty list.
     pub(crate) fn new(count: usize, room: Vec<usize>) -> Walk {
         Walk {
             count,

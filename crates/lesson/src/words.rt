@@ -1,8 +1,9 @@
-//! The words of the command.
+//! The arguments of the program.
 use anyhow::{Result, anyhow};
 use std::env;
 
-const USAGE: &str = "usage: lesson [-n STEP] FILE..., or lesson -p FOLDER FILE... >PAGE";
+const USAGE: &str =
+    "usage: v7-lesson [-n STEP] FILE..., or v7-lesson -p FOLDER [-q QUESTIONS] FILE... >PAGE";
 
 /// What is asked of the objects.
 #[derive(Drop)]
@@ -11,11 +12,13 @@ pub(crate) enum Asked {
     All,
     /// One step as text, from 1.
     Step(usize),
-    /// The page, of the script and the styles in this folder.
+    /// The page, of the scripts and the styles in this folder.
     Page(String),
+    /// The page with the lessons of a file: the folder, and this file.
+    Lessons(String, String),
 }
 
-/// What the words ask for, and the paths of the objects, at least one.
+/// What the arguments ask for, and the paths of the objects, at least one.
 #[derive(Drop)]
 pub(crate) struct Words {
     pub(crate) asked: Asked,
@@ -28,13 +31,16 @@ enum Next {
     First,
     Step,
     Folder,
+    /// After the folder: a file, or the option of the questions.
+    Option,
+    Questions,
     File,
-    /// Behind an unknown option.
+    /// After an unknown option.
     Nothing,
 }
 
-/// What the word behind the first one is, or the first one itself where it is a file.
-fn behind_first(word: &str) -> Next {
+/// What the word after the first one is, or the first one itself if it is a file.
+fn after_first(word: &str) -> Next {
     match word {
         "-n" => Next::Step,
         "-p" => Next::Folder,
@@ -43,22 +49,38 @@ fn behind_first(word: &str) -> Next {
     }
 }
 
-/// The words behind the program's name.
+/// What is asked for, with a file of questions.
+fn with_questions(asked: Asked, questions: String) -> Asked {
+    match asked {
+        Asked::Page(folder) => Asked::Lessons(folder, questions),
+        other => other,
+    }
+}
+
+/// The words after the program's name.
 pub(crate) fn words_given(rt: &HostRuntime) -> Result<Words> {
     let mut asked = Asked::All;
     let mut files = Vec::new(rt.alloc());
     let mut next = Next::First;
     for word in env::args(rt)?.skip(1) {
         if next == Next::Step {
-            // 0 where the word is no number, and there is no such step
+            // 0 if the word is not a number, and there is no such step
             asked = Asked::Step(word.as_str().parse::<usize>().unwrap_or(0));
             next = Next::File;
         } else if next == Next::Folder {
             asked = Asked::Page(word);
+            next = Next::Option;
+        } else if next == Next::Option && word.as_str() == "-q" {
+            next = Next::Questions;
+        } else if next == Next::Questions {
+            asked = with_questions(asked, word);
             next = Next::File;
         } else {
+            if next == Next::Option {
+                next = Next::File;
+            }
             if next == Next::First {
-                next = behind_first(word.as_str());
+                next = after_first(word.as_str());
             }
             if next == Next::File {
                 files.push(word)?;

@@ -1,0 +1,256 @@
+//! The numbers of a state. The page has, for each state, only those that differ from the state before it.
+use crate::fronts::Fronts;
+use crate::given::{Given, Part, Reference, offset_of};
+use crate::json::{begin, put_key, put_number};
+use crate::links::Link;
+use crate::parts::{place_meant, state_numbers, target_number};
+use crate::symbols::{is_alike, letter_of};
+use anyhow::{Result, anyhow};
+use aout_core::{File, Symbol};
+use link_session::{Cell, Session};
+use std::alloc::{AllocError, Global};
+
+/// The numbers of a state, as lists that a longer list of objects continues.
+#[derive(Drop)]
+pub(crate) struct Numbers {
+    /// For each name the kind of its state, the number of this, and for each link its value and letter.
+    names: Vec<u32>,
+    /// For each object and each group of its words: by how much a word, and the place that it refers to, are more than in
+    /// the object, what it refers to; and for each link what is added to the object's word, and subtracted.
+    groups: Vec<u32>,
+    /// For each object and each of its local symbols the value in each link.
+    locals: Vec<u32>,
+}
+
+/// A session, with what is computed from it.
+#[derive(Clone, Copy)]
+pub(crate) struct Computed<'a> {
+    pub(crate) session: &'a Session,
+    pub(crate) fronts: &'a [Fronts],
+    pub(crate) links: &'a [Link],
+}
+
+impl Numbers {
+    /// The numbers of no state.
+    pub(crate) fn none(alloc: Global) -> Numbers {
+        Numbers {
+            names: Vec::new(alloc),
+            groups: Vec::new(alloc),
+            locals: Vec::new(alloc),
+        }
+    }
+
+    /// The numbers of a session of the objects in the list.
+    pub(crate) fn of(
+        alloc: Global,
+        computed: Computed<'_>,
+        givens: &[Given],
+        list: &[usize],
+    ) -> Result<Numbers> {
+        let mut numbers = Numbers::none(alloc);
+        push_names(alloc, &mut numbers.names, computed)?;
+        push_locals(alloc, &mut numbers.locals, computed)?;
+        for (object, fronts) in list.iter().zip(computed.fronts) {
+            if let Some(given) = givens.get(*object) {
+                push_object(alloc, &mut numbers.groups, computed, given, fronts)?;
+            }
+        }
+        Ok(numbers)
+    }
+
+    /// Adds what differs from the numbers before.
+    pub(crate) fn put(&self, out: &mut String, before: &Numbers) -> Result<(), AllocError> {
+        put_key(out, "names")?;
+        put_changes(out, &before.names, &self.names)?;
+        put_key(out, "groups")?;
+        put_changes(out, &before.groups, &self.groups)?;
+        put_key(out, "locals")?;
+        put_changes(out, &before.locals, &self.locals)
+    }
+}
+
+/// Adds two lists: the places of the numbers that have changed, each with the number now, and the numbers that are new.
+fn put_changes(out: &mut String, before: &[u32], now: &[u32]) -> Result<(), AllocError> {
+    begin(out, '[')?;
+    begin(out, '[')?;
+    for (place, (old, new)) in before.iter().zip(now).enumerate() {
+        if *old != *new {
+            put_number(out, place as u64)?;
+            put_number(out, u64::from(*new))?;
+        }
+    }
+    out.push(']')?;
+    begin(out, '[')?;
+    for number in now.get(before.len()..).unwrap_or(&[]) {
+        put_number(out, u64::from(*number))?;
+    }
+    out.push(']')?;
+    out.push(']')
+}
+
+/// The symbols of the externals, by first mention: the last of the table.
+fn externals_of<'a>(session: &Session, file: &'a File) -> &'a [Symbol] {
+    let symbols = file.symbols();
+    let count = usize::from(session.external_count());
+    let first = symbols.len().saturating_sub(count);
+    symbols.get(first..).unwrap_or(&[])
+}
+
+/// Adds the numbers of the names.
+fn push_names(alloc: Global, out: &mut Vec<u32>, computed: Computed<'_>) -> Result<()> {
+    for index in 0..computed.session.external_count() {
+        if let Some((_, state)) = computed.session.external(index) {
+            let (kind, number) = state_numbers(state);
+            out.push(kind)?;
+            out.push(u32::from(number))?;
+            for link in computed.links {
+                push_external(alloc, out, computed.session, link, usize::from(index))?;
+            }
+        }
+    }
+    Ok(())
+}
+
+/// Adds the value and the letter of a name in a link.
+fn push_external(
+    alloc: Global,
+    out: &mut Vec<u32>,
+    session: &Session,
+    link: &Link,
+    index: usize,
+) -> Result<()> {
+    let Some(file) = link.file() else {
+        out.push(0)?;
+        out.push(0)?;
+        return Ok(());
+    };
+    let Some(symbol) = externals_of(session, file).get(index) else {
+        return Err(anyhow!("name {index} has no symbol"));
+    };
+    out.push(u32::from(symbol.value))?;
+    out.push(u32::from(letter_of(alloc, symbol)))?;
+    Ok(())
+}
+
+/// Adds the values of the local symbols of all objects.
+fn push_locals(alloc: Global, out: &mut Vec<u32>, computed: Computed<'_>) -> Result<()> {
+    let mut place = 0usize;
+    for entry in computed.session.entries() {
+        for symbol in entry.object().file().symbols() {
+            if !symbol.is_external() {
+                push_local(alloc, out, computed.links, symbol, place)?;
+                place = place.saturating_add(1);
+            }
+        }
+    }
+    Ok(())
+}
+
+/// Adds the values of a local symbol in the links, where it is at this place of the table.
+fn push_local(
+    alloc: Global,
+    out: &mut Vec<u32>,
+    links: &[Link],
+    symbol: &Symbol,
+    place: usize,
+) -> Result<()> {
+    for link in links {
+        let linked = link.file().and_then(|file| file.symbols().get(place));
+        match linked {
+            Some(found) if is_alike(alloc, symbol, found) => out.push(u32::from(found.value))?,
+            Some(_) => return Err(anyhow!("symbol {place} of a link is another one")),
+            None => out.push(0)?,
+        }
+    }
+    Ok(())
+}
+
+/// The cell of a word in the merged image.
+fn cell_at(session: &Session, part: Part, offset: u16) -> Option<Cell> {
+    let cells = match part {
+        Part::Text => session.text_cells(),
+        Part::Data => session.data_cells(),
+    };
+    cells.get(usize::from(offset / 2)).copied()
+}
+
+/// The word at an offset of a segment of a linked file.
+fn linked_word(link: &Link, part: Part, offset: u16) -> Option<u16> {
+    let file = link.file()?;
+    let words = match part {
+        Part::Text => file.text_words(),
+        Part::Data => file.data_words(),
+    };
+    words.get(usize::from(offset / 2)).copied()
+}
+
+/// Adds the numbers of a word.
+fn push_word(
+    out: &mut Vec<u32>,
+    computed: Computed<'_>,
+    given: &Given,
+    fronts: &Fronts,
+    reference: Reference,
+) -> Result<()> {
+    let Reference {
+        part,
+        index,
+        word,
+        reloc,
+        ..
+    } = reference;
+    let offset = offset_of(index).wrapping_add(fronts.front(part));
+    let Some(cell) = cell_at(computed.session, part, offset) else {
+        return Err(anyhow!("{}: word {offset} is not in the image", given.path));
+    };
+    let own = place_meant(
+        word,
+        reloc.is_pc(),
+        offset_of(index).wrapping_add(given.start(part)),
+    );
+    let meant = place_meant(cell.value, cell.pc, offset);
+    out.push(u32::from(cell.value.wrapping_sub(word)))?;
+    out.push(u32::from(meant.wrapping_sub(own)))?;
+    out.push(target_number(cell))?;
+    for link in computed.links {
+        let minus = if reloc.is_pc() {
+            link.base(part).wrapping_add(fronts.shift(part))
+        } else {
+            0
+        };
+        let last = linked_word(link, part, offset).unwrap_or(word);
+        out.push(u32::from(last.wrapping_sub(word).wrapping_add(minus)))?;
+        out.push(u32::from(minus))?;
+    }
+    Ok(())
+}
+
+/// Adds the numbers of an object: those of the first word of each group, which the other words of the group have too.
+fn push_object(
+    alloc: Global,
+    out: &mut Vec<u32>,
+    computed: Computed<'_>,
+    given: &Given,
+    fronts: &Fronts,
+) -> Result<()> {
+    let mut rows = Vec::new(alloc);
+    for first in &given.groups {
+        push_word(&mut rows, computed, given, fronts, *first)?;
+    }
+    for reference in &given.references {
+        let mut row = Vec::new(alloc);
+        push_word(&mut row, computed, given, fronts, *reference)?;
+        let at = reference.group.saturating_mul(row.len());
+        if rows.get(at..at.saturating_add(row.len())) != Some(row.as_slice()) {
+            return Err(anyhow!(
+                "{}: word {} differs from its group",
+                given.path,
+                reference.index
+            ));
+        }
+    }
+    for number in &rows {
+        out.push(*number)?;
+    }
+    Ok(())
+}

@@ -1,0 +1,119 @@
+// Keys and clicks. Image, names and marks are each one stop of the tabulator, with arrow keys inside.
+"use strict";
+
+const KEYS = new Map([["w", "withdraw"], ["arrowleft", "back"], ["arrowright", "forth"], ["a", "addresses"], ["d", "decimal"]]);
+[..."pnir"].forEach((key, i) => KEYS.set(key, `layout${i}`));
+const LISTS = ["image", "names", "marks"];
+
+// for each list the row that keys move from
+const active = { image: "", names: "", marks: "" };
+let areKeysOn = true;
+
+const rowsIn = (list) => [...byId(list).querySelectorAll("[role=option]")];
+
+// tells the browser which row of each list is active
+function setActive() {
+    for (const list of LISTS) {
+        const row = byId(active[list]);
+        const isThere = row && byId(list).contains(row);
+        for (const other of byId(list).querySelectorAll(".active")) if (other !== row) other.classList.remove("active");
+        if (isThere) {
+            row.classList.add("active");
+            byId(list).setAttribute("aria-activedescendant", row.id);
+        } else byId(list).removeAttribute("aria-activedescendant");
+    }
+}
+
+// makes a row active, and chooses it, unless it is a fold
+function moveTo(list, row) {
+    if (!row) return;
+    active[list] = row.id;
+    const key = row.dataset.key;
+    if (key.startsWith("fold ")) setActive();
+    else choose(key, list !== "image");
+    byId(active[list])?.scrollIntoView({ block: "nearest" });
+}
+
+// opens a fold, and makes its first word active
+function openFold(key) {
+    const [, object, part, start, end] = key.split(" ");
+    unfold(Number(object), part, Number(start), Number(end));
+    const place = view.list.indexOf(Number(object));
+    active.image = wordKey(part, stateNow().fronts[place][PARTS.indexOf(part)] + 2 * Number(start));
+    showChosen(true, "nearest", () => byId(active.image));
+}
+
+// what Enter and a click do with a row
+function press(list, row) {
+    if (row.dataset.key.startsWith("fold ")) return openFold(row.dataset.key);
+    moveTo(list, row);
+    answer(row.dataset.key);
+    return undefined;
+}
+
+function keyInList(list, event) {
+    const rows = rowsIn(list);
+    const now = rows.findIndex((row) => row.id === active[list]);
+    const places = { ArrowDown: now + 1, ArrowUp: Math.max(0, now - 1), Home: 0, End: rows.length - 1, PageDown: now + 10, PageUp: now - 10 };
+    if (event.key in places) moveTo(list, rows[Math.max(0, Math.min(rows.length - 1, places[event.key]))]);
+    else if ((event.key === "Enter" || event.key === " ") && now >= 0) press(list, rows[now]);
+    else return;
+    event.preventDefault();
+    event.stopPropagation();
+}
+
+function watchList(list) {
+    const element = byId(list);
+    element.addEventListener("keydown", (event) => {
+        if (!event.ctrlKey && !event.metaKey && !event.altKey) keyInList(list, event);
+    });
+    element.addEventListener("click", (event) => {
+        const row = event.target.closest("[role=option]");
+        if (row) press(list, row);
+    });
+    element.addEventListener("focus", () => {
+        const rows = rowsIn(list);
+        if (!rows.some((row) => row.id === active[list]) && rows.length > 0) {
+            active[list] = (rows.find((row) => row.matches(".bound, .put-back, .new, .changed")) ?? rows[0]).id;
+            setActive();
+        }
+    });
+}
+
+// single keys, in small letters or with Caps Lock, if they are on
+function shortcut(event) {
+    if (event.key === "Escape" && (view.guide >= 0 || chosen)) return chosen ? choose("", false) : closeGuide();
+    if (!areKeysOn || event.ctrlKey || event.metaKey || event.altKey || event.shiftKey) return undefined;
+    const key = event.key.toLowerCase();
+    const element = byId(KEYS.get(key) ?? (/^[1-9]$/.test(key) ? `add${key}` : ""));
+    if (!element) return undefined;
+    event.preventDefault();
+    return element.click();
+}
+
+function switchKeys() {
+    areKeysOn = !areKeysOn;
+    byId("keys").setAttribute("aria-pressed", String(areKeysOn));
+    byId("keys").textContent = areKeysOn ? "Keys on" : "Keys off";
+    document.body.classList.toggle("no-keys", !areKeysOn);
+}
+
+// the buttons of the bar; one that is disabled does nothing
+function watchBar() {
+    const other = () => (view.layout < 0 ? 0 : -1);
+    const acts = {
+        withdraw, back: () => history.back(), forth: () => history.forward(), keys: switchKeys, guides: () => closeGuide(true),
+        addresses: () => show({ ...view, layout: other() }), decimal: () => show({ ...view, decimal: !view.decimal }),
+        fold: () => { opened.clear(); showChosen(true); },
+    };
+    LAYOUTS.forEach((_, i) => { acts[`layout${i}`] = () => show({ ...view, layout: i }); });
+    for (const [id, act] of Object.entries(acts)) {
+        byId(id).addEventListener("click", () => { if (byId(id).getAttribute("aria-disabled") !== "true") act(); });
+    }
+}
+
+function watchKeys() {
+    LISTS.forEach(watchList);
+    watchBar();
+    document.addEventListener("keydown", shortcut);
+}

@@ -1,0 +1,359 @@
+// Puts a state on the page: objects, merged image, names and marks. Long segments are folded; what has changed is not.
+"use strict";
+
+const byId = (id) => document.getElementById(id);
+
+function make(tag, className, ...children) {
+    const element = document.createElement(tag);
+    if (className) element.className = className;
+    element.append(...children);
+    return element;
+}
+
+function makeButton(id, text, act) {
+    const element = make("button", "", text);
+    element.type = "button";
+    if (id) element.id = id;
+    element.addEventListener("click", act);
+    return element;
+}
+
+function option(className, key, ...children) {
+    const element = make("div", className, ...children);
+    element.setAttribute("role", "option");
+    element.dataset.key = key;
+    element.setAttribute("aria-selected", String(key === chosen));
+    return element;
+}
+
+function tag(element, change) {
+    if (!change) return;
+    element.classList.add(change.replace(" ", "-"));
+    element.append(" ", make("span", "tag", change));
+}
+
+// ---- folds
+
+const FEW = 24;
+const NAMED = 12;
+const PIECE = 64;
+// how many objects the bar of a phone offers to add
+const OFFERED = 3;
+// the words that were unfolded, as keys of objects and words
+const opened = new Set();
+const openKey = (object, part, index) => `${object} ${part} ${index}`;
+
+// the words of a segment of an object that are shown although they are many
+function wanted(state, place, part, must) {
+    const object = DATA.objects[state.list[place]];
+    const front = state.fronts[place][PARTS.indexOf(part)];
+    const indices = new Set([0, 1]);
+    const named = [...object.references[part]].filter(([, { group }]) => object.groupTargets[group].kind < 0);
+    for (const [index] of named.slice(0, NAMED)) indices.add(index);
+    for (let index = 0; index < object[part].length; index++) {
+        if (must.has(wordKey(part, front + 2 * index)) || opened.has(openKey(object.number, part, index))) indices.add(index);
+    }
+    return indices;
+}
+
+// the words of a segment of an object, as runs that are shown or folded
+function runsOf(state, place, part, must) {
+    const count = countOf(state.list[place], part);
+    const indices = count > FEW ? wanted(state, place, part, must) : null;
+    const runs = [];
+    for (let index = 0; index < count; index++) {
+        const isShown = !indices || indices.has(index);
+        const last = runs[runs.length - 1];
+        if (last && last.isShown === isShown) last.end = index + 1;
+        else runs.push({ isShown, start: index, end: index + 1 });
+    }
+    for (const run of runs) if (run.end - run.start < 3) run.isShown = true;
+    return runs;
+}
+
+// opens a fold, at most so many words of it
+function unfold(object, part, start, end) {
+    for (let index = start; index < Math.min(end, start + PIECE); index++) opened.add(openKey(object, part, index));
+}
+
+// ---- the merged image
+
+// the names that are defined at a place, as labels
+function labelsOf(state) {
+    const labels = new Map();
+    for (const { name, kind, number } of namesOf(state)) {
+        const key = wordKey(kind, number);
+        if (PARTS.includes(kind)) labels.set(key, [...(labels.get(key) ?? []), name]);
+    }
+    return labels;
+}
+
+// the size of a segment in bytes
+function sizeOf(state, segment) {
+    return segment === "bss" ? state.sizes[2] : 2 * (state.sizes[PARTS.indexOf(segment)] ?? 0);
+}
+
+// the computation of a word of a link, in a line
+function computation(state, word) {
+    const { plus, minus, final } = sumOf(state, word, view.layout);
+    if (word.own.kind === 0 && !word.own.pc) return [make("span", "target", "a number")];
+    const less = minus ? ` \u2212 ${shown(minus)}` : "";
+    const of = word.own.kind < 0 ? word.own.name : word.own.kind > 0 ? SEGMENTS[word.own.kind] : "";
+    return [make("span", "sum", `${shown(word.own.value)} + ${shown(plus)}${less} = ${shown(final)}`), " ", make("span", "of", of)];
+}
+
+// what a line says besides its numbers
+function meaning(state, word, labels) {
+    const element = make("span", "meaning");
+    const names = labels.get(wordKey(word.part, word.offset)) ?? [];
+    for (const name of names) element.append(make("span", "label", `${name}:`), " ");
+    const object = DATA.objects[state.list[word.place]];
+    const instruction = object.instructions?.[word.part]?.[word.index];
+    if (instruction) element.append(make("span", "instruction", instruction), " ");
+    const line = object.source?.[word.part]?.[word.index] ?? "";
+    const source = names.reduce((text, name) => text.replace(`${name}:`, ""), line).trim();
+    if (isLinked(state)) element.append(...computation(state, word));
+    else element.append(make("span", "target", targetText(word)), make("span", "place", placeText(word, sizeOf(state, SEGMENTS[word.kind]))));
+    if (source && !instruction) element.append(" ", make("span", "source", source));
+    return element;
+}
+
+const isLinked = (state) => view.layout >= 0 && !state.links[view.layout].refused;
+
+function wordRow(state, word, labels, change) {
+    const key = wordKey(word.part, word.offset);
+    const link = isLinked(state) ? state.links[view.layout] : null;
+    const base = link && word.part === "data" ? link.bases[1] : 0;
+    const final = link ? sumOf(state, word, view.layout).final : word.value;
+    const row = option(word.kind < 0 && !link ? "word waits" : "word", key);
+    row.id = key;
+    row.append(make("span", "offset", column(base + word.offset)), " ", make("span", "value", column(final)), " ");
+    row.append(make("span", "pc", word.pc ? "pc" : ""), " ", meaning(state, word, labels));
+    tag(row, change);
+    row.setAttribute("aria-label", `${word.part} ${row.textContent.replace(/\s+/g, " ").trim()}`);
+    return row;
+}
+
+function foldRow(state, place, part, run) {
+    const front = state.fronts[place][PARTS.indexOf(part)];
+    const object = state.list[place];
+    const text = `${run.end - run.start} more words, ${shown(front + 2 * run.start)} to ${shown(front + 2 * run.end - 2)}`;
+    const row = option("fold", `fold ${object} ${part} ${run.start} ${run.end}`, make("span", "", text), " ", make("span", "open", "show"));
+    row.id = `fold-${object}-${part}-${run.start}`;
+    if (view.gone < 0 && place === state.list.length - 1) tag(row, "new");
+    return row;
+}
+
+// a segment's part of the image, with its title: in a link from one address to another
+function groupElement(name, bytes, range) {
+    const title = make("h3", "", name, " ", make("span", "size", `${bytes} bytes`));
+    title.setAttribute("role", "presentation");
+    if (range) title.append(" ", make("span", "size", `${shown(range[0])} to ${shown(range[1])}`));
+    const element = make("div", "segment", title);
+    element.setAttribute("role", "group");
+    element.setAttribute("aria-label", title.textContent);
+    element.id = name;
+    return element;
+}
+
+function objectRows(state, place, part, context) {
+    const object = state.list[place];
+    const owner = make("p", "owner", make("span", "badge", String(object + 1)), " ", label(object));
+    owner.setAttribute("role", "presentation");
+    const rows = [owner];
+    const isNew = view.gone < 0 && place === state.list.length - 1;
+    for (const run of runsOf(state, place, part, context.must)) {
+        if (!run.isShown) rows.push(foldRow(state, place, part, run));
+        for (let index = run.start; run.isShown && index < run.end; index++) {
+            const word = imageWord(state, place, part, index);
+            const change = context.changed.get(wordKey(part, word.offset)) ?? (isNew ? "new" : "");
+            rows.push(wordRow(state, word, context.labels, change));
+        }
+    }
+    return rows;
+}
+
+// the words that have to be shown: those that changed and the one that is chosen, and what they refer to
+function mustShow(state, changed) {
+    const must = new Set();
+    for (const key of [...changed.keys(), chosen].filter((key) => /^(text|data)-/.test(key))) {
+        const [part, offset] = key.split("-");
+        const word = wordAt(state, part, Number(offset));
+        must.add(key);
+        if (word && word.kind > 0) must.add(wordKey(SEGMENTS[word.kind], word.meant - (word.meant % 2)));
+    }
+    const place = namesOf(state).find(({ name }) => chosen === `name ${name}`);
+    if (place) must.add(wordKey(place.kind, place.number));
+    return must;
+}
+
+function showImage(state, changed) {
+    const bases = isLinked(state) ? state.links[view.layout].bases : null;
+    const context = { changed, must: mustShow(state, changed), labels: labelsOf(state) };
+    const groups = [];
+    for (const part of PARTS.filter((part) => sizeOf(state, part) > 0)) {
+        const element = groupElement(part, sizeOf(state, part), bases && (part === "text" ? [0, bases[0]] : bases.slice(1, 3)));
+        state.list.forEach((object, place) => {
+            if (countOf(object, part) > 0) element.append(...objectRows(state, place, part, context));
+        });
+        groups.push(element);
+    }
+    if (bases && bases[2] < bases[3]) groups.push(groupElement("commons", bases[3] - bases[2], bases.slice(2, 4)));
+    if (state.sizes[2] > 0) groups.push(groupElement("bss", state.sizes[2], bases && bases.slice(3, 5)));
+    byId("image").replaceChildren(...groups);
+    byId("image").hidden = view.list.length === 0;
+    byId("image").classList.toggle("linked", bases !== null);
+    byId("fold").hidden = opened.size === 0;
+}
+
+// ---- the objects
+
+function listingRow(object, part, index) {
+    const word = ownWord(object, part, index);
+    const size = word.kind > 0 ? WORD / 2 : 0;
+    const meant = word.kind < 0 ? word.name : word.kind > 0 || word.pc ? targetText(word) : "";
+    const source = object.instructions?.[part]?.[index] ?? object.source?.[part]?.[index] ?? "";
+    const said = [meant + placeText(word, size), source].filter(Boolean).join(" / ");
+    const cells = [column(word.offset), column(word.value), word.pc ? "pc" : "", said];
+    return make("tr", "", ...cells.map((text) => make("td", "", text)));
+}
+
+function listing(object) {
+    const table = make("table", "listing");
+    for (const part of PARTS.filter((part) => object[part].length > 0)) {
+        const title = make("th", "", part);
+        title.colSpan = 4;
+        table.append(make("tr", "", title), ...object[part].map((_, index) => listingRow(object, part, index)));
+    }
+    return table;
+}
+
+function card(object) {
+    const { number, path } = object;
+    const title = make("h3", "", make("span", "badge", String(number + 1)), " ", label(number));
+    title.title = path;
+    const text = make("span", "do");
+    const add = makeButton(`add${number + 1}`, text, () => addObject(number));
+    if (number < 9) {
+        add.append(" ", make("kbd", "", String(number + 1)));
+        add.setAttribute("aria-keyshortcuts", String(number + 1));
+    }
+    const summary = make("summary", "", `${counted(object.text.length + object.data.length, "word")}, ${counted(object.symbols.length, "symbol")}`);
+    const words = make("details", "given", summary);
+    words.addEventListener("toggle", () => showListing(words, object));
+    const element = make("section", "card", make("div", "head", title, add), make("p", "refused"), words);
+    element.setAttribute("aria-label", label(number));
+    return element;
+}
+
+function showListing(words, object) {
+    words.replaceChildren(words.firstChild);
+    if (!words.open) return;
+    words.append(listing(object));
+    if (object.bss > 0) words.append(make("p", "", `bss ${object.bss} bytes`));
+    words.append(make("pre", "symbols", object.symbols.join("\n")));
+}
+
+function showCards() {
+    const [cards, adds] = [byId("cards"), byId("adds")];
+    if (!cards.firstChild) cards.append(...DATA.objects.map(card));
+    if (!adds.firstChild) adds.append(...DATA.objects.map(({ number }) => makeButton("", `Add ${label(number)}`, () => addObject(number))));
+    let offered = 0;
+    DATA.objects.forEach((object, number) => {
+        const element = cards.children[number];
+        const place = view.list.indexOf(number);
+        const refusal = REFUSALS.get(`${view.list.join()}+${number}`);
+        const add = byId(`add${number + 1}`);
+        const isOff = place >= 0 || !hasState([...view.list, number]);
+        add.firstChild.textContent = place >= 0 ? `${label(number)} is ${place + 1} of ${view.list.length}` : `Add ${label(number)}`;
+        add.setAttribute("aria-disabled", String(isOff));
+        adds.children[number].hidden = isOff || offered >= OFFERED;
+        if (!isOff) offered += 1;
+        element.classList.toggle("there", place >= 0);
+        element.querySelector(".refused").hidden = !refusal;
+        element.querySelector(".refused").textContent = refusal ? `refused here: ${refusal}` : "";
+        if (element.querySelector("details").open) showListing(element.querySelector("details"), object);
+    });
+}
+
+// ---- names and marks
+
+function showNames(state, changed) {
+    const rows = namesOf(state).map(({ name, i, kind, number }) => {
+        const row = option("name", `name ${name}`, make("b", "", name), " ", make("span", "state", stateText(kind, number)));
+        row.id = `name-${i}`;
+        if (isLinked(state)) {
+            const symbol = symbolOf(state, i, view.layout);
+            row.append(" ", make("span", "address", isAddress(symbol) ? shown(symbol.value) : "no address"));
+        }
+        tag(row, changed.get(`name ${name}`));
+        return row;
+    });
+    state.multiples.forEach((name, i) => {
+        const row = option("name multiple", `name ${name}`, make("b", "", name), " ", make("span", "state", "multiply defined"));
+        row.id = `multiple-${i}`;
+        rows.push(row);
+    });
+    byId("names").replaceChildren(...rows);
+    byId("names").hidden = rows.length === 0;
+}
+
+// the sum of a mark, in the direction of the step
+function markSum(mark, isBack) {
+    if (mark.bound === null || mark.bound === undefined) return "";
+    const [was, bound, now] = [mark.value, mark.bound, mark.now].map(shown);
+    return isBack ? `${now} \u2212 ${bound} = ${was}` : `${was} + ${bound} = ${now}`;
+}
+
+function markRow(raw, id, isBack) {
+    const mark = markOf(raw);
+    const was = mark.part
+        ? `${mark.part} ${shown(mark.offset)} was ${shown(mark.value)} ${mark.pc ? "pc " : ""}${targetText(mark)}`
+        : `${mark.name} was ${stateText(mark.kind, mark.number)}`;
+    const row = option("mark", markKey(mark), make("span", "was", was));
+    row.id = id;
+    const sum = markSum(mark, isBack);
+    if (sum) row.append(" ", make("span", "sum", sum), " ", make("span", "note", `${mark.name} ${isBack ? "was" : "is"} at ${shown(mark.bound)}`));
+    return row;
+}
+
+// what a withdrawal of the last object of a list cuts off
+function cutText(list) {
+    const [state, before] = [stateOf(list), stateOf(list.slice(0, -1))];
+    const [text, data, bss] = state.sizes.map((size, i) => size - before.sizes[i]);
+    const names = state.nameList.length - before.nameList.length;
+    const parts = [[text, `${counted(text, "word")} of text`], [data, `${counted(data, "word")} of data`]];
+    parts.push([bss, `${bss} bytes of bss`], [names, counted(names, "name")]);
+    return parts.filter(([number]) => number > 0).map(([, text]) => text).join(", ");
+}
+
+// the marks of the last object of a list, which it overwrote or which were put back
+function markGroup(list, isBack) {
+    const name = label(list[list.length - 1]);
+    const marks = stateOf(list).marks;
+    const rows = marks.map((mark, i) => markRow(mark, `mark-${list.length}-${i}`, isBack));
+    const what = rows.length === 0 ? "nothing" : isBack ? "these" : "these; a withdrawal puts them back";
+    const title = isBack ? `The withdrawal of ${name} put back ${what}` : `${name} overwrote ${what}`;
+    const notes = [make("p", "", title), make("p", "note", `${isBack ? "It cut" : "A withdrawal cuts"} off ${cutText(list) || "nothing"}.`)];
+    for (const note of notes) note.setAttribute("role", "presentation");
+    const element = make("div", isBack ? "undone" : "overwrote", notes[0], ...rows, notes[1]);
+    element.setAttribute("role", "group");
+    element.setAttribute("aria-label", title);
+    return element;
+}
+
+function showMarks() {
+    const groups = [];
+    if (view.gone >= 0) groups.push(markGroup([...view.list, view.gone], true));
+    if (view.list.length > 0) groups.push(markGroup(view.list, false));
+    if (groups.length === 0) groups.push(make("p", "note", "A mark remembers what an addition overwrote, so that a withdrawal can put it back."));
+    byId("marks").replaceChildren(...groups);
+}
+
+function showLink(state) {
+    byId("linked").hidden = !isLinked(state);
+    byId("overwritten").hidden = isLinked(state);
+    if (!isLinked(state)) return;
+    byId("table").textContent = tableOf(state, view.layout) || "empty";
+    byId("report").textContent = state.links[view.layout].report || "nothing to report";
+}

@@ -1,0 +1,183 @@
+"""The page in a browser: in Chromium by python3-selenium, and in Firefox by its own remote protocol, Marionette."""
+import base64
+import json
+import os
+import shutil
+import socket
+import subprocess
+import sys
+import tempfile
+import time
+
+SYSTEM = "/usr/bin/python3"
+PACKAGES = "Debian's packages are chromium, chromium-driver and python3-selenium"
+
+try:
+    from selenium import webdriver
+    from selenium.webdriver.chrome.service import Service
+    from selenium.webdriver.common.action_chains import ActionChains
+    from selenium.webdriver.common.keys import Keys
+except ImportError:
+    if os.path.exists(SYSTEM) and os.path.realpath(sys.executable) != os.path.realpath(SYSTEM):
+        os.execv(SYSTEM, [SYSTEM, *sys.argv])  # the system's Python has the package, if another one comes first
+    sys.exit(f"not run, as python3-selenium is missing; {PACKAGES}")
+
+if not all(os.path.exists(path) for path in ("/usr/bin/chromium", "/usr/bin/chromedriver")):
+    sys.exit(f"not run, as chromium or chromedriver is missing; {PACKAGES}")
+
+
+class Chromium:
+    name = "Chromium"
+
+    def __init__(self, path="", width=1280, height=720, text=16):
+        """`text` is the size of text that the browser is set to, in pixels."""
+        options = webdriver.ChromeOptions()
+        options.add_experimental_option("prefs", {"webkit": {"webprefs": {"default_font_size": text}}})
+        for word in ("--headless=new", "--no-sandbox", "--disable-dev-shm-usage", "--disable-gpu"):
+            options.add_argument(word)
+        options.set_capability("goog:loggingPrefs", {"browser": "ALL"})
+        self.driver = webdriver.Chrome(service=Service("/usr/bin/chromedriver"), options=options)
+        self.size(width, height)
+        if path:
+            self.load(path)
+
+    def load(self, path):
+        self.url = "file://" + path
+        self.open("")
+
+    def open(self, address):
+        self.driver.get("about:blank")
+        self.driver.get(self.url + address)
+
+    def size(self, width, height, scale=1):
+        metrics = {"width": width, "height": height, "deviceScaleFactor": scale, "mobile": False}
+        self.driver.execute_cdp_cmd("Emulation.setDeviceMetricsOverride", metrics)
+
+    def media(self, medium="", scheme="light"):
+        features = [{"name": "prefers-color-scheme", "value": scheme}]
+        self.driver.execute_cdp_cmd("Emulation.setEmulatedMedia", {"media": medium, "features": features})
+
+    def run(self, script, *words):
+        return self.driver.execute_script(script, *words)
+
+    def wait(self, script, *words):
+        """Waits until a script gives true; after five seconds it goes on."""
+        for _ in range(100):
+            if self.run(script, *words):
+                return
+            time.sleep(0.05)
+
+    def type(self, *keys):
+        for key in keys:
+            ActionChains(self.driver, duration=0).send_keys(key).perform()
+
+    def click(self, name):
+        self.driver.find_element("id", name).click()
+
+    def back(self):
+        self.driver.back()
+
+    def forward(self):
+        self.driver.forward()
+
+    def picture(self, path):
+        self.driver.save_screenshot(path)
+
+    def paper(self):
+        """The page as it is printed, as PDF."""
+        printed = self.driver.execute_cdp_cmd("Page.printToPDF", {"preferCSSPageSize": True, "printBackground": True})
+        return base64.b64decode(printed["data"])
+
+    def roles(self):
+        """The accessibility tree, as pairs of a role and a name."""
+        nodes = self.driver.execute_cdp_cmd("Accessibility.getFullAXTree", {})["nodes"]
+        return [(node.get("role", {}).get("value", ""), node.get("name", {}).get("value", "")) for node in nodes if not node["ignored"]]
+
+    def errors(self):
+        return [entry["message"] for entry in self.driver.get_log("browser") if entry["level"] == "SEVERE"]
+
+    def quit(self):
+        self.driver.quit()
+
+
+def firefox():
+    """Where Firefox is installed, if it is."""
+    return shutil.which("firefox-esr") or shutil.which("firefox")
+
+
+class Firefox:
+    """As much of the same as layouts need. Its window is at least 500 pixels wide, so the page is a frame in it."""
+
+    name = "Firefox"
+
+    def __init__(self, zoom=1):
+        self.home = tempfile.mkdtemp()
+        with socket.socket() as free:
+            free.bind(("127.0.0.1", 0))
+            port = free.getsockname()[1]
+        with open(os.path.join(self.home, "user.js"), "w", encoding="ascii") as out:
+            out.write(f'user_pref("marionette.port", {port});\nuser_pref("layout.css.devPixelsPerPx", "{zoom}");\n')
+            out.write('user_pref("browser.shell.checkDefaultBrowser", false);\nuser_pref("security.fileuri.strict_origin_policy", false);\n')
+        words = [firefox(), "--headless", "--marionette", "--no-remote", "--profile", self.home]
+        self.process = subprocess.Popen(words, stdout=subprocess.DEVNULL, stderr=subprocess.DEVNULL, env={**os.environ, "HOME": self.home})
+        self.socket, self.rest, self.number = self.reach(port), b"", 0
+        self.receive()
+        self.send("WebDriver:NewSession", {})
+
+    def reach(self, port):
+        for _ in range(300):
+            try:
+                return socket.create_connection(("127.0.0.1", port))
+            except OSError:
+                time.sleep(0.2)
+        raise OSError("Firefox does not answer")
+
+    def receive(self):
+        while b":" not in self.rest:
+            self.rest += self.socket.recv(65536)
+        count, _, self.rest = self.rest.partition(b":")
+        while len(self.rest) < int(count):
+            self.rest += self.socket.recv(65536)
+        text, self.rest = self.rest[:int(count)], self.rest[int(count):]
+        return json.loads(text)
+
+    def send(self, command, words):
+        self.number += 1
+        text = json.dumps([0, self.number, command, words]).encode()
+        self.socket.sendall(str(len(text)).encode() + b":" + text)
+        _, _, fault, result = self.receive()
+        if fault:
+            raise RuntimeError(f"{command}: {fault['error']}: {fault['message']}")
+        return result
+
+    def load(self, path):
+        self.url = "file://" + path
+
+    def show(self, width, height):
+        """Opens the page in a window, or a frame, that is so wide."""
+        path = os.path.join(self.home, "frame.html")
+        with open(path, "w", encoding="ascii") as out:
+            out.write(f'<body style="margin: 0"><iframe src="{self.url}" style="width: {width}px; height: {height}px; border: 0"></iframe>')
+        self.send("WebDriver:SetWindowRect", {"width": max(width + 40, 500), "height": height + 120})
+        self.send("WebDriver:Navigate", {"url": "file://" + path})
+        self.send("WebDriver:SwitchToFrame", {"id": 0})
+        if self.run("return innerWidth") != width:
+            raise RuntimeError(f"the frame is not {width} wide")
+
+    def run(self, script, *words):
+        return self.send("WebDriver:ExecuteScript", {"script": script, "args": list(words)})["value"]
+
+    def wait(self, script, *words):
+        for _ in range(100):
+            if self.run(script, *words):
+                return
+            time.sleep(0.05)
+
+    def picture(self, path):
+        with open(path, "wb") as out:
+            out.write(base64.b64decode(self.send("WebDriver:TakeScreenshot", {"full": False})["value"]))
+
+    def quit(self):
+        self.process.terminate()
+        self.process.wait()
+        shutil.rmtree(self.home, ignore_errors=True)

@@ -1,0 +1,278 @@
+"""Uses the page of the lesson as a student does: the first view, the tour and the lessons by keys, steps back, marks, folds."""
+import re
+
+from page_browser import Keys
+
+FIRST = """
+const text = (selector) => document.querySelector(selector)?.textContent.trim() ?? "";
+return { title: text("h1"), titles: document.querySelectorAll("h1").length, lead: text(".lead"), legend: document.querySelectorAll(".legend li").length,
+    action: text("#first"), tour: text("#menu button"), status: text("#status"), border: getComputedStyle(document.getElementById("status")).borderStyle };
+"""
+# how far texts differ from what is behind them: the smallest contrast, and where
+CONTRAST = r"""
+const rgb = (text) => text.match(/[\d.]+/g).map(Number);
+const light = (rgb) => rgb.slice(0, 3).map((c) => c / 255).map((c) => c <= 0.03928 ? c / 12.92 : ((c + 0.055) / 1.055) ** 2.4).reduce((s, c, i) => s + c * [0.2126, 0.7152, 0.0722][i], 0);
+function paper(element) {
+    for (let at = element; at; at = at.parentElement) {
+        const color = rgb(getComputedStyle(at).backgroundColor);
+        if (color.length === 3 || color[3] === 1) return color;
+    }
+    return [255, 255, 255];
+}
+let least = [99, ""], count = 0;
+for (const element of document.querySelectorAll("body *")) {
+    if (![...element.childNodes].some((node) => node.nodeType === 3 && node.data.trim()) || !element.checkVisibility() || element.closest("svg, script")) continue;
+    const [one, other] = [light(rgb(getComputedStyle(element).color)), light(paper(element))];
+    const contrast = (Math.max(one, other) + 0.05) / (Math.min(one, other) + 0.05);
+    count += 1;
+    if (contrast < least[0]) least = [contrast, element.textContent.slice(0, 30)];
+}
+return { contrast: least[0], where: least[1], count, paper: rgb(getComputedStyle(document.body).backgroundColor) };
+"""
+FOCUS = "const e = document.activeElement; return e.id || e.className || e.tagName;"
+# what the tabulator stops at, in order
+STOPS = """
+return [...document.querySelectorAll("button, summary, [tabindex]")].filter((e) => e.checkVisibility() && e.tabIndex >= 0).length;
+"""
+
+
+def first_view(page, same):
+    page.open("")
+    seen = page.run(FIRST)
+    same("the title", (seen["title"], seen["titles"]), ("What a linker does", 1))
+    same("sentences of the first view", len(re.findall(r"[.:] |\.$", seen["lead"])) >= 2, True)
+    same("lines of the legend", seen["legend"], 6)
+    same("the first action", (seen["action"], seen["tour"]), ("Add main.o", "Take the tour, 5 steps"))
+    same("the status does not look like a button", (seen["status"], seen["border"]), ("No objects yet", "none"))
+    same("the words of the page are not nothing", page.run("return document.body.innerText.includes('nothing\\n')"), False)
+    page.click("first")
+    same("the first action adds main.o", page.run("return [location.hash, document.getElementById('status').textContent]"), ["#objects=1", "Added main.o"])
+
+
+def roles(page, same):
+    """Names and roles, as the browser tells them to a reader of the screen."""
+    page.open("#objects=1,2")
+    tree = page.roles()
+    for role, name in (("heading", "What a linker does"), ("heading", "Objects"), ("heading", "Names"), ("heading", "Marks"), ("button", "One step back"),
+                       ("button", "One step forward"), ("button", "Addresses of a link with -n"), ("button", "Addresses of a partial link, with -r"),
+                       ("button", "Decimal numbers"), ("button", "Shortcut keys"), ("region", "Objects"), ("main", ""), ("region", "Names and marks"),
+                       ("listbox", "Merged image"), ("listbox", "Names"), ("listbox", "Marks"), ("region", "main.o"), ("region", "twice.o"),
+                       ("option", "text 000006 000002 pc text 000012 entry 1, from 010 bound"), ("option", "_twice text 000012 changed"), ("group", "text 14 bytes"), ("status", "")):
+        same(f"the {role} {name}", (role, name) in tree, True)
+    same("buttons without a name", [pair for pair in tree if pair[0] in ("button", "option", "listbox", "region") and not pair[1].strip()], [])
+    same("one place that is announced", page.run("return document.querySelectorAll('[aria-live], [role=status], [role=alert], [role=log]').length"), 1)
+    page.run("window.kept = document.getElementById('status')")
+    page.type("w")
+    same("the status is the same element", page.run("return [kept === document.getElementById('status'), kept.isConnected, kept.textContent]"), [True, True, "Withdrew twice.o: 1 word put back"])
+
+
+def stops(page, compiled, same):
+    """Image, names and marks are one stop each; arrow keys move inside."""
+    page.load(compiled)
+    page.open("#objects=1,2,3,4,5,6,7,8,9,10")
+    same("stops of ten objects", page.run(STOPS) < 60, True)
+    same("stops in the image", page.run("return document.querySelectorAll('#image [tabindex], #image button').length"), 0)
+    same("a tenth object has no key", page.run("return [...document.querySelectorAll('.card')].map((card) => card.querySelectorAll('kbd').length)"), [1] * 9 + [0])
+    page.run("document.getElementById('image').focus()")
+    rows = page.run("return [...document.querySelectorAll('#image [role=option]')].map((row) => row.id)")
+    page.type(Keys.HOME)
+    same("Home", page.run("return document.getElementById('image').getAttribute('aria-activedescendant')"), rows[0])
+    page.type(Keys.ARROW_DOWN)
+    same("arrow down", page.run("return document.querySelector('#image .active').id"), rows[1])
+    same("arrow down chooses", page.run("return document.querySelector('#image [aria-selected=true]').id"), rows[1])
+    page.type(Keys.ARROW_DOWN, Keys.ARROW_DOWN)
+    fold = page.run("return [...document.querySelectorAll('#image [role=option]')].findIndex((row) => row.className.includes('fold'))")
+    page.type(Keys.HOME, *[Keys.ARROW_DOWN] * fold)
+    before = page.run("return document.querySelectorAll('.word').length")
+    page.type(Keys.ENTER)
+    same("Enter opens a fold", page.run("return document.querySelectorAll('.word').length") > before, True)
+
+
+def keys(page, default, same):
+    """Keys with Caps Lock, and switched off."""
+    page.load(default)
+    event = "document.dispatchEvent(new KeyboardEvent('keydown', { key: arguments[0], shiftKey: arguments[1], ctrlKey: arguments[2], bubbles: true }));"
+    page.type("1", "2")
+    page.run(event, "W", False, False)
+    same("w with Caps Lock", page.run("return location.hash"), "#objects=1&withdrawn=2")
+    page.run(event, "W", True, False)
+    page.run(event, "w", False, True)
+    same("W with Shift, and w with Control", page.run("return location.hash"), "#objects=1&withdrawn=2")
+    page.click("keys")
+    page.type("w")
+    same("keys that are off", page.run("return [location.hash, document.getElementById('keys').getAttribute('aria-pressed')]"), ["#objects=1&withdrawn=2", "false"])
+    page.click("keys")
+    page.type("w")
+    same("keys that are on again", page.run("return location.hash"), "#withdrawn=1")
+
+
+def history(page, default, same):
+    """The browser's Back and Forward are steps, and so are the page's buttons after them."""
+    page.load(default)
+    page.type("1", "2", "5")
+    page.back()
+    page.wait("return location.hash === '#objects=1,2'")
+    same("Back", page.run("return [view.list.length, document.getElementById('back').getAttribute('aria-disabled'), document.getElementById('forth').getAttribute('aria-disabled')]"), [2, "false", "false"])
+    page.click("back")
+    page.wait("return location.hash === '#objects=1'")
+    same("step back after Back", page.run("return view.list"), [0])
+    page.forward()
+    page.wait("return location.hash === '#objects=1,2'")
+    page.click("forth")
+    page.wait("return location.hash === '#objects=1,2,5'")
+    same("Forward, and a step forward", page.run("return view.list"), [0, 1, 4])
+    same("the last step", page.run("return document.getElementById('forth').getAttribute('aria-disabled')"), "true")
+
+
+def press(page, name):
+    """Goes to a button by the tabulator, and presses it."""
+    for _ in range(60):
+        if page.run(FOCUS) == name:
+            page.type(Keys.ENTER)
+            return True
+        page.type(Keys.TAB)
+    return False
+
+
+def tour(page, default, same):
+    """Five steps, by keys alone, and dismissed by Escape."""
+    page.load(default)
+    for _ in range(30):
+        page.type(Keys.TAB)
+        if page.run("return document.activeElement.textContent") == "Take the tour, 5 steps":
+            break
+    page.type(Keys.ENTER)
+    told = []
+    for number in range(1, 6):
+        page.wait("return new URLSearchParams(location.hash.slice(1)).get('tour') === arguments[0]", str(number))
+        told.append(page.run("return document.querySelector('#guide .says').textContent"))
+        same(f"the tour at {number}", page.run("return document.querySelectorAll('.toured').length"), 1)
+        if number < 5:
+            same(f"the tour, next at {number}", press(page, "next"), True)
+    same("steps of the tour", (len(set(told)), min(map(len, told)) > 60), (5, True))
+    page.back()
+    page.wait("return new URLSearchParams(location.hash.slice(1)).get('tour') === '4'")
+    page.type(Keys.ESCAPE)
+    same("the tour is dismissed", page.run("return [document.getElementById('guide').hidden, location.hash]"), [True, "#objects=1,2"])
+
+
+def answer_by_keys(page, wait):
+    """Chooses the first answer by keys: a word in the image, a name, or a button."""
+    if wait["choices"]:
+        return press(page, f"choice{1 + next(i for i, choice in enumerate(wait['choices']) if choice['isRight'])}")
+    key = wait["answers"][0]
+    place = "names" if key.startswith("name ") else "image"
+    for _ in range(60):
+        if page.run(FOCUS) == place:
+            break
+        page.type(Keys.TAB)
+    page.type(Keys.HOME)
+    for _ in range(40):
+        if page.run("return document.querySelector(`#${arguments[0]} .active`)?.dataset.key", place) == key:
+            page.type(Keys.ENTER)
+            return True
+        page.type(Keys.ARROW_DOWN)
+    return False
+
+
+def lessons(page, default, same):
+    """The three lessons by keys alone, with the right answers; and one with a wrong one."""
+    page.load(default)
+    page.run("document.getElementById('guides').focus()")
+    page.type(Keys.ENTER)
+    same("the menu", page.run("return [...document.querySelectorAll('#guide button')].map((button) => button.textContent)"),
+         ["Take the tour, 5 steps", "Lesson 1: A call and a common", "Lesson 2: Two definitions of one name", "Lesson 3: A partial link"])
+    page.type(Keys.TAB, Keys.ENTER)
+    right = 0
+    for number in (1, 2, 3):
+        page.wait("return view.guide === arguments[0]", number)
+        for done in range(page.run("return GUIDES[view.guide].steps.length - 1")):
+            wait = page.run("return nextStep()")
+            if wait["ask"]:
+                same(f"lesson {number}, question {done}", answer_by_keys(page, wait), True)
+                same(f"lesson {number}, the answer is noted", "You chose" in page.run("return document.querySelector('#guide .hint').textContent"), True)
+            same(f"lesson {number}, step {done}", press(page, "next"), True)
+            page.wait("return view.done === arguments[0]", done + 1)
+            if wait["ask"]:
+                right += 1
+                same(f"lesson {number}, the answer at {done + 1}", page.run("return document.querySelector('#guide .is-right')?.textContent.slice(0, 5)"), "Right")
+        if number < 3:
+            same(f"lesson {number}, on to the next", press(page, "next"), True)
+    same("questions that were answered", right, 10)
+    page.open("#objects=1&lesson=1&done=1")
+    page.click("text-0")
+    page.click("next")
+    same("a wrong answer", page.run("return document.querySelector('#guide .is-wrong').textContent"), "You chose text 000000; the answer is text 000006.")
+    page.back()
+    page.wait("return view.done === 1")
+    same("Back in a lesson", page.run("return [view.list, document.querySelector('#guide .ask').textContent.slice(0, 10)]"), [[0], "Which word"])
+
+
+def leads(page, default, same):
+    """Marks lead to their words, names to theirs; the bar stays; the image fills its column."""
+    page.load(default)
+    page.size(1280, 300)
+    page.open("#objects=1,2")
+    page.run("document.querySelector('#marks [data-key=text-6]').click()")
+    seen = page.run("const box = document.getElementById('text-6').getBoundingClientRect(); const bar = document.getElementById('top').getBoundingClientRect();"
+                    "return [document.querySelector('#image [aria-selected=true]').id, box.top >= bar.bottom - 1 && box.bottom <= innerHeight + 1]")
+    same("a mark leads to its word", seen, ["text-6", True])
+    same("and shows its arrow", page.run("return [...document.querySelectorAll('g.arrow')].map((arrow) => arrow.dataset.from)"), ["text-6"])
+    page.run("document.querySelector('#names [data-key=\"name _count\"]').click()")
+    same("a name shows no arrow but its own", page.run("return document.querySelectorAll('g.arrow').length"), 0)
+    for width, height in ((390, 500), (820, 500), (1280, 500)):
+        page.size(width, height)
+        page.open("#objects=1,2,3,4,5")
+        page.run("window.scrollTo(0, 400); document.getElementById('main').scrollTop = 400;")
+        top = page.run("return ['h1', '#status', '#withdraw', '#back'].map((s) => document.querySelector(s).getBoundingClientRect()).every((b) => b.top >= 0 && b.bottom <= innerHeight)")
+        same(f"the bar stays, {width} wide", top, True)
+    page.size(390, 844)
+    page.open("")
+    same("on a phone the objects are folded", page.run("return [...document.querySelectorAll('.card')].filter((card) => card.checkVisibility()).length"), 0)
+    for number in (1, 2, 3):
+        seen = page.run("const button = document.querySelector('#adds button:not([hidden])'), box = button.getBoundingClientRect(); button.click(); return box.top >= 0 && box.bottom <= innerHeight")
+        same(f"on a phone the buttons stay, {number}", (seen, page.run("return view.list.length")), (True, number))
+        same(f"on a phone the image is seen, {number}", page.run("const box = document.querySelector('.word.new').getBoundingClientRect(); return box.top < innerHeight && box.bottom > 0"), True)
+    page.size(1280, 720)
+    page.open("#objects=1,2,3,4")
+    fill = page.run("const row = document.querySelector('.word').getBoundingClientRect(), main = document.getElementById('main').getBoundingClientRect(); return row.width / main.width")
+    same("the image fills its column", fill > 0.75, True)
+
+
+def texts(page, default, same):
+    """Places before a segment, instructions, zoom, dark and light."""
+    page.load(default)
+    page.open("#objects=3,4")
+    same("a place before a segment", page.run("return document.querySelector('#text-2 .place').textContent"), " \u2212 2")
+    page.open("#objects=1")
+    page.run("DATA.objects[0].instructions = { text: ['mov _count, r0', '', 'jsr pc, _twice'] }; showAll();")
+    same("a place for instructions", page.run("return [...document.querySelectorAll('.instruction')].map((e) => e.textContent)"), ["mov _count, r0", "jsr pc, _twice"])
+    css = page.run("return document.querySelector('style').textContent")
+    same("no size follows the window's width", re.findall(r"[\d.]+(?:vw|vi|vmin|vmax)\b", css), [])
+    same("sizes of text in pixels", re.findall(r"font(?:-size)?:[^;]*\dpx", css), [])
+    sizes = []
+    for width, scale in ((1280, 1), (640, 2)):
+        page.size(width, 720 // scale, scale)
+        page.open("#objects=1,2")
+        sizes.append(page.run("return parseFloat(getComputedStyle(document.querySelector('.word')).fontSize) * devicePixelRatio"))
+    same("zoom of 200 % makes text twice as large", sizes[1], 2 * sizes[0])
+    page.size(1280, 720)
+    for scheme in ("light", "dark"):
+        page.media("", scheme)
+        for state in ("", "#objects=1,2", "#objects=1&withdrawn=2", "#objects=1&lesson=1&done=1"):
+            page.open(state)
+            seen = page.run(CONTRAST)
+            same(f"contrast, {scheme}, {state}: {seen['where']}", (seen["contrast"] >= 4.5, seen["count"] > 30, max(seen["paper"][:3]) < 60), (True, True, scheme == "dark"))
+    page.media("", "light")
+
+
+def use_all(page, default, compiled, same):
+    first_view(page, same)
+    roles(page, same)
+    stops(page, compiled, same)
+    keys(page, default, same)
+    history(page, default, same)
+    tour(page, default, same)
+    lessons(page, default, same)
+    leads(page, default, same)
+    texts(page, default, same)
