@@ -4,11 +4,12 @@ use crate::given::{Given, Part, Reference, offset_of};
 use crate::json::{begin, put_key, put_number};
 use crate::links::Link;
 use crate::parts::{place_meant, state_numbers, target_number};
-use crate::symbols::{is_alike, letter_of};
+use crate::symbols::is_alike;
 use anyhow::{Result, anyhow};
 use aout_core::{File, Symbol};
 use link_session::{Cell, Session};
 use std::alloc::{AllocError, Global};
+use symtools::letter;
 
 /// The numbers of a state, as lists that a longer list of objects continues.
 #[derive(Drop)]
@@ -48,8 +49,8 @@ impl Numbers {
         list: &[usize],
     ) -> Result<Numbers> {
         let mut numbers = Numbers::none(alloc);
-        push_names(alloc, &mut numbers.names, computed)?;
-        push_locals(alloc, &mut numbers.locals, computed)?;
+        push_names(&mut numbers.names, computed)?;
+        push_locals(&mut numbers.locals, computed)?;
         for (object, fronts) in list.iter().zip(computed.fronts) {
             if let Some(given) = givens.get(*object) {
                 push_object(alloc, &mut numbers.groups, computed, given, fronts)?;
@@ -97,14 +98,14 @@ fn externals_of<'a>(session: &Session, file: &'a File) -> &'a [Symbol] {
 }
 
 /// Adds the numbers of the names.
-fn push_names(alloc: Global, out: &mut Vec<u32>, computed: Computed<'_>) -> Result<()> {
+fn push_names(out: &mut Vec<u32>, computed: Computed<'_>) -> Result<()> {
     for index in 0..computed.session.external_count() {
         if let Some((_, state)) = computed.session.external(index) {
             let (kind, number) = state_numbers(state);
             out.push(kind)?;
             out.push(u32::from(number))?;
             for link in computed.links {
-                push_external(alloc, out, computed.session, link, usize::from(index))?;
+                push_external(out, computed.session, link, usize::from(index))?;
             }
         }
     }
@@ -112,13 +113,7 @@ fn push_names(alloc: Global, out: &mut Vec<u32>, computed: Computed<'_>) -> Resu
 }
 
 /// Adds the value and the letter of a name in a link.
-fn push_external(
-    alloc: Global,
-    out: &mut Vec<u32>,
-    session: &Session,
-    link: &Link,
-    index: usize,
-) -> Result<()> {
+fn push_external(out: &mut Vec<u32>, session: &Session, link: &Link, index: usize) -> Result<()> {
     let Some(file) = link.file() else {
         out.push(0)?;
         out.push(0)?;
@@ -128,17 +123,17 @@ fn push_external(
         return Err(anyhow!("name {index} has no symbol"));
     };
     out.push(u32::from(symbol.value))?;
-    out.push(u32::from(letter_of(alloc, symbol)))?;
+    out.push(u32::from(letter(symbol)))?;
     Ok(())
 }
 
 /// Adds the values of the local symbols of all objects.
-fn push_locals(alloc: Global, out: &mut Vec<u32>, computed: Computed<'_>) -> Result<()> {
+fn push_locals(out: &mut Vec<u32>, computed: Computed<'_>) -> Result<()> {
     let mut place = 0usize;
     for entry in computed.session.entries() {
         for symbol in entry.object().file().symbols() {
             if !symbol.is_external() {
-                push_local(alloc, out, computed.links, symbol, place)?;
+                push_local(out, computed.links, symbol, place)?;
                 place = place.saturating_add(1);
             }
         }
@@ -147,17 +142,11 @@ fn push_locals(alloc: Global, out: &mut Vec<u32>, computed: Computed<'_>) -> Res
 }
 
 /// Adds the values of a local symbol in the links, where it is at this place of the table.
-fn push_local(
-    alloc: Global,
-    out: &mut Vec<u32>,
-    links: &[Link],
-    symbol: &Symbol,
-    place: usize,
-) -> Result<()> {
+fn push_local(out: &mut Vec<u32>, links: &[Link], symbol: &Symbol, place: usize) -> Result<()> {
     for link in links {
         let linked = link.file().and_then(|file| file.symbols().get(place));
         match linked {
-            Some(found) if is_alike(alloc, symbol, found) => out.push(u32::from(found.value))?,
+            Some(found) if is_alike(symbol, found) => out.push(u32::from(found.value))?,
             Some(_) => return Err(anyhow!("symbol {place} of a link is another one")),
             None => out.push(0)?,
         }

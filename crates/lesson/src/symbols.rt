@@ -2,7 +2,7 @@
 use crate::json::{begin, put_bytes};
 use aout_core::{Symbol, Wire};
 use std::alloc::{AllocError, Global};
-use symtools::line;
+use symtools::{letter, line};
 
 /// The line of `nm -p` for a symbol, without its end.
 pub(crate) fn nm_line(alloc: Global, symbol: &Symbol) -> Vec<u8> {
@@ -13,15 +13,9 @@ pub(crate) fn nm_line(alloc: Global, symbol: &Symbol) -> Vec<u8> {
     text
 }
 
-/// The letter of a symbol.
-pub(crate) fn letter_of(alloc: Global, symbol: &Symbol) -> u8 {
-    nm_line(alloc, symbol).get(7).copied().unwrap_or(b'?')
-}
-
 /// Whether two symbols have the same letter and name.
-pub(crate) fn is_alike(alloc: Global, one: &Symbol, other: &Symbol) -> bool {
-    let (one, other) = (nm_line(alloc, one), nm_line(alloc, other));
-    one.get(6..) == other.get(6..)
+pub(crate) fn is_alike(one: &Symbol, other: &Symbol) -> bool {
+    letter(one) == letter(other) && one.name == other.name
 }
 
 /// Adds the lines, as a list.
