@@ -1,6 +1,5 @@
 //! Tests of what no case can say: devices that fail and how often they are called, texts of faults, calls that may be refused
-//! memory while none is, the calls below the commands, and
-//! instructions as text.
+//! memory while none is, and the calls below the commands.
 #![tactic(auto)]
 
 #[cfg(test)]
@@ -11,10 +10,6 @@ mod block_writes;
 mod fault_texts;
 #[cfg(test)]
 mod faults;
-#[cfg(test)]
-mod instruction_files;
-#[cfg(test)]
-mod instruction_texts;
 #[cfg(test)]
 mod library;
 #[cfg(test)]
