@@ -11,8 +11,8 @@
 #
 # To run the packages, a folder with Debian's base is made by debootstrap, from the mirror of this machine; with a C compiler and
 # pkg-config, and without the kit, make and Python. Once the package for Debian is installed there, and once the tar is unpacked.
-# Both times the commands of README, the examples of the manual pages, the cases, and the C example with both libraries are run
-# there. What drives the cases, tests/cases.py, runs outside. Wanted: root, Debian's debootstrap and lintian.
+# Both times the examples of the manual pages, the tutorial, the cases, and the C example with both libraries are run there; before
+# that, the commands of README. What drives the cases, tests/cases.py, runs outside. Wanted: root, Debian's debootstrap and lintian.
 set -u
 cd "$(dirname "$0")/.."
 top=$PWD
@@ -113,14 +113,14 @@ readme() {
     echo "README.md: $(wc -l <"$work/readme.sh") lines were run"
 }
 
-# the examples of the manual pages that are installed
+# the examples of the manual pages that are installed, and the tutorial
 manual() {
     rm -rf "$debian/tmp/manual"
     mkdir -p "$debian/tmp/manual/tests" "$debian/tmp/manual/build"
     cp tests/manual.sh "$debian/tmp/manual/tests"
     inside sh -euc 'cd /tmp/manual && mkdir man && cp "$1"/man/man[15]/v7* man && { gunzip -q man/*.gz 2>/dev/null || :; }
         cp -r "$1/doc/v7/examples" . && for program in v7 v7-from-gnu v7-object v7-explain v7-lesson; do ln -s "$(command -v $program)" build; done
-        sh tests/manual.sh man/*' sh "$share" || fail "an example of the manual differs"
+        sh tests/manual.sh man/* "$1/doc/v7/docs/TUTORIAL.md"' sh "$share" || fail "an example of the manual or the tutorial differs"
 }
 
 # the cases, driven from outside: each program is a script that runs it in the folder

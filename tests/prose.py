@@ -45,7 +45,6 @@ EXCEPTIONS = [
 # targets of make that a document may show although .ci/run does not run them, and why
 NOT_IN_CI = {
     "bench": "prints figures, and never fails",
-    "test": "the gate plays the same cases and runs the same tests",
     "instructions": "needs valgrind, and prints figures",
     "room": "needs valgrind, and prints figures",
     "memory": "takes ten minutes",
