@@ -1,8 +1,6 @@
 //! Calls at one size after another. A call that gave up at a certain size alone, as if memory ran out or a device failed,
 //! would meet its contract: here it is seen. A line for each call tells its sizes, or the first size at which it came out
-//! wrong; the status is then 1.
-#![tactic(auto)]
-
+//! wrong.
 mod links;
 mod listings;
 mod sessions;
@@ -10,7 +8,6 @@ mod wires;
 
 use std::alloc::Global;
 use std::io;
-use std::process::ExitCode;
 
 /// What is called at each size.
 #[derive(Clone, Copy)]
@@ -77,14 +74,13 @@ fn report(rt: &HostRuntime, name: &str, last: u16, wrong: Option<u16>) -> io::Re
     }
 }
 
-fn main(rt: HostRuntime) -> io::Result<ExitCode> {
-    let mut status = 0;
+/// Makes each call at all its sizes: whether all come out as they should.
+pub(crate) fn are_right(rt: &HostRuntime) -> io::Result<bool> {
+    let mut are_right = true;
     for (name, call, last) in &CALLS {
         let wrong = first_wrong(rt.alloc(), *call, *last);
-        report(&rt, name, *last, wrong)?;
-        if wrong.is_some() {
-            status = 1;
-        }
+        report(rt, name, *last, wrong)?;
+        are_right = are_right && wrong.is_none();
     }
-    Ok(ExitCode::from(status))
+    Ok(are_right)
 }
