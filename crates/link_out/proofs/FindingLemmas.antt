@@ -80,7 +80,7 @@ among-place name (n ∷ ns) = by_test (bytes_eq name n) (among-place name ns)
         let longer : length ns + 1 ≡ length (n ∷ ns) = omega arith in
         h ∙ sym (one_more (place_of name ns) (length ns)) ∙ ap (λ k. nat_lt (place_of name ns + 1) k) longer
 
-position-place : (name : List ℕ) (names : List (List ℕ)) → position (bytes_eq name) names ≡ cond (is_among names name) (Some (place_of name names)) None
+pub position-place : (name : List ℕ) (names : List (List ℕ)) → position (bytes_eq name) names ≡ cond (is_among names name) (Some (place_of name names)) None
 position-place name names =
     ap (λ (k : ℕ). cond (nat_lt k (length names)) (Some k) None) (sym (is_position_or_len (place_of name) (bytes_eq name) refl (λ n ns. ap (λ (k : ℕ). cond (bytes_eq name n) 0 k) (omega arith)) names))
     ∙ ap (λ (t : Bool). cond t (Some (place_of name names)) None) (sym (among-place name names))

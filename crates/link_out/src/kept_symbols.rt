@@ -10,8 +10,8 @@ use aout_core::{Name, Symbol};
 use link_options::{Keep, Options};
 use link_session::{Entry, Session};
 
-/// The most symbols of a table: one more, of 12 bytes each, would not fit the size in the header.
-const MOST_ROWS: usize = 5461;
+/// The most symbols of a table: one more, of 12 bytes each, would not fit the size in the header. (own choice)
+pub const MOST_ROWS: usize = 5461;
 
 fn begins_with_l(name: &[u8]) -> bool
     ensures { result ≡ begins_with_l name.now }

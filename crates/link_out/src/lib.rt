@@ -17,6 +17,7 @@
 #![tactic(auto)]
 
 mod edit;
+mod externals;
 mod finals;
 mod findings;
 mod kept_symbols;
@@ -32,9 +33,12 @@ mod table;
 mod words;
 
 pub use edit::{Edit, Reply, RunFault};
+pub use externals::link_externals;
+pub use kept_symbols::MOST_ROWS;
 pub use layout::{Bases, link_bases};
 pub use link_options::{Keep, Layout, OptionFault, Options};
 pub use linked::{LinkFault, Linked, Report};
-pub use linker::finish;
+pub use linker::{LAST_ADDRESS, finish};
+pub use relocs::MOST_NUMBER;
 pub use reserved_names::is_missing;
 pub use runner::run;

@@ -27,8 +27,8 @@ use link_options::{Layout, Options};
 use link_session::{Cell, Session};
 use std::alloc::{AllocError, Global};
 
-/// The last address that a word can hold.
-const LAST_ADDRESS: u64 = 65_535;
+/// The last address that a word can hold: the end of bss may not pass it. (own choice)
+pub const LAST_ADDRESS: u64 = 65_535;
 
 /// The magic of a layout.
 fn magic_of(layout: Layout) -> u16

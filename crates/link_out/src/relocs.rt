@@ -9,8 +9,8 @@ use aout_core::{Reloc, Segment};
 use link_session::{Cell, Target};
 use std::alloc::{AllocError, Global};
 
-/// The largest number of a symbol that a relocation word can hold.
-const MOST_NUMBER: u32 = 4095;
+/// The largest number of a symbol that a relocation word can hold. (a.out(5))
+pub const MOST_NUMBER: u32 = 4095;
 
 /// The segment that an external name is bound to, if it is bound.
 fn bound_of(finals: &[Final], index: u16) -> Option<Segment>

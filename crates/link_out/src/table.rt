@@ -121,7 +121,7 @@ fn row_for(name: Name, last: &Final) -> Symbol
 }
 
 /// Appends the rows of the externals, by first mention.
-fn put_externals(
+pub(crate) fn put_externals(
     rows: &mut Vec<Symbol>,
     session: &Session,
     finals: &[Final],

@@ -38,6 +38,7 @@ mod undo;
 pub use cell::{Cell, Target};
 pub use entry::{AddFault, AddRefused, Entry};
 pub use forced::Forced;
+pub use limits::{MOST_BYTES, MOST_NAMES};
 pub use mark::{Mark, Place};
 pub use relocate::{Shifts, Starts};
 pub use session::{Memory, Session};

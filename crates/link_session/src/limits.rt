@@ -18,11 +18,11 @@ use aout_core::{Name, Object, Symbol};
 use indexmap::IndexMap;
 use std::alloc::{AllocError, Global};
 
-/// The most bytes of text, of data and of bss.
-const MOST_BYTES: usize = 65_534;
+/// The most bytes of text, of data and of bss in a session. (own choice)
+pub const MOST_BYTES: usize = 65_534;
 
-/// The most external names.
-const MOST_NAMES: usize = 65_535;
+/// The most external names in a session, forced names counted. (own choice)
+pub const MOST_NAMES: usize = 65_535;
 
 /// Whether the symbol is external and has the name.
 fn is_mention_of(symbol: &Symbol, name: &Name) -> bool

@@ -1,0 +1,38 @@
+//! The externals of a link, also of one that is refused.
+ghost use Rattle.std.specs.Prelude.{◌≡◌, ◌↔◌, ◌<◌, IfOk, IfSome, IsNone};
+ghost use Rattle.link_session.specs.Labelled.{objects};
+ghost use Rattle.link_out.specs.function.Plans.{plan};
+ghost use Rattle.link_out.specs.function.Tables.{external_rows};
+
+use crate::finals::finals_of;
+use crate::layout::link_bases;
+use crate::linker::LAST_ADDRESS;
+use crate::table::put_externals;
+use aout_core::Symbol;
+use link_options::Options;
+use link_session::Session;
+use std::alloc::{AllocError, Global};
+
+/// The externals of the link of the objects that a session keeps, by first mention: each as the symbol table of `finish` has it,
+/// with its type and its address, or its size if it is not bound. The symbols that the options keep make no difference, and
+/// neither does a table or a symbol number that `finish` refuses. There is no address, and so no list, if the end of bss would pass
+/// 65,535. (ld(1))
+///
+/// An error: out of memory.
+pub fn link_externals(
+    alloc: Global,
+    session: &Session,
+    options: &Options,
+) -> Result<Option<Vec<Symbol>>, AllocError>
+    ensures rows { IfOk result (λ list. IfSome list (λ rows. rows.items ≡ external_rows (plan session.now.forced (objects session.now.entries) options.now))) }
+    ensures none { IfOk result (λ list. IsNone list ↔ (65535 < (plan session.now.forced (objects session.now.entries) options.now).at.bss_end)) }
+{
+    let bases = link_bases(session, options);
+    if LAST_ADDRESS < bases.bss_end {
+        return Ok(None);
+    }
+    let finals = finals_of(alloc, session, options, &bases)?;
+    let mut rows = Vec::new(alloc);
+    put_externals(&mut rows, session, &finals)?;
+    Ok(Some(rows))
+}
