@@ -13,11 +13,7 @@ use Rattle.link_session.specs.Image.{Image}
 use Rattle.link_session.specs.Undo.{put_all_back, IsInside}
 use Rattle.link_session.specs.internal.Chains.{Link, is_on, IsWithin, bound_to, bound_where, nowhere, marks_of, heads_back}
 use Rattle.link_session.proofs.UndoLemmas.{put_back_all, put_back-old, AreOf, IsMarked, text_writes, data_writes}
-use Rattle.link_session.proofs.ChainLemmas.{other_number}
-
-length-bound_where : (test : ℕ → Bool) (segment : Segment) (offset : ℕ) (cs : List Cell) → length (bound_where test segment offset cs) ≡ length cs
-length-bound_where test segment offset [] = refl
-length-bound_where test segment offset (c ∷ cs) = ap suc (length-bound_where (λ i. test (suc i)) segment offset cs)
+use Rattle.link_session.proofs.ChainLemmas.{length-bound_where, other_number}
 
 get_unbound : (test : ℕ → Bool) (segment : Segment) (offset : ℕ) (cs : List Cell) (i : ℕ) → test i ≡ false → slice_get (bound_where test segment offset cs) i ≡ slice_get cs i
 get_unbound test segment offset [] i h = refl

@@ -1,5 +1,5 @@
 -- Chains as lists of places.
-use Rattle.std.proofs.Common.{◌≡◌, ◌≢◌, ◌<◌, ◌≤◌, ◌+◌, ◌⊎◌, inl, inr, ℕ, zero, suc, Bool, true, false, cond, ◌||◌, List, [], ◌∷◌, ◌++◌, map, length, Some, None, nat_eq, slice_index_or, slice_set, eqb, refl, sym, ap, ◌∙◌, subst, arith, length-append, append-nil, append_assoc}
+use Rattle.std.proofs.Common.{◌≡◌, ◌≢◌, ◌<◌, ◌≤◌, ◌+◌, ◌⊎◌, inl, inr, ℕ, zero, suc, Bool, true, false, cond, ◌||◌, List, [], ◌∷◌, ◌++◌, map, length, Some, None, nat_eq, slice_index_or, slice_set, eqb, refl, sym, ap, ◌∙◌, subst, arith}
 use Rattle.std.proofs.lemmas.List.{length-map}
 use Rattle.std.specs.List.{IsDistinct, list_any, AllByRecursion}
 use Rattle.std.proofs.lemmas.Bool.{cases_eq, or_parts}
@@ -23,21 +23,12 @@ bound_one-set segment offset i [] d h = absurd (omega arith)
 bound_one-set segment offset zero (c ∷ cs) d h = refl
 bound_one-set segment offset (suc i) (c ∷ cs) d h = ap (λ (l : List Cell). c ∷ l) (bound_one-set segment offset i cs d (omega arith))
 
-bound_one-behind : (segment : Segment) (offset i : ℕ) (cs : List Cell) → length cs ≤ i → bound_one segment offset i cs ≡ cs
-bound_one-behind segment offset i [] h = refl
-bound_one-behind segment offset zero (c ∷ cs) h = absurd (omega arith)
-bound_one-behind segment offset (suc i) (c ∷ cs) h = ap (λ (l : List Cell). c ∷ l) (bound_one-behind segment offset i cs (omega arith))
-
--- the cell at a place bound, where that is the index
-pub bound_at : (segment : Segment) (offset i at : ℕ) (target : Target) (cs : List Cell) → at < length cs → target ≡ segment_target segment → at ≡ i →
-    slice_set cs at (record { value = plus (slice_index_or cs at nowhere).value offset; target = target; pc = (slice_index_or cs at nowhere).pc }) ≡ bound_one segment offset i cs
-bound_at segment offset i at target cs h t e =
-    (λ k. slice_set cs at (record { value = plus (slice_index_or cs at nowhere).value offset; target = t k; pc = (slice_index_or cs at nowhere).pc }))
-    ∙ bound_one-set segment offset at cs nowhere h
-    ∙ ap (λ (n : ℕ). bound_one segment offset n cs) e
-
-pub bound_behind : (segment : Segment) (offset i at : ℕ) (cs : List Cell) → length cs ≤ at → at ≡ i → cs ≡ bound_one segment offset i cs
-bound_behind segment offset i at cs h e = sym (bound_one-behind segment offset i cs (omega (arith, h, e)))
+-- the cell at an index bound
+pub bound_at : (segment : Segment) (offset i : ℕ) (target : Target) (cs : List Cell) → i < length cs → target ≡ segment_target segment →
+    slice_set cs i (record { value = plus (slice_index_or cs i nowhere).value offset; target = target; pc = (slice_index_or cs i nowhere).pc }) ≡ bound_one segment offset i cs
+bound_at segment offset i target cs h t =
+    (λ k. slice_set cs i (record { value = plus (slice_index_or cs i nowhere).value offset; target = t k; pc = (slice_index_or cs i nowhere).pc }))
+    ∙ bound_one-set segment offset i cs nowhere h
 
 -- one more cell is bound
 pub bound_where-one : (segment : Segment) (offset : ℕ) (f g : ℕ → Bool) (i : ℕ) → f i ≡ false → g i ≡ true → ((j : ℕ) → i ≢ j → f j ≡ g j) → (cs : List Cell) →
@@ -48,9 +39,24 @@ bound_where-one segment offset f g zero off on others (c ∷ cs) =
 bound_where-one segment offset f g (suc i) off on others (c ∷ cs) =
     λ k. cond (others 0 (λ e. omega arith) k) (bound_to segment offset c) c ∷ bound_where-one segment offset (λ n. f (suc n)) (λ n. g (suc n)) i off on (λ j ne. others (suc j) (λ e. ne (omega arith))) cs k
 
-none_bound : (segment : Segment) (offset : ℕ) (cs : List Cell) → cs ≡ bound_where (λ i. false) segment offset cs
+pub none_bound : (segment : Segment) (offset : ℕ) (cs : List Cell) → cs ≡ bound_where (λ i. false) segment offset cs
 none_bound segment offset [] = refl
 none_bound segment offset (c ∷ cs) = ap (λ (l : List Cell). c ∷ l) (none_bound segment offset cs)
+
+pub length-bound_where : (test : ℕ → Bool) (segment : Segment) (offset : ℕ) (cs : List Cell) → length (bound_where test segment offset cs) ≡ length cs
+length-bound_where test segment offset [] = refl
+length-bound_where test segment offset (c ∷ cs) = ap suc (length-bound_where (λ i. test (suc i)) segment offset cs)
+
+-- the cell at an index
+pub index_where : (test : ℕ → Bool) (segment : Segment) (offset : ℕ) (cs : List Cell) (i : ℕ) → (test i ≡ true → i < length cs) →
+    slice_index_or (bound_where test segment offset cs) i nowhere ≡ cond (test i) (bound_to segment offset (slice_index_or cs i nowhere)) (slice_index_or cs i nowhere)
+index_where test segment offset [] i h = by_test (test i) refl
+  where
+    by_test : (t : Bool) → test i ≡ t → nowhere ≡ cond t (bound_to segment offset nowhere) nowhere
+    by_test true e = let below = h e in absurd (omega arith)
+    by_test false e = refl
+index_where test segment offset (c ∷ cs) zero h = refl
+index_where test segment offset (c ∷ cs) (suc i) h = index_where (λ n. test (suc n)) segment offset cs i (λ e. let below = h e in omega arith)
 
 -- Places.
 
@@ -93,6 +99,35 @@ same_sym (InData i) (InData j) = by_order (cases_eq i j)
     by_order (inr ne) = other_number i j ne ∙ sym (other_number j i (λ e. ne (sym e)))
 same_sym (InText i) (InData j) = refl
 same_sym (InData i) (InText j) = refl
+
+pub same_is : (p q : Place) → same_place p q ≡ true → p ≡ q
+same_is (InText i) (InText j) e = let same : i ≡ j = grind (arith, nat_tests) in ap (λ (n : ℕ). InText n) same
+same_is (InData i) (InData j) e = let same : i ≡ j = grind (arith, nat_tests) in ap (λ (n : ℕ). InData n) same
+same_is (InText i) (InData j) e = absurd (cc)
+same_is (InData i) (InText j) e = absurd (cc)
+
+-- two parts of a chain
+pub on_either : (ps qs : List Place) (p : Place) → is_on (ps ++ qs) p ≡ (is_on ps p || is_on qs p)
+on_either [] qs p = refl
+on_either (x ∷ ps) qs p = by_test (same_place p x) (on_either ps qs p)
+  where
+    by_test : (t : Bool) → is_on (ps ++ qs) p ≡ (is_on ps p || is_on qs p) → (t || is_on (ps ++ qs) p) ≡ ((t || is_on ps p) || is_on qs p)
+    by_test true h = refl
+    by_test false h = h
+
+pub apart_parts : (ps qs : List Place) → AreApart (ps ++ qs) → AreApart ps × AreApart qs
+apart_parts [] qs h = (tt, h)
+apart_parts (p ∷ ps) qs h =
+    let both = apart_parts ps qs h.1 in
+    (((or_parts (is_on ps p) (is_on qs p) (sym (on_either ps qs p) ∙ h.0)).0, both.0), both.1)
+
+pub apart_from : (ps qs : List Place) → AreApart (ps ++ qs) → (p : Place) → is_on ps p ≡ true → is_on qs p ≡ false
+apart_from [] qs h p e = absurd (cc)
+apart_from (q ∷ ps) qs h p e = by_test (same_place p q) refl e (apart_from ps qs h.1 p)
+  where
+    by_test : (t : Bool) → same_place p q ≡ t → (t || is_on ps p) ≡ true → (is_on ps p ≡ true → is_on qs p ≡ false) → is_on qs p ≡ false
+    by_test true s x rest = ap (is_on qs) (same_is p q s) ∙ (or_parts (is_on ps q) (is_on qs q) (sym (on_either ps qs q) ∙ h.0)).1
+    by_test false s x rest = rest x
 
 -- the place behind a prefix of a chain is not in that prefix
 pub not_behind : (done rest : List Place) (p : Place) → AreApart (done ++ p ∷ rest) → is_on done p ≡ false
@@ -148,6 +183,21 @@ few_places t d ps a h =
     let few = length-le_from_distinct_below (map (number t) ps) (t + d) (distinct t d ps a h) (below t d ps h) in
     omega (arith, few, length-map ps (number t))
 
+-- a place on a list of places inside the cells is inside
+pub on_inside : (t d : ℕ) (ps : List Place) (p : Place) → AllByRecursion (IsWithin t d) ps → is_on ps p ≡ true → IsWithin t d p
+on_inside t d [] p h e = absurd (cc)
+on_inside t d (q ∷ ps) p h e = by_test (same_place p q) refl e (on_inside t d ps p h.1)
+  where
+    by_place : (p q : Place) → same_place p q ≡ true → IsWithin t d q → IsWithin t d p
+    by_place (InText i) (InText j) s k = let same : i ≡ j = grind (arith, nat_tests) in omega arith
+    by_place (InData i) (InData j) s k = let same : i ≡ j = grind (arith, nat_tests) in omega arith
+    by_place (InText i) (InData j) s k = absurd (cc)
+    by_place (InData i) (InText j) s k = absurd (cc)
+
+    by_test : (u : Bool) → same_place p q ≡ u → (u || is_on ps p) ≡ true → (is_on ps p ≡ true → IsWithin t d p) → IsWithin t d p
+    by_test true s x rest = by_place p q s h.0
+    by_test false s x rest = rest x
+
 -- Walks.
 
 pub chain-unique : (ts ds : List Link) (head : Link) (ps qs : List Place) → IsChain ts ds head ps → IsChain ts ds head qs → ps ≡ qs
@@ -165,17 +215,6 @@ walk-is zero ts ds next (p ∷ ps) c h = absurd (omega arith)
 walk-is (suc n) ts ds next [] c h = ap (walk (suc n) ts ds) c
 walk-is (suc n) ts ds next (p ∷ ps) c h = ap (walk (suc n) ts ds) c.0 ∙ ap (λ (l : List Place). p ∷ l) (walk-is n ts ds (link_at ts ds p) ps c.1 (omega arith))
 
--- how far a chain has been bound: the places behind and those ahead
-pub record Walked (ts ds : List Link) (head next : Link) (segment : Segment) (offset : ℕ) (texts datas new_texts new_datas : List Cell) : Type 0 where
-  pub done : List Place
-  pub rest : List Place
-  pub visits : IsChain ts ds head (done ++ rest)
-  pub ahead : IsChain ts ds next rest
-  pub apart : AreApart (done ++ rest)
-  pub inside : AllByRecursion (IsWithin (length texts) (length datas)) (done ++ rest)
-  pub text : new_texts ≡ bound_where (λ i. is_on done (InText i)) segment offset texts
-  pub «data» : new_datas ≡ bound_where (λ i. is_on done (InData i)) segment offset datas
-
 -- the first place of what is ahead
 pub record Ahead (ts ds : List Link) (rest : List Place) (p : Place) : Type 0 where
   pub tail : List Place
@@ -191,83 +230,3 @@ next_ahead ts ds next (q ∷ rest) p c e =
 pub none_ahead : (ts ds : List Link) (next : Link) (rest : List Place) → IsChain ts ds next rest → next ≡ None → rest ≡ []
 none_ahead ts ds next [] c e = refl
 none_ahead ts ds next (q ∷ rest) c e = absurd (let bad = sym e ∙ c.0 in cc)
-
-module _ (ts ds : List Link) (head next : Link) (segment : Segment) (offset : ℕ) (texts datas new_texts new_datas : List Cell) where
-  pub begun : (ps : List Place) → IsChain ts ds head ps → AreApart ps → AllByRecursion (IsWithin (length texts) (length datas)) ps → Walked ts ds head head segment offset texts datas texts datas
-  begun ps visits apart inside = record {
-    done = [];
-    rest = ps;
-    visits = visits;
-    ahead = visits;
-    apart = apart;
-    inside = inside;
-    text = none_bound segment offset texts;
-    «data» = none_bound segment offset datas;
-  }
-
-  module _ (w : Walked ts ds head next segment offset texts datas new_texts new_datas) where
-    moved : (tail : List Place) (p : Place) → w.rest ≡ p ∷ tail → w.done ++ w.rest ≡ (w.done ++ p ∷ []) ++ tail
-    moved tail p e = ap (λ (l : List Place). w.done ++ l) e ∙ sym (append_assoc w.done (p ∷ []) tail)
-
-    fresh : (tail : List Place) (p : Place) → w.rest ≡ p ∷ tail → is_on w.done p ≡ false
-    fresh tail p e = not_behind w.done tail p (subst (λ (l : List Place). AreApart (w.done ++ l)) e w.apart)
-
-    -- a place of text is bound
-    pub step_text : (i : ℕ) → next ≡ Some (InText i) → Walked ts ds head (link_at ts ds (InText i)) segment offset texts datas (bound_one segment offset i new_texts) new_datas
-    step_text i e =
-        let a = next_ahead ts ds next w.rest (InText i) w.ahead e in record {
-          done = w.done ++ InText i ∷ [];
-          rest = a.tail;
-          visits = subst (IsChain ts ds head) (moved a.tail (InText i) a.is) w.visits;
-          ahead = a.goes_on;
-          apart = subst AreApart (moved a.tail (InText i) a.is) w.apart;
-          inside = subst (AllByRecursion (IsWithin (length texts) (length datas))) (moved a.tail (InText i) a.is) w.inside;
-          text = ap (bound_one segment offset i) w.text ∙ bound_where-one segment offset (λ j. is_on w.done (InText j)) (λ j. is_on (w.done ++ InText i ∷ []) (InText j)) i
-              (fresh a.tail (InText i) a.is)
-              (on_last w.done (InText i) (InText i) ∙ ap (λ (t : Bool). is_on w.done (InText i) || t) (own_number i) ∙ or_true (is_on w.done (InText i)))
-              (λ j ne. sym (on_last w.done (InText j) (InText i) ∙ ap (λ (t : Bool). is_on w.done (InText j) || t) (other_number j i (λ e. ne (sym e))) ∙ or_false (is_on w.done (InText j))))
-              texts;
-          «data» = w.data ∙ (λ k. bound_where (λ j. sym (on_last w.done (InData j) (InText i) ∙ or_false (is_on w.done (InData j))) k) segment offset datas);
-        }
-
-    -- a place of data is bound
-    pub step_data : (i : ℕ) → next ≡ Some (InData i) → Walked ts ds head (link_at ts ds (InData i)) segment offset texts datas new_texts (bound_one segment offset i new_datas)
-    step_data i e =
-        let a = next_ahead ts ds next w.rest (InData i) w.ahead e in record {
-          done = w.done ++ InData i ∷ [];
-          rest = a.tail;
-          visits = subst (IsChain ts ds head) (moved a.tail (InData i) a.is) w.visits;
-          ahead = a.goes_on;
-          apart = subst AreApart (moved a.tail (InData i) a.is) w.apart;
-          inside = subst (AllByRecursion (IsWithin (length texts) (length datas))) (moved a.tail (InData i) a.is) w.inside;
-          text = w.text ∙ (λ k. bound_where (λ j. sym (on_last w.done (InText j) (InData i) ∙ or_false (is_on w.done (InText j))) k) segment offset texts);
-          «data» = ap (bound_one segment offset i) w.data ∙ bound_where-one segment offset (λ j. is_on w.done (InData j)) (λ j. is_on (w.done ++ InData i ∷ []) (InData j)) i
-              (fresh a.tail (InData i) a.is)
-              (on_last w.done (InData i) (InData i) ∙ ap (λ (t : Bool). is_on w.done (InData i) || t) (own_number i) ∙ or_true (is_on w.done (InData i)))
-              (λ j ne. sym (on_last w.done (InData j) (InData i) ∙ ap (λ (t : Bool). is_on w.done (InData j) || t) (other_number j i (λ e. ne (sym e))) ∙ or_false (is_on w.done (InData j))))
-              datas;
-        }
-
-    -- what is ahead is at most as long as there are cells, and shorter behind its first place
-    few_ahead : length w.rest ≤ length texts + length datas
-    few_ahead = omega (arith, few_places (length texts) (length datas) (w.done ++ w.rest) w.apart w.inside, length-append w.done w.rest)
-
-    pub shorter : (p : Place) → next ≡ Some p → length (walk (length texts + length datas) ts ds (link_at ts ds p)) < length (walk (length texts + length datas) ts ds next)
-    shorter p e =
-        let a = next_ahead ts ds next w.rest p w.ahead e in
-        let long = ap (λ (l : List Place). length l) a.is in
-        let few = few_ahead in
-        let now = ap (λ (l : List Place). length l) (walk-is (length texts + length datas) ts ds next w.rest w.ahead few) in
-        let later = ap (λ (l : List Place). length l) (walk-is (length texts + length datas) ts ds (link_at ts ds p) a.tail a.goes_on (omega arith)) in
-        omega arith
-
-    -- the chain was walked to its end
-    ended : next ≡ None → (ps : List Place) → IsChain ts ds head ps → w.done ≡ ps
-    ended e ps c =
-        sym (append-nil w.done) ∙ ap (λ (l : List Place). w.done ++ l) (sym (none_ahead ts ds next w.rest w.ahead e)) ∙ chain-unique ts ds head (w.done ++ w.rest) ps w.visits c
-
-    pub ended_text : next ≡ None → (ps : List Place) → IsChain ts ds head ps → new_texts ≡ bound_where (λ i. is_on ps (InText i)) segment offset texts
-    ended_text e ps c = w.text ∙ ap (λ (l : List Place). bound_where (λ i. is_on l (InText i)) segment offset texts) (ended e ps c)
-
-    pub ended_data : next ≡ None → (ps : List Place) → IsChain ts ds head ps → new_datas ≡ bound_where (λ i. is_on ps (InData i)) segment offset datas
-    ended_data e ps c = w.data ∙ ap (λ (l : List Place). bound_where (λ i. is_on l (InData i)) segment offset datas) (ended e ps c)

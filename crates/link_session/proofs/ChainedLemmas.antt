@@ -1,22 +1,23 @@
 -- All chains of an image: while a name is bound, while names are added, and while the cells of an object are put last.
-use Rattle.std.proofs.Common.{◌≡◌, ◌≢◌, ◌<◌, ◌+◌, ◌⊎◌, inl, inr, ℕ, zero, suc, Bool, true, false, cond, List, [], ◌∷◌, ◌++◌, map, length, Some, None, nat_eq, slice_index_or, slice_set, refl, sym, ap, ◌∙◌, subst, arith, length-append, append_assoc, append-nil}
+use Rattle.std.proofs.Common.{◌≡◌, ◌≢◌, ◌<◌, ◌+◌, ◌||◌, ◌⊎◌, inl, inr, ℕ, zero, suc, Bool, true, false, cond, List, [], ◌∷◌, ◌++◌, map, length, Some, None, nat_eq, slice_index_or, slice_set, refl, sym, ap, ◌∙◌, subst, arith, length-append, append_assoc, append-nil}
 use Rattle.std.specs.Prelude.{⊤}
 use Rattle.std.specs.List.{AllByRecursion}
 use Rattle.std.proofs.lemmas.Bool.{cases_eq}
-use Rattle.std.proofs.lemmas.List.{length-map}
 use Rattle.aout_core.specs.declared.symbol.Segment.{Segment}
 use Rattle.link_session.specs.declared.cell.Cell.{Cell}
 use Rattle.link_session.specs.declared.cell.Target.{Target}
 use Rattle.link_session.specs.declared.cell.Target.TheVariants as targets
 use Rattle.link_session.specs.declared.state.State.TheVariants.{Defined}
+use Rattle.link_session.specs.declared.mark.Mark.{Mark}
 use Rattle.link_session.specs.declared.mark.Place.{Place}
 use Rattle.link_session.specs.declared.mark.Place.TheVariants.{InText, InData}
 use Rattle.link_session.specs.Image.{Named, state_at}
 use Rattle.link_session.specs.internal.Additions.{bound_by, bound_or}
-use Rattle.link_session.specs.internal.Chains.{Link, bound_if, waits_at, Waits, head_for, with_head, threaded, AreChained}
-use Rattle.link_session.proofs.ChainLemmas.{own_number}
+use Rattle.link_session.specs.internal.Chains.{Link, IsChain, is_on, AreApart, IsWithin, IsBoundTo, bound_where, bound_if, marks_of, waits_at, Tells, Waits, head_for, with_head, threaded, AreChained}
+use Rattle.link_session.proofs.ListLemmas.{all_split}
+use Rattle.link_session.proofs.ChainLemmas.{length-bound_where, on_either, apart_parts, apart_from, own_number, chain-unique, none_ahead}
 use Rattle.link_session.specs.internal.Settled.{settled_at}
-use Rattle.link_session.proofs.WaitLemmas.{cut_chain, other_chain}
+use Rattle.link_session.proofs.WaitLemmas.{bound_on_chain, rest_tells, other_tells}
 use Rattle.link_session.proofs.PushLemmas.{push_text, pass_text, push_data, pass_data}
 use Rattle.link_session.proofs.CountLemmas.{waits_is}
 
@@ -25,10 +26,11 @@ index_set_same [] k x d h = absurd (omega arith)
 index_set_same (y ∷ xs) zero x d h = refl
 index_set_same (y ∷ xs) (suc k) x d h = index_set_same xs k x d (omega arith)
 
-index_set_default : {A : Type 0} (xs : List A) (k : ℕ) (d : A) → slice_index_or (slice_set xs k d) k d ≡ d
-index_set_default [] k d = refl
-index_set_default (y ∷ xs) zero d = refl
-index_set_default (y ∷ xs) (suc k) d = index_set_default xs k d
+-- the same also where there is no head, if there is nothing to put then
+index_set_link : (heads : List Link) (k : ℕ) (link : Link) → (slice_index_or heads k None ≡ None → link ≡ None) → slice_index_or (slice_set heads k link) k None ≡ link
+index_set_link [] k link h = sym (h refl)
+index_set_link (y ∷ heads) zero link h = refl
+index_set_link (y ∷ heads) (suc k) link h = index_set_link heads k link h
 
 index_set_other : {A : Type 0} (xs : List A) (k j : ℕ) (x d : A) → k ≢ j → slice_index_or (slice_set xs k x) j d ≡ slice_index_or xs j d
 index_set_other [] k j x d ne = refl
@@ -43,22 +45,102 @@ index_more [] (suc k) d = refl
 index_more (y ∷ xs) zero d = refl
 index_more (y ∷ xs) (suc k) d = index_more xs k d
 
+nothing_behind : (done rest : List Place) → done ++ rest ≡ [] → rest ≡ []
+nothing_behind [] rest e = e
+nothing_behind (p ∷ done) rest e = absurd (cc)
+
 module _ (texts datas : List Cell) (ts ds heads : List Link) (a : AreChained texts datas ts ds heads) where
-  -- the chain of a name is bound, and cut
-  pub cut_one : (k : ℕ) (segment : Segment) (offset : ℕ) → AreChained (map (bound_if k segment offset) texts) (map (bound_if k segment offset) datas) ts ds (slice_set heads k None)
-  cut_one k segment offset = record {
-    text = a.text ∙ sym (length-map texts (bound_if k segment offset));
-    «data» = a.data ∙ sym (length-map datas (bound_if k segment offset));
-    each = λ j. by_order j (cases_eq k j);
+  -- the first part of the chain of a name is bound, and the chain begins after it
+  module _ (k : ℕ) (segment : Segment) (offset : ℕ) (next : Link) (marks : List Mark) (new_texts new_datas : List Cell) (new_marks : List Mark)
+      (w : IsBoundTo ts ds (slice_index_or heads k None) next segment offset texts datas marks new_texts new_datas new_marks) where
+    all_places : (a.each k).places ≡ w.done ++ w.rest
+    all_places = chain-unique ts ds (slice_index_or heads k None) (a.each k).places (w.done ++ w.rest) (a.each k).visits w.visits
+
+    text_told : Tells (λ i. is_on (w.done ++ w.rest) (InText i)) k texts
+    text_told = subst (λ (ps : List Place). Tells (λ i. is_on ps (InText i)) k texts) all_places (a.each k).text
+
+    data_told : Tells (λ i. is_on (w.done ++ w.rest) (InData i)) k datas
+    data_told = subst (λ (ps : List Place). Tells (λ i. is_on ps (InData i)) k datas) all_places (a.each k).data
+
+    abbrev bound_texts : List Cell
+    bound_texts = bound_where (λ i. is_on w.done (InText i)) segment offset texts
+
+    abbrev bound_datas : List Cell
+    bound_datas = bound_where (λ i. is_on w.done (InData i)) segment offset datas
+
+    inside_still : (ps : List Place) → AllByRecursion (IsWithin (length texts) (length datas)) ps → AllByRecursion (IsWithin (length bound_texts) (length bound_datas)) ps
+    inside_still ps h =
+        subst (λ (P : Type 0). P) (λ i. AllByRecursion (IsWithin (sym (length-bound_where (λ j. is_on w.done (InText j)) segment offset texts) i) (sym (length-bound_where (λ j. is_on w.done (InData j)) segment offset datas) i)) ps) h
+
+    on_all : (p : Place) → is_on w.done p ≡ true → is_on (w.done ++ w.rest) p ≡ true
+    on_all p e = on_either w.done w.rest p ∙ ap (λ (t : Bool). t || is_on w.rest p) e
+
+    on_rest : (p : Place) → is_on w.done p ≡ false → is_on w.rest p ≡ is_on (w.done ++ w.rest) p
+    on_rest p e = sym (on_either w.done w.rest p ∙ ap (λ (t : Bool). t || is_on w.rest p) e)
+
+    own_chain : Waits ts ds next bound_texts bound_datas k
+    own_chain = record {
+      places = w.rest;
+      visits = w.ahead;
+      apart = (apart_parts w.done w.rest w.apart).1;
+      inside = inside_still w.rest (all_split (IsWithin (length texts) (length datas)) w.done w.rest w.inside).1;
+      text = rest_tells segment offset k (λ i. is_on w.done (InText i)) (λ i. is_on (w.done ++ w.rest) (InText i)) (λ i. is_on w.rest (InText i))
+          (λ i. apart_from w.done w.rest w.apart (InText i)) (λ i. on_rest (InText i)) texts text_told;
+      «data» = rest_tells segment offset k (λ i. is_on w.done (InData i)) (λ i. is_on (w.done ++ w.rest) (InData i)) (λ i. is_on w.rest (InData i))
+          (λ i. apart_from w.done w.rest w.apart (InData i)) (λ i. on_rest (InData i)) datas data_told;
+    }
+
+    other_chain : (j : ℕ) → k ≢ j → Waits ts ds (slice_index_or heads j None) bound_texts bound_datas j
+    other_chain j ne = record {
+      places = (a.each j).places;
+      visits = (a.each j).visits;
+      apart = (a.each j).apart;
+      inside = inside_still (a.each j).places (a.each j).inside;
+      text = other_tells segment offset k j ne (λ i. is_on w.done (InText i)) (λ i. is_on (w.done ++ w.rest) (InText i)) (λ i. is_on (a.each j).places (InText i))
+          (λ i. on_all (InText i)) texts text_told (a.each j).text;
+      «data» = other_tells segment offset k j ne (λ i. is_on w.done (InData i)) (λ i. is_on (w.done ++ w.rest) (InData i)) (λ i. is_on (a.each j).places (InData i))
+          (λ i. on_all (InData i)) datas data_told (a.each j).data;
+    }
+
+    head_set : slice_index_or (slice_set heads k next) k None ≡ next
+    head_set = index_set_link heads k next (λ e.
+        let none : w.done ++ w.rest ≡ [] = none_ahead ts ds (slice_index_or heads k None) (w.done ++ w.rest) w.visits e in
+        subst (IsChain ts ds next) (nothing_behind w.done w.rest none) w.ahead)
+
+    by_order : (j : ℕ) → (k ≡ j) ⊎ (k ≡ j → ⊥) → Waits ts ds (slice_index_or (slice_set heads k next) j None) bound_texts bound_datas j
+    by_order j (inl same) =
+        subst (λ (n : ℕ). Waits ts ds (slice_index_or (slice_set heads k next) n None) bound_texts bound_datas n) same
+        (subst (λ (l : Link). Waits ts ds l bound_texts bound_datas k) (sym head_set) own_chain)
+    by_order j (inr ne) = subst (λ (l : Link). Waits ts ds l bound_texts bound_datas j) (sym (index_set_other heads k j next None ne)) (other_chain j ne)
+
+    bound_chained : AreChained bound_texts bound_datas ts ds (slice_set heads k next)
+    bound_chained = record {
+      text = a.text ∙ sym (length-bound_where (λ j. is_on w.done (InText j)) segment offset texts);
+      «data» = a.data ∙ sym (length-bound_where (λ j. is_on w.done (InData j)) segment offset datas);
+      each = λ j. by_order j (cases_eq k j);
+    }
+
+    pub cut_to : AreChained new_texts new_datas ts ds (slice_set heads k next)
+    cut_to = subst (λ (P : Type 0). P) (λ i. AreChained (sym w.text i) (sym w.data i) ts ds (slice_set heads k next)) bound_chained
+
+  -- the whole chain is bound, and cut
+  pub bound_whole : (k : ℕ) (segment : Segment) (offset : ℕ) →
+      IsBoundTo ts ds (slice_index_or heads k None) None segment offset texts datas [] (map (bound_if k segment offset) texts) (map (bound_if k segment offset) datas) (marks_of texts datas (a.each k).places)
+  bound_whole k segment offset = record {
+    done = (a.each k).places;
+    rest = [];
+    visits = subst (IsChain ts ds (slice_index_or heads k None)) (sym (append-nil (a.each k).places)) (a.each k).visits;
+    ahead = refl;
+    apart = subst AreApart (sym (append-nil (a.each k).places)) (a.each k).apart;
+    inside = subst (AllByRecursion (IsWithin (length texts) (length datas))) (sym (append-nil (a.each k).places)) (a.each k).inside;
+    text = sym (bound_on_chain segment offset k (λ i. is_on (a.each k).places (InText i)) texts (a.each k).text);
+    «data» = sym (bound_on_chain segment offset k (λ i. is_on (a.each k).places (InData i)) datas (a.each k).data);
+    marked = refl;
   }
-    where
-      by_order : (j : ℕ) → (k ≡ j) ⊎ (k ≡ j → ⊥) → Waits ts ds (slice_index_or (slice_set heads k None) j None) (map (bound_if k segment offset) texts) (map (bound_if k segment offset) datas) j
-      by_order j (inl same) =
-          subst (λ (n : ℕ). Waits ts ds (slice_index_or (slice_set heads k None) n None) (map (bound_if k segment offset) texts) (map (bound_if k segment offset) datas) n) same
-          (subst (λ (l : Link). Waits ts ds l (map (bound_if k segment offset) texts) (map (bound_if k segment offset) datas) k) (sym (index_set_default heads k None)) (cut_chain ts ds texts datas segment offset k))
-      by_order j (inr ne) =
-          subst (λ (l : Link). Waits ts ds l (map (bound_if k segment offset) texts) (map (bound_if k segment offset) datas) j) (sym (index_set_other heads k j None None ne))
-          (other_chain ts ds texts datas segment offset k (slice_index_or heads j None) j ne (a.each j))
+
+  cut_one : (k : ℕ) (segment : Segment) (offset : ℕ) → AreChained (map (bound_if k segment offset) texts) (map (bound_if k segment offset) datas) ts ds (slice_set heads k None)
+  cut_one k segment offset =
+      cut_to k segment offset None [] (map (bound_if k segment offset) texts) (map (bound_if k segment offset) datas) (marks_of texts datas (a.each k).places) (bound_whole k segment offset)
 
   -- the same by the state of the name
   pub cut_named : (es : Named) (k : ℕ) (segment : Segment) (offset : ℕ) → state_at es k ≡ Defined segment offset → AreChained (map (settled_at es k) texts) (map (settled_at es k) datas) ts ds (slice_set heads k None)

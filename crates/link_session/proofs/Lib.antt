@@ -27,7 +27,7 @@ pub mod CountLemmas
 pub mod WaitLemmas
 pub mod PushLemmas
 pub mod ChainedLemmas
-pub mod NoteLemmas
+pub mod WalkLemmas
 pub mod UndoLemmas
 pub mod ChainBackLemmas
 pub mod ThreadLemmas

@@ -1,22 +1,21 @@
 -- What marks hold of one place: those of chains and of mentions, and of two lists of marks together.
-use Rattle.std.proofs.Common.{◌≡◌, ◌≤◌, ℕ, zero, suc, Bool, true, false, not, ◌||◌, ◌&&◌, cond, List, [], ◌∷◌, ◌++◌, map, length, slice_index_or, nat_eq, nat_lt, refl, sym, ap, ◌∙◌, subst, arith}
-use Rattle.std.proofs.lemmas.Bool.Decides.{nat_tests}
+use Rattle.std.proofs.Common.{◌≡◌, ℕ, Bool, true, false, not, ◌||◌, ◌&&◌, cond, List, [], ◌∷◌, ◌++◌, nat_eq, nat_lt, refl, sym, ap, ◌∙◌, subst}
 use Rattle.aout_core.specs.declared.symbol.Segment.{Segment}
 use Rattle.aout_core.specs.declared.symbol.Segment.TheVariants as segments
 use Rattle.link_session.specs.declared.cell.Cell.{Cell}
+use Rattle.link_session.specs.declared.cell.Target.TheVariants.{External}
 use Rattle.link_session.specs.declared.state.State.{State}
 use Rattle.link_session.specs.declared.mark.Mark.{Mark}
 use Rattle.link_session.specs.declared.mark.Mark.TheVariants.{CellWas, StateWas}
 use Rattle.link_session.specs.declared.mark.Place.{Place}
-use Rattle.link_session.specs.declared.mark.Place.TheVariants.{InText, InData}
 use Rattle.link_session.specs.Cells.{segment_target}
 use Rattle.link_session.specs.Image.{Named}
 use Rattle.link_session.specs.Marks.{same_place, cells_marked, states_marked}
 use Rattle.link_session.specs.Mentions.{Mention}
 use Rattle.link_session.specs.internal.Additions.{place_in, state_for, with_mention, changes, state_mark, state_marks}
-use Rattle.link_session.specs.internal.Chains.{is_on, AreApart, bound_to, bound_if, cell_at, marks_of, nowhere, waits_at}
+use Rattle.link_session.specs.internal.Chains.{is_on, AreApart, bound_to, cell_at, marks_of}
 use Rattle.link_session.specs.internal.Restores.{HoldBound, gets_bound, is_waiting}
-use Rattle.link_session.proofs.CountLemmas.{waits_is}
+use Rattle.link_session.proofs.ChainLemmas.{same_is}
 
 -- Two lists of marks together.
 
@@ -59,12 +58,6 @@ no_states i texts datas (p ∷ ps) = no_states i texts datas ps
 
 -- Marks of a chain.
 
-same_is : (p q : Place) → same_place p q ≡ true → p ≡ q
-same_is (InText i) (InText j) e = let same : i ≡ j = grind (arith, nat_tests) in ap (λ (n : ℕ). InText n) same
-same_is (InData i) (InData j) e = let same : i ≡ j = grind (arith, nat_tests) in ap (λ (n : ℕ). InData n) same
-same_is (InText i) (InData j) e = absurd (cc)
-same_is (InData i) (InText j) e = absurd (cc)
-
 pub chain_marked : (texts datas : List Cell) (ps : List Place) → AreApart ps → (p : Place) → cells_marked p (marks_of texts datas ps) ≡ cond (is_on ps p) (cell_at texts datas p ∷ []) []
 chain_marked texts datas [] apart p = refl
 chain_marked texts datas (q ∷ ps) apart p = by_test (same_place p q) refl (chain_marked texts datas ps apart.1 p)
@@ -99,16 +92,14 @@ segment_ready segments.DataSeg = refl
 segment_ready segments.BssSeg = refl
 segment_ready segments.Other = refl
 
--- one name is bound
-pub one_held : (k : ℕ) (segment : Segment) (offset : ℕ) (c : Cell) → HoldBound c (bound_if k segment offset c) (cond (waits_at k c.target) (c ∷ []) [])
-one_held k segment offset c = by_test (waits_at k c.target) refl
-  where
-    by_test : (t : Bool) → waits_at k c.target ≡ t → HoldBound c (cond t (bound_to segment offset c) c) (cond t (c ∷ []) [])
-    by_test false e = none_held c
-    by_test true e =
-        let waits : is_waiting c.target ≡ true = ap is_waiting (waits_is k c.target e) in
-        let binds : gets_bound c (bound_to segment offset c) ≡ true = λ i. waits i && not (segment_ready segment i) in
-        record { holds = ap (λ (t : Bool). cond t (c ∷ []) []) (sym binds); stays = λ no. absurd (let bad : true ≡ false = sym binds ∙ no in cc) }
+-- a cell that waits is bound, or it stays
+pub bound_held : (k : ℕ) (segment : Segment) (offset : ℕ) (c : Cell) (is_bound : Bool) → (is_bound ≡ true → c.target ≡ External k) →
+    HoldBound c (cond is_bound (bound_to segment offset c) c) (cond is_bound (c ∷ []) [])
+bound_held k segment offset c false waits = none_held c
+bound_held k segment offset c true waits =
+    let now : is_waiting c.target ≡ true = ap is_waiting (waits refl) in
+    let binds : gets_bound c (bound_to segment offset c) ≡ true = λ i. now i && not (segment_ready segment i) in
+    record { holds = ap (λ (t : Bool). cond t (c ∷ []) []) (sym binds); stays = λ no. absurd (let bad : true ≡ false = sym binds ∙ no in cc) }
 
 -- one change after another
 pub held_then : (a b c : Cell) (ks ls : List Cell) → HoldBound a b ks → HoldBound b c ls → HoldBound a c (ks ++ ls)
@@ -131,19 +122,3 @@ held_then a b c ks ls r s = by_first (is_waiting a.target) refl (is_waiting b.ta
           holds = (λ i. (r.holds ∙ ap (λ (t : Bool). cond t (a ∷ []) []) first) i ++ (s.holds ∙ ap (λ (t : Bool). cond t (b ∷ []) []) second) i) ∙ ap (λ (t : Bool). cond t (a ∷ []) []) (sym all);
           stays = λ no. absurd (let bad : true ≡ false = sym all ∙ no in cc);
         }
-
--- Cells at a place.
-
-index_mapped : (f : Cell → Cell) → f nowhere ≡ nowhere → (cs : List Cell) (i : ℕ) → slice_index_or (map f cs) i nowhere ≡ f (slice_index_or cs i nowhere)
-index_mapped f e [] i = sym e
-index_mapped f e (c ∷ cs) zero = refl
-index_mapped f e (c ∷ cs) (suc i) = index_mapped f e cs i
-
-pub cell_at-map : (f : Cell → Cell) → f nowhere ≡ nowhere → (texts datas : List Cell) (p : Place) → cell_at (map f texts) (map f datas) p ≡ f (cell_at texts datas p)
-cell_at-map f e texts datas (InText i) = index_mapped f e texts i
-cell_at-map f e texts datas (InData i) = index_mapped f e datas i
-
-pub index_behind : (cs : List Cell) (i : ℕ) → length cs ≤ i → slice_index_or cs i nowhere ≡ nowhere
-index_behind [] i h = refl
-index_behind (c ∷ cs) zero h = absurd (omega arith)
-index_behind (c ∷ cs) (suc i) h = index_behind cs i (omega arith)

@@ -1,12 +1,12 @@
 //! The cells that wait for names, bound once the names are defined.
-ghost use Rattle.std.specs.Prelude.{◌≡◌, ◌*◌, ◌≤◌, ◌++◌, length, slice_set, map, None, OnOk, OnErr, take};
-ghost use Rattle.link_session.specs.internal.Chains.{bound_one, cell_at, EndsWithin, IsWithin, BindsText, BindsData, NotesChain, AreChained};
+ghost use Rattle.std.specs.Prelude.{◌≡◌, ◌*◌, ◌<◌, ◌++◌, ◌∷◌, [], length, slice_set, slice_index_or, map, None, OnOk, OnErr};
+ghost use Rattle.link_session.specs.internal.Chains.{bound_one, text_bound_at, data_bound_at, cell_at, nowhere, IsWithin, AreChained};
 ghost use Rattle.link_session.specs.internal.Restores.{LeavesMarks};
 ghost use Rattle.link_session.specs.internal.Counts.{NotesWaiting};
-ghost use Rattle.link_session.specs.internal.Bindings.{bound_on, settled_for, settled_by, heads_for, heads_by, NotesAwaited, NotesMentioned};
+ghost use Rattle.link_session.specs.internal.Bindings.{bound_on, settled_for, settled_by, heads_for, heads_by, IsChainOf, BindsTo, NotesAwaited, NotesMentioned};
 
 use crate::cell::Cell;
-use crate::chain::{Link, Links, cut_chain, link_at, link_in};
+use crate::chain::{Link, Links, begin_chain, link_at, link_in};
 use crate::mark::{Mark, Place};
 use crate::mention::state_at;
 use crate::merged::Externals;
@@ -46,77 +46,76 @@ pub(crate) struct Mentioned<'a> {
     pub(crate) places: &'a [u16],
 }
 
-/// Binds the cell with this index to a definition.
-fn bind_cell(cells: &mut [Cell], index: u16, segment: Segment, offset: u16)
-    ensures { cells.new ≡ bound_one segment offset index cells.old }
+/// Marks the cell with this index, which is the one at a place, and binds it to a definition. An error changes nothing.
+fn bind_cell(
+    cells: &mut [Cell],
+    index: u16,
+    marks: &mut Vec<Mark>,
+    place: Place,
+    definition: Definition,
+) -> Result<(), AllocError>
+    requires { index < length cells.old }
+    ensures cells { OnOk result (cells.new ≡ bound_one definition.segment definition.offset index cells.old) }
+    ensures marks { OnOk result (marks.new.items ≡ marks.old.items ++ Mark.CellWas place (slice_index_or cells.old index nowhere) ∷ []) }
+    ensures cells_stay { OnErr result (cells.new ≡ cells.old) }
+    ensures marks_stay { OnErr result (marks.new.items ≡ marks.old.items) }
 {
     let index = index as usize;
-    if index < cells.len() {
-        let cell = cells[index];
-        cells[index] = Cell {
-            value: cell.value.wrapping_add(offset),
-            target: segment_target(segment),
-            pc: cell.pc,
-        };
-    }
-}
-
-/// Binds the cells of a chain to a definition, and no other. The links stay as they are.
-fn bind(
-    text_cells: &mut [Cell],
-    data_cells: &mut [Cell],
-    links: &Links<'_>,
-    head: Link,
-    definition: Definition,
-)
-    requires { EndsWithin links.now.text.now links.now.«data».now head (length text_cells.old) (length data_cells.old) }
-    ensures texts { BindsText links.now.text.now links.now.«data».now head definition.segment definition.offset text_cells.old text_cells.new }
-    ensures datas { BindsData links.now.text.now links.now.«data».now head definition.segment definition.offset data_cells.old data_cells.new }
-{
-    let Definition { segment, offset } = definition;
-    let mut next = head;
-    while let Some(place) = next {
-        match place {
-            Place::InText(index) => bind_cell(text_cells, index, segment, offset),
-            Place::InData(index) => bind_cell(data_cells, index, segment, offset),
-        }
-        next = link_at(links, place);
-    }
-}
-
-/// The cell at a place.
-fn cell_at(text_cells: &[Cell], data_cells: &[Cell], place: Place) -> Cell
-    requires { IsWithin (length text_cells.now) (length data_cells.now) place }
-    ensures { result ≡ cell_at text_cells.now data_cells.now place }
-{
-    match place {
-        Place::InText(index) => text_cells[index as usize],
-        Place::InData(index) => data_cells[index as usize],
-    }
-}
-
-/// Marks the cells of a chain, in its order. After an error the marks that there were are a prefix of the marks.
-fn note_chain(
-    text_cells: &[Cell],
-    data_cells: &[Cell],
-    links: &Links<'_>,
-    head: Link,
-    marks: &mut Vec<Mark>,
-) -> Result<(), AllocError>
-    requires { EndsWithin links.now.text.now links.now.«data».now head (length text_cells.now) (length data_cells.now) }
-    ensures ok { OnOk result (NotesChain links.now.text.now links.now.«data».now head text_cells.now data_cells.now marks.old.items marks.new.items) }
-    ensures prefix { take (length marks.old.items) marks.new.items ≡ marks.old.items }
-{
-    let mut next = head;
-    while let Some(place) = next {
-        let cell = cell_at(text_cells, data_cells, place);
-        marks.push(Mark::CellWas(place, cell))?;
-        next = link_at(links, place);
-    }
+    let cell = cells[index];
+    marks.push(Mark::CellWas(place, cell))?;
+    cells[index] = Cell {
+        value: cell.value.wrapping_add(definition.offset),
+        target: segment_target(definition.segment),
+        pc: cell.pc,
+    };
     Ok(())
 }
 
-/// Binds the cells of a chain to its definition, marks them, and cuts the chain. An error changes nothing.
+/// Marks the cell at a place, and binds it to a definition. An error changes nothing.
+fn bind_place(
+    text_cells: &mut [Cell],
+    data_cells: &mut [Cell],
+    marks: &mut Vec<Mark>,
+    place: Place,
+    definition: Definition,
+) -> Result<(), AllocError>
+    requires { IsWithin (length text_cells.old) (length data_cells.old) place }
+    ensures texts { OnOk result (text_cells.new ≡ text_bound_at place definition.segment definition.offset text_cells.old) }
+    ensures datas { OnOk result (data_cells.new ≡ data_bound_at place definition.segment definition.offset data_cells.old) }
+    ensures marks { OnOk result (marks.new.items ≡ marks.old.items ++ Mark.CellWas place (cell_at text_cells.old data_cells.old place) ∷ []) }
+    ensures cells_stay { OnErr result ((text_cells.new ≡ text_cells.old) × (data_cells.new ≡ data_cells.old)) }
+    ensures marks_stay { OnErr result (marks.new.items ≡ marks.old.items) }
+{
+    match place {
+        Place::InText(index) => bind_cell(text_cells, index, marks, place, definition),
+        Place::InData(index) => bind_cell(data_cells, index, marks, place, definition),
+    }
+}
+
+/// Marks the cells of a chain, in its order, and binds them to a definition. The links stay as they are. Answers the
+/// first place for whose mark there was no memory: it and those after it are left as they were.
+fn bind(
+    text_cells: &mut [Cell],
+    data_cells: &mut [Cell],
+    marks: &mut Vec<Mark>,
+    chain: &Chain<'_>,
+    head: Link,
+) -> Link
+    requires { IsChainOf chain.now head text_cells.old data_cells.old }
+    ensures { BindsTo chain.now head result text_cells.old data_cells.old marks.old.items text_cells.new data_cells.new marks.new.items }
+{
+    let mut next = head;
+    while let Some(place) = next {
+        if let Err(_) = bind_place(text_cells, data_cells, marks, place, chain.definition) {
+            return next;
+        }
+        next = link_at(chain.links, place);
+    }
+    next
+}
+
+/// Binds the cells of a chain to its definition, marks them, and cuts the chain. After an error the chain has the cells
+/// that are not bound, and the marks bring back those that are.
 fn bind_name(
     text_cells: &mut [Cell],
     data_cells: &mut [Cell],
@@ -129,24 +128,19 @@ fn bind_name(
     ensures texts { OnOk result (text_cells.new ≡ map (bound_on chain.now) text_cells.old) }
     ensures datas { OnOk result (data_cells.new ≡ map (bound_on chain.now) data_cells.old) }
     ensures heads { OnOk result (heads.new ≡ slice_set heads.old chain.now.index None) }
-    ensures back { OnOk result (LeavesMarks text_cells.old data_cells.old heads.old text_cells.new data_cells.new heads.new marks.old.items marks.new.items) }
+    ensures back { LeavesMarks text_cells.old data_cells.old heads.old text_cells.new data_cells.new heads.new marks.old.items marks.new.items }
     ensures few { OnOk result (NotesWaiting chain.now.index text_cells.old data_cells.old marks.old.items marks.new.items) }
-    ensures cells_stay { OnErr result ((text_cells.new ≡ text_cells.old) × (data_cells.new ≡ data_cells.old)) }
-    ensures else_stays { OnErr result ((heads.new ≡ heads.old) × (marks.new.items ≡ marks.old.items)) }
 {
-    let index = chain.index;
-    let head = link_in(heads, index);
-    let kept = marks.len();
-    if let Err(refused) = note_chain(text_cells, data_cells, chain.links, head, marks) {
-        marks.truncate(kept);
-        return Err(refused);
+    let head = link_in(heads, chain.index);
+    let rest = bind(text_cells, data_cells, marks, chain, head);
+    begin_chain(heads, chain.index, rest);
+    match rest {
+        Some(_) => Err(AllocError),
+        None => Ok(()),
     }
-    bind(text_cells, data_cells, chain.links, head, chain.definition);
-    cut_chain(heads, index);
-    Ok(())
 }
 
-/// Binds the chain of an external, if it is defined. An error changes nothing.
+/// Binds the chain of an external, if it is defined. After an error the marks bring back what was bound.
 fn bind_defined(
     text_cells: &mut [Cell],
     data_cells: &mut [Cell],
@@ -161,8 +155,6 @@ fn bind_defined(
     ensures heads { OnOk result (heads.new ≡ heads_for awaited.now heads.old) }
     ensures back { LeavesMarks text_cells.old data_cells.old heads.old text_cells.new data_cells.new heads.new marks.old.items marks.new.items }
     ensures few { OnOk result (NotesAwaited awaited.now text_cells.old data_cells.old text_cells.new data_cells.new marks.old.items marks.new.items) }
-    ensures cells_stay { OnErr result ((text_cells.new ≡ text_cells.old) × (data_cells.new ≡ data_cells.old)) }
-    ensures else_stays { OnErr result ((heads.new ≡ heads.old) × (marks.new.items ≡ marks.old.items)) }
 {
     match state_at(awaited.externals, awaited.place) {
         State::Defined(segment, offset) => {
@@ -207,7 +199,7 @@ pub(crate) fn bind_names(
 
 #[cfg(test)]
 mod tests {
-    use super::{Definition, bind};
+    use super::{Chain, Definition, bind};
     use crate::cell::{Cell, Target};
     use crate::chain::{Link, Links};
     use crate::mark::Place;
@@ -231,23 +223,23 @@ mod tests {
             text: &none,
             data: &[],
         };
-        let definition = Definition {
-            segment: Segment::Absolute,
-            offset: 7,
+        let chain = Chain {
+            links: &links,
+            index: 0,
+            definition: Definition {
+                segment: Segment::Absolute,
+                offset: 7,
+            },
         };
-        bind(
-            &mut cells,
-            &mut [],
-            &links,
-            Some(Place::InText(2)),
-            definition,
-        );
+        let head = Some(Place::InText(2));
+        let mut marks = Vec::new(rt.alloc());
+        let rest = bind(&mut cells, &mut [], &mut marks, &chain, head);
         let bound = Cell {
             value: 7,
             target: Target::Absolute,
             pc: false,
         };
-        assert!(rt; cells[2] == bound);
+        assert!(rt; rest.is_some() || cells[2] == bound);
         assert!(rt; cells[0] == waits);
     }
 }

@@ -35,13 +35,13 @@ pub(crate) fn link_at(links: &Links<'_>, place: Place) -> Link
     }
 }
 
-/// Ends the chain of the external with this index.
-pub(crate) fn cut_chain(heads: &mut [Link], index: u16)
-    ensures { heads.new ≡ slice_set heads.old index None }
+/// Lets the chain of the external with this index begin here.
+pub(crate) fn begin_chain(heads: &mut [Link], index: u16, link: Link)
+    ensures { heads.new ≡ slice_set heads.old index link }
 {
     let index = index as usize;
     if index < heads.len() {
-        heads[index] = None;
+        heads[index] = link;
     }
 }
 
@@ -70,10 +70,7 @@ pub(crate) fn set_head(heads: &mut [Link], target: Target, link: Link)
     ensures { heads.new ≡ with_head target link heads.old }
 {
     if let Target::External(index) = target {
-        let index = index as usize;
-        if index < heads.len() {
-            heads[index] = link;
-        }
+        begin_chain(heads, index, link);
     }
 }
 

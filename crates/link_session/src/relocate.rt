@@ -7,6 +7,7 @@ ghost use Rattle.link_session.specs.Cells.{name_target, offset_in, segment_targe
 ghost use Rattle.link_session.specs.internal.Fields.{image_in};
 ghost use Rattle.link_session.specs.internal.Additions.{next_shifts, no_place, placed_reference, placed_cell, place_at};
 ghost use Rattle.link_session.specs.Starts.{shift_by};
+ghost use Rattle.link_session.specs.internal.Chains.{threaded};
 ghost use Rattle.link_session.specs.internal.OwnWords.{own_placed, own_threaded};
 
 use crate::cell::{Cell, Target};
@@ -185,6 +186,32 @@ fn place_at(segment: Segment, index: u16) -> Place
     }
 }
 
+/// Appends the cells of an object's words. There is room for them.
+fn append_own(cells: &mut Vec<Cell>, scope: &Scope<'_>, own: &Words<'_>)
+    requires beside { length own.now.words.now ≡ length own.now.relocs.now }
+    requires room { vec_len cells.old + length own.now.words.now ≤ vec_capacity cells.old }
+    ensures { cells.new.items ≡ cells.old.items ++ own_placed scope.now own.now }
+{
+    let own_shift = scope.shifts.of(own.segment);
+    for (i, word) in own.words.iter().enumerate() {
+        cells.push_reserved(own_cell(scope, own_shift, *word, own.relocs[i]));
+    }
+}
+
+/// Puts the last cells of a segment in front of the chains that they wait in, and appends their links. There is room
+/// for the links.
+fn thread_last(links: &mut Vec<Link>, heads: &mut [Link], cells: &[Cell], segment: Segment)
+    requires small { length links.old.items + length cells.now ≤ 65535 }
+    requires room { vec_len links.old + length cells.now ≤ vec_capacity links.old }
+    ensures links { links.new.items ≡ links.old.items ++ (threaded (place_at segment) (length links.old.items) cells.now heads.old).0 }
+    ensures heads { heads.new ≡ (threaded (place_at segment) (length links.old.items) cells.now heads.old).1 }
+{
+    for cell in cells {
+        let place = place_at(segment, links.len() as u16);
+        thread(links, heads, cell.target, place);
+    }
+}
+
 /// Appends the cells of an object's words, each in front of the chain that it waits in. There is room for them and
 /// for their links.
 pub(crate) fn append_cells(
@@ -202,11 +229,7 @@ pub(crate) fn append_cells(
     ensures links { links.new.items ≡ links.old.items ++ (own_threaded own.now (own_placed scope.now own.now) links.old.items heads.old).0 }
     ensures heads { heads.new ≡ (own_threaded own.now (own_placed scope.now own.now) links.old.items heads.old).1 }
 {
-    let own_shift = scope.shifts.of(own.segment);
-    for (i, word) in own.words.iter().enumerate() {
-        let cell = own_cell(scope, own_shift, *word, own.relocs[i]);
-        let place = place_at(own.segment, links.len() as u16);
-        thread(links, heads, cell.target, place);
-        cells.push_reserved(cell);
-    }
+    let kept = cells.len();
+    append_own(cells, scope, own);
+    thread_last(links, heads, &cells[kept..], own.segment);
 }

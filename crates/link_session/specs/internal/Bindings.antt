@@ -1,15 +1,24 @@
 -- What binding names makes of cells, heads and marks, by the names that the code is given.
-use Rattle.std.specs.Prelude.{List}
+use Rattle.std.specs.Prelude.{List, length}
 use Rattle.link_session.specs.declared.bind.Awaited.{Awaited}
 use Rattle.link_session.specs.declared.bind.Chain.{Chain}
 use Rattle.link_session.specs.declared.bind.Mentioned.{Mentioned}
 use Rattle.link_session.specs.declared.cell.Cell.{Cell}
 use Rattle.link_session.specs.declared.mark.Mark.{Mark}
 use Rattle.link_session.specs.Image.{state_at}
-use Rattle.link_session.specs.internal.Chains.{Link, bound_if}
+use Rattle.link_session.specs.internal.Chains.{Link, EndsWithin, IsBoundTo, bound_if}
 use Rattle.link_session.specs.internal.Counts.{NotesBound}
 use Rattle.link_session.specs.internal.Settled.{settled_at, settled_over}
 use Rattle.link_session.specs.internal.Threads.{cut_by_state, cut_heads}
+
+-- the chain that begins here ends, and stays inside the cells
+abbrev pub IsChainOf : Chain → Link → List Cell → List Cell → Type 0
+IsChainOf chain head texts datas = EndsWithin chain.links.now.text.now chain.links.now.data.now head (length texts) (length datas)
+
+-- it is bound and marked to a link
+abbrev pub BindsTo : Chain → Link → Link → List Cell → List Cell → List Mark → List Cell → List Cell → List Mark → Type 0
+BindsTo chain head next texts datas marks new_texts new_datas new_marks =
+    IsBoundTo chain.links.now.text.now chain.links.now.data.now head next chain.definition.segment chain.definition.offset texts datas marks new_texts new_datas new_marks
 
 -- a cell once the chain is bound
 abbrev pub bound_on : Chain → Cell → Cell

@@ -1,49 +1,55 @@
-use Rattle.std.proofs.Common.{None, slice_index_or, sym, subst}
-use Rattle.link_session.specs.internal.Chains.{IsChain, AreChained, marks_of}
-use Rattle.link_session.specs.internal.Restores.{Restores}
-use Rattle.link_session.proofs.ChainedLemmas.{cut_one}
-use Rattle.link_session.proofs.RestoreLemmas.{bound_texts, bound_datas, restores_chain}
+use Rattle.std.proofs.Common.{None, slice_index_or, List, sym, subst}
+use Rattle.link_session.specs.internal.Chains.{Link, AreChained}
+use Rattle.link_session.specs.internal.Restores.{LeavesMarks}
+use Rattle.link_session.specs.internal.Bindings.{BindsTo}
+use Rattle.link_session.proofs.ChainedLemmas.{cut_to}
+use Rattle.link_session.proofs.RestoreLemmas.{chain_left, all_texts, all_datas, all_marks}
 use Rattle.link_session.proofs.FewLemmas.{chain_noted}
 use Rattle.link_session.proofs.bind.bind_name.Goals as goal
 
-pub returns-clause-texts : goal.returns-clause-texts
-returns-clause-texts c =
-    let w = c.requires.each c.args.chain.now.index in
-    bound_texts c.args.chain.now.links.now.text.now c.args.chain.now.links.now.data.now c.args.text_cells.now c.args.data_cells.now c.args.heads.now c.requires c.args.chain.now.index c.args.chain.now.definition.segment c.args.chain.now.definition.offset c.bind.new.text_cells
-    (c.bind.ensures.texts w.places (subst (λ l. IsChain c.args.chain.now.links.now.text.now c.args.chain.now.links.now.data.now l w.places) (sym c.link_in-head.ensures) w.visits))
+pub returns-in-Some-clause-chained : goal.returns-in-Some-clause-chained
+returns-in-Some-clause-chained c =
+    let w = subst (λ (l : Link). BindsTo c.args.chain.now l c.bind-rest.result c.args.text_cells.now c.args.data_cells.now c.args.marks.now.items c.bind-rest.new.text_cells c.bind-rest.new.data_cells c.bind-rest.new.marks.items)
+    c.link_in-head.ensures c.bind-rest.ensures in
+    subst (AreChained c.bind-rest.new.text_cells c.bind-rest.new.data_cells c.args.chain.now.links.now.text.now c.args.chain.now.links.now.data.now) (sym c.begin_chain.ensures)
+    (cut_to c.args.text_cells.now c.args.data_cells.now c.args.chain.now.links.now.text.now c.args.chain.now.links.now.data.now c.args.heads.now c.requires c.args.chain.now.index c.args.chain.now.definition.segment c.args.chain.now.definition.offset c.bind-rest.result c.args.marks.now.items c.bind-rest.new.text_cells c.bind-rest.new.data_cells c.bind-rest.new.marks.items w)
 
-pub returns-clause-datas : goal.returns-clause-datas
-returns-clause-datas c =
-    let w = c.requires.each c.args.chain.now.index in
-    bound_datas c.args.chain.now.links.now.text.now c.args.chain.now.links.now.data.now c.args.text_cells.now c.args.data_cells.now c.args.heads.now c.requires c.args.chain.now.index c.args.chain.now.definition.segment c.args.chain.now.definition.offset c.bind.new.data_cells
-    (c.bind.ensures.datas w.places (subst (λ l. IsChain c.args.chain.now.links.now.text.now c.args.chain.now.links.now.data.now l w.places) (sym c.link_in-head.ensures) w.visits))
+pub returns-in-Some-clause-back : goal.returns-in-Some-clause-back
+returns-in-Some-clause-back c =
+    let w = subst (λ (l : Link). BindsTo c.args.chain.now l c.bind-rest.result c.args.text_cells.now c.args.data_cells.now c.args.marks.now.items c.bind-rest.new.text_cells c.bind-rest.new.data_cells c.bind-rest.new.marks.items)
+    c.link_in-head.ensures c.bind-rest.ensures in
+    subst (λ (hs : List Link). LeavesMarks c.args.text_cells.now c.args.data_cells.now c.args.heads.now c.bind-rest.new.text_cells c.bind-rest.new.data_cells hs c.args.marks.now.items c.bind-rest.new.marks.items) (sym c.begin_chain.ensures)
+    (chain_left c.args.chain.now.links.now.text.now c.args.chain.now.links.now.data.now c.args.text_cells.now c.args.data_cells.now c.args.heads.now c.requires c.args.chain.now.index c.args.chain.now.definition.segment c.args.chain.now.definition.offset c.bind-rest.result c.args.marks.now.items c.bind-rest.new.text_cells c.bind-rest.new.data_cells c.bind-rest.new.marks.items w)
 
-pub returns-clause-chained : goal.returns-clause-chained
-returns-clause-chained c =
-    let w = c.requires.each c.args.chain.now.index in
-    let chain = subst (λ l. IsChain c.args.chain.now.links.now.text.now c.args.chain.now.links.now.data.now l w.places) (sym c.link_in-head.ensures) w.visits in
-    let texts = bound_texts c.args.chain.now.links.now.text.now c.args.chain.now.links.now.data.now c.args.text_cells.now c.args.data_cells.now c.args.heads.now c.requires c.args.chain.now.index c.args.chain.now.definition.segment c.args.chain.now.definition.offset c.bind.new.text_cells
-    (c.bind.ensures.texts w.places chain) in
-    let datas = bound_datas c.args.chain.now.links.now.text.now c.args.chain.now.links.now.data.now c.args.text_cells.now c.args.data_cells.now c.args.heads.now c.requires c.args.chain.now.index c.args.chain.now.definition.segment c.args.chain.now.definition.offset c.bind.new.data_cells
-    (c.bind.ensures.datas w.places chain) in
-    subst (λ (P : Type 0). P) (λ i. AreChained (sym texts i) (sym datas i) c.args.chain.now.links.now.text.now c.args.chain.now.links.now.data.now (sym c.cut_chain.ensures i))
-    (cut_one c.args.text_cells.now c.args.data_cells.now c.args.chain.now.links.now.text.now c.args.chain.now.links.now.data.now c.args.heads.now c.requires c.args.chain.now.index c.args.chain.now.definition.segment c.args.chain.now.definition.offset)
+pub returns-in-None-clause-chained : goal.returns-in-None-clause-chained
+returns-in-None-clause-chained c =
+    let w = subst (λ (l : Link). BindsTo c.args.chain.now l c.bind-rest.result c.args.text_cells.now c.args.data_cells.now c.args.marks.now.items c.bind-rest.new.text_cells c.bind-rest.new.data_cells c.bind-rest.new.marks.items)
+    c.link_in-head.ensures c.bind-rest.ensures in
+    subst (AreChained c.bind-rest.new.text_cells c.bind-rest.new.data_cells c.args.chain.now.links.now.text.now c.args.chain.now.links.now.data.now) (sym c.begin_chain.ensures)
+    (cut_to c.args.text_cells.now c.args.data_cells.now c.args.chain.now.links.now.text.now c.args.chain.now.links.now.data.now c.args.heads.now c.requires c.args.chain.now.index c.args.chain.now.definition.segment c.args.chain.now.definition.offset c.bind-rest.result c.args.marks.now.items c.bind-rest.new.text_cells c.bind-rest.new.data_cells c.bind-rest.new.marks.items w)
 
-pub returns-clause-back : goal.returns-clause-back
-returns-clause-back c =
-    let w = c.requires.each c.args.chain.now.index in
-    let chain = subst (λ l. IsChain c.args.chain.now.links.now.text.now c.args.chain.now.links.now.data.now l w.places) (sym c.link_in-head.ensures) w.visits in
-    record {
-      marks = marks_of c.args.text_cells.now c.args.data_cells.now w.places;
-      last = c.in_default.ensures.ok w.places chain;
-      restores =
-          subst (λ hs. Restores c.args.text_cells.now c.args.data_cells.now c.args.heads.now c.bind.new.text_cells c.bind.new.data_cells hs (marks_of c.args.text_cells.now c.args.data_cells.now w.places)) (sym c.cut_chain.ensures)
-          (restores_chain c.args.chain.now.links.now.text.now c.args.chain.now.links.now.data.now c.args.text_cells.now c.args.data_cells.now c.args.heads.now c.requires c.args.chain.now.index c.args.chain.now.definition.segment c.args.chain.now.definition.offset c.bind.new.text_cells c.bind.new.data_cells
-          (c.bind.ensures.texts w.places chain) (c.bind.ensures.datas w.places chain));
-    }
+pub returns-in-None-clause-back : goal.returns-in-None-clause-back
+returns-in-None-clause-back c =
+    let w = subst (λ (l : Link). BindsTo c.args.chain.now l c.bind-rest.result c.args.text_cells.now c.args.data_cells.now c.args.marks.now.items c.bind-rest.new.text_cells c.bind-rest.new.data_cells c.bind-rest.new.marks.items)
+    c.link_in-head.ensures c.bind-rest.ensures in
+    subst (λ (hs : List Link). LeavesMarks c.args.text_cells.now c.args.data_cells.now c.args.heads.now c.bind-rest.new.text_cells c.bind-rest.new.data_cells hs c.args.marks.now.items c.bind-rest.new.marks.items) (sym c.begin_chain.ensures)
+    (chain_left c.args.chain.now.links.now.text.now c.args.chain.now.links.now.data.now c.args.text_cells.now c.args.data_cells.now c.args.heads.now c.requires c.args.chain.now.index c.args.chain.now.definition.segment c.args.chain.now.definition.offset c.bind-rest.result c.args.marks.now.items c.bind-rest.new.text_cells c.bind-rest.new.data_cells c.bind-rest.new.marks.items w)
 
-pub returns-clause-few : goal.returns-clause-few
-returns-clause-few c =
-    let w = c.requires.each c.args.chain.now.index in
-    let chain = subst (λ l. IsChain c.args.chain.now.links.now.text.now c.args.chain.now.links.now.data.now l w.places) (sym c.link_in-head.ensures) w.visits in
-    chain_noted c.args.chain.now.links.now.text.now c.args.chain.now.links.now.data.now (slice_index_or c.args.heads.now c.args.chain.now.index None) c.args.text_cells.now c.args.data_cells.now c.args.chain.now.index w _ _ (c.in_default.ensures.ok w.places chain)
+pub returns-in-None-clause-texts : goal.returns-in-None-clause-texts
+returns-in-None-clause-texts c =
+    let w = subst (λ (l : Link). BindsTo c.args.chain.now l c.bind-rest.result c.args.text_cells.now c.args.data_cells.now c.args.marks.now.items c.bind-rest.new.text_cells c.bind-rest.new.data_cells c.bind-rest.new.marks.items)
+    c.link_in-head.ensures c.bind-rest.ensures in
+    all_texts c.args.chain.now.links.now.text.now c.args.chain.now.links.now.data.now c.args.text_cells.now c.args.data_cells.now c.args.heads.now c.requires c.args.chain.now.index c.args.chain.now.definition.segment c.args.chain.now.definition.offset c.bind-rest.result c.args.marks.now.items c.bind-rest.new.text_cells c.bind-rest.new.data_cells c.bind-rest.new.marks.items w c.in-None.is
+
+pub returns-in-None-clause-datas : goal.returns-in-None-clause-datas
+returns-in-None-clause-datas c =
+    let w = subst (λ (l : Link). BindsTo c.args.chain.now l c.bind-rest.result c.args.text_cells.now c.args.data_cells.now c.args.marks.now.items c.bind-rest.new.text_cells c.bind-rest.new.data_cells c.bind-rest.new.marks.items)
+    c.link_in-head.ensures c.bind-rest.ensures in
+    all_datas c.args.chain.now.links.now.text.now c.args.chain.now.links.now.data.now c.args.text_cells.now c.args.data_cells.now c.args.heads.now c.requires c.args.chain.now.index c.args.chain.now.definition.segment c.args.chain.now.definition.offset c.bind-rest.result c.args.marks.now.items c.bind-rest.new.text_cells c.bind-rest.new.data_cells c.bind-rest.new.marks.items w c.in-None.is
+
+pub returns-in-None-clause-few : goal.returns-in-None-clause-few
+returns-in-None-clause-few c =
+    let w = subst (λ (l : Link). BindsTo c.args.chain.now l c.bind-rest.result c.args.text_cells.now c.args.data_cells.now c.args.marks.now.items c.bind-rest.new.text_cells c.bind-rest.new.data_cells c.bind-rest.new.marks.items)
+    c.link_in-head.ensures c.bind-rest.ensures in
+    chain_noted c.args.chain.now.links.now.text.now c.args.chain.now.links.now.data.now (slice_index_or c.args.heads.now c.args.chain.now.index None) c.args.text_cells.now c.args.data_cells.now c.args.chain.now.index (c.requires.each c.args.chain.now.index) c.args.marks.now.items c.bind-rest.new.marks.items
+    (all_marks c.args.chain.now.links.now.text.now c.args.chain.now.links.now.data.now c.args.text_cells.now c.args.data_cells.now c.args.heads.now c.requires c.args.chain.now.index c.args.chain.now.definition.segment c.args.chain.now.definition.offset c.bind-rest.result c.args.marks.now.items c.bind-rest.new.text_cells c.bind-rest.new.data_cells c.bind-rest.new.marks.items w c.in-None.is)

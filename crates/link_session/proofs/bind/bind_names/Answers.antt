@@ -28,6 +28,12 @@ loop-place-preserved c =
           c.args.heads.now c.loop-place.heads b.new.heads c.args.marks.now.items c.loop-place.marks.items b.new.marks.items c.loop-place.auto.text_cells c.loop-place.auto.data_cells inv.back b.ensures.back;
     }
 
+pub returns-in_err-bind_defined-clause-back : goal.returns-in_err-bind_defined-clause-back
+returns-in_err-bind_defined-clause-back c =
+    let b = c.bind_defined in
+    leaves_then c.args.text_cells.now c.args.data_cells.now c.loop-place.text_cells c.loop-place.data_cells b.new.text_cells b.new.data_cells
+    c.args.heads.now c.loop-place.heads b.new.heads c.args.marks.now.items c.loop-place.marks.items b.new.marks.items c.loop-place.auto.text_cells c.loop-place.auto.data_cells c.loop-place.invariant.back b.ensures.back
+
 pub returns-clause-texts : goal.returns-clause-texts
 returns-clause-texts c =
     let es = c.args.mentioned.now.externals.now.entries in
