@@ -20,6 +20,7 @@ use Rattle.v7tools.specs.FaultTexts.{cli_text, fault_of_link}
 use Rattle.v7tools.specs.Inputs.{Cause, kept_with}
 use Rattle.scripts.specs.Scripts.{Asked, to_add, to_withdraw, for_externals, for_undefined, to_link, for_nothing}
 use Rattle.v7tools.specs.LineRuns.{DoesStep, IsAddOf, IsLineOf, LineRun, OnlyTells, TakesLast, status_after}
+use Rattle.v7tools.specs.internal.StepParts.{RefusesLink}
 use Rattle.v7tools.specs.internal.SessionParts.{AnswersLine, IsNoLink, IsOpenedAt, TakesPlainStep, TellsStep}
 use Rattle.v7tools.specs.SessionSteps.{AddsIf, Does, GoesOut, IsAddBy, IsAddOn, IsStepOn, verdict_of}
 use Rattle.v7tools.specs.declared.commands.Command.{Command}
@@ -175,13 +176,11 @@ module _ {W : Type 0} (contents : W → Option (List ℕ)) where
 
   module _ (o : Choices) (path : List ℕ) (kept : Kept) (result : Result ℕ CliFault) (before after : Latched W) where
     -- there is no link
-    pub refused_link : (h : History) (fault : LinkFault) (other : CliFault) → IsLinkOf (Err fault) (link kept.forced (objects kept.entries) o) → other ≡ fault_of_link fault → IfOk result (λ status. status ≡ 1) →
-        IfErr result (λ e. e ≡ faults.WriteFailed) → (IsErr result ↔ IsTrue after.has_failed) → Puts result (contents before.device) (contents after.device) (line (cli_text other)) → AnswersLine contents o (to_link path) kept kept h h result before after
-    refused_link h fault other is says status write_failed failed bytes =
+    pub refused_link : (h : History) → RefusesLink contents (link kept.forced (objects kept.entries) o) result before after → IfOk result (λ status. status ≡ 1) → IfErr result (λ e. e ≡ faults.WriteFailed) →
+        AnswersLine contents o (to_link path) kept kept h h result before after
+    refused_link h (fault, is, written) status write_failed =
         let did = refused_as kept.entries (cli_text (fault_of_link fault)) in
-        answered_by o (to_link path) [] did kept kept h h result before after
-        (record { entries = refl; status = status; write_failed = write_failed; fault = failed; bytes = subst (λ (e : CliFault). Puts result (contents before.device) (contents after.device) (line (cli_text e))) says bytes })
-        (nothing_asked h)
+        answered_by o (to_link path) [] did kept kept h h result before after (record { entries = refl; status = status; write_failed = write_failed; fault = written.fault; bytes = written.bytes }) (nothing_asked h)
         (inl (record { did = did; is_link = link_refused_by kept.entries (link kept.forced (objects kept.entries) o) fault is; refuses = refl; tells = tells_line (to_link path) did did kept kept refl refl refl }))
 
     -- there is a link, and it is known what became of its file

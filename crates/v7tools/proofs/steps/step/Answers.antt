@@ -79,15 +79,6 @@ returns-in-Withdraw-clause-latched g c = c.withdraw.ensures.latched
 pub returns-in-Withdraw-clause-object : goal.returns-in-Withdraw-clause-object
 returns-in-Withdraw-clause-object g c = λ _. c.withdraw.ensures.object
 
-pub returns-in-Link-clause-write_failed : goal.returns-in-Link-clause-write_failed
-returns-in-Link-clause-write_failed g c = c.make_link.ensures.write_failed
-
-pub returns-in-Link-clause-latched : goal.returns-in-Link-clause-latched
-returns-in-Link-clause-latched g c = c.make_link.ensures.latched
-
-pub returns-in-Link-clause-object : goal.returns-in-Link-clause-object
-returns-in-Link-clause-object g c = c.make_link.ensures.object
-
 pub returns-in-None-clause-write_failed : goal.returns-in-None-clause-write_failed
 returns-in-None-clause-write_failed g c = c.refuse.ensures.write_failed
 
@@ -99,11 +90,6 @@ returns-in-Withdraw-clause-step g c =
     let s = c.args.session.now in
     let (changes, does) = c.withdraw.ensures.step in
     rw c.in-Withdraw.is (withdraw_step s.entries (last_of s.entries), refl, changes, does)
-
-pub returns-in-Link-clause-step : goal.returns-in-Link-clause-step
-returns-in-Link-clause-step g c =
-    let (did, by, does) = c.make_link.ensures.step in
-    rw c.in-Link.is (did, by, refl, does)
 
 pub returns-in_err-put_externals-in-Externals-clause-latched : goal.returns-in_err-put_externals-in-Externals-clause-latched
 returns-in_err-put_externals-in-Externals-clause-latched g c = c.in_err-put_externals-in-Externals.ensures.latched
@@ -122,3 +108,11 @@ returns-in_err-put_line-in-Bad-clause-latched g c = c.in_err-put_line-in-Bad.ens
 
 pub returns-in_ok-put_line-in-Bad-clause-latched : goal.returns-in_ok-put_line-in-Bad-clause-latched
 returns-in_ok-put_line-in-Bad-clause-latched g c = c.in_ok-put_line-in-Bad.ensures.latched
+
+pub returns-in_err-make_link-in-Link-clause-step : goal.returns-in_err-make_link-in-Link-clause-step
+returns-in_err-make_link-in-Link-clause-step g c =
+    let s = c.args.session.now in
+    let answer = link s.forced (objects s.entries) c.args.options.now in
+    let r = c.from_residual-in_err-make_link-in-Link.result in
+    rw c.in-Link.is (links_not g.W.Write.contents answer c.args.answers.now c.make_link.new.answers s r (no_value r (λ step. step ≡ Refused) c.from_residual-in_err-make_link-in-Link.ensures.0)
+        (refused_by g.W.Write.contents answer c.args.answers.now c.make_link.new.answers c.make_link.result r c.in_err-make_link-in-Link.is c.from_residual-in_err-make_link-in-Link.ensures.0 c.make_link.ensures.link))
