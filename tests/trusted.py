@@ -21,12 +21,12 @@ INTERNAL = ["internal"]
 
 # definitions name no constants of the code, but for the ids by which `command_words` knows its options, and the table of
 # `instructions`, which is data that a reader compares with the manual
-IDS = ["command_words", "instructions"]
+IDS = [("command_words", "words"), ("command_words", "link_words"), ("instructions", "table")]
 
 os.chdir(os.path.join(os.path.dirname(os.path.abspath(__file__)), ".."))
 LIBRARIES = [
-    "aout_core", "link_session", "link_options", "link_out", "scripts", "symtools", "session_text", "link_laws",
-    "command_words", "v7tools", "command_laws", "gnu_objects", "listings", "instructions", "disassemblies", "library_calls", "v7_c",
+    "aout_core", "link_session", "link_options", "link_out", "symtools", "session_text",
+    "command_words", "v7tools", "laws", "gnu_objects", "listings", "instructions", "disassemblies", "library_calls", "v7_c",
 ]
 IMPORT = re.compile(
     r"^ *(?:pub )?(?:ghost )?use Rattle\.(\w+)\.(specs|proofs)\.([\w.]+?)(?:\.\{([^}]*)\}|(?: as (\w+))?);?$"
@@ -115,7 +115,7 @@ def trusted():
     while waiting:
         (crate, folder, module), why = waiting.pop()
         if module.startswith("declared"):
-            if module.endswith("TheConstants") and "/specs/" in why and crate not in IDS:
+            if module.endswith("TheConstants") and "/specs/" in why and (crate, module.split(".")[1]) not in IDS:
                 faults.append(f"{why}, a constant of the code")
             continue
         if folder == "proofs" or module.split(".")[0] in INTERNAL:

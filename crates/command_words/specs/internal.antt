@@ -2,3 +2,4 @@
 pub mod ToolCalls
 pub mod FlagRules
 pub mod ToolApps
+pub mod LineParts

@@ -1,9 +1,17 @@
-//! The arguments of a command: which tool they name, with which options and files.
+//! The words of commands: the arguments of one, which name a tool, with options and files; and the lines of a session, which are
+//! read in blocks, with a writer that passes their answers on in blocks.
 #![tactic(auto)]
 
+mod block_reader;
+mod block_writer;
 mod fault;
+mod line_reader;
+mod lines;
 mod link_words;
 mod words;
 
+pub use block_writer::BlockWriter;
 pub use fault::WordsFault;
+pub use line_reader::{LineReader, Stop};
+pub use lines::Line;
 pub use words::{Call, parse};

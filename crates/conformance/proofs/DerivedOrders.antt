@@ -16,7 +16,7 @@ use Rattle.link_out.specs.declared.linked.LinkFault.{LinkFault}
 use Rattle.link_out.specs.Results.{Outcome}
 use Rattle.link_out.specs.function.Link.{link}
 use Rattle.link_out.specs.Runs.{link_after}
-use Rattle.link_laws.specs.Orders.{additions, AreAdded, OrderAddsAlike, AreAlike, OrderLinksAlike}
+use Rattle.laws.specs.Orders.{additions, AreAdded, OrderAddsAlike, AreAlike, OrderLinksAlike}
 use Rattle.v7tools.specs.Inputs.{Cause, Refusal, object_in, added_unless, kept_with, at_path, and_then, with_inputs, link_or_refusal, linked}
 use Rattle.conformance.specs.Samples.{e_o}
 

@@ -24,7 +24,7 @@ use Rattle.symtools.specs.declared.options.NmOptions.{NmOptions}
 use Rattle.symtools.specs.SymbolLines.{letter, symbol_line, value_column}
 use Rattle.symtools.specs.NmLists.{arranged, shown, nm_text}
 use Rattle.symtools.specs.SizeLines.{size_line, size_text}
-use Rattle.link_laws.specs.Listings.{undefined_locals, listed_locals, undefined_symbol, lines, state_letter, IsListedOnce, of_sizes, UndefinedAreListed, UndefinedLines, RowLines, ExternalsAreListed}
+use Rattle.laws.specs.Listings.{undefined_locals, listed_locals, undefined_symbol, lines, state_letter, IsListedOnce, of_sizes, UndefinedAreListed, UndefinedLines, RowLines, ExternalsAreListed}
 use Rattle.conformance.specs.Samples.{sym as entry, object, _f, _g, _x, _end, L1, c_o, d_o, g_o, x4_o, y1_o, y2_o, plain, plain_s, relocatable, with_keep}
 use Rattle.conformance.proofs.ClauseLemmas.{as_object, only_wanted}
 use Rattle.conformance.proofs.NeededPremises.{counts, all_kept, link_of, c_good, d_good}

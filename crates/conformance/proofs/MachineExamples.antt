@@ -7,9 +7,9 @@ use Rattle.link_session.specs.Sessions.{IsObject}
 use Rattle.link_options.specs.declared.options.Layout.TheVariants.{Pure, Split}
 use Rattle.link_options.specs.Choices.{Choices}
 use Rattle.link_out.specs.function.Link.{link}
-use Rattle.link_laws.specs.Core.{Space, of_instructions, of_data, core}
-use Rattle.link_laws.specs.Operands.{operand, Calls, Defines, is_usable_in, Arrives}
-use Rattle.link_laws.proofs.OperandLemmas.{calls_arrive}
+use Rattle.laws.specs.Core.{Space, of_instructions, of_data, core}
+use Rattle.laws.specs.Operands.{operand, Calls, Defines, is_usable_in, Arrives}
+use Rattle.laws.proofs.OperandLemmas.{calls_arrive}
 use Rattle.conformance.specs.Samples.{sym as entry, _twice, _count, main_o, twice_o, count_o, i_o, plain, with_layout}
 use Rattle.conformance.proofs.LawExamples.{outcome_of}
 use Rattle.conformance.proofs.ClauseLemmas.{as_object}

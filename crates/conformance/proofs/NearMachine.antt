@@ -23,11 +23,11 @@ use Rattle.link_out.specs.Results.{Outcome}
 use Rattle.link_out.specs.function.Link.{link}
 use Rattle.link_out.specs.relation.Relocated.{base_in, entry_of}
 use Rattle.link_out.specs.laws.CommonsAndLayouts.{IsCommon}
-use Rattle.link_laws.specs.Core.{Space, of_instructions, of_data, has_segment, first_address, bytes_of, is_in, core}
-use Rattle.link_laws.specs.CoreLaws.{IsLoaded, IsZero, IsOfWord, NothingElse}
-use Rattle.link_laws.specs.Operands.{FindsMore, FindsName, segment_meant, Calls, Defines, is_usable_in, Arrives, CallsArrive}
-use Rattle.link_laws.proofs.OperandLemmas.{calls_arrive}
-use Rattle.link_laws.proofs.LoadedLemmas.{words_loaded}
+use Rattle.laws.specs.Core.{Space, of_instructions, of_data, has_segment, first_address, bytes_of, is_in, core}
+use Rattle.laws.specs.CoreLaws.{IsLoaded, IsZero, IsOfWord, NothingElse}
+use Rattle.laws.specs.Operands.{FindsMore, FindsName, segment_meant, Calls, Defines, is_usable_in, Arrives, CallsArrive}
+use Rattle.laws.proofs.OperandLemmas.{calls_arrive}
+use Rattle.laws.proofs.LoadedLemmas.{words_loaded}
 use Rattle.conformance.specs.Samples.{sym as entry, object, sized, _f, _x, _twice, a_o, b_o, c_o, d_o, d2_o, k_o, x4_o, main_o, twice_o, plain, plain_s, relocatable, with_layout}
 use Rattle.conformance.proofs.LawExamples.{outcome_of}
 use Rattle.conformance.proofs.ClauseLemmas.{at_most_so, less_so, as_object, one_of_two, only_object, only_wanted}

@@ -28,8 +28,8 @@ use Rattle.v7tools.specs.Events.{Opened}
 use Rattle.v7tools.specs.Inputs.{kept_with, linked, object_in}
 use Rattle.v7tools.specs.LinkAnswers.{TakesAll}
 use Rattle.v7tools.specs.LinkRuns.{inputs_opened}
-use Rattle.command_laws.specs.Disks.{Disk, Run, file_after}
-use Rattle.command_laws.specs.StepsByCommands.{AreAt, IsAt, LeaveTheSame, Links, LinkStepsLaw, ReportTheSame}
+use Rattle.laws.specs.Disks.{Disk, Run, file_after}
+use Rattle.laws.specs.StepsByCommands.{AreAt, IsAt, LeaveTheSame, Links, LinkStepsLaw, ReportTheSame}
 use Rattle.conformance.specs.Samples.{_f, _g, b_o, d_o, d2_o, e_o, x4_o, plain, relocatable, relocatable_d, with_keep}
 use Rattle.conformance.proofs.LawExamples.{below, outcome_of}
 use Rattle.conformance.proofs.NeededPremises.{counts}

@@ -24,8 +24,8 @@ use Rattle.v7tools.specs.Inputs.{linked}
 use Rattle.v7tools.specs.LinkAnswers.{TakesAll, told}
 use Rattle.v7tools.specs.LinkRuns.{inputs_opened}
 use Rattle.v7tools.specs.declared.office.Stored.TheVariants.{Kept}
-use Rattle.command_laws.specs.Disks.{Disk, IsOn, Run}
-use Rattle.command_laws.specs.StepsByCommands.{Links}
+use Rattle.laws.specs.Disks.{Disk, IsOn, Run}
+use Rattle.laws.specs.StepsByCommands.{Links}
 use Rattle.conformance.proofs.LawExamples.{below}
 
 abbrev pub heap : Global

@@ -14,8 +14,8 @@ use Rattle.command_words.specs.declared.words.Call.TheVariants.{Ld, Strip}
 use Rattle.v7tools.specs.CommandRuns.{AsksFor}
 use Rattle.v7tools.specs.Events.{opened, stored}
 use Rattle.v7tools.specs.declared.office.Stored.TheVariants.{Kept}
-use Rattle.command_laws.specs.Disks.{Run, file_after}
-use Rattle.command_laws.specs.StepsByCommands.{AreAt, LeaveTheSame, Links, ReportTheSame, StripStepsLaw, Strips}
+use Rattle.laws.specs.Disks.{Run, file_after}
+use Rattle.laws.specs.StepsByCommands.{AreAt, LeaveTheSame, Links, ReportTheSame, StripStepsLaw, Strips}
 use Rattle.conformance.specs.Samples.{d_o, e_o, plain, plain_s}
 use Rattle.conformance.proofs.NeededPremises.{counts}
 use Rattle.conformance.proofs.StepRuns.{contents, holding, sound_file}

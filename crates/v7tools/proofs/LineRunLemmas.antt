@@ -18,7 +18,7 @@ use Rattle.v7tools.specs.Answers.{absent, Verdict, done, refused, to_store, Step
 use Rattle.v7tools.specs.Events.{Event, History, Extends, opened, stored}
 use Rattle.v7tools.specs.FaultTexts.{cli_text, fault_of_link}
 use Rattle.v7tools.specs.Inputs.{Cause, kept_with}
-use Rattle.scripts.specs.Scripts.{Asked, to_add, to_withdraw, for_externals, for_undefined, to_link, for_nothing}
+use Rattle.command_words.specs.Scripts.{Asked, to_add, to_withdraw, for_externals, for_undefined, to_link, for_nothing}
 use Rattle.v7tools.specs.LineRuns.{DoesStep, IsAddOf, IsLineOf, LineRun, OnlyTells, TakesLast, status_after}
 use Rattle.v7tools.specs.internal.StepParts.{RefusesLink}
 use Rattle.v7tools.specs.internal.SessionParts.{AnswersLine, IsNoLink, IsOpenedAt, TakesPlainStep, TellsStep}

@@ -10,19 +10,19 @@ use Rattle.link_session.specs.Sessions.{nothing_kept}
 use Rattle.link_session.specs.Undo.{Kept}
 use Rattle.link_options.specs.Choices.{Choices}
 use Rattle.v7tools.specs.Events.{History, Extends}
-use Rattle.scripts.specs.Scripts.{Asked, lines_in, Given, ScriptFault, long_line, many_lines, and_given, given_behind}
-use Rattle.scripts.specs.ScriptAnswers.{Answer, IfTold, IsNextOf, NamesPath, Progress, Settles, asked_by, lines_of}
+use Rattle.command_words.specs.Scripts.{Asked, lines_in, Given, ScriptFault, long_line, many_lines, and_given, given_behind}
+use Rattle.command_words.specs.ScriptAnswers.{Answer, IfTold, IsNextOf, NamesPath, Progress, Settles, asked_by, lines_of}
 use Rattle.v7tools.specs.SessionRuns.{AreFirst, AreLines, Chains, EndsBehind, IsSessionRun, Ran, StopsBehind, answers_of, events_of, given, lines_asked, worst}
 use Rattle.v7tools.specs.LineRuns.{IsLineOf, LineRun}
 use Rattle.v7tools.specs.internal.SessionParts.{AnswersLine}
 use Rattle.v7tools.specs.ScriptCalls.{returned}
 use Rattle.v7tools.specs.declared.fault.CliFault.{CliFault}
 use Rattle.v7tools.specs.declared.fault.CliFault.TheVariants as faults
-use Rattle.scripts.specs.declared.line_reader.Stop.{Stop}
-use Rattle.scripts.specs.declared.line_reader.Stop.TheVariants as stops
-use Rattle.scripts.specs.declared.lines.Line.{Line}
+use Rattle.command_words.specs.declared.line_reader.Stop.{Stop}
+use Rattle.command_words.specs.declared.line_reader.Stop.TheVariants as stops
+use Rattle.command_words.specs.declared.lines.Line.{Line}
 use Rattle.v7tools.proofs.EventLemmas.{asked_behind, map-append, nothing_asked}
-use Rattle.scripts.proofs.ScriptLemmas.{behind_last_line}
+use Rattle.command_words.proofs.ScriptLemmas.{behind_last_line}
 
 -- ---- one more line
 

@@ -1,8 +1,8 @@
 -- What a call of a script returns: what the reader of its lines gives, with the end and the faults of the program. (own choice)
 use Rattle.std.specs.Prelude.{◌≡◌, ℕ, List, Option, Some, None, Result, Ok, Err}
-use Rattle.scripts.specs.ScriptAnswers.{Answer, GivesNext, Progress}
-use Rattle.scripts.specs.declared.line_reader.Stop.TheVariants as stops
-use Rattle.scripts.specs.declared.lines.Line.{Line}
+use Rattle.command_words.specs.ScriptAnswers.{Answer, GivesNext, Progress}
+use Rattle.command_words.specs.declared.line_reader.Stop.TheVariants as stops
+use Rattle.command_words.specs.declared.lines.Line.{Line}
 use Rattle.v7tools.specs.declared.fault.CliFault.{CliFault}
 use Rattle.v7tools.specs.declared.fault.CliFault.TheVariants as faults
 

@@ -12,8 +12,8 @@ use Rattle.link_session.specs.Undo.{Kept}
 use Rattle.link_options.specs.Choices.{Choices}
 use Rattle.v7tools.specs.Events.{Event, History, Extends}
 use Rattle.v7tools.specs.LinkRuns.{Refuses}
-use Rattle.scripts.specs.Scripts.{Asked, lines_in, Given, ScriptFault, long_line, many_lines, given_behind}
-use Rattle.scripts.specs.ScriptAnswers.{NamesPath}
+use Rattle.command_words.specs.Scripts.{Asked, lines_in, Given, ScriptFault, long_line, many_lines, given_behind}
+use Rattle.command_words.specs.ScriptAnswers.{NamesPath}
 use Rattle.v7tools.specs.declared.fault.CliFault.{CliFault}
 use Rattle.v7tools.specs.declared.fault.CliFault.TheVariants as faults
 use Rattle.v7tools.specs.LineRuns.{IsLineOf, LineRun}

@@ -23,7 +23,7 @@ mod standard_error;
 mod steps;
 
 pub use arguments::words;
-pub use command_words::Call;
+pub use command_words::{BlockWriter, Call, Line};
 pub use commands::{Command, Step};
 pub use emitting::emit;
 pub use fault::CliFault;
@@ -34,5 +34,4 @@ pub use office::{Office, Stored};
 pub use parsing::parse;
 pub use program::{Outputs, command, perform};
 pub use script::Script;
-pub use scripts::{BlockWriter, Line};
 pub use steps::step;

@@ -1,13 +1,13 @@
 //! A script, with the faults of the program.
 ghost use Rattle.std.specs.Prelude.{◌≡◌, ◌↔◌, ◌<◌, Err, IfErr, IfOk, IsTrue, length};
 ghost use Rattle.aout_core.specs.declared.block.TheConstants.{BLOCK_SIZE};
-ghost use Rattle.scripts.specs.ScriptAnswers.{begun};
+ghost use Rattle.command_words.specs.ScriptAnswers.{begun};
 ghost use Rattle.v7tools.specs.declared.fault.CliFault.TheVariants.{Memory, ScriptFailed};
 ghost use Rattle.v7tools.specs.ScriptCalls.{ReturnsNext, returned};
 
 use crate::fault::CliFault;
 use aout_core::Wire;
-use scripts::{Line, LineReader, Stop};
+use command_words::{Line, LineReader, Stop};
 use std::alloc::Global;
 use std::io::Read;
 use std::marker::Model;
@@ -33,7 +33,7 @@ pub struct Script<R> {
 }
 
 impl<R> Model for Script<R> {
-    ghost use Rattle.scripts.specs.ScriptAnswers.{Progress};
+    ghost use Rattle.command_words.specs.ScriptAnswers.{Progress};
 
     ghost Value = { Progress R };
 

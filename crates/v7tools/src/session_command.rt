@@ -3,8 +3,8 @@ ghost use Rattle.std.specs.Prelude.{◌≡◌, ◌↔◌, ◌≤◌, string_byte
 ghost use Rattle.aout_core.specs.Wires.{IsPassedOn};
 ghost use Rattle.link_session.specs.Sessions.{nothing_kept};
 ghost use Rattle.v7tools.specs.declared.fault.CliFault.TheVariants.{ScriptFailed};
-ghost use Rattle.scripts.specs.Scripts.{to_add, to_link};
-ghost use Rattle.scripts.specs.ScriptAnswers.{asked_by, begun};
+ghost use Rattle.command_words.specs.Scripts.{to_add, to_link};
+ghost use Rattle.command_words.specs.ScriptAnswers.{asked_by, begun};
 ghost use Rattle.v7tools.specs.SessionRuns.{IsSessionRun};
 ghost use Rattle.v7tools.specs.internal.SessionParts.{AnswersLine, IsNoLink, IsOpenedAt, TakesPlainStep};
 
@@ -15,9 +15,9 @@ use crate::office::Office;
 use crate::script::Script;
 use crate::steps::{make_link, step};
 use aout_core::{BufferedWrite, Wire};
+use command_words::Line;
 use link_out::Options;
 use link_session::{Forced, Session};
-use scripts::Line;
 use std::alloc::Global;
 use std::io::{Read, Write};
 

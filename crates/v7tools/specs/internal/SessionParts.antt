@@ -5,7 +5,7 @@ use Rattle.link_session.specs.Undo.{Kept}
 use Rattle.link_options.specs.Choices.{Choices}
 use Rattle.v7tools.specs.Answers.{Stepped}
 use Rattle.v7tools.specs.Events.{History, Extends, opened}
-use Rattle.scripts.specs.Scripts.{Asked}
+use Rattle.command_words.specs.Scripts.{Asked}
 use Rattle.v7tools.specs.SessionSteps.{Changes, IsStepOn}
 use Rattle.v7tools.specs.declared.commands.Command.{Command}
 use Rattle.v7tools.specs.declared.commands.Command.TheVariants.{Link}

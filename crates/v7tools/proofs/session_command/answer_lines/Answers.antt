@@ -1,6 +1,6 @@
 use Rattle.std.proofs.Common.{arith, rules, ◌≡◌, ◌+◌, Option, Some, None, Result, Ok, ap, subst, refl, ◌∙◌}
-use Rattle.scripts.specs.ScriptAnswers.{Answer, Progress, lines_of}
-use Rattle.scripts.specs.declared.lines.Line.{Line}
+use Rattle.command_words.specs.ScriptAnswers.{Answer, Progress, lines_of}
+use Rattle.command_words.specs.declared.lines.Line.{Line}
 use Rattle.v7tools.specs.ScriptCalls.{returned}
 use Rattle.v7tools.specs.SessionRuns.{lines_asked}
 use Rattle.v7tools.specs.declared.fault.CliFault.{CliFault}

@@ -2,7 +2,7 @@ use Rattle.std.proofs.Common.{Ok, None, Some, refl, subst}
 use Rattle.aout_core.specs.Wires.{Latched}
 use Rattle.link_session.specs.Labelled.{objects}
 use Rattle.link_out.specs.function.Link.{link}
-use Rattle.scripts.specs.Scripts.{to_link}
+use Rattle.command_words.specs.Scripts.{to_link}
 use Rattle.v7tools.specs.internal.SessionParts.{AnswersLine}
 use Rattle.v7tools.proofs.LineRunLemmas.{refused_link, stored_link}
 use Rattle.v7tools.proofs.StepLemmas.{no_value, refused_by, refused_with}

@@ -1,5 +1,5 @@
 use Rattle.std.proofs.Common.{ap, subst, ◌∙◌}
-use Rattle.scripts.specs.ScriptAnswers.{Progress}
+use Rattle.command_words.specs.ScriptAnswers.{Progress}
 use Rattle.v7tools.specs.SessionRuns.{IsSessionRun}
 use Rattle.v7tools.proofs.EventLemmas.{passed_on}
 use Rattle.v7tools.proofs.SessionRunLemmas.{no_memory}

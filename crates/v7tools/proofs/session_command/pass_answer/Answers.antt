@@ -1,6 +1,6 @@
 use Rattle.std.proofs.Common.{rules, ◌≡◌, true, refl}
 use Rattle.std.specs.Prelude.{IfErr}
-use Rattle.scripts.specs.ScriptAnswers.{asked_by}
+use Rattle.command_words.specs.ScriptAnswers.{asked_by}
 use Rattle.v7tools.specs.declared.fault.CliFault.TheVariants.{WriteFailed}
 use Rattle.v7tools.proofs.EventLemmas.{passed_on}
 use Rattle.v7tools.proofs.LineRunLemmas.{not_passed_on}

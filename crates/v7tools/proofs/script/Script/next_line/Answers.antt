@@ -1,5 +1,5 @@
 use Rattle.std.proofs.Common.{subst}
-use Rattle.scripts.specs.ScriptAnswers.{GivesNext, Progress}
+use Rattle.command_words.specs.ScriptAnswers.{GivesNext, Progress}
 use Rattle.v7tools.proofs.ScriptCallLemmas.{failed_as}
 use Rattle.v7tools.proofs.script.Script.next_line.Goals as goal
 

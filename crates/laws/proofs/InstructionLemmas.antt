@@ -1,0 +1,148 @@
+-- Linking preserves instructions.
+use Rattle.std.proofs.Common.{◌≡◌, ℕ, zero, suc, ◌+◌, ◌-◌, ◌*◌, ◌/◌, ◌%◌, ◌<◌, ◌≤◌, Bool, true, false, eqb, if◌then◌else◌, cond, List, [], ◌∷◌, ◌++◌, length, drop, Option, Some, None, refl, sym, ◌∙◌, ap, subst, append_assoc, arith}
+use Rattle.std.specs.Prelude.{slice_get, not}
+use Rattle.std.specs.List.{AllByRecursion}
+use Rattle.std.proofs.lemmas.List.{length-drop}
+use Rattle.std.proofs.lemmas.List.Sums.{sum_by-append}
+use Rattle.std.proofs.lemmas.Option.{slice_get_within, same_Some}
+use Rattle.std.proofs.lemmas.Bool.{eqb-true}
+use Rattle.aout_core.specs.declared.symbol.Symbol.{Symbol}
+use Rattle.aout_core.specs.declared.symbol.Segment.TheVariants.{TextSeg}
+use Rattle.aout_core.specs.declared.reloc.Reloc.{Reloc}
+use Rattle.aout_core.specs.declared.reloc.Kind.TheVariants.{Absolute}
+use Rattle.aout_core.specs.Contents.{Contents, IsWord}
+use Rattle.aout_core.specs.Words.{plus, minus}
+use Rattle.aout_core.specs.WellFormed.{kind_numbered, kind_of, is_pc_relative, symbol_number}
+use Rattle.link_session.specs.Starts.{size_of, total}
+use Rattle.link_session.specs.Sessions.{IsObject}
+use Rattle.link_session.proofs.ListLemmas.{all_split}
+use Rattle.link_session.proofs.WellFormedLemmas.{well_formed_parts}
+use Rattle.link_options.specs.Choices.{Choices}
+use Rattle.link_out.specs.Results.{Outcome}
+use Rattle.link_out.specs.relation.Relocated.{move_in, IsAdded, IsRelocated, HoldsObjects}
+use Rattle.link_out.specs.relation.LinkedFrom.{IsLinkedFrom}
+use Rattle.instructions.specs.declared.line.Line.{Line}
+use Rattle.instructions.specs.Lines.{lines}
+use Rattle.instructions.specs.Relocated.{is_relocated}
+use Rattle.instructions.proofs.AlikeLemmas.{Pairs, Same, get_from, drop_twice, BeginAlike, begin_alike}
+use Rattle.laws.specs.Instructions.{HasWholeText, IsLinkedWord, KeepsLines, AreLinkedLines, AreLinesOf, InstructionsAreKept, TextsAreKept}
+use Rattle.laws.proofs.LoadedLemmas.{whole_words}
+
+-- an object has a relocation word for each word of its text
+relocs_by : (b : Bool) (words relocs size : ℕ) → b ≡ true → 2 * words ≡ size → 2 * relocs ≡ (if b then size else 0) → relocs ≡ words
+relocs_by true words relocs size e long same = omega arith
+relocs_by false words relocs size e long same = absurd cc
+
+relocs_long : (k : Contents) → IsObject k → length k.text_reloc ≡ length k.text_words
+relocs_long k is =
+    relocs_by (eqb k.header.flag 0) (length k.text_words) (length k.text_reloc) k.header.text_size (well_formed_parts k is.well).0 is.fits.text is.fits.text_relocation
+
+reloc_inside : (rs : List Reloc) (i : ℕ) → i < length rs → (r : Reloc) × (slice_get rs i ≡ Some r)
+reloc_inside [] i h = absurd (omega arith)
+reloc_inside (r ∷ rs) zero h = (r, refl)
+reloc_inside (r ∷ rs) (suc i) h = reloc_inside rs i (omega arith)
+
+word_small : (ws : List ℕ) (i w : ℕ) → AllByRecursion IsWord ws → slice_get ws i ≡ Some w → w < 65536
+word_small [] i w all e = absurd cc
+word_small (x ∷ ws) zero w all e = let same : x ≡ w = cc in subst (λ (n : ℕ). n < 65536) same all.0
+word_small (x ∷ ws) (suc i) w all e = word_small ws i w all.1 e
+
+-- a word that is not relocated stays as it is
+low_bits : (b : Bool) (n : ℕ) → eqb (n % 16) 0 ≡ b → not b ≡ false → n % 16 ≡ 0
+low_bits true n e h = eqb-true (n % 16) 0 e
+low_bits false n e h = absurd cc
+
+unmoved : (file : Contents) (rows : List Symbol) (os before : List Contents) (k : Contents) (i w v : ℕ) (r : Reloc) → w < 65536 → r.0 % 16 ≡ 0 →
+    IsRelocated file rows os before k TextSeg i w r → slice_get file.text_words (total TextSeg before / 2 + i) ≡ Some v → v ≡ w
+unmoved file rows os before k i w v r small low is there =
+    let kind : kind_of r ≡ Some Absolute = ap kind_numbered (let e : r.0 / 2 % 8 ≡ 0 = omega arith in e) in
+    let pc : is_pc_relative r ≡ false = ap (λ n. eqb n 1) (let e : r.0 % 2 ≡ 0 = omega arith in e) in
+    let added : is.added ≡ 0 = subst (λ m. IsAdded file.header rows os before k m (symbol_number r) is.added) kind is.is in
+    let value : minus (plus w is.added) (cond (is_pc_relative r) (move_in file.header os before k TextSeg) 0) ≡ w =
+    ap (λ b. minus (plus w is.added) (cond b (move_in file.header os before k TextSeg) 0)) pc
+    ∙ ap (λ n. minus (plus w n) 0) added ∙ (let e : ((w + 0) % 65536 + (65536 - 0 % 65536)) % 65536 ≡ w = omega arith in e) in
+    same_Some v w (sym there ∙ is.word ∙ ap (λ n. Some n) value)
+
+moves_low : (rs : List Reloc) (i : ℕ) (r : Reloc) → slice_get rs i ≡ Some r → is_relocated (slice_get rs i) ≡ false → r.0 % 16 ≡ 0
+moves_low rs i r at e = low_bits (eqb (r.0 % 16) 0) r.0 refl (sym (ap is_relocated at) ∙ e)
+
+module _ (forced : List (List ℕ)) (os : List Contents) (o : Choices) (x : Outcome) (all : AllByRecursion IsObject os) (l : IsLinkedFrom forced os o x) where
+  start : List Contents → ℕ
+  start before = total TextSeg before / 2
+
+  -- each word of the text of k, and what is in its place
+  linked_pairs : (before : List Contents) (k : Contents) (after : List Contents) → os ≡ before ++ k ∷ after → IsObject k →
+      Pairs (IsLinkedWord x.file l.rows os before k) 0 k.text_words (drop (total TextSeg before / 2) x.file.text_words)
+  linked_pairs before k after e is i q w v at word there =
+      let same : q ≡ i = omega arith in
+      let r = reloc_inside k.text_reloc i (omega (arith, relocs_long k is, slice_get_within k.text_words i w word)) in
+      subst (λ n. IsLinkedWord x.file l.rows os before k n w v) (sym same) (record {
+        reloc = r.0;
+        word = word;
+        at = r.1;
+        is = l.text before k after e i w r.0 word r.1;
+        there = sym (get_from x.file.text_words (total TextSeg before / 2) i) ∙ there;
+      })
+
+  linked_same : (before : List Contents) (k : Contents) (after : List Contents) → os ≡ before ++ k ∷ after → IsObject k → AllByRecursion IsWord k.text_words →
+      Pairs (Same (λ place. is_relocated (slice_get k.text_reloc place))) 0 k.text_words (drop (total TextSeg before / 2) x.file.text_words)
+  linked_same before k after e is small i q w v at word there still =
+      let p = linked_pairs before k after e is i q w v at word there in
+      unmoved x.file l.rows os before k q w v p.reloc (word_small k.text_words i w small word) (moves_low k.text_reloc q p.reloc p.at still) p.is p.there
+
+  -- where the text of k begins and ends in that of the file
+  text_room : (before : List Contents) (k : Contents) (after : List Contents) → os ≡ before ++ k ∷ after → IsObject k → total TextSeg before / 2 + length k.text_words ≤ length x.file.text_words
+  text_room before k after e is =
+      let sum : total TextSeg os ≡ total TextSeg before + (0 + k.header.text_size + total TextSeg after) =
+      ap (λ (ys : List Contents). total TextSeg ys) e ∙ sum_by-append (size_of TextSeg) before (k ∷ after)
+      ∙ ap (λ (m : ℕ). total TextSeg before + m) (sum_by-append (size_of TextSeg) (k ∷ []) after) in
+      omega (arith, l.holds.text_words, is.fits.text)
+
+  begins : (before : List Contents) (k : Contents) (after : List Contents) → os ≡ before ++ k ∷ after → IsObject k → HasWholeText k →
+      BeginAlike (IsLinkedWord x.file l.rows os before k) 0 (lines k.text_words) (lines (drop (total TextSeg before / 2) x.file.text_words))
+      (drop (length k.text_words) (drop (total TextSeg before / 2) x.file.text_words))
+  begins before k after e is has =
+      let vs : List ℕ = drop (total TextSeg before / 2) x.file.text_words in
+      begin_alike (IsLinkedWord x.file l.rows os before k) (λ place. is_relocated (slice_get k.text_reloc place)) (length k.text_words) (length vs) 0 k.text_words vs
+      (omega (arith, text_room before k after e is, length-drop (total TextSeg before / 2) x.file.text_words)) (omega arith) (omega arith)
+      (linked_pairs before k after e is) (linked_same before k after e is has.words) has.whole
+
+  -- the texts of the objects from k on
+  texts_from : (before after : List Contents) → os ≡ before ++ after → AllByRecursion IsObject before → AllByRecursion IsObject after → AllByRecursion HasWholeText after →
+      AreLinesOf x.file l.rows os before after (lines (drop (total TextSeg before / 2) x.file.text_words))
+  texts_from before [] e first later whole =
+      let sum : total TextSeg os ≡ total TextSeg before = ap (λ (ys : List Contents). total TextSeg ys) (e ∙ append_nothing before) in
+      let even : 2 * (total TextSeg before / 2) ≡ total TextSeg before = whole_words TextSeg tt before first in
+      let none : drop (total TextSeg before / 2) x.file.text_words ≡ [] = dropped x.file.text_words (total TextSeg before / 2) (omega (arith, l.holds.text_words)) in
+      ap lines none
+    where
+      append_nothing : (xs : List Contents) → xs ++ [] ≡ xs
+      append_nothing [] = refl
+      append_nothing (k ∷ ks) = ap (λ rest. k ∷ rest) (append_nothing ks)
+
+      dropped : (ws : List ℕ) (n : ℕ) → length ws ≤ n → drop n ws ≡ []
+      dropped [] zero h = refl
+      dropped [] (suc n) h = refl
+      dropped (w ∷ ws) zero h = absurd (omega arith)
+      dropped (w ∷ ws) (suc n) h = dropped ws n (omega arith)
+  texts_from before (k ∷ after) e first later whole =
+      let b = begins before k after e later.0 whole.0 in
+      let even : 2 * (total TextSeg before / 2) ≡ total TextSeg before = whole_words TextSeg tt before first in
+      let sum : total TextSeg (before ++ k ∷ []) ≡ total TextSeg before + (0 + k.header.text_size) = sum_by-append (size_of TextSeg) before (k ∷ []) in
+      let next : total TextSeg before / 2 + length k.text_words ≡ total TextSeg (before ++ k ∷ []) / 2 = omega (arith, later.0.fits.text) in
+      let there : drop (length k.text_words) (drop (total TextSeg before / 2) x.file.text_words) ≡ drop (total TextSeg (before ++ k ∷ []) / 2) x.file.text_words =
+      drop_twice (total TextSeg before / 2) (length k.text_words) x.file.text_words ∙ ap (λ n. drop n x.file.text_words) next in
+      let more = texts_from (before ++ k ∷ []) after (e ∙ sym (append_assoc before (k ∷ []) after)) (all_append before k first later.0) later.1 whole.1 in
+      (b.front, (lines (drop (total TextSeg (before ++ k ∷ []) / 2) x.file.text_words), (b.all ∙ ap (λ ws. b.front ++ lines ws) there, (b.alike, more))))
+    where
+      all_append : (xs : List Contents) (k : Contents) → AllByRecursion IsObject xs → IsObject k → AllByRecursion IsObject (xs ++ k ∷ [])
+      all_append [] k none is = (is, tt)
+      all_append (y ∷ xs) k some is = (some.0, all_append xs k some.1 is)
+
+pub instructions_kept : InstructionsAreKept
+instructions_kept forced before k after o x all has l =
+    let b = begins forced (before ++ k ∷ after) o x all l before k after refl (all_split IsObject before (k ∷ after) all).1.0 has in
+    record { front = b.front; back = lines (drop (length k.text_words) (drop (total TextSeg before / 2) x.file.text_words)); all = b.all; alike = b.alike }
+
+pub texts_kept : TextsAreKept
+texts_kept forced os o x all whole l = texts_from forced os o x all l [] os refl tt all whole

@@ -1,0 +1,24 @@
+-- The lemmas of this crate.
+mod ArrangedLemmas
+mod ShownLemmas
+mod UndefinedListed
+mod ExternalsListed
+mod SizeSums
+pub mod ByteLemmas
+pub mod CoreLemmas
+pub mod LoadedLemmas
+pub mod OperandLemmas
+pub mod NameListLemmas
+pub mod ReorderedMentions
+pub mod ReorderedDefinitions
+pub mod ReorderedLinks
+pub mod ReorderedAdditions
+pub mod ReorderedMeanings
+pub mod SingleDefinitions
+mod InstructionLemmas
+mod OperandWordLemmas
+pub mod CallLemmas
+pub mod RunLemmas
+pub mod DiskLemmas
+pub mod SoundLemmas
+pub mod StepLemmas

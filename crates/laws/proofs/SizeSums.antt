@@ -1,0 +1,47 @@
+-- The sizes of a linked file are the sums of the objects' sizes, bss with the commons.
+use Rattle.std.proofs.Common.{◌≡◌, ℕ, ◌+◌, Bool, true, false, cond, List, [], ◌∷◌, ◌++◌, refl, sym, ◌∙◌, ap, arith, append-nil}
+use Rattle.std.specs.Prelude.{Ok}
+use Rattle.std.proofs.lemmas.List.Sums.{sum_by-cons}
+use Rattle.aout_core.specs.Contents.{Contents}
+use Rattle.link_session.specs.Mentions.{Mention, mentions, externals}
+use Rattle.link_session.specs.States.{state}
+use Rattle.link_options.specs.Choices.{Choices, lays_commons}
+use Rattle.link_out.specs.function.Plans.{plan, common_size, room_of, commons_laid}
+use Rattle.link_out.specs.function.Link.{Outcome, link}
+use Rattle.link_out.specs.relation.LinkedTable.{room_for}
+use Rattle.link_out.specs.relation.Refusals.{CommonsTake}
+use Rattle.link_out.proofs.HasStateLemmas.{has_state}
+use Rattle.link_out.proofs.LinkedRows.{room_laid}
+use Rattle.link_out.proofs.OutcomeLemmas.{made_file}
+use Rattle.symtools.specs.SizeLines.{size_line}
+use Rattle.laws.specs.Listings.{HasSizes}
+
+module _ (o : Choices) (ms : List Mention) where
+  names_take : (names : List (List ℕ)) → CommonsTake o ms names (cond (lays_commons o) (room_of ms names) 0)
+  names_take [] = either (lays_commons o)
+    where
+      either : (c : Bool) → (let none : ℕ = cond c 0 0 in none) ≡ 0
+      either true = refl
+      either false = refl
+  names_take (n ∷ ns) = (
+    state ms n,
+    has_state ms n,
+    (
+      cond (lays_commons o) (room_of ms ns) 0,
+      both (room_of ms (n ∷ ns)) (room_for o (state ms n)) (common_size (state ms n)) (room_of ms ns) (lays_commons o) (sum_by-cons (λ m. common_size (state ms m)) n ns) (room_laid o (state ms n)),
+      names_take ns,
+    ),
+  )
+    where
+      both : (all r c rest : ℕ) (t : Bool) → all ≡ c + rest → r ≡ cond t c 0 → cond t all 0 ≡ r + cond t rest 0
+      both all r c rest true e f = omega arith
+      both all r c rest false e f = omega arith
+
+pub sizes_are_sums : (forced : List (List ℕ)) (os : List Contents) (o : Choices) (x : Outcome) → link forced os o ≡ Ok x → HasSizes forced os o x.file
+sizes_are_sums forced os o x linked =
+    let commons : ℕ = commons_laid o (mentions forced os) in
+    record {
+      commons = commons;
+      take = names_take o (mentions forced os) (externals forced os);
+      line = λ path. append-nil (size_line x.file.header ++ 10 ∷ []) ∙ ap (λ (c : Contents). size_line c.header ++ 10 ∷ []) (sym (made_file (plan forced os o) os x linked));
+    }

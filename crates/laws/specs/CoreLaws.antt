@@ -1,0 +1,119 @@
+-- What a link puts at which address of the core. (exec(2), ld(1))
+--
+-- The words of each object are, relocated, where a symbol of their place says. Its bss and the commons are zeros. The core has
+-- nothing else, and no two segments of it share an address. A link that keeps no symbols has no table to look names up in; its
+-- words follow the rows of the relation of linking, and are those of a link that keeps symbols.
+use Rattle.std.specs.Prelude.{◌≡◌, ◌≢◌, ℕ, ◌+◌, ◌*◌, ◌%◌, ◌<◌, ◌≤◌, ◌⊎◌, true, cond, List, ◌∷◌, ◌++◌, Some, Ok, slice_get}
+use Rattle.std.specs.List.{AllByRecursion}
+use Rattle.aout_core.specs.declared.header.Header.{Header}
+use Rattle.aout_core.specs.declared.symbol.Symbol.{Symbol}
+use Rattle.aout_core.specs.declared.symbol.Segment.{Segment}
+use Rattle.aout_core.specs.declared.symbol.Segment.TheVariants.{TextSeg, BssSeg}
+use Rattle.aout_core.specs.declared.reloc.Reloc.{Reloc}
+use Rattle.aout_core.specs.Contents.{Contents}
+use Rattle.aout_core.specs.Words.{plus, minus}
+use Rattle.aout_core.specs.WellFormed.{kind_of, is_pc_relative, symbol_number}
+use Rattle.aout_core.specs.Strip.{stripped}
+use Rattle.link_session.specs.Starts.{total, own}
+use Rattle.link_session.specs.Sessions.{IsObject}
+use Rattle.link_session.specs.Cells.{segment_words, segment_relocs}
+use Rattle.link_options.specs.declared.options.Keep.{Keep}
+use Rattle.link_options.specs.declared.options.Keep.TheVariants.{Nothing}
+use Rattle.link_options.specs.declared.options.Layout.TheVariants.{Split}
+use Rattle.link_options.specs.Choices.{Choices, lays_commons}
+use Rattle.link_out.specs.Results.{Outcome}
+use Rattle.link_out.specs.function.Link.{link}
+use Rattle.link_out.specs.relation.Relocated.{base_in, move_in, entry_of, IsAdded}
+use Rattle.link_out.specs.relation.LinkedFrom.{IsLinkedFrom}
+use Rattle.link_out.specs.laws.CommonsAndLayouts.{IsCommon}
+use Rattle.laws.specs.Core.{Space, of_instructions, of_data, has_segment, is_in, core, IsWordAt}
+
+-- no two segments share an address of a space, whatever the file
+abbrev pub SegmentsLieApart : Type 0
+SegmentsLieApart = (h : Header) (space : Space) (one two : Segment) (address : ℕ) → is_in h space one address ≡ true → is_in h space two address ≡ true → one ≡ two
+
+-- but for split spaces, the two spaces are one
+abbrev pub SpacesAreOne : Type 0
+SpacesAreOne = (forced : List (List ℕ)) (os : List Contents) (o : Choices) (x : Outcome) → o.layout ≢ Split → link forced os o ≡ Ok x →
+    (address : ℕ) → core x.file of_instructions address ≡ core x.file of_data address
+
+-- where the text fits into a space, each address fits
+abbrev pub AddressesFit : Type 0
+AddressesFit = (forced : List (List ℕ)) (os : List Contents) (o : Choices) (x : Outcome) → link forced os o ≡ Ok x → x.file.header.text_size ≤ 65535 →
+    (space : Space) (address byte : ℕ) → core x.file space address ≡ Some byte → address < 65535
+
+-- the space in which a segment is always found
+abbrev pub space_of : Segment → Space
+space_of TextSeg = of_instructions
+space_of _ = of_data
+
+-- byte n of a segment of k comes after that segment of the objects before k; there, modulo 65,536, is what a symbol of k at
+-- that byte is: its value in k, moved
+pub record IsPlace (h : Header) (os before : List Contents) (k : Contents) (segment : Segment) (n address : ℕ) : Type 0 where
+  pub behind : address ≡ base_in h (total BssSeg os) segment + total segment before + n
+  pub symbol : plus (own k segment + n) (move_in h os before k segment) ≡ address % 65536
+
+-- word i of a segment of k, which is w with relocation word r, is loaded at its place, relocated
+pub record IsLoaded (file : Contents) (rows : List Symbol) (os before : List Contents) (k : Contents) (segment : Segment) (i w : ℕ) (r : Reloc) : Type 0 where
+  pub address : ℕ
+  pub place : IsPlace file.header os before k segment (2 * i) address
+  pub added : ℕ
+  pub is : IsAdded file.header rows os before k (kind_of r) (symbol_number r) added
+  pub word : IsWordAt file (space_of segment) address (minus (plus w added) (cond (is_pc_relative r) (move_in file.header os before k segment) 0))
+
+-- in a link that keeps symbols, by its own table
+abbrev pub WordsAreLoaded : Type 0
+WordsAreLoaded = (forced : List (List ℕ)) (before : List Contents) (k : Contents) (after : List Contents) (o : Choices) (x : Outcome) →
+    AllByRecursion IsObject (before ++ k ∷ after) → o.keep ≢ Nothing → link forced (before ++ k ∷ after) o ≡ Ok x →
+    (segment : Segment) (i w : ℕ) (r : Reloc) → slice_get (segment_words segment k) i ≡ Some w → slice_get (segment_relocs segment k) i ≡ Some r →
+    IsLoaded x.file x.file.symbols (before ++ k ∷ after) before k segment i w r
+
+-- in any link, by the rows of the relation of linking
+abbrev pub WordsOfRowsAreLoaded : Type 0
+WordsOfRowsAreLoaded = (forced : List (List ℕ)) (before : List Contents) (k : Contents) (after : List Contents) (o : Choices) (x : Outcome) →
+    AllByRecursion IsObject (before ++ k ∷ after) → (l : IsLinkedFrom forced (before ++ k ∷ after) o x) →
+    (segment : Segment) (i w : ℕ) (r : Reloc) → slice_get (segment_words segment k) i ≡ Some w → slice_get (segment_relocs segment k) i ≡ Some r →
+    IsLoaded x.file l.rows (before ++ k ∷ after) before k segment i w r
+
+-- links that differ only in the symbols that they keep load the same
+abbrev pub KeepChangesNothing : Type 0
+KeepChangesNothing = (forced : List (List ℕ)) (os : List Contents) (o : Choices) (keep : Keep) (x y : Outcome) →
+    link forced os o ≡ Ok x → link forced os (record o { keep = keep }) ≡ Ok y → (space : Space) (address : ℕ) → core y.file space address ≡ core x.file space address
+
+-- a file loads the same if it is stripped
+abbrev pub StrippedIsLoaded : Type 0
+StrippedIsLoaded = (file : Contents) (space : Space) (address : ℕ) → core (stripped file) space address ≡ core file space address
+
+-- each byte of an object's bss is a zero at its place
+pub record IsZero (file : Contents) (os before : List Contents) (k : Contents) (n : ℕ) : Type 0 where
+  pub address : ℕ
+  pub place : IsPlace file.header os before k BssSeg n address
+  pub zero : core file of_data address ≡ Some 0
+
+abbrev pub BssIsZero : Type 0
+BssIsZero = (forced : List (List ℕ)) (before : List Contents) (k : Contents) (after : List Contents) (o : Choices) (x : Outcome) →
+    AllByRecursion IsObject (before ++ k ∷ after) → link forced (before ++ k ∷ after) o ≡ Ok x → (n : ℕ) → n < k.header.bss_size → IsZero x.file (before ++ k ∷ after) before k n
+
+-- where commons are laid out, so is each byte of one, from the value of its symbol on
+abbrev pub CommonsAreZero : Type 0
+CommonsAreZero = (forced : List (List ℕ)) (os : List Contents) (o : Choices) (x : Outcome) → o.keep ≢ Nothing → lays_commons o ≡ true → link forced os o ≡ Ok x →
+    (name : List ℕ) (size : ℕ) → IsCommon forced os name size → (row : Symbol) → entry_of x.file.symbols name ≡ Some row → (n : ℕ) → n < size → core x.file of_data (row.value + n) ≡ Some 0
+
+-- the low or the high byte of a word of some object
+pub record IsOfWord (h : Header) (os : List Contents) (space : Space) (address : ℕ) : Type 0 where
+  pub before : List Contents
+  pub k : Contents
+  pub after : List Contents
+  pub all : os ≡ before ++ k ∷ after
+  pub segment : Segment
+  pub «in» : has_segment h.magic segment space ≡ true
+  pub i : ℕ
+  pub w : ℕ
+  pub word : slice_get (segment_words segment k) i ≡ Some w
+  pub at : (address ≡ base_in h (total BssSeg os) segment + total segment before + 2 * i) ⊎ (address ≡ base_in h (total BssSeg os) segment + total segment before + 2 * i + 1)
+
+-- each byte of the core is of a word of an object, or a zero of bss
+abbrev pub NothingElse : Type 0
+NothingElse = (forced : List (List ℕ)) (os : List Contents) (o : Choices) (x : Outcome) → AllByRecursion IsObject os → link forced os o ≡ Ok x →
+    (space : Space) (address byte : ℕ) → core x.file space address ≡ Some byte →
+    IsOfWord x.file.header os space address ⊎ ((is_in x.file.header space BssSeg address ≡ true) × (byte ≡ 0))

@@ -1,0 +1,10 @@
+-- The definitions that the laws of this crate are written in.
+pub mod Listings
+pub mod Core
+pub mod CoreLaws
+pub mod Operands
+pub mod Orders
+pub mod Instructions
+pub mod OperandWords
+pub mod Disks
+pub mod StepsByCommands

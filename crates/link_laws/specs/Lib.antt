@@ -1,8 +1,0 @@
--- The definitions that the laws of this crate are written in.
-pub mod Listings
-pub mod Core
-pub mod CoreLaws
-pub mod Operands
-pub mod Orders
-pub mod Instructions
-pub mod OperandWords

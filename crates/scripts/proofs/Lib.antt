@@ -1,2 +1,0 @@
-pub mod AskedLemmas
-pub mod ScriptLemmas
