@@ -10,10 +10,8 @@ use Rattle.link_session.specs.Labelled.{Labelled, objects}
 use Rattle.link_session.specs.Undo.{Kept}
 use Rattle.link_options.specs.Choices.{Choices}
 use Rattle.link_out.specs.declared.linked.Linked.{Linked}
-use Rattle.link_out.specs.declared.linked.LinkFault.{LinkFault}
 use Rattle.link_out.specs.function.Link.{Outcome, link}
-use Rattle.link_out.specs.Outcomes.{findings_of, IsLinkOf, outcome_of}
-use Rattle.link_out.specs.function.Reports.{line}
+use Rattle.link_out.specs.Outcomes.{findings_of, outcome_of}
 use Rattle.v7tools.specs.Answers.{absent, Verdict, done, refused, to_store, Stepped, add_step, input_from, failing, giving, withdraw_step, link_answer_text, link_status}
 use Rattle.v7tools.specs.Events.{Event, History, Extends, opened, stored}
 use Rattle.v7tools.specs.FaultTexts.{cli_text, fault_of_link}
@@ -198,6 +196,11 @@ module _ {W : Type 0} (contents : W → Option (List ℕ)) where
       fault = failed;
       bytes = bytes;
     }
+
+  -- an answer to which nothing had been written
+  pub answered_from : (o : Choices) (asks : Asked) (kept left : Kept) (old new : History) (result : Result ℕ CliFault) (before between after : Latched W) → between ≡ before → AnswersLine contents o asks kept left old new result between after →
+      AnswersLine contents o asks kept left old new result before after
+  answered_from o asks kept left old new result before between after e h = subst (λ (w : Latched W). AnswersLine contents o asks kept left old new result w after) e h
 
   -- the whole answer is behind a flush that failed
   pub not_passed : (a b c : Option (List ℕ)) (answer : List ℕ) → Appends a b answer → Keeps b c → AppendsPrefix a c answer

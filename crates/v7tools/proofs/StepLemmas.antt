@@ -1,7 +1,7 @@
 -- What the parts of a step say of the whole.
 use Rattle.std.specs.declared.alloc.Global.{Global}
 use Rattle.std.proofs.Common.{◌≡◌, ◌↔◌, ℕ, suc, ◌-◌, length, arith, Bool, true, false, List, [], ◌∷◌, ◌++◌, Option, Some, None, Result, Ok, Err, refl, sym, ap, ◌∙◌, subst, ◌⊎◌, inl, inr}
-use Rattle.std.specs.Prelude.{String, string_bytes, codes, slice_get, IfOk, IfSome, IsErr, IsTrue}
+use Rattle.std.specs.Prelude.{String, string_bytes, codes, slice_get, IfErr, IfOk, IfSome, IsErr, IsTrue}
 use Rattle.std.proofs.lemmas.Bool.{false_from_ne_true}
 use Rattle.aout_core.specs.declared.file.ReadFault.TheVariants as reads
 use Rattle.aout_core.specs.Contents.{Contents}
@@ -164,25 +164,34 @@ stepped step = Ok step
 pub told_whole : {W T E : Type 0} {contents : W → Option (List ℕ)} {x : T} {a b : Latched W} {text : List ℕ} (step : Step) → Writes {T = T} {E = E} contents (Ok x) a b text → Writes contents (stepped step) a b text
 told_whole step p = record { fault = p.fault; latched = p.latched; bytes = p.bytes }
 
+-- a call that failed has this fault
+pub only_fault : {T : Type 0} (r : Result T CliFault) (fault named : CliFault) → r ≡ Err fault → fault ≡ named → IfErr r (λ e. e ≡ named)
+only_fault (Ok x) fault named is e = tt
+only_fault (Err f) fault named is e = (let same : f ≡ fault = cc in same) ∙ e
+
 pub refused_verdict : (r : Result Step CliFault) → IfOk r (λ s. s ≡ Refused) → IfOk r (λ s. verdict_of s ≡ refused)
 refused_verdict (Ok s) h = ap verdict_of h
 refused_verdict (Err f) h = tt
 
 -- a write that went out, told by another value
 pub written_with : {W T U E F : Type 0} {contents : W → Option (List ℕ)} {x : T} {a b : Latched W} {text : List ℕ} (y : U) → Writes {T = T} {E = E} contents (Ok x) a b text → Writes {T = U} {E = F} contents (Ok y) a b text
-written_with y p = record { fault = (λ h. absurd h, λ h. absurd (p.fault.1 h)); latched = p.latched; bytes = p.bytes }
+written_with y p = record { fault = (λ h. absurd (cc), λ h. absurd (let e = p.fault.1 h in cc)); latched = p.latched; bytes = p.bytes }
 
 module _ {W : Type 0} (contents : W → Option (List ℕ)) (answer : Result Outcome LinkFault) (before after : Latched W) where
+  pub refuses : {T : Type 0} (fault : LinkFault) (other : CliFault) (result : Result T CliFault) → IsLinkOf (Err fault) answer → other ≡ fault_of_link fault → Writes contents result before after (line (cli_text other)) →
+      RefusesLink contents answer result before after
+  refuses fault other result is e written = (fault, is, subst (λ (f : CliFault). Writes contents result before after (line (cli_text f))) e written)
+
   -- a link that is refused, told by another value, or by the same fault
   pub refused_with : {T U : Type 0} (x : T) (y : U) → RefusesLink contents answer (Ok x) before after → RefusesLink contents answer (Ok y) before after
   refused_with x y (fault, is, written) = (fault, is, written_with y written)
 
   pub refused_by : {T : Type 0} (made : Result (Option Linked) CliFault) (result : Result T CliFault) → IsErr made → IsErr result → MakesLink contents answer made before after → RefusesLink contents answer result before after
-  refused_by (Ok made) result err other h = absurd err
+  refused_by (Ok made) result err other h = absurd (cc)
   refused_by (Err e) result err other (fault, is, written) = (fault, is, writes_broke_off other written)
 
   pub not_linked : (result : Result (Option Linked) CliFault) → IsErr result → RefusesLink contents answer result before after → MakesLink contents answer result before after
-  not_linked (Ok made) err h = absurd err
+  not_linked (Ok made) err h = absurd (cc)
   not_linked (Err fault) err h = h
 
   module _ (kept : Kept) where
@@ -200,7 +209,7 @@ module _ {W : Type 0} (contents : W → Option (List ℕ)) (answer : Result Outc
 
     pub links_to : (linked : Linked) → MakesLink contents answer (Ok (Some linked)) before after → Links (stepped (ToStore linked))
     links_to linked (is, same) =
-        (link_step kept.entries (Ok (outcome_of linked)), inl (ap (link_step kept.entries) (sym is)), refl, record { kept = refl; verdict = refl; answer = (tt, same) })
+        (link_step kept.entries (Ok (outcome_of linked)), inl (ap (link_step kept.entries) (sym is)), refl, record { kept = refl; verdict = refl; answer = (refl, same) })
 
 -- the label of an object that is added
 pub label_is : (old new : Kept) (e : Labelled) → Adds old new e → label_of (last_of new.entries) ≡ e.label

@@ -1,12 +1,10 @@
-use Rattle.std.proofs.Common.{Ok, None, subst, refl}
-use Rattle.aout_core.specs.Wires.{Writes}
+use Rattle.std.proofs.Common.{Ok, None, Option, Result, refl}
 use Rattle.link_session.specs.Labelled.{objects}
+use Rattle.link_out.specs.declared.linked.Linked.{Linked}
 use Rattle.link_out.specs.function.Link.{link}
-use Rattle.link_out.specs.function.Reports.{line}
 use Rattle.v7tools.specs.declared.fault.CliFault.{CliFault}
-use Rattle.v7tools.specs.FaultTexts.{cli_text}
 use Rattle.aout_core.proofs.PutsLemmas.{writes_broke_off}
-use Rattle.v7tools.proofs.StepLemmas.{not_linked, written_with}
+use Rattle.v7tools.proofs.StepLemmas.{not_linked, refuses, written_with}
 use Rattle.v7tools.proofs.steps.make_link.Goals as goal
 
 pub returns-in-Ok-clause-link : goal.returns-in-Ok-clause-link
@@ -15,12 +13,15 @@ returns-in-Ok-clause-link g c = (c.in-Ok.ensures.value, refl)
 pub returns-in_err-put_fault-in-Err-clause-link : goal.returns-in_err-put_fault-in-Err-clause-link
 returns-in_err-put_fault-in-Err-clause-link g c =
     let s = c.args.session.now in
+    let answer = link s.forced (objects s.entries) c.args.options.now in
     let r = c.from_residual.result in
     let told = writes_broke_off {r = r} c.from_residual.ensures.0 c.in_err-put_fault-in-Err.ensures in
-    not_linked g.W.Write.contents (link s.forced (objects s.entries) c.args.options.now) c.args.answers.now c.put_fault.new.answers r c.from_residual.ensures.0
-    (c.in-Err.fault, c.in-Err.ensures.value, subst (λ (f : CliFault). Writes g.W.Write.contents r c.args.answers.now c.put_fault.new.answers (line (cli_text f))) c.from.ensures told)
+    not_linked g.W.Write.contents answer c.args.answers.now c.put_fault.new.answers r c.from_residual.ensures.0
+    (refuses g.W.Write.contents answer c.args.answers.now c.put_fault.new.answers c.in-Err.fault c.from.result r c.in-Err.ensures.value c.from.ensures told)
 
 pub returns-in_ok-put_fault-in-Err-clause-link : goal.returns-in_ok-put_fault-in-Err-clause-link
 returns-in_ok-put_fault-in-Err-clause-link g c =
+    let s = c.args.session.now in
+    let refused : Result (Option Linked) CliFault = Ok None in
     let told = written_with None c.in_ok-put_fault-in-Err.ensures in
-    (c.in-Err.fault, c.in-Err.ensures.value, subst (λ (f : CliFault). Writes g.W.Write.contents (Ok None) c.args.answers.now c.put_fault.new.answers (line (cli_text f))) c.from.ensures told)
+    refuses g.W.Write.contents (link s.forced (objects s.entries) c.args.options.now) c.args.answers.now c.put_fault.new.answers c.in-Err.fault c.from.result refused c.in-Err.ensures.value c.from.ensures told

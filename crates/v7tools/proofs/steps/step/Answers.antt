@@ -1,10 +1,13 @@
-use Rattle.std.proofs.Common.{refl}
+use Rattle.std.proofs.Common.{◌≡◌, None, Ok, Err, refl}
 use Rattle.std.specs.Prelude.{string_bytes}
 use Rattle.link_session.specs.Edits.{last_of}
+use Rattle.link_session.specs.Labelled.{objects}
+use Rattle.link_out.specs.function.Link.{link}
+use Rattle.v7tools.specs.declared.commands.Step.{Step}
 use Rattle.v7tools.specs.declared.commands.Step.TheVariants.{Done, Refused}
 use Rattle.v7tools.specs.Answers.{step, adding, absent, listing_externals, listing_undefined, anything_else, withdraw_step}
 use Rattle.aout_core.proofs.PutsLemmas.{writes_broke_off}
-use Rattle.v7tools.proofs.StepLemmas.{told_whole, no_value, refused_verdict, added_over}
+use Rattle.v7tools.proofs.StepLemmas.{told_whole, no_value, refused_verdict, added_over, links_not, links_to, refused_by, refused_with}
 use Rattle.v7tools.proofs.steps.step.Goals as goal
 
 pub returns-in_err-put_externals-in-Externals-clause-step : goal.returns-in_err-put_externals-in-Externals-clause-step
@@ -109,10 +112,22 @@ returns-in_err-put_line-in-Bad-clause-latched g c = c.in_err-put_line-in-Bad.ens
 pub returns-in_ok-put_line-in-Bad-clause-latched : goal.returns-in_ok-put_line-in-Bad-clause-latched
 returns-in_ok-put_line-in-Bad-clause-latched g c = c.in_ok-put_line-in-Bad.ensures.latched
 
-pub returns-in_err-make_link-in-Link-clause-step : goal.returns-in_err-make_link-in-Link-clause-step
-returns-in_err-make_link-in-Link-clause-step g c =
+pub returns-in_err-linked-in-Link-clause-step : goal.returns-in_err-linked-in-Link-clause-step
+returns-in_err-linked-in-Link-clause-step g c =
     let s = c.args.session.now in
     let answer = link s.forced (objects s.entries) c.args.options.now in
-    let r = c.from_residual-in_err-make_link-in-Link.result in
-    rw c.in-Link.is (links_not g.W.Write.contents answer c.args.answers.now c.make_link.new.answers s r (no_value r (λ step. step ≡ Refused) c.from_residual-in_err-make_link-in-Link.ensures.0)
-        (refused_by g.W.Write.contents answer c.args.answers.now c.make_link.new.answers c.make_link.result r c.in_err-make_link-in-Link.is c.from_residual-in_err-make_link-in-Link.ensures.0 c.make_link.ensures.link))
+    let r = c.from_residual-in_err-linked-in-Link.result in
+    rw c.in-Link.is (links_not g.W.Write.contents answer c.args.answers.now c.make_link.new.answers s r (no_value r (λ (step : Step). step ≡ Refused) c.from_residual-in_err-linked-in-Link.ensures.0)
+    (refused_by g.W.Write.contents answer c.args.answers.now c.make_link.new.answers (Err c.in_err-linked-in-Link.field-0.0) r refl c.from_residual-in_err-linked-in-Link.ensures.0 c.in_err-linked-in-Link.ensures.link))
+
+pub returns-in-Some-2-clause-step : goal.returns-in-Some-2-clause-step
+returns-in-Some-2-clause-step g c =
+    let s = c.args.session.now in
+    rw c.in-Link.is (links_to g.W.Write.contents (link s.forced (objects s.entries) c.args.options.now) c.args.answers.now c.make_link.new.answers s c.in-Some-2.linked (rw c.in-Some-2.is at c.in_ok-linked-in-Link.ensures.link))
+
+pub returns-in-None-2-clause-step : goal.returns-in-None-2-clause-step
+returns-in-None-2-clause-step g c =
+    let s = c.args.session.now in
+    let answer = link s.forced (objects s.entries) c.args.options.now in
+    rw c.in-Link.is (links_not g.W.Write.contents answer c.args.answers.now c.make_link.new.answers s (Ok Refused) refl
+    (refused_with g.W.Write.contents answer c.args.answers.now c.make_link.new.answers None Refused (rw c.in-None-2.is at c.in_ok-linked-in-Link.ensures.link)))
