@@ -10,16 +10,15 @@ use Rattle.link_session.specs.Labelled.{Labelled, objects}
 use Rattle.link_session.specs.Undo.{Kept}
 use Rattle.link_options.specs.Choices.{Choices}
 use Rattle.link_out.specs.declared.linked.Linked.{Linked}
-use Rattle.link_out.specs.declared.linked.LinkFault.{LinkFault}
 use Rattle.link_out.specs.function.Link.{Outcome, link}
-use Rattle.link_out.specs.Outcomes.{findings_of, IsLinkOf, outcome_of}
-use Rattle.link_out.specs.function.Reports.{line}
+use Rattle.link_out.specs.Outcomes.{findings_of, outcome_of}
 use Rattle.v7tools.specs.Answers.{absent, Verdict, done, refused, to_store, Stepped, add_step, input_from, failing, giving, withdraw_step, link_answer_text, link_status}
 use Rattle.v7tools.specs.Events.{Event, History, Extends, opened, stored}
 use Rattle.v7tools.specs.FaultTexts.{cli_text, fault_of_link}
 use Rattle.v7tools.specs.Inputs.{Cause, kept_with}
 use Rattle.command_words.specs.Scripts.{Asked, to_add, to_withdraw, for_externals, for_undefined, to_link, for_nothing}
 use Rattle.v7tools.specs.LineRuns.{DoesStep, IsAddOf, IsLineOf, LineRun, OnlyTells, TakesLast, status_after}
+use Rattle.v7tools.specs.internal.StepParts.{RefusesLink}
 use Rattle.v7tools.specs.internal.SessionParts.{AnswersLine, IsNoLink, IsOpenedAt, TakesPlainStep, TellsStep}
 use Rattle.v7tools.specs.SessionSteps.{AddsIf, Does, GoesOut, IsAddBy, IsAddOn, IsStepOn, verdict_of}
 use Rattle.v7tools.specs.declared.commands.Command.{Command}
@@ -175,13 +174,11 @@ module _ {W : Type 0} (contents : W → Option (List ℕ)) where
 
   module _ (o : Choices) (path : List ℕ) (kept : Kept) (result : Result ℕ CliFault) (before after : Latched W) where
     -- there is no link
-    pub refused_link : (h : History) (fault : LinkFault) (other : CliFault) → IsLinkOf (Err fault) (link kept.forced (objects kept.entries) o) → other ≡ fault_of_link fault → IfOk result (λ status. status ≡ 1) →
-        IfErr result (λ e. e ≡ faults.WriteFailed) → (IsErr result ↔ IsTrue after.has_failed) → Puts result (contents before.device) (contents after.device) (line (cli_text other)) → AnswersLine contents o (to_link path) kept kept h h result before after
-    refused_link h fault other is says status write_failed failed bytes =
+    pub refused_link : (h : History) → RefusesLink contents (link kept.forced (objects kept.entries) o) result before after → IfOk result (λ status. status ≡ 1) → IfErr result (λ e. e ≡ faults.WriteFailed) →
+        AnswersLine contents o (to_link path) kept kept h h result before after
+    refused_link h (fault, is, written) status write_failed =
         let did = refused_as kept.entries (cli_text (fault_of_link fault)) in
-        answered_by o (to_link path) [] did kept kept h h result before after
-        (record { entries = refl; status = status; write_failed = write_failed; fault = failed; bytes = subst (λ (e : CliFault). Puts result (contents before.device) (contents after.device) (line (cli_text e))) says bytes })
-        (nothing_asked h)
+        answered_by o (to_link path) [] did kept kept h h result before after (record { entries = refl; status = status; write_failed = write_failed; fault = written.fault; bytes = written.bytes }) (nothing_asked h)
         (inl (record { did = did; is_link = link_refused_by kept.entries (link kept.forced (objects kept.entries) o) fault is; refuses = refl; tells = tells_line (to_link path) did did kept kept refl refl refl }))
 
     -- there is a link, and it is known what became of its file
@@ -199,6 +196,11 @@ module _ {W : Type 0} (contents : W → Option (List ℕ)) where
       fault = failed;
       bytes = bytes;
     }
+
+  -- an answer to which nothing had been written
+  pub answered_from : (o : Choices) (asks : Asked) (kept left : Kept) (old new : History) (result : Result ℕ CliFault) (before between after : Latched W) → between ≡ before → AnswersLine contents o asks kept left old new result between after →
+      AnswersLine contents o asks kept left old new result before after
+  answered_from o asks kept left old new result before between after e h = subst (λ (w : Latched W). AnswersLine contents o asks kept left old new result w after) e h
 
   -- the whole answer is behind a flush that failed
   pub not_passed : (a b c : Option (List ℕ)) (answer : List ℕ) → Appends a b answer → Keeps b c → AppendsPrefix a c answer

@@ -1,12 +1,13 @@
 -- What the parts of a step say of the whole.
 use Rattle.std.specs.declared.alloc.Global.{Global}
 use Rattle.std.proofs.Common.{◌≡◌, ◌↔◌, ℕ, suc, ◌-◌, length, arith, Bool, true, false, List, [], ◌∷◌, ◌++◌, Option, Some, None, Result, Ok, Err, refl, sym, ap, ◌∙◌, subst, ◌⊎◌, inl, inr}
-use Rattle.std.specs.Prelude.{String, string_bytes, codes, slice_get, IfOk, IfSome, IsErr, IsTrue}
+use Rattle.std.specs.Prelude.{String, string_bytes, codes, slice_get, IfErr, IfOk, IfSome, IsErr, IsTrue}
 use Rattle.std.proofs.lemmas.Bool.{false_from_ne_true}
 use Rattle.aout_core.specs.declared.file.ReadFault.TheVariants as reads
 use Rattle.aout_core.specs.Contents.{Contents}
 use Rattle.aout_core.specs.Decoding.{decode}
 use Rattle.aout_core.specs.Wires.{Latched, Writes}
+use Rattle.aout_core.proofs.PutsLemmas.{writes_broke_off}
 use Rattle.link_session.specs.Edits.{last_of, without_last}
 use Rattle.link_session.specs.Labelled.{Labelled}
 use Rattle.link_session.specs.Sessions.{Adds, Withdraws}
@@ -14,19 +15,20 @@ use Rattle.link_session.specs.Undo.{Kept}
 use Rattle.link_out.specs.declared.linked.LinkFault.{LinkFault}
 use Rattle.link_out.specs.declared.linked.LinkFault.TheVariants as links
 use Rattle.link_out.specs.function.Link.{Outcome}
-use Rattle.link_out.specs.Outcomes.{IsLinkOf}
+use Rattle.link_out.specs.Outcomes.{IsLinkOf, outcome_of}
+use Rattle.link_out.specs.declared.linked.Linked.{Linked}
 use Rattle.link_out.specs.function.Reports.{line}
 use Rattle.link_out.proofs.RunLemmas.{last_of-put_last, without_last-put_last}
 use Rattle.v7tools.specs.declared.fault.CliFault.{CliFault}
 use Rattle.v7tools.specs.declared.fault.CliFault.TheVariants as faults
 use Rattle.v7tools.specs.declared.commands.Step.{Step}
-use Rattle.v7tools.specs.declared.commands.Step.TheVariants.{Refused}
+use Rattle.v7tools.specs.declared.commands.Step.TheVariants.{Refused, ToStore}
 use Rattle.v7tools.specs.Inputs.{Cause, cannot_open, bad_file, bad_object, not_added, object_in, kept_with}
 use Rattle.v7tools.specs.FaultTexts.{cause_text, cli_text, fault_at, fault_of_link}
 use Rattle.v7tools.specs.Answers.{done, refused, Stepped, add_step, withdraw_step, link_step}
 use Rattle.v7tools.specs.LinkAnswers.{WantsMemory}
 use Rattle.v7tools.specs.internal.InputParts.{IsDeviceFault}
-use Rattle.v7tools.specs.internal.StepParts.{IsRefusal, IsAccepted, IsAddition, IsAddOver, IsAddWorking, TakesWithdrawal, label_of}
+use Rattle.v7tools.specs.internal.StepParts.{IsRefusal, IsAccepted, IsAddition, IsAddOver, IsAddWorking, MakesLink, RefusesLink, TakesWithdrawal, label_of}
 use Rattle.v7tools.specs.SessionSteps.{Does, IsAddOn, IsAddBy, IsLinkBy, WithdrawsIf, verdict_of}
 
 -- ---- the last object
@@ -162,9 +164,52 @@ stepped step = Ok step
 pub told_whole : {W T E : Type 0} {contents : W → Option (List ℕ)} {x : T} {a b : Latched W} {text : List ℕ} (step : Step) → Writes {T = T} {E = E} contents (Ok x) a b text → Writes contents (stepped step) a b text
 told_whole step p = record { fault = p.fault; latched = p.latched; bytes = p.bytes }
 
+-- a call that failed has this fault
+pub only_fault : {T : Type 0} (r : Result T CliFault) (fault named : CliFault) → r ≡ Err fault → fault ≡ named → IfErr r (λ e. e ≡ named)
+only_fault (Ok x) fault named is e = tt
+only_fault (Err f) fault named is e = (let same : f ≡ fault = cc in same) ∙ e
+
 pub refused_verdict : (r : Result Step CliFault) → IfOk r (λ s. s ≡ Refused) → IfOk r (λ s. verdict_of s ≡ refused)
 refused_verdict (Ok s) h = ap verdict_of h
 refused_verdict (Err f) h = tt
+
+-- a write that went out, told by another value
+pub written_with : {W T U E F : Type 0} {contents : W → Option (List ℕ)} {x : T} {a b : Latched W} {text : List ℕ} (y : U) → Writes {T = T} {E = E} contents (Ok x) a b text → Writes {T = U} {E = F} contents (Ok y) a b text
+written_with y p = record { fault = (λ h. absurd (cc), λ h. absurd (let e = p.fault.1 h in cc)); latched = p.latched; bytes = p.bytes }
+
+module _ {W : Type 0} (contents : W → Option (List ℕ)) (answer : Result Outcome LinkFault) (before after : Latched W) where
+  pub refuses : {T : Type 0} (fault : LinkFault) (other : CliFault) (result : Result T CliFault) → IsLinkOf (Err fault) answer → other ≡ fault_of_link fault → Writes contents result before after (line (cli_text other)) →
+      RefusesLink contents answer result before after
+  refuses fault other result is e written = (fault, is, subst (λ (f : CliFault). Writes contents result before after (line (cli_text f))) e written)
+
+  -- a link that is refused, told by another value, or by the same fault
+  pub refused_with : {T U : Type 0} (x : T) (y : U) → RefusesLink contents answer (Ok x) before after → RefusesLink contents answer (Ok y) before after
+  refused_with x y (fault, is, written) = (fault, is, written_with y written)
+
+  pub refused_by : {T : Type 0} (made : Result (Option Linked) CliFault) (result : Result T CliFault) → IsErr made → IsErr result → MakesLink contents answer made before after → RefusesLink contents answer result before after
+  refused_by (Ok made) result err other h = absurd (cc)
+  refused_by (Err e) result err other (fault, is, written) = (fault, is, writes_broke_off other written)
+
+  pub not_linked : (result : Result (Option Linked) CliFault) → IsErr result → RefusesLink contents answer result before after → MakesLink contents answer result before after
+  not_linked (Ok made) err h = absurd (cc)
+  not_linked (Err fault) err h = h
+
+  module _ (kept : Kept) where
+    abbrev Links : Result Step CliFault → Type 0
+    Links result = (did : Stepped) × IsLinkBy kept.entries answer did × (kept ≡ kept) × Does contents did kept result before after
+
+    -- what a step does that asks for a link
+    pub links_not : (result : Result Step CliFault) → IfOk result (λ s. s ≡ Refused) → RefusesLink contents answer result before after → Links result
+    links_not result refuses (fault, is, written) = (
+      refused_as kept.entries (cli_text (fault_of_link fault)),
+      link_refused_by kept.entries answer fault is,
+      refl,
+      record { kept = refl; verdict = refused_verdict result refuses; answer = written },
+    )
+
+    pub links_to : (linked : Linked) → MakesLink contents answer (Ok (Some linked)) before after → Links (stepped (ToStore linked))
+    links_to linked (is, same) =
+        (link_step kept.entries (Ok (outcome_of linked)), inl (ap (link_step kept.entries) (sym is)), refl, record { kept = refl; verdict = refl; answer = (refl, same) })
 
 -- the label of an object that is added
 pub label_is : (old new : Kept) (e : Labelled) → Adds old new e → label_of (last_of new.entries) ≡ e.label

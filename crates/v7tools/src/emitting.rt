@@ -1,4 +1,4 @@
-//! Writing what a link gives.
+//! Writing what a link gives, for callers: the program stores files through an `Office` instead.
 ghost use Rattle.std.specs.Prelude.{◌≡◌, ◌↔◌, ◌⊎◌, false, IfErr, IfOk, IsErr, IsTrue};
 ghost use Rattle.aout_core.specs.Encoding.{encoding};
 ghost use Rattle.link_out.specs.Outcomes.{findings_of};

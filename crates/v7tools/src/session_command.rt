@@ -1,10 +1,8 @@
 //! The session as a command, over any `Office`: each line of a script is answered before the next one is asked for.
-ghost use Rattle.std.specs.Prelude.{◌≡◌, ◌↔◌, ◌≤◌, string_bytes, Err, IfErr, IfOk, IsTrue};
-ghost use Rattle.aout_core.specs.Wires.{IsPassedOn, Writes};
+ghost use Rattle.std.specs.Prelude.{◌≡◌, ◌↔◌, ◌≤◌, string_bytes, Err, IfOk, IsTrue};
+ghost use Rattle.aout_core.specs.Wires.{IsPassedOn};
 ghost use Rattle.link_session.specs.Sessions.{nothing_kept};
-ghost use Rattle.link_out.specs.function.Reports.{line};
-ghost use Rattle.v7tools.specs.declared.fault.CliFault.TheVariants.{ScriptFailed, WriteFailed};
-ghost use Rattle.v7tools.specs.FaultTexts.{cli_text};
+ghost use Rattle.v7tools.specs.declared.fault.CliFault.TheVariants.{ScriptFailed};
 ghost use Rattle.command_words.specs.Scripts.{to_add, to_link};
 ghost use Rattle.command_words.specs.ScriptAnswers.{asked_by, begun};
 ghost use Rattle.v7tools.specs.SessionRuns.{IsSessionRun};
@@ -15,10 +13,10 @@ use crate::fault::CliFault;
 use crate::link_answers::link_answer;
 use crate::office::Office;
 use crate::script::Script;
-use crate::steps::{put_fault, step};
+use crate::steps::{make_link, step};
 use aout_core::{BufferedWrite, Wire};
 use command_words::Line;
-use link_out::{Options, finish};
+use link_out::Options;
 use link_session::{Forced, Session};
 use std::alloc::Global;
 use std::io::{Read, Write};
@@ -74,16 +72,6 @@ fn answer_add<O: Office, W: Write>(
     take_step(setting, session, Command::Add(path, wire), answers)
 }
 
-/// Answers with the text of the fault that refuses a link, and returns the status of that.
-fn refuse_link<W: Write>(fault: &CliFault, answers: &mut Wire<W>) -> Result<u8, CliFault>
-    ensures written { Writes W.contents result answers.old answers.new (line (cli_text fault.now)) }
-    ensures write_failed { IfErr result (λ fault. fault ≡ WriteFailed) }
-    ensures status { IfOk result (λ status. status ≡ 1) }
-{
-    put_fault(fault, answers)?;
-    Ok(1)
-}
-
 /// Links what the session keeps, stores the file at a path and answers.
 fn answer_link<O: Office, W: Write>(
     setting: &Setting<'_>,
@@ -97,12 +85,12 @@ fn answer_link<O: Office, W: Write>(
     ensures run { AnswersLine W.contents setting.now.options.now (to_link path.now) session.now session.now
         (O.history office.old) (O.history office.new) result answers.old answers.new }
 {
-    match finish(setting.alloc, session, setting.options) {
-        Ok(linked) => {
+    match make_link(setting.alloc, session, setting.options, answers)? {
+        Some(linked) => {
             let stored = office.store(path, &linked.file);
             link_answer(&linked, path, stored, answers)
         }
-        Err(fault) => refuse_link(&CliFault::from(fault), answers),
+        None => Ok(1),
     }
 }
 

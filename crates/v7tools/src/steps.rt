@@ -1,5 +1,6 @@
 //! The steps of a session, and their answers.
-ghost use Rattle.std.specs.Prelude.{◌≡◌, ◌++◌, true, IfErr, IfOk, IsTrue};
+ghost use Rattle.std.specs.Prelude.{◌≡◌, ◌++◌, true, IfErr, IfOk, IfSome, IsTrue};
+ghost use Rattle.aout_core.specs.WellFormed.{IsWellFormed};
 ghost use Rattle.aout_core.specs.Wires.{Writes};
 ghost use Rattle.link_session.specs.Edits.{last_of};
 ghost use Rattle.link_session.specs.Labelled.{objects};
@@ -8,7 +9,7 @@ ghost use Rattle.link_out.specs.function.Reports.{line};
 ghost use Rattle.v7tools.specs.declared.fault.CliFault.TheVariants.{WriteFailed};
 ghost use Rattle.v7tools.specs.declared.commands.Step.TheVariants.{Refused};
 ghost use Rattle.v7tools.specs.FaultTexts.{cli_text};
-ghost use Rattle.v7tools.specs.internal.StepParts.{label_of, TakesAddStep, TakesLinkStep, TakesWithdrawal};
+ghost use Rattle.v7tools.specs.internal.StepParts.{label_of, MakesLink, TakesAddStep, TakesWithdrawal};
 ghost use Rattle.v7tools.specs.SessionSteps.{StoresObject, TakesStep};
 
 use crate::additions::add_file;
@@ -16,7 +17,7 @@ use crate::commands::{Command, Step};
 use crate::fault::CliFault;
 use crate::listings::{put_externals, put_undefined};
 use aout_core::{DeviceFault, Wire};
-use link_out::{Options, finish};
+use link_out::{Linked, Options, finish};
 use link_session::Session;
 use std::alloc::Global;
 use std::io::{Read, Write};
@@ -30,10 +31,7 @@ fn put_line<W: Write>(first: &[u8], second: &[u8], answers: &mut Wire<W>) -> Res
 }
 
 /// Writes the text of a fault and a newline.
-pub(crate) fn put_fault<W: Write>(
-    fault: &CliFault,
-    answers: &mut Wire<W>,
-) -> Result<(), DeviceFault>
+fn put_fault<W: Write>(fault: &CliFault, answers: &mut Wire<W>) -> Result<(), DeviceFault>
     ensures { Writes W.contents result answers.old answers.new (line (cli_text fault.now)) }
 {
     fault.write_text(answers)?;
@@ -101,21 +99,24 @@ fn withdraw<W: Write>(session: &mut Session, answers: &mut Wire<W>) -> Result<St
     }
 }
 
-/// Links the objects, and answers where there is no link.
-fn make_link<W: Write>(
+/// Links the objects. If there is no link, it answers with the fault and returns nothing.
+pub(crate) fn make_link<W: Write>(
     alloc: Global,
     session: &Session,
     options: &Options,
     answers: &mut Wire<W>,
-) -> Result<Step, CliFault>
+) -> Result<Option<Linked>, CliFault>
     ensures write_failed { IfErr result (λ fault. fault ≡ WriteFailed) }
     ensures latched { IsTrue answers.old.has_failed → (answers.new ≡ answers.old) }
-    ensures step { TakesLinkStep W.contents (link session.now.forced (objects session.now.entries) options.now) session.now result answers.old answers.new }
-    ensures object { options.now.relocatable ≡ true → IfOk result StoresObject }
+    ensures link { MakesLink W.contents (link session.now.forced (objects session.now.entries) options.now) result answers.old answers.new }
+    ensures object { options.now.relocatable ≡ true → IfOk result (λ made. IfSome made (λ linked. IsWellFormed linked.file)) }
 {
     match finish(alloc, session, options) {
-        Ok(linked) => Ok(Step::ToStore(linked)),
-        Err(fault) => refuse(&CliFault::from(fault), answers),
+        Ok(linked) => Ok(Some(linked)),
+        Err(fault) => {
+            put_fault(&CliFault::from(fault), answers)?;
+            Ok(None)
+        }
     }
 }
 
@@ -155,7 +156,10 @@ pub fn step<R: Read + Drop, W: Write>(
             put_undefined(session, answers)?;
             Ok(Step::Done)
         }
-        Command::Link => make_link(alloc, session, options, answers),
+        Command::Link => match make_link(alloc, session, options, answers)? {
+            Some(linked) => Ok(Step::ToStore(linked)),
+            None => Ok(Step::Refused),
+        },
         Command::Bad => {
             put_line(b"bad command", b"", answers)?;
             Ok(Step::Refused)

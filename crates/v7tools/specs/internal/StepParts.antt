@@ -4,7 +4,7 @@ use Rattle.std.specs.declared.alloc.Global.{Global}
 use Rattle.aout_core.specs.declared.file.ReadFault.TheVariants as reads
 use Rattle.aout_core.specs.Contents.{Contents}
 use Rattle.aout_core.specs.Decoding.{decode}
-use Rattle.aout_core.specs.Wires.{Latched}
+use Rattle.aout_core.specs.Wires.{Latched, Writes}
 use Rattle.link_session.specs.declared.state.State.{State}
 use Rattle.link_session.specs.declared.entry.AddFault.{AddFault}
 use Rattle.link_session.specs.Limits.{refusal}
@@ -13,6 +13,8 @@ use Rattle.link_session.specs.Labelled.{Labelled, objects}
 use Rattle.link_session.specs.Sessions.{Adds, IsCause, labelled}
 use Rattle.link_session.specs.Undo.{Kept}
 use Rattle.link_out.specs.declared.linked.LinkFault.{LinkFault}
+use Rattle.link_out.specs.declared.linked.Linked.{Linked}
+use Rattle.link_out.specs.Outcomes.{IsLinkOf, outcome_of}
 use Rattle.link_out.specs.function.Reports.{is_missing}
 use Rattle.link_out.specs.function.Link.{Outcome}
 use Rattle.link_out.specs.function.Reports.{line}
@@ -20,10 +22,10 @@ use Rattle.v7tools.specs.declared.fault.CliFault.{CliFault}
 use Rattle.v7tools.specs.declared.fault.CliFault.TheVariants as faults
 use Rattle.v7tools.specs.declared.commands.Step.{Step}
 use Rattle.v7tools.specs.Inputs.{Cause, bad_file, object_in, kept_with}
-use Rattle.v7tools.specs.FaultTexts.{fault_at, fault_of_addition}
+use Rattle.v7tools.specs.FaultTexts.{cli_text, fault_at, fault_of_addition, fault_of_link}
 use Rattle.v7tools.specs.LinkAnswers.{WantsMemory}
 use Rattle.v7tools.specs.Answers.{failing, giving, Stepped, add_step, withdraw_step, input_from}
-use Rattle.v7tools.specs.SessionSteps.{without_memory, IsLinkBy, AddsIf, WithdrawsIf, Does}
+use Rattle.v7tools.specs.SessionSteps.{without_memory, AddsIf, WithdrawsIf, Does}
 
 -- the label of an object, if there is one
 abbrev pub label_of : Option Labelled → List ℕ
@@ -85,7 +87,13 @@ abbrev pub TakesWithdrawal : {W : Type 0} → (W → Option (List ℕ)) → Kept
 TakesWithdrawal contents old new result before after =
     WithdrawsIf (withdraw_step old.entries (last_of old.entries)).verdict old new × Does contents (withdraw_step old.entries (last_of old.entries)) new result before after
 
--- a link is made, or the answer says why it is not
-abbrev pub TakesLinkStep : {W : Type 0} → (W → Option (List ℕ)) → Result Outcome LinkFault → Kept → Result Step CliFault → Latched W → Latched W → Type 0
-TakesLinkStep contents answer kept result before after =
-    (did : Stepped) × IsLinkBy kept.entries answer did × Does contents did kept result before after
+-- there is no link, and the text of its fault goes out, or a prefix of it
+abbrev pub RefusesLink : {W T : Type 0} → (W → Option (List ℕ)) → Result Outcome LinkFault → Result T CliFault → Latched W → Latched W → Type 0
+RefusesLink contents answer result before after =
+    (fault : LinkFault) × IsLinkOf (Err fault) answer × Writes contents result before after (line (cli_text (fault_of_link fault)))
+
+-- a link is made, and nothing is written; or there is none
+abbrev pub MakesLink : {W : Type 0} → (W → Option (List ℕ)) → Result Outcome LinkFault → Result (Option Linked) CliFault → Latched W → Latched W → Type 0
+MakesLink contents answer (Ok (Some linked)) before after = (answer ≡ Ok (outcome_of linked)) × (after ≡ before)
+MakesLink contents answer (Ok None) before after = RefusesLink {T = Option Linked} contents answer (Ok None) before after
+MakesLink contents answer (Err fault) before after = RefusesLink {T = Option Linked} contents answer (Err fault) before after

@@ -1,10 +1,13 @@
-use Rattle.std.proofs.Common.{refl}
+use Rattle.std.proofs.Common.{◌≡◌, None, Ok, Err, refl}
 use Rattle.std.specs.Prelude.{string_bytes}
 use Rattle.link_session.specs.Edits.{last_of}
+use Rattle.link_session.specs.Labelled.{objects}
+use Rattle.link_out.specs.function.Link.{link}
+use Rattle.v7tools.specs.declared.commands.Step.{Step}
 use Rattle.v7tools.specs.declared.commands.Step.TheVariants.{Done, Refused}
 use Rattle.v7tools.specs.Answers.{step, adding, absent, listing_externals, listing_undefined, anything_else, withdraw_step}
 use Rattle.aout_core.proofs.PutsLemmas.{writes_broke_off}
-use Rattle.v7tools.proofs.StepLemmas.{told_whole, no_value, refused_verdict, added_over}
+use Rattle.v7tools.proofs.StepLemmas.{told_whole, no_value, refused_verdict, added_over, links_not, links_to, refused_by, refused_with}
 use Rattle.v7tools.proofs.steps.step.Goals as goal
 
 pub returns-in_err-put_externals-in-Externals-clause-step : goal.returns-in_err-put_externals-in-Externals-clause-step
@@ -79,15 +82,6 @@ returns-in-Withdraw-clause-latched g c = c.withdraw.ensures.latched
 pub returns-in-Withdraw-clause-object : goal.returns-in-Withdraw-clause-object
 returns-in-Withdraw-clause-object g c = λ _. c.withdraw.ensures.object
 
-pub returns-in-Link-clause-write_failed : goal.returns-in-Link-clause-write_failed
-returns-in-Link-clause-write_failed g c = c.make_link.ensures.write_failed
-
-pub returns-in-Link-clause-latched : goal.returns-in-Link-clause-latched
-returns-in-Link-clause-latched g c = c.make_link.ensures.latched
-
-pub returns-in-Link-clause-object : goal.returns-in-Link-clause-object
-returns-in-Link-clause-object g c = c.make_link.ensures.object
-
 pub returns-in-None-clause-write_failed : goal.returns-in-None-clause-write_failed
 returns-in-None-clause-write_failed g c = c.refuse.ensures.write_failed
 
@@ -99,11 +93,6 @@ returns-in-Withdraw-clause-step g c =
     let s = c.args.session.now in
     let (changes, does) = c.withdraw.ensures.step in
     rw c.in-Withdraw.is (withdraw_step s.entries (last_of s.entries), refl, changes, does)
-
-pub returns-in-Link-clause-step : goal.returns-in-Link-clause-step
-returns-in-Link-clause-step g c =
-    let (did, by, does) = c.make_link.ensures.step in
-    rw c.in-Link.is (did, by, refl, does)
 
 pub returns-in_err-put_externals-in-Externals-clause-latched : goal.returns-in_err-put_externals-in-Externals-clause-latched
 returns-in_err-put_externals-in-Externals-clause-latched g c = c.in_err-put_externals-in-Externals.ensures.latched
@@ -122,3 +111,23 @@ returns-in_err-put_line-in-Bad-clause-latched g c = c.in_err-put_line-in-Bad.ens
 
 pub returns-in_ok-put_line-in-Bad-clause-latched : goal.returns-in_ok-put_line-in-Bad-clause-latched
 returns-in_ok-put_line-in-Bad-clause-latched g c = c.in_ok-put_line-in-Bad.ensures.latched
+
+pub returns-in_err-linked-in-Link-clause-step : goal.returns-in_err-linked-in-Link-clause-step
+returns-in_err-linked-in-Link-clause-step g c =
+    let s = c.args.session.now in
+    let answer = link s.forced (objects s.entries) c.args.options.now in
+    let r = c.from_residual-in_err-linked-in-Link.result in
+    rw c.in-Link.is (links_not g.W.Write.contents answer c.args.answers.now c.make_link.new.answers s r (no_value r (λ (step : Step). step ≡ Refused) c.from_residual-in_err-linked-in-Link.ensures.0)
+    (refused_by g.W.Write.contents answer c.args.answers.now c.make_link.new.answers (Err c.in_err-linked-in-Link.field-0.0) r refl c.from_residual-in_err-linked-in-Link.ensures.0 c.in_err-linked-in-Link.ensures.link))
+
+pub returns-in-Some-2-clause-step : goal.returns-in-Some-2-clause-step
+returns-in-Some-2-clause-step g c =
+    let s = c.args.session.now in
+    rw c.in-Link.is (links_to g.W.Write.contents (link s.forced (objects s.entries) c.args.options.now) c.args.answers.now c.make_link.new.answers s c.in-Some-2.linked (rw c.in-Some-2.is at c.in_ok-linked-in-Link.ensures.link))
+
+pub returns-in-None-2-clause-step : goal.returns-in-None-2-clause-step
+returns-in-None-2-clause-step g c =
+    let s = c.args.session.now in
+    let answer = link s.forced (objects s.entries) c.args.options.now in
+    rw c.in-Link.is (links_not g.W.Write.contents answer c.args.answers.now c.make_link.new.answers s (Ok Refused) refl
+    (refused_with g.W.Write.contents answer c.args.answers.now c.make_link.new.answers None Refused (rw c.in-None-2.is at c.in_ok-linked-in-Link.ensures.link)))
