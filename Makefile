@@ -144,6 +144,7 @@ gate:
 	python3 tests/quotes.py
 	python3 tests/layers.py
 	python3 tests/limits.py
+	python3 tests/calling.py
 	rt ci
 
 # one claim proved again, and a broken line refused: docs/TRUST.md
@@ -253,7 +254,6 @@ check-examples: build/v7 build/v7-from-gnu build/v7-object build/v7-explain buil
 	cmp crates/lesson/data/l.o examples/l.o
 	cmp crates/v7_from_gnu/data/squares.gnu examples/squares.gnu
 	cmp crates/v7_object/data/main.lst examples/main.lst
-	sh tests/heads.sh
 	sh tests/manual.sh
 	python3 tests/statuses.py build/v7-from-gnu build/v7-lesson
 	for program in v7-from-gnu v7-object v7-explain; do \

@@ -238,15 +238,15 @@ def link_case(rng, number):
                          [80, 10, 2, 6, 1, 1])[0]
     if output != 'a.out':
         options.append(valued(rng, 'o', output.encode()))
-    made = output if output != '/dev/full' else 'out'
-    listed = rng.choice([[made], paths])
+    linked = output if output != '/dev/full' else 'out'
+    listed = rng.choice([[linked], paths])
     commands = [['ld', *arguments_of(rng, options, paths)],
                 ['nm', *arguments_of(rng, [[option] for option in nm_options(rng)], listed)],
-                ['size', *rng.choice([listed, listed if made != 'a.out' else []])]]
+                ['size', *rng.choice([listed, listed if linked != 'a.out' else []])]]
     if rng.random() < 0.5:
-        commands.append(['ld', *arguments_of(rng, link_options(rng, names), [made, *paths[:1]])])
+        commands.append(['ld', *arguments_of(rng, link_options(rng, names), [linked, *paths[:1]])])
     if rng.random() < 0.3:
-        commands += [['strip', *listed], ['size', made]]
+        commands += [['strip', *listed], ['size', linked]]
     return Case(files, [(command, b'') for command in commands])
 
 
@@ -314,9 +314,9 @@ def fit_case(rng):
                        2 * rng.randrange(0x4000)])
     start = {'-n': (text + 0o17777) // 0o20000 * 0o20000, '-i': 0}.get(option, text)
     common = rng.choice([0, 0, 1, 2, 3, 2 * rng.randrange(0x1000) + 1, 0xffff])
-    room = 0 if option == '-r' else (common + 1) // 2 * 2
-    data = 2 * rng.randrange(max(1, 0x10000 - start - room) // 2 + 1) % 0x8000
-    bss = near(rng, max(0, 0xfffe - start - room - data))
+    common_size = 0 if option == '-r' else (common + 1) // 2 * 2
+    data = 2 * rng.randrange(max(1, 0x10000 - start - common_size) // 2 + 1) % 0x8000
+    bss = near(rng, max(0, 0xfffe - start - common_size - data))
     symbols = [(b'_c', EXTERNAL, common), (b'_t', EXTERNAL | TEXT, 0),
                (b'_d', EXTERNAL | DATA, text)]
     more = []

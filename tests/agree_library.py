@@ -56,7 +56,7 @@ def by_model(objects, arguments):
         return str(refused), 0
 
 
-def told(fault):
+def fault_of(fault):
     """The text of a fault as the model has it, and the number of the object."""
     where = f" at word {fault.word}" if fault.fault in (23, 24) else ""
     return v7.FAULTS[fault.fault] + where, fault.place
@@ -74,7 +74,7 @@ def by_library(objects, arguments):
     try:
         return tuple(v7.link(objects, options_of(arguments), **asked_of(arguments)))
     except v7.Fault as fault:
-        return told(fault)
+        return fault_of(fault)
 
 
 def link_case(number):
@@ -108,7 +108,7 @@ def library_edit(session, edit):
     try:
         session.withdraw() if edit is None else session.add(edit)
     except v7.Fault as fault:
-        return told(fault)[0]
+        return fault_of(fault)[0]
     return session.replies[-1]
 
 
@@ -127,14 +127,14 @@ def session_case(number):
     status = int(any(isinstance(reply, int) and reply for reply in theirs))
     try:
         given = linked(states[-1], arguments)
-        wanted = max(given[0], status), *given[1:]
+        expected = max(given[0], status), *given[1:]
     except model.Refused as refused:
-        wanted = str(refused), 0
+        expected = str(refused), 0
     try:
         came = tuple(session.link(options_of(arguments)))
     except v7.Fault as fault:
-        came = told(fault)
-    return (theirs, known, wanted), (ours, shown, came)
+        came = fault_of(fault)
+    return (theirs, known, expected), (ours, shown, came)
 
 
 def kind_of(outcome):
@@ -147,11 +147,11 @@ def main(links, sessions):
     for name, case, count in (("links", link_case, int(links)), ("sessions", session_case, int(sessions))):
         kinds = Counter()
         for number in range(count):
-            wanted, came = case(number)
-            if wanted != came:
-                print(f"{name}, number {number}:\n  the model: {wanted}\n  libv7:     {came}")
+            expected, came = case(number)
+            if expected != came:
+                print(f"{name}, number {number}:\n  the model: {expected}\n  libv7:     {came}")
                 return 1
-            kinds[kind_of(wanted)] += 1
+            kinds[kind_of(expected)] += 1
         print(f"libv7: {count} {name} as the model: " + ", ".join(f"{kinds[kind]} {kind}" for kind in sorted(kinds)))
     return 0
 

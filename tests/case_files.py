@@ -125,7 +125,7 @@ def with_names(count, prefix):
 
 def source(item, folder, size=0):
     """The file that a line names last: one of the folder, or a sample. It has at least this size."""
-    name = item.told[-1]
+    name = item.arguments[-1]
     data = folder[name] if name in folder else sample(item.line, name)
     if size > len(data):
         raise Mistake(item.line, f"{os.fsdecode(name)} has {len(data)} bytes")
@@ -133,12 +133,12 @@ def source(item, folder, size=0):
 
 
 def cut(item, folder):
-    _, size, _ = item.told
+    _, size, _ = item.arguments
     return source(item, folder, size)[:size]
 
 
 def poked(item, folder):
-    _, changes, _ = item.told
+    _, changes, _ = item.arguments
     data = source(item, folder, max(place + len(new) for place, new in changes))
     for place, new in changes:
         data = data[:place] + new + data[place + len(new):]
@@ -149,9 +149,9 @@ MAKERS = {
     "object": lambda item, folder: listed(item.block),
     "listing": lambda item, folder: listed(item.block),
     "text": lambda item, folder: b"".join(encoded(line, text) for line, text in item.block),
-    "bytes": lambda item, folder: b"".join(item.told[1:]),
-    "sized": lambda item, folder: sized(*item.told[1:]),
-    "names": lambda item, folder: with_names(*item.told[1:]),
+    "bytes": lambda item, folder: b"".join(item.arguments[1:]),
+    "sized": lambda item, folder: sized(*item.arguments[1:]),
+    "names": lambda item, folder: with_names(*item.arguments[1:]),
     "same": source,
     "cut": cut,
     "poke": poked,
@@ -165,7 +165,7 @@ def contents(item, folder):
 
 def objects(item):
     """The files that an `object*` line makes."""
-    name, count = item.told
+    name, count = item.arguments
     for place in range(count):
         block = [(line, numbered(text, place)) for line, text in item.block]
         yield encoded(item.line, numbered(name, place)), listed(block)
@@ -174,8 +174,8 @@ def objects(item):
 def make(item, folder):
     """Puts the files of a line into a folder."""
     if item.word == "use":
-        folder.update((name, sample(item.line, name)) for name in item.told)
-    elif item.word == "object" and len(item.told) == 2:
+        folder.update((name, sample(item.line, name)) for name in item.arguments)
+    elif item.word == "object" and len(item.arguments) == 2:
         folder.update(objects(item))
     else:
-        folder[item.told[0]] = contents(item, folder)
+        folder[item.arguments[0]] = contents(item, folder)

@@ -19,7 +19,7 @@ class Item:
     """A line with a word at the front, what it has after the word, and its `|` lines."""
     line: int
     word: str
-    told: tuple
+    arguments: tuple
     block: list = field(default_factory=list)
 
 
@@ -41,7 +41,7 @@ class Step:
 @dataclass
 class Part:
     """Files, refusals and states, and commands, in a folder of their own."""
-    made: list = field(default_factory=list)
+    files_before: list = field(default_factory=list)
     plans: list = field(default_factory=list)
     steps: list = field(default_factory=list)
 
@@ -278,7 +278,7 @@ class Reader:
         elif item.word in PLANS:
             part.plans.append(item)
         elif not part.steps and item.word not in ONLY_CHECKED:
-            part.made.append(item)
+            part.files_before.append(item)
         elif part.steps and item.word not in ONLY_MADE:
             part.steps[-1].files.append(item)
         else:
@@ -289,7 +289,7 @@ class Reader:
         step = self.step(item.line, "status")
         if step.status:
             raise Mistake(item.line, "a second status")
-        step.status = (item.line, item.told[0])
+        step.status = (item.line, item.arguments[0])
 
     def end_step(self):
         steps = self.parts[-1].steps

@@ -38,8 +38,8 @@ def shown_line(data):
     return shown(data[:-1]) if data.endswith(b"\n") else shown(data) + "  without a newline"
 
 
-def differ(line, what, wanted, came):
-    return Mistake(line, f"{what}\n  wanted: {wanted}\n  came:   {came}")
+def differ(line, what, expected, came):
+    return Mistake(line, f"{what}\n  wanted: {expected}\n  came:   {came}")
 
 
 # --- what came of a command
@@ -49,39 +49,39 @@ def lines_in(data):
     return [line for line in re.split(b"(?<=\n)", data) if line]
 
 
-def check_output(line, what, wanted, came):
+def check_output(line, what, expected, came):
     """Compares what was written to a stream, line by line."""
-    wanted = [(place, part) for place, text in wanted for part in lines_in(text)]
+    expected = [(place, part) for place, text in expected for part in lines_in(text)]
     lines = lines_in(came)
-    for (place, text), found in zip(wanted, lines):
+    for (place, text), found in zip(expected, lines):
         if found != text:
             raise differ(place, what, shown_line(text), shown_line(found))
-    if len(wanted) > len(lines):
-        raise differ(wanted[len(lines)][0], what, shown_line(wanted[len(lines)][1]), "no further line")
-    if len(lines) > len(wanted):
-        raise differ(line, what, "no further line", shown_line(lines[len(wanted)]))
+    if len(expected) > len(lines):
+        raise differ(expected[len(lines)][0], what, shown_line(expected[len(lines)][1]), "no further line")
+    if len(lines) > len(expected):
+        raise differ(line, what, "no further line", shown_line(lines[len(expected)]))
 
 
 def check_status(step, came):
-    line, wanted = step.status or (step.line, 0)
-    if came != wanted:
-        raise differ(line, "status", wanted, came)
+    line, expected = step.status or (step.line, 0)
+    if came != expected:
+        raise differ(line, "status", expected, came)
 
 
-def first_difference(wanted, came):
-    shorter = min(len(wanted), len(came))
-    return next((at for at in range(shorter) if wanted[at] != came[at]), shorter)
+def first_difference(expected, came):
+    shorter = min(len(expected), len(came))
+    return next((at for at in range(shorter) if expected[at] != came[at]), shorter)
 
 
 def excerpt(data, at):
     return f"{len(data)} bytes, from byte {at} on: {data[at:at + 16].hex(' ', 2) or 'none'}"
 
 
-def check_bytes(item, wanted, came):
-    if wanted != came:
-        at = first_difference(wanted, came)
+def check_bytes(item, expected, came):
+    if expected != came:
+        at = first_difference(expected, came)
         at -= at % 2
-        raise differ(item.line, os.fsdecode(item.told[0]), excerpt(wanted, at), excerpt(came, at))
+        raise differ(item.line, os.fsdecode(item.arguments[0]), excerpt(expected, at), excerpt(came, at))
 
 
 MANY = ("unchanged", "absent")
@@ -89,7 +89,7 @@ MANY = ("unchanged", "absent")
 
 def check_described(item, before, after):
     """Checks what a line says of files."""
-    for name in item.told if item.word in MANY else item.told[:1]:
+    for name in item.arguments if item.word in MANY else item.arguments[:1]:
         path = os.fsdecode(name)
         if item.word == "absent" and name in after:
             raise Mistake(item.line, f"{path} is there")
@@ -106,7 +106,7 @@ def check_files(step, before, after):
     described = set()
     for item in step.files:
         check_described(item, before, after)
-        described.update(item.told if item.word in MANY else item.told[:1])
+        described.update(item.arguments if item.word in MANY else item.arguments[:1])
     for name in sorted((before.keys() | after.keys()) - described):
         if before.get(name) != after.get(name):
             how = "has gone" if name not in after else "has changed" if name in before else "has appeared"
@@ -115,40 +115,40 @@ def check_files(step, before, after):
 
 # --- commands
 
-def snapshot(room):
+def snapshot(directory):
     """The files of a folder."""
     files = {}
-    for entry in os.scandir(os.fsencode(room)):
+    for entry in os.scandir(os.fsencode(directory)):
         with open(entry.path, "rb") as file:
             files[entry.name] = file.read()
     return files
 
 
-def run(step, room):
+def run(step, directory):
     given = b"".join(text for _, text in step.given)
     path = os.path.join(BUILD, step.words[0].decode())
     if not os.access(path, os.X_OK):
         raise Mistake(step.line, f"build/{step.words[0].decode()} is missing")
     try:
-        return subprocess.run(step.words, executable=path, cwd=room, input=given, capture_output=True,
+        return subprocess.run(step.words, executable=path, cwd=directory, input=given, capture_output=True,
                               env={}, timeout=SECONDS, check=False)
     except subprocess.TimeoutExpired:
         raise Mistake(step.line, f"it does not end within {SECONDS} seconds") from None
 
 
-def play_step(step, room):
-    before = snapshot(room)
-    came = run(step, room)
+def play_step(step, directory):
+    before = snapshot(directory)
+    came = run(step, directory)
     check_output(step.line, "standard error", step.error, came.stderr)
     check_output(step.line, "standard output", step.output, came.stdout)
     check_status(step, came.returncode)
-    check_files(step, before, snapshot(room))
+    check_files(step, before, snapshot(directory))
 
 
 def files_of(part):
     """The files before the commands. Listings after the commands are read too, so that a part that is skipped has no bad one."""
     folder = {}
-    for item in part.made:
+    for item in part.files_before:
         make(item, folder)
     for item in (item for step in part.steps for item in step.files):
         if item.word == "listing":
@@ -157,19 +157,19 @@ def files_of(part):
 
 
 def play_part(part, folder):
-    with tempfile.TemporaryDirectory() as room:
+    with tempfile.TemporaryDirectory() as directory:
         for name, data in folder.items():
-            with open(os.path.join(os.fsencode(room), name), "wb") as file:
+            with open(os.path.join(os.fsencode(directory), name), "wb") as file:
                 file.write(data)
         for step in part.steps:
-            play_step(step, room)
+            play_step(step, directory)
 
 
 # --- cases
 
 def reason(part):
     """Why a part can't be played here, or None."""
-    words = {plan.word for plan in part.plans if plan.told != ("disk",)}
+    words = {plan.word for plan in part.plans if plan.arguments != ("disk",)}
     names = {"state": "states of sessions", "refuse": "refusals and failing devices", "fail": "refusals and failing devices"}
     return next((names.get(word, "only memory") for word in sorted(words, reverse=True)), None)
 
@@ -258,16 +258,16 @@ def check_bad():
     """Plays the bad cases: whether they fail a run, each with the error that crates/cases/stdout has at its end."""
     name = os.path.relpath(os.path.join(SAMPLES, "bad.cases"))
     with open(os.path.join(SAMPLES, "..", "stdout"), encoding="ascii") as file:
-        wanted = file.read().split(" failed\n")[1].replace("bad.cases:", f"{name}:")
-    is_good = len(wanted) > 0
+        expected = file.read().split(" failed\n")[1].replace("bad.cases:", f"{name}:")
+    is_good = len(expected) > 0
     for words, status in ([name], 1), (["-e", name], 0):
         ended, came = played(words)
-        for line in difflib.unified_diff(wanted.split("\n"), came.split("\n"), "wanted", "came", lineterm="", n=0):
+        for line in difflib.unified_diff(expected.split("\n"), came.split("\n"), "wanted", "came", lineterm="", n=0):
             print(line)
         if ended != status:
             print(f"{' '.join(words)}: status {ended} in place of {status}")
-        is_good = is_good and ended == status and came == wanted
-    print(f"{len(re.findall('^[^ ]', wanted, re.M))} errors of bad cases compared with those in memory")
+        is_good = is_good and ended == status and came == expected
+    print(f"{len(re.findall('^[^ ]', expected, re.M))} errors of bad cases compared with those in memory")
     return is_good
 
 

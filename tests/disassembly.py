@@ -258,22 +258,22 @@ def shown(padded):
     return "".join(texts)
 
 
-def compare(made, folder, what):
+def compare(file, folder, what):
     """Compares the lines of a file but for the notes, and returns how many there are."""
     path = os.path.join(folder, "file")
     with open(path, "wb") as out:
-        out.write(made.encoded())
+        out.write(file.encoded())
     done = subprocess.run([EXPLAIN, "-d", path], capture_output=True, check=False)
     if done.stderr or done.returncode not in (0, 1):
         sys.exit("%s: status %d, %r" % (what, done.returncode, done.stderr))
     lines = [line for line in done.stdout.decode("latin-1").split("\n")[:-1] if not line.startswith("/")]
-    wanted = made.disassembly()
-    for number, (got, want) in enumerate(zip(lines, wanted)):
+    expected = file.disassembly()
+    for number, (got, want) in enumerate(zip(lines, expected)):
         if got != want:
             sys.exit("%s: line %d is\n%s\nand should be\n%s" % (what, number + 1, got, want))
-    if len(lines) != len(wanted):
-        sys.exit("%s: %d lines, and should be %d" % (what, len(lines), len(wanted)))
-    return len(wanted)
+    if len(lines) != len(expected):
+        sys.exit("%s: %d lines, and should be %d" % (what, len(lines), len(expected)))
+    return len(expected)
 
 
 def each_first_word(folder):
@@ -287,24 +287,24 @@ def each_first_word(folder):
                 words = []
     texts.append(words)
     for number, text in enumerate(texts):
-        made = File(text)
+        file = File(text)
         places, place = set(), 0
         while place < len(text):
             places.add(place)
-            place += made.line(place)[0]
+            place += file.line(place)[0]
         firsts += sum(place in places for place in range(0, len(text), 5))
-        compare(made, folder, "first words, text %d" % number)
+        compare(file, folder, "first words, text %d" % number)
     assert firsts == 4 * 0o200000, firsts
     return texts
 
 
-def made_name(dice):
+def random_name(dice):
     of = dice.choice([b"ab_.~9", bytes(range(1, 256)), b"_"])
     name = bytes(dice.choice(of) for _ in range(dice.randrange(9)))
     return dice.choice([name, name, b"r0", b"sp", b"fr5", b"fr6", b"_main", b"7up"]).ljust(8, b"\0")
 
 
-def made_file(dice):
+def random_file(dice):
     """A file of a few words of text, whose symbols and operands often meet."""
     magic, relocated = dice.choice([(0o407, 1), (0o407, 1), (0o407, 0), (0o410, 0), (0o411, 0), (0o405, 0)])
     count, data, bss = dice.randrange(1, 40), [0] * dice.randrange(9), 2 * dice.randrange(9)
@@ -314,7 +314,7 @@ def made_file(dice):
     kinds = [2, 2, 0o42, 0o42, 3, 0o43, 4, 0o44, 1, 0o41, 0o40, 0o40, 0, 0o37, 0o24]
     start = {0o410: 0o20000, 0o411: 0}.get(magic, 2 * count)
     value = lambda: dice.choice([dice.randrange(0, 2 * count + 2), start + dice.randrange(0, 2 * len(data) + bss + 2), near()])
-    symbols = [(made_name(dice), dice.choice(kinds), value()) for _ in range(dice.randrange(60))]
+    symbols = [(random_name(dice), dice.choice(kinds), value()) for _ in range(dice.randrange(60))]
     relocation = None
     if relocated:
         usual = [0, 0, 0, 1, 2, 3, 4, 5, 6, 7]
@@ -325,9 +325,9 @@ def made_file(dice):
 
 def assembled(text, words, folder):
     """Whether GNU's assembler makes these words of a text, the floating instructions aside: these are given to it as words."""
-    made, lines, place = File(text), [], 0
+    file, lines, place = File(text), [], 0
     while place < len(text):
-        length, line = made.line(place)
+        length, line = file.line(place)
         name = line.split(" ")[0]
         if name[0] in "01" or text[place] >= 0o170000:
             lines += [".word 0%o" % word for word in text[place : place + length]]
@@ -370,7 +370,7 @@ def main():
         print("262,144 first words with two words after each are shown as computed")
         dice, count = random.Random(47), 0
         for number in range(400):
-            count += compare(made_file(dice), folder, "made file %d" % number)
+            count += compare(random_file(dice), folder, "made file %d" % number)
         print("400 made files are shown as computed, %d lines with their labels" % count)
         assembler = next((name for name in ("pdp11-aout-as", "pdp11-dec-aout-as") if shutil.which(name)), None)
         if assembler is None:

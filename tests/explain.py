@@ -27,7 +27,7 @@ def words(count, of):
     return [of() for _ in range(count)]
 
 
-def made_name():
+def random_name():
     kind = dice.randrange(4)
     if kind == 0:
         return bytes(dice.randrange(256) for _ in range(8))
@@ -35,29 +35,29 @@ def made_name():
     return bytes(dice.choice(alphabet) for _ in range(dice.randrange(9))).ljust(8, b"\0")
 
 
-def made_type():
+def random_type():
     return dice.choice([0o40, 0o40, 0, 1, 2, 3, 4, 0o41, 0o42, 0o43, 0o44, 0o24, 0o37, dice.randrange(65536)])
 
 
-def made_symbol():
-    return struct.pack("<8sHH", made_name(), made_type(), dice.choice([0, 2, dice.randrange(65536)]))
+def random_symbol():
+    return struct.pack("<8sHH", random_name(), random_type(), dice.choice([0, 2, dice.randrange(65536)]))
 
 
-def made_reloc(wanted):
+def random_reloc(undefined):
     kind = dice.randrange(12)
     if kind < 8:
         return kind
-    if wanted and kind < 11:
-        return 16 * dice.choice(wanted) + 8 + dice.randrange(2)
+    if undefined and kind < 11:
+        return 16 * dice.choice(undefined) + 8 + dice.randrange(2)
     return dice.randrange(65536) if dice.randrange(3) == 0 else 0
 
 
-def made_object():
+def random_object():
     """An object, mostly one that v7 takes."""
     text, data = dice.randrange(12), dice.randrange(12)
-    symbols = [made_symbol() for _ in range(dice.randrange(9))]
-    wanted = [n for n, s in enumerate(symbols) if struct.unpack("<H", s[8:10])[0] & 0o77 == 0o40]
-    body = words(text + data, lambda: dice.randrange(65536)) + words(text + data, lambda: made_reloc(wanted))
+    symbols = [random_symbol() for _ in range(dice.randrange(9))]
+    undefined = [n for n, s in enumerate(symbols) if struct.unpack("<H", s[8:10])[0] & 0o77 == 0o40]
+    body = words(text + data, lambda: dice.randrange(65536)) + words(text + data, lambda: random_reloc(undefined))
     entry, unused = dice.choice([(0, 0), (0, 0), (dice.randrange(65536), dice.randrange(65536))])
     header = [0o407, 2 * text, 2 * data, 2 * dice.randrange(99), 12 * len(symbols), entry, unused, 0]
     return struct.pack("<%dH" % (8 + len(body)), *header, *body) + b"".join(symbols)
@@ -104,12 +104,12 @@ def explain(path):
 def answers(paths):
     """What a session answers to each file."""
     script = "".join("add %s\nwithdraw\n" % p for p in paths)
-    told = subprocess.run([V7, "session"], input=script, stdout=subprocess.PIPE, text=True).stdout.splitlines()
-    kept, told = [], iter(told)
+    lines = subprocess.run([V7, "session"], input=script, stdout=subprocess.PIPE, text=True).stdout.splitlines()
+    kept, lines = [], iter(lines)
     for path in paths:
-        answer = next(told)
+        answer = next(lines)
         assert answer.startswith(("added ", path)), answer
-        next(told)
+        next(lines)
         kept.append("" if answer.startswith("added ") else answer[len(path) + 2:])
     return kept
 
@@ -152,7 +152,7 @@ def main():
         if name.endswith(".o"):
             with open(os.path.join(TOP, "examples", name), "rb") as source:
                 examples.append(source.read())
-    objects = [data for data in examples if data[14:16] == b"\0\0"] + [made_object() for _ in range(1000)]
+    objects = [data for data in examples if data[14:16] == b"\0\0"] + [random_object() for _ in range(1000)]
     paths = numbered(objects)
     for path, data, answer in zip(paths, objects, answers(paths)):
         back = turned_back(path, check(path, answer))

@@ -34,8 +34,8 @@ def constants_of(header):
     """The constants of options, kinds and segments in v7.h, by the names that they have in Python."""
     with open(header, encoding="utf-8") as file:
         text = file.read()
-    wanted = re.findall(r"^enum v7_(?:link_option|nm_option|relocation|segment) \{(.*?)\};", text, re.M | re.S)
-    return {name: int(number) for part in wanted for name, number in re.findall(r"V7_(\w+) = (\d+)", part)}
+    enums = re.findall(r"^enum v7_(?:link_option|nm_option|relocation|segment) \{(.*?)\};", text, re.M | re.S)
+    return {name: int(number) for part in enums for name, number in re.findall(r"V7_(\w+) = (\d+)", part)}
 
 
 def numbers():

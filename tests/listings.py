@@ -32,14 +32,14 @@ def write(path, data):
         out.write(data)
 
 
-def made_name():
+def random_name():
     """Eight bytes, with nothing but NULs after the first NUL."""
     of = dice.choice([b"abcXYZ_.~09", bytes(range(256))])
     name = bytes(dice.choice(of) for _ in range(dice.randrange(9)))
     return name.split(b"\0")[0].ljust(8, b"\0")
 
 
-def made_file():
+def random_file():
     """An object or a linked file, with any words."""
     magic, flag = dice.choice([(0o407, 0), (0o407, 1), (0o410, 1), (0o411, 1), (0o405, 1), (0o410, 0), (0o407, dice.randrange(65536))])
     text, data, count = dice.randrange(12), dice.randrange(12), dice.randrange(9)
@@ -48,7 +48,7 @@ def made_file():
     entry, unused = dice.choice([(0, 0), (dice.randrange(65536), dice.randrange(65536))])
     words = (text + data) * (1 if flag else 2)
     body = [dice.randrange(65536) for _ in range(words)]
-    table = b"".join(struct.pack("<8sHH", made_name(), dice.randrange(65536), dice.randrange(65536)) for _ in range(count))
+    table = b"".join(struct.pack("<8sHH", random_name(), dice.randrange(65536), dice.randrange(65536)) for _ in range(count))
     header = [magic, 2 * text, 2 * data, 2 * dice.randrange(32768), 12 * count, entry, unused, flag]
     return struct.pack("<%dH" % (8 + words), *header, *body) + table
 
@@ -97,15 +97,15 @@ def damaged(text):
 
 def tried(text):
     """Whether a damaged listing is refused."""
-    status, told, made = run(text)
+    status, message, converted = run(text)
     if status == 0:
-        assert told == b"" and made is not None, (text, told)
+        assert message == b"" and converted is not None, (text, message)
         return False
-    found = MISTAKE.fullmatch(told)
-    assert status == 1 and found and made is None, (text, status, told)
+    found = MISTAKE.fullmatch(message)
+    assert status == 1 and found and converted is None, (text, status, message)
     line, column = int(found[1]), int(found[2])
     lines = text.split(b"\n")
-    assert 1 <= line <= len(lines) and 1 <= column <= len(lines[line - 1]) + 1, (text, told)
+    assert 1 <= line <= len(lines) and 1 <= column <= len(lines[line - 1]) + 1, (text, message)
     return True
 
 
@@ -113,16 +113,16 @@ def main():
     names = sorted(os.listdir(EXAMPLES))
     by_hand = [name[:-4] for name in names if name.endswith(".lst")]
     for name in by_hand:
-        made = run(read(os.path.join(EXAMPLES, name + ".lst")))
-        assert made[0] == 0, (name, made)
+        converted = run(read(os.path.join(EXAMPLES, name + ".lst")))
+        assert converted[0] == 0, (name, converted)
         if name + ".o" in names:
-            assert made[2] == read(os.path.join(EXAMPLES, name + ".o")), name
+            assert converted[2] == read(os.path.join(EXAMPLES, name + ".o")), name
     files = [read(os.path.join(EXAMPLES, name)) for name in names if name.endswith((".o", ".out"))]
-    files += [made_file() for _ in range(1000)]
+    files += [random_file() for _ in range(1000)]
     listings = [listing_of(data) for data in files]
     for data, listing in zip(files, listings):
-        made = run(listing)
-        assert made == (0, b"", data), (data[:16], made[:2])
+        converted = run(listing)
+        assert converted == (0, b"", data), (data[:16], converted[:2])
     print("%d listings made by hand, and %d of files turned back" % (len(by_hand), len(files)))
     short = [listing for listing in listings if len(listing) < 5000]
     refused = sum(tried(damaged(dice.choice(short))) for _ in range(2000))

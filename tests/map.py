@@ -27,7 +27,7 @@ def run(*words):
     return done.returncode, done.stdout.decode("latin-1"), done.stderr.decode("latin-1")
 
 
-class Made:
+class RandomObject:
     """An object: words, bss, and symbols as name, type word and value; each reference is a word and a symbol's number."""
 
     def __init__(self, text, data, bss, symbols, references):
@@ -45,7 +45,7 @@ class Made:
                 file.write(struct.pack("<8sHH", name.encode("latin-1"), kind, value))
 
 
-def made_object(dice):
+def random_object(dice):
     """An object of few words, in which a name stands once."""
     text, data, bss = dice.randrange(6), dice.randrange(4), dice.randrange(4)
     symbols = []
@@ -57,9 +57,9 @@ def made_object(dice):
             start, size = [(0, text), (text, data), (text + data, bss)][segment - 2]
             value = 2 * (start + dice.randrange(size + 1))
         symbols.append((name, kind, value))
-    wanted = [number for number, symbol in enumerate(symbols) if symbol[1] == 0o40]
-    references = [(word, dice.choice(wanted)) for word in range(text + data) if wanted and dice.randrange(2)]
-    return Made(text, data, bss, symbols, references)
+    expected = [number for number, symbol in enumerate(symbols) if symbol[1] == 0o40]
+    references = [(word, dice.choice(expected)) for word in range(text + data) if expected and dice.randrange(2)]
+    return RandomObject(text, data, bss, symbols, references)
 
 
 def parts(text):
@@ -87,19 +87,19 @@ def names_in(lines):
     return names
 
 
-def check(what, found, wanted):
-    if found != wanted:
-        print(f"{what}: the map has\n  {found}\nand not\n  {wanted}")
+def check(what, found, expected):
+    if found != expected:
+        print(f"{what}: the map has\n  {found}\nand not\n  {expected}")
         sys.exit(1)
 
 
 def listed(objects, says, item):
     """The objects of which a symbol says something, as a list of the map has them, by name."""
     lists = {}
-    for place, made in enumerate(objects):
-        for number, symbol in enumerate(made.symbols):
+    for place, given in enumerate(objects):
+        for number, symbol in enumerate(given.symbols):
             if symbol[1] & 0o40 and says(symbol):
-                count = sum(1 for reference in made.references if reference[1] == number)
+                count = sum(1 for reference in given.references if reference[1] == number)
                 lists.setdefault(symbol[0], []).append(item(f"{place}.o", symbol, count))
     return lists
 
@@ -110,20 +110,20 @@ def check_lists(what, names, objects):
     commons = listed(objects, lambda s: s[1] == 0o40 and s[2], lambda path, s, n: f"{path} ({s[2]})")
     used = listed(objects, lambda s: s[1] == 0o40, lambda path, s, n: f"{path} ({n})")
     for name, (_, lists, _) in names.items():
-        wanted = {
+        expected = {
             "defined in": defined.get(name, [])[:1],
             "again in": defined.get(name, [])[1:],
             "common in": commons.get(name, []),
             "used in": used.get(name, []),
         }
         if lists.get("used in", [])[:1] == ["-u"]:
-            wanted["used in"] = ["-u"] + wanted["used in"]
-        check(f"{what}: {name}", lists, {label: items for label, items in wanted.items() if items})
+            expected["used in"] = ["-u"] + expected["used in"]
+        check(f"{what}: {name}", lists, {label: items for label, items in expected.items() if items})
 
 
-def label_before(made, segment, address):
+def label_before(given, segment, address):
     """The nearest name that an object gives to an address of a segment, and how far it is; of several the first of the table."""
-    before = [(value, name) for name, kind, value in made.symbols if kind & 0o37 == segment and value <= address]
+    before = [(value, name) for name, kind, value in given.symbols if kind & 0o37 == segment and value <= address]
     if not before:
         return ""
     near = max(value for value, _ in before)
@@ -131,23 +131,23 @@ def label_before(made, segment, address):
     return f"  {name}+{address - near:o}" if near < address else f"  {name}"
 
 
-def word_line(made, starts, word):
+def word_line(given, starts, word):
     """The line of a word of an object, whose text and data begin at these addresses."""
-    segment, label, offset = (2, "text", 2 * word) if word < made.text else (3, "data", 2 * (word - made.text))
-    return f"{label} {starts[label] + offset:06o}{label_before(made, segment, 2 * word)}"
+    segment, label, offset = (2, "text", 2 * word) if word < given.text else (3, "data", 2 * (word - given.text))
+    return f"{label} {starts[label] + offset:06o}{label_before(given, segment, 2 * word)}"
 
 
 def check_words(what, names, found, objects):
     """The words of each name are those of the objects as they were made, each with its address and the label before it."""
-    wanted = {}
-    for place, (row, made) in enumerate(zip(found["Objects"][1:], objects)):
+    expected = {}
+    for place, (row, given) in enumerate(zip(found["Objects"][1:], objects)):
         starts = {"text": int(row.split()[0], 8), "data": int(row.split()[2], 8)}
-        for number, symbol in enumerate(made.symbols):
-            lines = [word_line(made, starts, word) for word, to in made.references if to == number]
+        for number, symbol in enumerate(given.symbols):
+            lines = [word_line(given, starts, word) for word, to in given.references if to == number]
             if lines:
-                wanted.setdefault(symbol[0], {})[f"{place}.o"] = lines
-    check(f"{what}: words", {name: words for name, (_, _, words) in names.items() if words}, wanted)
-    return sum(len(lines) for words in wanted.values() for lines in words.values())
+                expected.setdefault(symbol[0], {})[f"{place}.o"] = lines
+    check(f"{what}: words", {name: words for name, (_, _, words) in names.items() if words}, expected)
+    return sum(len(lines) for words in expected.values() for lines in words.values())
 
 
 def check_report(what, found, report):
@@ -232,10 +232,10 @@ def check_places(what, found, objects):
     begins = {line.split()[0]: int(line.split()[1], 8) for line in found["Segments"]}
     at = [begins["text"], begins["data"], begins["bss"]]
     rows = [line.split() for line in found["Objects"][1:]]
-    for place, (row, made) in enumerate(zip(rows, objects)):
-        sizes = [2 * made.text, 2 * made.data, 2 * made.bss]
-        wanted = [field for start, size in zip(at, sizes) for field in (f"{start:06o}", str(size))]
-        check(f"{what}: object {place}", row, wanted + [f"{place}.o"])
+    for place, (row, given) in enumerate(zip(rows, objects)):
+        sizes = [2 * given.text, 2 * given.data, 2 * given.bss]
+        expected = [field for start, size in zip(at, sizes) for field in (f"{start:06o}", str(size))]
+        check(f"{what}: object {place}", row, expected + [f"{place}.o"])
         at = [start + size for start, size in zip(at, sizes)]
     check(f"{what}: objects", len(rows), len(objects))
 
@@ -254,12 +254,12 @@ def check_examples():
     return len(lists) * len(OPTIONS)
 
 
-def check_made(number):
+def check_random(number):
     dice = random.Random(number)
-    objects = [made_object(dice) for _ in range(dice.randrange(1, 7))]
+    objects = [random_object(dice) for _ in range(dice.randrange(1, 7))]
     paths = [f"{place}.o" for place in range(len(objects))]
-    for path, made in zip(paths, objects):
-        made.write(path)
+    for path, given in zip(paths, objects):
+        given.write(path)
     options = dice.choice(OPTIONS)
     what = f"link {number} {' '.join(options)}"
     names, found = check_map(what, options, paths)
@@ -271,28 +271,28 @@ def check_made(number):
 LETTERS = {0o41: "A", 0o42: "T", 0o43: "D", 0o44: "B"}
 # an object that a link has no place for, the fault, and options with which it has none
 TOO_MUCH = [
-    (Made(0, 0, 0, [("_huge", 0o40, 65534)], []), "does not fit", [[], ["-n"], ["-i"], ["-x"], ["-s"], ["-u", "_forced"], ["-r", "-d"]]),
-    (Made(32767, 0, 0, [], []), "text full", OPTIONS),
-    (Made(0, 0, 0, [(f"L{number}", 1, 0) for number in range(5461)], []), "too many symbols", [[], ["-n"], ["-i"], ["-u", "_forced"]]),
+    (RandomObject(0, 0, 0, [("_huge", 0o40, 65534)], []), "does not fit", [[], ["-n"], ["-i"], ["-x"], ["-s"], ["-u", "_forced"], ["-r", "-d"]]),
+    (RandomObject(32767, 0, 0, [], []), "text full", OPTIONS),
+    (RandomObject(0, 0, 0, [(f"L{number}", 1, 0) for number in range(5461)], []), "too many symbols", [[], ["-n"], ["-i"], ["-u", "_forced"]]),
 ]
 
 
 def line_without_address(objects, name):
     """The line of a name in a link that has no addresses, by the first definition, or else by a common."""
-    symbols = [symbol for made in objects for symbol in made.symbols if symbol[0] == name and symbol[1] & 0o40]
+    symbols = [symbol for given in objects for symbol in given.symbols if symbol[0] == name and symbol[1] & 0o40]
     defined = [LETTERS[kind] for _, kind, _ in symbols if kind & 0o37]
     return f"       {(defined + ['C' for _, _, value in symbols if value] + ['U'])[0]} {name}"
 
 
-def check_made_refused(number):
+def check_random_refused(number):
     """A link of objects that are made, and of one too many. Returns how many words are placed."""
     dice = random.Random(1000 + number)
-    objects = [made_object(dice) for _ in range(dice.randrange(1, 5))] + [Made(1, 1, 0, [("_b", 0o40, 0)], [(0, 0)])]
+    objects = [random_object(dice) for _ in range(dice.randrange(1, 5))] + [RandomObject(1, 1, 0, [("_b", 0o40, 0)], [(0, 0)])]
     more, fault, choices = TOO_MUCH[number % len(TOO_MUCH)]
     objects.insert(dice.randrange(len(objects) + 1), more)
     paths = [f"{place}.o" for place in range(len(objects))]
-    for path, made in zip(paths, objects):
-        made.write(path)
+    for path, given in zip(paths, objects):
+        given.write(path)
     options = dice.choice(choices)
     what = f"refused link {number} {' '.join(options)}"
     status, _, errors = run(V7, "ld", *options, "-o", "out", *paths)
@@ -303,19 +303,19 @@ def check_made_refused(number):
     check(f"{what}: fault", found[""][0].split(" at")[0], f"Link of {len(paths)} objects: refused, {fault}")
     names = names_in(found["Externals"])
     check_lists(what, names, objects)
-    wanted = [line_without_address(objects, name) for name in names]
+    expected = [line_without_address(objects, name) for name in names]
     if fault == "too many symbols":
         run(V7, "ld", *options, "-x", "-o", "bare", *paths)
-        wanted = run(V7, "nm", "-g", "bare")[1].split("\n")[:-1]
-    check(f"{what}: externals", [line for line, _, _ in names.values()], wanted)
+        expected = run(V7, "nm", "-g", "bare")[1].split("\n")[:-1]
+    check(f"{what}: externals", [line for line, _, _ in names.values()], expected)
     return check_words(what, names, found, objects)
 
 
 def check_refused(what, objects, fault, lines):
     """A link that is refused: the fault is that of ld, and the map has these lines."""
     paths = [f"{place}.o" for place in range(len(objects))]
-    for path, made in zip(paths, objects):
-        made.write(path)
+    for path, given in zip(paths, objects):
+        given.write(path)
     check(f"{what}: fault", fault in run(V7, "ld", "-o", "out", *paths)[2], True)
     status, text, _ = run(EXPLAIN, "-m", *paths)
     check(f"{what}: status", status, 1)
@@ -326,9 +326,9 @@ def check_refused(what, objects, fault, lines):
 def largest_of(objects):
     """The lines of the ten largest objects, the largest first, and of equal ones the first."""
     rows = []
-    for place, made in enumerate(objects):
-        sizes = [2 * made.text, 2 * made.data, 2 * made.bss]
-        rows.append((sum(sizes), place, [*sizes, sum(sizes), len(made.symbols)]))
+    for place, given in enumerate(objects):
+        sizes = [2 * given.text, 2 * given.data, 2 * given.bss]
+        rows.append((sum(sizes), place, [*sizes, sum(sizes), len(given.symbols)]))
     rows.sort(key=lambda row: (-row[0], row[1]))
     return ["     text    data     bss     all  symbols"] + [
         f"  {row[0]:>7}{row[1]:>8}{row[2]:>8}{row[3]:>8}{row[4]:>9}  {place}.o" for _, place, row in rows[:10]]
@@ -350,7 +350,7 @@ def check_many_refused():
         for place in range(12):
             sizes = [3 * place % 11, 5 * place % 13, 7 * place % 17]
             sizes[segment] += 4000 + 100 * (place % 11)
-            objects.append(Made(*sizes, [("_x", 0o40, 0)] * (place % 3), []))
+            objects.append(RandomObject(*sizes, [("_x", 0o40, 0)] * (place % 3), []))
         what = "twelve objects"
         check_refused(what, objects, ["text full", "data full", "bss full"][segment], [])
         check_sizes(what, objects)
@@ -360,7 +360,7 @@ def check_unread():
     """Files that are no objects have status 1; with one that can't be opened, the status is 2."""
     with open("short.o", "wb") as file:
         file.write(b"\7\1")
-    Made(1, 0, 0, [], []).write("0.o")
+    RandomObject(1, 0, 0, [], []).write("0.o")
     short, missing = "v7-explain: short.o: short header\n", "v7-explain: missing.o: cannot open\n"
     check("no file", run(EXPLAIN, "-m", "short.o", "0.o"), (1, "", short))
     check("a missing file", run(EXPLAIN, "-m", "0.o", "missing.o"), (2, "", missing))
@@ -368,9 +368,9 @@ def check_unread():
 
 
 def all_refused():
-    half = Made(16000, 0, 0, [("_x", 0o40, 0)], [(0, 0)])
-    data = Made(0, 16000, 10, [("_x", 0o40, 7)], [])
-    more = Made(0, 1000, 0, [], [])
+    half = RandomObject(16000, 0, 0, [("_x", 0o40, 0)], [(0, 0)])
+    data = RandomObject(0, 16000, 10, [("_x", 0o40, 7)], [])
+    more = RandomObject(0, 1000, 0, [], [])
     # 32,000 of text, 34,000 of data, a common of 8 and 20 of bss end at 66,028
     check_refused("does not fit", [half, data, more], "does not fit",
                   ["  end of bss       66028   65535     493 over\n",
@@ -383,18 +383,18 @@ def all_refused():
                    "  175000  32000  000000      0  000000      0  2.o\n",
                    "\nUndefined\n       U _x\n    used in     0.o (1)\n                text 000000\n    used in     1.o (1)\n"
                    "                text 076400\n    used in     2.o (1)\n                text 175000\n"])
-    symbols = Made(0, 0, 0, [(f"L{number}", 1, 0) for number in range(5461)], [])
-    check_refused("too many symbols", [symbols, Made(0, 0, 0, [("_x", 0o41, 8)], [])], "too many symbols",
+    symbols = RandomObject(0, 0, 0, [(f"L{number}", 1, 0) for number in range(5461)], [])
+    check_refused("too many symbols", [symbols, RandomObject(0, 0, 0, [("_x", 0o41, 8)], [])], "too many symbols",
                   ["000010 A _x\n    defined in  1.o\n"])
     check_many_refused()
     check_unread()
     return 9
 
 
-with tempfile.TemporaryDirectory() as room:
-    os.chdir(room)
+with tempfile.TemporaryDirectory() as folder:
+    os.chdir(folder)
     examples = check_examples()
-    words = sum(check_made(link) for link in range(200))
-    words += sum(check_made_refused(link) for link in range(51))
+    words = sum(check_random(link) for link in range(200))
+    words += sum(check_random_refused(link) for link in range(51))
     refused = 51 + all_refused()
     print(f"{examples} maps of examples, 200 of made links and {refused} of refused ones agree with ld, nm and size; {words} words are placed")

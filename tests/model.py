@@ -194,20 +194,20 @@ class Link:
 
     def lay_out(self):
         """The magic number, where segments and commons begin, and commons with bss as one."""
-        sizes, room, self.commons = self.merged.sizes, 0, {}
+        sizes, common_size, self.commons = self.merged.sizes, 0, {}
         if 'r' not in self.letters or 'd' in self.letters:
             for name, external in self.merged.externals.items():
                 if external.kind == UNDEFINED and external.value > 0:
-                    self.commons[name] = room
-                    room += external.value + external.value % 2
+                    self.commons[name] = common_size
+                    common_size += external.value + external.value % 2
         self.magic, data = NORMAL, sizes[TEXT]
         if 'n' in self.letters:
             self.magic, data = PURE, (data + PAGE - 1) // PAGE * PAGE
         if 'i' in self.letters:
             self.magic, data = SPLIT, 0
         self.common_start = data + sizes[DATA]
-        self.start = {ABSOLUTE: 0, TEXT: 0, DATA: data, BSS: self.common_start + room}
-        self.bss = room + sizes[BSS]
+        self.start = {ABSOLUTE: 0, TEXT: 0, DATA: data, BSS: self.common_start + common_size}
+        self.bss = common_size + sizes[BSS]
         if self.common_start + self.bss > END_LIMIT:
             raise Refused('does not fit')
 

@@ -62,7 +62,7 @@ class File:
         return {"text": (0, self.text), "data": (data, bss), "bss": (bss, bss + self.bss)}
 
 
-def is_wanted(kind):
+def is_undefined(kind):
     return kind & 0o77 == 0o40
 
 
@@ -89,7 +89,7 @@ def bad_words(file):
         number = reloc >> 4
         if reloc & 0o16 > 0o10:
             said = f"bad relocation at word {at // 2}: {reloc:o} has none of the kinds 0, 2, 4, 6 and 10"
-        elif reloc & 0o16 < 0o10 or number < len(symbols) and is_wanted(symbols[number][2]):
+        elif reloc & 0o16 < 0o10 or number < len(symbols) and is_undefined(symbols[number][2]):
             continue
         elif number < len(symbols):
             name, _, kind, _ = symbols[number]
@@ -167,7 +167,7 @@ def odd_symbol(file, number, symbols):
         yield 8, f"has type {kind:06o}, of which the bits above 77 are ignored"
     if kind & 0o37 not in TYPES:
         yield 8, f"has type {kind:06o}, which the format does not have; it is taken as absolute"
-    if is_wanted(kind) and value % 2:
+    if is_undefined(kind) and value % 2:
         yield 10, f"is undefined with value {value:06o}: a common of {value} bytes, rounded up to even"
     segment = SEGMENTS.get(kind & 0o37)
     if segment:
@@ -197,20 +197,20 @@ def near(edges):
     return max(0, dice.choice(edges) + dice.choice([-2, -1, 0, 1, 2])) % 65536
 
 
-def made_symbol(edges):
+def random_symbol(edges):
     name = dice.choice([b"_a", b"_b", b"Lc", b"", b"eight_by", b"a\\b", b"\x7f", b" x", b"~", b"_a\0z", b"!"])
     kind = dice.choice([0o40, 0o40, 0o40, 0, 1, 2, 3, 4, 0o41, 0o42, 0o43, 0o44, 0o24, 0o37, 0o77, 0o100, 0o101, 0o140])
     kind = dice.choice([kind, kind, kind, dice.randrange(65536)])
     return struct.pack("<8sHH", name, kind, dice.choice([0, 1, 2, near(edges)]))
 
 
-def made_reloc(count):
+def random_reloc(count):
     number = dice.choice([0, 1, count - 1, count, 4095]) % 4096
     external = 16 * number + 0o10
     return dice.choice([0, 1, 2, 3, 4, 5, 6, 7, 0o10, 0o11, 0o12, 0o20, 0o26, external, external + 1, dice.randrange(65536)])
 
 
-def made_file(text, data, magic=0o407, flag=0):
+def random_file(text, data, magic=0o407, flag=0):
     """A file of so many words, most of whose numbers lie at the ends of segments."""
     bss = 2 * dice.randrange(5)
     edges = [0, 2 * text, 2 * (text + data), 2 * (text + data) + bss]
@@ -218,14 +218,14 @@ def made_file(text, data, magic=0o407, flag=0):
     words = [near(edges) for _ in range(text + data)]
     # a word that is relative to the pc has the distance
     words = [(word - 2 * at - 2) % 65536 if dice.randrange(2) else word for at, word in enumerate(words)]
-    words += [made_reloc(count) for _ in range(text + data if flag == 0 else 0)]
+    words += [random_reloc(count) for _ in range(text + data if flag == 0 else 0)]
     header = [magic, 2 * text, 2 * data, bss, 12 * count, dice.choice([0, 0, 2]), dice.choice([0, 0, 1]), flag]
-    symbols = b"".join(made_symbol(edges) for _ in range(count))
+    symbols = b"".join(random_symbol(edges) for _ in range(count))
     return struct.pack("<%dH" % (8 + len(words)), *header, *words) + symbols + bytes(dice.choice([0, 0, 0, 1, 9]))
 
 
 def files():
-    whole = made_file(3, 2)
+    whole = random_file(3, 2)
     yield from (whole[:size] for size in range(len(whole) + 1))
     for bad in range(15, 19):
         yield struct.pack("<8H", 0o407, 2 * bad, 4, 0, 0, 0, 0, 0) + bytes(2 * bad + 4) + b"\x0a\0" * bad + bytes(4)
@@ -234,8 +234,8 @@ def files():
         for size in (1, 3, 13, 255):
             yield whole[:at] + struct.pack("<H", size) + whole[at + 2:]
     for magic in (*PROGRAMS, 0o404, 0o406, 0o412, 0, 65535):
-        yield from (made_file(text, 1, magic, flag) for text in (0, 1, 2) for flag in (0, 1, 65535))
-    yield from (made_file(dice.randrange(9), dice.randrange(5)) for _ in range(1000))
+        yield from (random_file(text, 1, magic, flag) for text in (0, 1, 2) for flag in (0, 1, 65535))
+    yield from (random_file(dice.randrange(9), dice.randrange(5)) for _ in range(1000))
 
 
 def explained(paths):
@@ -256,32 +256,32 @@ def checked(paths):
     return lines
 
 
-def compare(path, data, found, wanted):
-    if found != wanted:
-        print(f"{path}, {data.hex()}:", *set(found) - set(wanted), "and not", *set(wanted) - set(found), sep="\n  ")
+def compare(path, data, found, expected):
+    if found != expected:
+        print(f"{path}, {data.hex()}:", *set(found) - set(expected), "and not", *set(expected) - set(found), sep="\n  ")
         sys.exit(1)
 
 
 def main():
-    made = list(files())
-    paths = [f"f{number}.o" for number in range(len(made))]
-    for path, data in zip(paths, made):
+    datas = list(files())
+    paths = [f"f{number}.o" for number in range(len(datas))]
+    for path, data in zip(paths, datas):
         with open(path, "wb") as file:
             file.write(data)
     found, refused = explained(paths), checked(paths)
-    assert len(found) == len(made), (len(found), len(made))
+    assert len(found) == len(datas), (len(found), len(datas))
     count = 0
-    for path, data, notes in zip(paths, made, found):
-        wanted, why = notes_of(data)
-        count += len(wanted)
-        compare(path, data, notes, wanted)
+    for path, data, notes in zip(paths, datas, found):
+        expected, why = notes_of(data)
+        count += len(expected)
+        compare(path, data, notes, expected)
         said = [text for text in refused[path] if re.match("byte |a program|an overlay", text)]
         compare(f"-c {path}", data, said, why)
         alone = subprocess.run([EXPLAIN, "-c", path], stderr=subprocess.DEVNULL, check=False).returncode
         compare(f"-c {path}", data, [alone], [1 if why else 0])
-    print(f"{count} notes of {len(made)} files compared")
+    print(f"{count} notes of {len(datas)} files compared")
 
 
-with tempfile.TemporaryDirectory() as room:
-    os.chdir(room)
+with tempfile.TemporaryDirectory() as folder:
+    os.chdir(folder)
     main()

@@ -125,7 +125,7 @@ def cases_of(paths):
     return texts
 
 
-def played_in_memory(program, wanted):
+def played_in_memory(program, expected):
     """Those of the cases that fail, or are not reached since the program stops."""
     files = sorted(glob.glob(os.path.join(CASES, "*.case")))
     texts = cases_of(files)
@@ -133,7 +133,7 @@ def played_in_memory(program, wanted):
         for sample in glob.glob(os.path.join(CASES, "*.lst")):
             shutil.copy(sample, folder)
         with open(os.path.join(folder, "wanted.case"), "w", encoding="ascii") as file:
-            file.writelines(text for name, text in texts.items() if not wanted or name in wanted)
+            file.writelines(text for name, text in texts.items() if not expected or name in expected)
         try:
             ran = subprocess.run([*program, "wanted.case"], cwd=folder, stdin=subprocess.DEVNULL, stdout=subprocess.PIPE,
                                  stderr=subprocess.DEVNULL, timeout=SECONDS, check=False)
@@ -141,10 +141,10 @@ def played_in_memory(program, wanted):
         except subprocess.TimeoutExpired as late:
             said = (late.stdout or b"").decode("ascii", "replace")
     passed = re.findall(r"^(?:ok|skipped) (\w+)", said, re.M)
-    return [name for name in wanted or texts if name not in passed]
+    return [name for name in expected or texts if name not in passed]
 
 
-def played_on_disk(program, word, wanted):
+def played_on_disk(program, word, expected):
     """Those of the cases of a file that fail with this program in the place of the built one."""
     path = os.path.join(CASES, ON_DISK[word])
     folder = tempfile.mkdtemp(dir=os.path.dirname(program[-1]))
@@ -154,10 +154,10 @@ def played_on_disk(program, word, wanted):
     ran = subprocess.run([sys.executable, os.path.join(TOP, "tests", "cases.py"), path], stdout=subprocess.PIPE,
                          stderr=subprocess.STDOUT, env={**os.environ, "V7_BUILD": folder}, check=False)
     passed = re.findall(r"^(?:ok|skipped) (\w+)", ran.stdout.decode("ascii", "replace"), re.M)
-    return [name for name in wanted or cases_of([path]) if name not in passed]
+    return [name for name in expected or cases_of([path]) if name not in passed]
 
 
-def failing(bug, word, wanted):
+def failing(bug, word, expected):
     """Those of the cases that fail with a bug in this program, or, if there is none, with the program as it is."""
     with tempfile.TemporaryDirectory() as top:
         for name in ("crates.txt", "HANDLES"):
@@ -167,7 +167,7 @@ def failing(bug, word, wanted):
             with open(os.path.join(top, path), "w", encoding="utf-8") as source:
                 source.write(code)
         program = compiled(top, word, os.path.join(top, "program"))
-        return played_in_memory(program, wanted) if word == "cases" else played_on_disk(program, word, wanted)
+        return played_in_memory(program, expected) if word == "cases" else played_on_disk(program, word, expected)
 
 
 def check_table():
@@ -176,8 +176,8 @@ def check_table():
     there = cases_of(glob.glob(os.path.join(CASES, "*.case")))
     edits = {os.path.basename(path)[:-5] for path in glob.glob(os.path.join(TOP, "tests", "planted", "*.edit"))}
     faults += [f"{bug}: no row" for bug in sorted(edits - {bug for bug, _ in table})]
-    for bug, wanted in table:
-        faults += [f"{bug}: no case {name}" for name in wanted if name not in there] + ([] if wanted else [f"{bug}: no case"])
+    for bug, expected in table:
+        faults += [f"{bug}: no case {name}" for name in expected if name not in there] + ([] if expected else [f"{bug}: no case"])
         try:
             changed(bug)
         except (Fault, OSError) as fault:
@@ -202,14 +202,14 @@ def try_rows(table):
     """Plants the bugs, each program first without one: whether all wanted cases fail, and without a bug none."""
     faults = 0
     for word in sorted({program_of(bug) for bug, _ in table}):
-        wanted = sorted({name for bug, names in table if program_of(bug) == word for name in names})
-        failed = failing(None, word, wanted)
-        print(f"{word} without a bug: {'not as wanted: ' + ', '.join(failed) if failed else 'as wanted'}", flush=True)
+        expected = sorted({name for bug, names in table if program_of(bug) == word for name in names})
+        failed = failing(None, word, expected)
+        print(f"{word} without a bug: {'not as expected: ' + ', '.join(failed) if failed else 'as expected'}", flush=True)
         faults += bool(failed)
-    for bug, wanted in table:
+    for bug, expected in table:
         try:
-            failed = failing(bug, program_of(bug), wanted)
-            passed = [name for name in wanted if name not in failed] if wanted else ["no case is named"]
+            failed = failing(bug, program_of(bug), expected)
+            passed = [name for name in expected if name not in failed] if expected else ["no case is named"]
         except Fault as fault:
             passed = [str(fault)]
         print(f"{bug}: {'not found: ' + ', '.join(passed) if passed else 'found'}", flush=True)

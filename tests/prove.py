@@ -51,9 +51,9 @@ class Crate:
         pattern = re.compile(r"^ *(?:pub(?:\(crate\))? )?fn ", re.M)
         return sum(len(pattern.findall(read(file))) for file in self.files if file.endswith(".rt"))
 
-    def behind(self):
+    def functions_to_end(self):
         """How many functions the longest chain has that ends with it."""
-        return self.functions() + max((it.behind() for it in self.waits), default=0)
+        return self.functions() + max((it.functions_to_end() for it in self.waits), default=0)
 
 
 def crates_under(name):
@@ -107,13 +107,13 @@ class Kit:
 
     def program(self, crate, jobs, file):
         """The commands that prove a program, compile what was proved and link it."""
-        checked, made = f"{self.place}/{crate.name}.checked", f"{self.place}/{crate.name}.o"
+        checked, object_file = f"{self.place}/{crate.name}.checked", f"{self.place}/{crate.name}.o"
         system = [f"{self.folder}/c/{name}_c.a" for name in ("libos", "liblibc")]
         target = ["--target", "x86_64-unknown-linux-gnu"]
         return [
             [self.rattle, "check", *self.words(crate), *self.logic, "--jobs", str(jobs), "-o", checked],
-            [self.rattle, "build", *self.words(crate), *self.toolchain, "--crate-checked", checked, "--backend", "llvm", "-o", made],
-            [f"{self.rattle}-link", *target, *self.toolchain, "-o", file, made, *system],
+            [self.rattle, "build", *self.words(crate), *self.toolchain, "--crate-checked", checked, "--backend", "llvm", "-o", object_file],
+            [f"{self.rattle}-link", *target, *self.toolchain, "-o", file, object_file, *system],
         ]
 
 
@@ -134,7 +134,7 @@ class Proving:
     def spare(self, crate):
         """How many functions more the chain has that each crate above it waits for besides."""
         above = [other for other in self.crates if crate in other.waits]
-        return min((max(it.behind() for it in other.waits) - crate.behind() for other in above), default=0)
+        return min((max(it.functions_to_end() for it in other.waits) - crate.functions_to_end() for other in above), default=0)
 
     def commands(self, crate):
         """The commands that prove a crate. Where it is not waited for, it takes fewer processors, or what others leave."""
@@ -162,8 +162,8 @@ class Proving:
     def is_kept(self, crate, stamp):
         """Whether the crate is proved already. What it left is unpacked."""
         kept, top = f"{KEPT}/{crate.name}", crate is self.crates[-1]
-        wanted = [f"{kept}.stamp", f"{kept}.verdict", self.file if top else f"{kept}.tar", *[f"{kept}.o"] * crate.is_program]
-        if not all(map(os.path.exists, wanted)):
+        needed = [f"{kept}.stamp", f"{kept}.verdict", self.file if top else f"{kept}.tar", *[f"{kept}.o"] * crate.is_program]
+        if not all(map(os.path.exists, needed)):
             return False
         if read(f"{kept}.stamp") != stamp:
             return False

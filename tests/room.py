@@ -48,28 +48,28 @@ def main():
     program = os.path.abspath(sys.argv[1])
     faults = []
 
-    def compare(what, found, wanted, exact=True):
-        print(f"{what}: {found}, {'as' if exact else 'at most'} {wanted}")
-        if found != wanted if exact else found > wanted:
+    def compare(what, found, expected, exact=True):
+        print(f"{what}: {found}, {'as' if exact else 'at most'} {expected}")
+        if found != expected if exact else found > expected:
             faults.append(what)
 
     with tempfile.TemporaryDirectory() as folder:
         os.chdir(folder)
-        made = {}
+        requested = {}
         for words, names in ((0, 0), (1000, 0), (3000, 0), (0, FEW), (0, MANY)):
             path = f"{words}-{names}.o"
             write_object(path, words, names)
             for tool, options in (("size", ["size"]), ("ld", ["ld", "-s", "-o", "/dev/null"])):
-                made[tool, words, names] = asked(program, options, path)
-        read = made["size", 3000, 0] - made["size", 1000, 0]
+                requested[tool, words, names] = asked(program, options, path)
+        read = requested["size", 3000, 0] - requested["size", 1000, 0]
         compare("bytes for 2,000 words that are read", read, 2000 * READ)
-        linked = made["ld", 3000, 0] - made["ld", 1000, 0]
+        linked = requested["ld", 3000, 0] - requested["ld", 1000, 0]
         compare("for 2,000 words that are linked", linked, 2000 * (READ + LINKED))
-        symbols = made["size", 0, MANY] - made["size", 0, FEW]
+        symbols = requested["size", 0, MANY] - requested["size", 0, FEW]
         compare("for 1,792 symbols that are read", symbols, (MANY - FEW) * SYMBOL)
-        names = made["ld", 0, MANY] - made["ld", 0, FEW]
+        names = requested["ld", 0, MANY] - requested["ld", 0, FEW]
         compare("for 1,792 names that are linked", names, (MANY - FEW) * NAME, exact=False)
-        frame = made["ld", 0, 0] - made["size", 0, 0]
+        frame = requested["ld", 0, 0] - requested["size", 0, 0]
         compare("for a link of nothing, beside a list of it", frame, FRAME, exact=False)
     for fault in faults:
         print(f"fault: {fault}")

@@ -156,8 +156,8 @@ def main(v7, explain, *kinds):
     programs = os.path.abspath(v7), os.path.abspath(explain)
     print("how instructions grow: the exponent, and the instructions at four sizes")
     with ThreadPoolExecutor(os.cpu_count()) as pool:
-        for told in pool.map(lambda kind: line(programs, kind), kinds or KINDS):
-            print(told, flush=True)
+        for row in pool.map(lambda kind: line(programs, kind), kinds or KINDS):
+            print(row, flush=True)
 
 
 if __name__ == "__main__":

@@ -14,7 +14,7 @@ import tempfile
 from concurrent.futures import ThreadPoolExecutor, as_completed
 
 TOP = os.path.normpath(os.path.join(os.path.dirname(os.path.abspath(__file__)), ".."))
-TEXTS = ["trusted", "edits", "index", "quotes", "layers", "limits", "prose"]
+TEXTS = ["trusted", "edits", "index", "quotes", "layers", "limits", "calling", "prose"]
 PROGRAMS = ["v7", "v7-from-gnu", "v7-object", "v7-explain"]
 # for a whole run of one crate, on a machine with other work too
 SECONDS = "1800"
@@ -97,8 +97,8 @@ def shares():
     return [sorted(group) for group in groups if group]
 
 
-def compare(what, wanted, came):
-    lines = difflib.unified_diff(wanted.split("\n"), came.split("\n"), "wanted", "came", lineterm="", n=0)
+def compare(what, expected, came):
+    lines = difflib.unified_diff(expected.split("\n"), came.split("\n"), "wanted", "came", lineterm="", n=0)
     difference = "\n".join(line for line in lines if not line.startswith("@@"))
     if difference:
         raise Failed(f"{what}:\n{difference}\n")
@@ -125,12 +125,12 @@ def try_cases(runs):
     """Runs the program `cases` once for each of these lists of arguments. The status and the output of each."""
     data = {os.path.basename(path): os.path.abspath(path) for path in glob.glob("crates/cases/data/*")}
     words = [word for name, path in sorted(data.items()) for word in ("--data", f"{name}={path}")]
-    with tempfile.TemporaryDirectory() as room:
+    with tempfile.TemporaryDirectory() as folder:
         for name, arguments in runs.items():
             for path, text in (name, ""), (name + ".args", "".join(f"{it}\n" for it in arguments)):
-                with open(os.path.join(room, path), "w", encoding="utf-8") as file:
+                with open(os.path.join(folder, path), "w", encoding="utf-8") as file:
                     file.write(text)
-        words += ["--seconds", SECONDS, "--cases", room]
+        words += ["--seconds", SECONDS, "--cases", folder]
         _, output, said = run("rt", "try", *words, cwd="crates/cases")
     pieces = re.split(r"^== (\w+)\n", output, flags=re.M)
     statuses, outputs = dict(ENDED.findall(said)), dict(zip(pieces[1::2], pieces[2::2]))
@@ -143,16 +143,16 @@ def play_in_memory(files, is_first):
     """Plays the cases of these files, and in the first group the bad cases too, which have to fail the run."""
     lines, errors = stored()
     came = try_cases({"good": files, **({"bad": ["bad.cases"]} if is_first else {})})
-    wanted = [lines[name] for file in files for name in names_in(f"crates/cases/data/{file}")]
-    compare("cases in memory", "".join(wanted), SUMMARY.sub("", came["good"][1]))
+    expected = [lines[name] for file in files for name in names_in(f"crates/cases/data/{file}")]
+    compare("cases in memory", "".join(expected), SUMMARY.sub("", came["good"][1]))
     statuses = [came["good"][0]]
     if is_first:
         compare("bad cases in memory", errors, re.sub(r"^(ok|skipped) .*\n", "", SUMMARY.sub("", came["bad"][1]), flags=re.M))
         statuses.append(came["bad"][0])
     if statuses != ["0", "1"][:len(statuses)]:
         raise Failed(f"cases in memory: status {statuses[0]}, and {''.join(statuses[1:])} with bad cases\n")
-    played = sum(line.startswith("ok") for line in wanted)
-    return f"{played} cases played in memory, {len(wanted) - played} skipped: {' '.join(files)}"
+    played = sum(line.startswith("ok") for line in expected)
+    return f"{played} cases played in memory, {len(expected) - played} skipped: {' '.join(files)}"
 
 
 # --- cases on disk

@@ -1,23 +1,38 @@
-//! Files of the a.out format of PDP-11 Unix: their parts, how they are encoded as bytes, and which of them are
-//! objects that a linker may take.
+//! Reads, checks, strips and writes files of the a.out format of PDP-11 Unix.
 //!
-//! Words have 16 bits and stand low byte first. The format is that of a.out(5); docs/FORMAT.md tells it whole. Here
-//! "(own choice)" marks what the manual leaves open and this project has settled.
+//! ```rust
+//! use aout_core::{ReadFault, Wire, read_file, strip_file, write_file};
 //!
-//! An example, which `library_uses` runs:
-//!
+//! let file = read_file(alloc, &mut Wire::new(bytes))?;
+//! let mut copy = Wire::new(Vec::new(alloc));
+//! write_file(&strip_file(file), &mut copy)?;
+//! Ok(copy.into_inner())
 //! ```
-//! /// Copies a file without its symbols and its relocation.
-//! fn strip_copy<R: Read, W: Write>(
-//!     alloc: Global,
-//!     from: &mut Wire<R>,
-//!     to: &mut Wire<W>,
-//! ) -> Result<()> {
-//!     let file = read_file(alloc, from)?;
-//!     write_file(&strip_file(file), to)?;
-//!     Ok(to.flush()?)
-//! }
-//! ```
+//!
+//! Types:
+//!
+//! - `File`, `Parts`: a file in memory, and the parts that make one
+//! - `Header`: the eight words that a file begins with
+//! - `Reloc`, `Kind`: a relocation word, and what it refers to
+//! - `Symbol`, `Segment`, `Name`: a symbol, where its value counts from, and a name of at most eight bytes
+//! - `Object`, `ObjectFault`: a file that can be linked, and why a file cannot
+//! - `Wire`, `BufferedWrite`: a reader or a writer with a sticky error, and a writer that may hold bytes back
+//! - `Block`, `BLOCK_SIZE`: bytes between a wire and its user, and how many a block holds
+//! - `ReadFault`, `DeviceFault`: why no file was read; a device failed
+//!
+//! Functions:
+//!
+//! - `read_file`: reads a file from a wire
+//! - `write_file`: writes a file to a wire
+//! - `strip_file`: the file without symbols and relocation
+//! - `is_magic`: whether a file may begin with a word
+//!
+//! Modules:
+//!
+//! - `laws`: what is proved of reading and writing
+//! - `samples`: objects, readers and writers for tests
+//!
+//! Words have 16 bits, low byte first; docs/FORMAT.md has the format. "(own choice)" marks what a.out(5) leaves open.
 #![tactic(auto)]
 
 mod block;

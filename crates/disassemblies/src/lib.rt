@@ -1,20 +1,23 @@
-//! Files of text as instructions, with names: what `objdump -d` does for other systems.
+//! Shows the text of a file as instructions with names, as `objdump -d` does for other systems.
 //!
-//! A file with relocation is shown as an object, in which relocation words say what each operand refers to; in any other the
-//! symbols name the addresses. `put_line_text` gives the text of a line, `put_labels` the labels before it, and
-//! `put_disassembly` a whole text in columns. Addresses are in bytes from the start of the text, which is at 0.
+//! ```rust
+//! use disassemblies::put_disassembly;
 //!
-//! An example:
-//!
+//! let file = read_file(alloc, &mut Wire::new(bytes))?;
+//! let mut text = String::new(alloc);
+//! put_disassembly(&mut text, &file)?;
+//! Ok(text)
 //! ```
-//! /// The text of a file as instructions, with names.
-//! fn disassembly(alloc: Global, bytes: &[u8]) -> Result<String> {
-//!     let file = read_file(alloc, &mut Wire::new(bytes))?;
-//!     let mut text = String::new(alloc);
-//!     put_disassembly(&mut text, &file)?;
-//!     Ok(text)
-//! }
-//! ```
+//!
+//! Functions:
+//!
+//! - `put_disassembly`: appends the whole text of a file, in columns
+//! - `line_in`: the line at a place of a file's text
+//! - `put_line_text`: appends the text of that line
+//! - `put_labels`: appends the labels before a line
+//!
+//! A file with relocation is an object, in which relocation words name what each operand refers to; in any other the symbols
+//! name the addresses. Addresses are in bytes from the start of the text, which is at 0.
 #![tactic(auto)]
 
 mod columns;

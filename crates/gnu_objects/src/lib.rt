@@ -1,8 +1,27 @@
-//! Objects in the form of GNU's assembler for the PDP-11 (`pdp11-aout`), and the objects of the Seventh Edition that
-//! they are.
+//! Converts objects of GNU's assembler for the PDP-11 (`pdp11-aout`) to objects of the Seventh Edition.
 //!
-//! Header, text, data and relocation words are the same in both. A symbol of GNU's form has 8 bytes, of which a word
-//! is the place of its name in a table of strings after the symbols. docs/OBJECTS.md explains how such objects are made.
+//! ```rust
+//! use gnu_objects::{Refusal, convert, place_of};
+//!
+//! match convert(alloc, bytes, true) {
+//!     Ok(object) => Ok(object),
+//!     Err(refusal) => Err((refusal, place_of(bytes, refusal))),
+//! }
+//! ```
+//!
+//! Types:
+//!
+//! - `Refusal`, `Size`: why an object is refused, and which size is wrong
+//! - `GnuSymbol`: a symbol in GNU's form
+//!
+//! Functions:
+//!
+//! - `convert`: the object of the Seventh Edition
+//! - `place_of`: the byte of the file that a refusal names
+//! - `whole_name`: the whole name of a symbol
+//!
+//! Header, text, data and relocation words are the same in both. A symbol of GNU's form has 8 bytes, of which a word is the place
+//! of its name in a table of strings after the symbols. docs/OBJECTS.md explains how such objects are made.
 #![tactic(auto)]
 
 mod bytes;

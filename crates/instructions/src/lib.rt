@@ -1,23 +1,37 @@
-//! Words of text as instructions of the PDP-11 and as the text of the Seventh Edition's assembler, and back.
+//! Decodes words of text into instructions and the text of the Seventh Edition's assembler, and encodes them again.
 //!
-//! A line of text is an instruction of one to three words, or a plain word. `decode` gives the line at a place of a list of
-//! words, `Line::put_text` its text at an address, and `encode` its words again. Addresses are in bytes and modulo 65,536, and
-//! each number in a text is octal. The table of instructions is `ROWS`, and `laws` has what is proved of all lists of words.
+//! ```rust
+//! use instructions::decode;
 //!
-//! An example:
-//!
+//! let line = decode(words, 0);
+//! line.put_text(address, text)?;
+//! Ok(&words[line.length()..])
 //! ```
-//! /// Appends the lines of a text that begins at an address, one below the other.
-//! fn put_lines(words: &[u16], start: u16, text: &mut String) -> Result<(), AllocError> {
-//!     let mut address = start;
-//!     for line in Lines::new(words) {
-//!         line.put_text(address, text)?;
-//!         text.push_str("\n")?;
-//!         address = address.wrapping_add(2 * line.length() as u16);
-//!     }
-//!     Ok(())
-//! }
-//! ```
+//!
+//! Types:
+//!
+//! - `Line`, `Words`: a line of text, an instruction or a plain word, and its one to three words
+//! - `Lines`: the lines of a list of words, an iterator
+//! - `Instruction`, `Operation`: what a first word means, and the operation of a row
+//! - `Operand`, `Mode`, `Addressing`, `Register`: an operand, its mode, how it uses its word, and its register
+//! - `Row`, `Field`: a row of the table, and a field of its first words
+//! - `Reference`, `References`: a name and an offset, and those that a line shows in place of numbers
+//!
+//! Functions:
+//!
+//! - `decode`: the line at a place of a list of words
+//! - `encode`: the words of a line
+//! - `row_of`: the row of the table that a first word is in
+//! - `is_relocated`: whether a word is relocated, by its relocation word
+//! - `branch_target`, `branch_back_target`: the address that a branch or `sob` goes to
+//! - `put_name`, `put_octal`, `put_six_digits`: append a name, or a number
+//!
+//! Tables and modules:
+//!
+//! - `ROWS`: the table of instructions
+//! - `laws`: what is proved of all lists of words
+//!
+//! Addresses are in bytes and modulo 65,536, and each number in a text is octal.
 #![tactic(auto)]
 
 mod field;

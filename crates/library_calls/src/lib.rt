@@ -1,7 +1,34 @@
-//! What a library for other languages answers: bytes of files in, bytes of files and text out.
+//! Answers the calls of libv7: bytes of files in, bytes of files and text out.
 //!
-//! Nothing is kept between two calls. Objects come as the bytes of their files, one after another: how long a file is
-//! follows from its header.
+//! ```rust
+//! let wanted = Wanted {
+//!     options: 2,
+//!     entry: b"",
+//!     forced: b"",
+//! };
+//! link(alloc, &wanted, objects)
+//! ```
+//!
+//! Types:
+//!
+//! - `Wanted`: options, entry point and forced names of a link
+//! - `Program`: a linked file, its report and the status
+//! - `Ran`, `Shown`, `Form`: what a session gives, the state that it shows, and in which form
+//! - `ObjectParts`, `PartLists`: the parts that an object is made of, and those that one is taken apart into
+//! - `ObjectWord`, `SymbolRow`: a word with its relocation word, and a symbol, of these parts
+//! - `Cause`, `Refusal`: why a call has no answer, and for which object or edit
+//!
+//! Functions:
+//!
+//! - `link`: links objects
+//! - `run_session`: makes edits, and links what they leave
+//! - `show_session`: makes edits, and shows the state that they leave
+//! - `make`, `take_apart`: an object of its parts, and the parts of an object
+//! - `check`: how many bytes an object has
+//! - `strip`: a file without symbols and relocation
+//! - `list_symbols`, `show_sizes`: the lines of nm, and that of size
+//!
+//! Nothing is kept between two calls. Objects are bytes, one after another: the header of each gives its length.
 #![tactic(auto)]
 
 mod apart;

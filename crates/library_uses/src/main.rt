@@ -1,19 +1,50 @@
-//! Small uses of the libraries: the examples at the heads of their crates, and a run of all of them.
+//! A use of each library, which the library's CALLING.md quotes, and a run of all of them.
 #![tactic(auto)]
 
-mod heads;
+mod bytes;
+mod choices;
+mod command;
+mod conversion;
+mod disassembly;
+mod externals;
+mod line;
+mod listed;
+mod program;
+mod state;
+mod strip;
+mod trial;
 
 use anyhow::{Result, anyhow};
 use aout_core::{Header, Object, Wire, read_file};
-use heads::{disassembly, list, new_names, program_of, put_lines, strip_copy};
+use bytes::bare_program;
+use choices::partial_options;
+use command::linked;
+use conversion::converted_object;
+use disassembly::disassembled;
+use externals::externals_and_sizes;
+use line::put_first;
 use link_session::{Session, Starts};
-use std::alloc::{AllocError, Global};
-use std::io::Read;
+use listed::read_back;
+use program::program_of;
+use state::state_without_last;
+use std::io::{Read, Write};
 use std::{env, fs, io};
+use strip::stripped_bytes;
+use trial::new_names;
 
+fn bytes_at(rt: &HostRuntime, path: &str) -> Result<Vec<u8>> {
+    let mut bytes = Vec::new(rt.alloc());
+    fs::open(rt, path)?.read_to_end(&mut bytes)?;
+    Ok(bytes)
+}
+
+/// The object at a path, by way of its listing.
 fn object_at(rt: &HostRuntime, path: &str) -> Result<Object> {
     let file = read_file(rt.alloc(), &mut Wire::new(fs::open(rt, path)?))?;
-    Object::from_file(file).map_err(|(_, fault)| anyhow!("{path}: {fault}"))
+    match read_back(rt.alloc(), &file) {
+        Ok(again) => Object::from_file(again).map_err(|(_, fault)| anyhow!("{path}: {fault}")),
+        Err(_) => Err(anyhow!("{path}: no memory")),
+    }
 }
 
 fn paths(rt: &HostRuntime) -> Result<Vec<String>> {
@@ -27,7 +58,10 @@ fn paths(rt: &HostRuntime) -> Result<Vec<String>> {
 /// Adds the object at a path, and prints how many names it brings.
 fn add(rt: &HostRuntime, session: &mut Session, path: &str) -> Result<()> {
     let label = String::from_str(rt.alloc(), path)?;
-    let count = new_names(session, label, object_at(rt, path)?)?;
+    let count = new_names(session, label, object_at(rt, path)?).map_err(|refused| anyhow!(
+        "{path}: {}",
+        refused.cause
+    ))?;
     println!(rt; "{path} brings {count} names")?;
     let label = String::from_str(rt.alloc(), path)?;
     session
@@ -35,53 +69,79 @@ fn add(rt: &HostRuntime, session: &mut Session, path: &str) -> Result<()> {
         .map_err(|refused| anyhow!("{path}: {}", refused.cause))
 }
 
-/// Strips the file at a path in memory, and prints how long it then is.
-fn strip(rt: &HostRuntime, path: &str) -> Result<()> {
-    let mut copy = Wire::new(Vec::new(rt.alloc()));
-    strip_copy(rt.alloc(), &mut Wire::new(fs::open(rt, path)?), &mut copy)?;
-    let bytes = copy.into_inner();
-    println!(rt; "{path} stripped has {} bytes", bytes.len())?;
-    Ok(())
-}
-
-/// Prints the text of the file at a path as instructions.
-fn disassemble(rt: &HostRuntime, path: &str) -> Result<()> {
-    let mut bytes = Vec::new(rt.alloc());
-    fs::open(rt, path)?.read_to_end(&mut bytes)?;
-    let text = disassembly(rt.alloc(), &bytes)?;
+/// Prints how long a file is without symbols and relocation, and its text as instructions.
+fn show_file(rt: &HostRuntime, path: &str) -> Result<()> {
+    let bytes = bytes_at(rt, path)?;
+    let copy = stripped_bytes(rt.alloc(), &bytes)?;
+    println!(rt; "{path} stripped has {} bytes", copy.len())?;
+    let text = disassembled(rt.alloc(), &bytes)?;
     print!(rt; "{text}")?;
     Ok(())
 }
 
-/// Prints words as instructions at an address.
-fn show_words(rt: &HostRuntime) -> Result<()> {
-    let mut text = String::new(rt.alloc());
-    put_lines(&[0o012700, 5, 0o104401], 0o1000, &mut text)?;
-    print!(rt; "{text}")?;
-    Ok(())
-}
-
-fn program_name(alloc: Global) -> Result<String, AllocError> {
-    String::from_str(alloc, "program")
-}
-
-/// Brings the files that the words name to the session.
+/// Brings the files that the arguments name to the session.
 fn bring_all(rt: &HostRuntime, session: &mut Session) -> Result<()> {
     for path in paths(rt)? {
         add(rt, session, path.as_str())?;
-        strip(rt, path.as_str())?;
-        disassemble(rt, path.as_str())?;
+        show_file(rt, path.as_str())?;
     }
     Ok(())
 }
 
 /// Lists the program that the session makes.
 fn list_program(rt: &HostRuntime, session: &Session) -> Result<()> {
-    let name = program_name(rt.alloc())?;
+    let path = String::from_str(rt.alloc(), "program")?;
     let program = program_of(rt.alloc(), session)?;
-    let mut out = Wire::new(io::writer(rt));
-    list(rt.alloc(), name, program, &mut out)?;
-    Ok(out.flush()?)
+    match externals_and_sizes(rt.alloc(), path, program.file) {
+        Ok(text) => Ok(io::writer(rt).write_all(&text)?),
+        Err(_) => Err(anyhow!("no memory")),
+    }
+}
+
+/// Prints two lines of words as instructions.
+fn show_words(rt: &HostRuntime) -> Result<()> {
+    let mut text = String::new(rt.alloc());
+    let rest = put_first(&[0o012700, 5, 0o104401], 0o1000, &mut text)?;
+    text.push_str("\n")?;
+    if !rest.is_empty() {
+        put_first(rest, 0o1004, &mut text)?;
+        text.push_str("\n")?;
+    }
+    print!(rt; "{text}")?;
+    Ok(())
+}
+
+/// Links the files that the arguments name by `ld`, and as libv7 does; prints how long the text and the bare file are.
+fn show_links(rt: &HostRuntime) -> Result<()> {
+    let mut inputs = Vec::new(rt.alloc());
+    let mut objects = Vec::new(rt.alloc());
+    for path in paths(rt)? {
+        objects.extend_from_slice(&bytes_at(rt, path.as_str())?)?;
+        let file = fs::open(rt, path.as_str())?;
+        inputs.push((path, Wire::new(file)))?;
+    }
+    let program = linked(rt.alloc(), inputs)?;
+    println!(rt; "{} bytes of text", program.file.header().text_size)?;
+    match bare_program(rt.alloc(), &objects) {
+        Ok(bare) => Ok(println!(rt; "{} bytes without symbols", bare.file.len())?),
+        Err(refusal) => Err(anyhow!("object {}", refusal.place)),
+    }
+}
+
+/// Prints what is left of a session without its only object.
+fn show_nothing(rt: &HostRuntime) -> Result<()> {
+    let mut session = Session::new(rt.alloc());
+    add(rt, &mut session, "count.o")?;
+    let text = state_without_last(rt.alloc(), &mut session)?;
+    Ok(io::writer(rt).write_all(&text)?)
+}
+
+/// Prints why no bytes are not an object in GNU's form, and what a partial link asks for.
+fn show_others(rt: &HostRuntime) -> io::Result<()> {
+    if let Err((refusal, place)) = converted_object(rt.alloc(), b"") {
+        println!(rt; "byte {place}: {refusal}")?;
+    }
+    println!(rt; "{:?}", partial_options().keep())
 }
 
 /// The header of an object with ten bytes of text, two of data and six of bss.
@@ -108,5 +168,8 @@ fn main(rt: HostRuntime) -> Result<()> {
     bring_all(&rt, &mut session)?;
     list_program(&rt, &session)?;
     show_words(&rt)?;
+    show_links(&rt)?;
+    show_nothing(&rt)?;
+    show_others(&rt)?;
     Ok(show_second(&rt)?)
 }

@@ -1,19 +1,35 @@
-//! The link of a session's objects: layout, final words, symbols and report; and runs of edits that end with a link.
-//! docs/LINK.md has all the rules.
+//! Links the objects of a session: a file and a report, by the rules of docs/LINK.md.
 //!
-//! An example, which `library_uses` runs:
+//! ```rust
+//! use link_out::{Keep, Layout, LinkFault, Linked, Options, finish};
 //!
+//! let options = Options::new(Layout::Plain, false, Keep::All, None).unwrap();
+//! finish(alloc, session, &options)
 //! ```
-//! /// The program that the objects of a session make.
-//! fn program_of(alloc: Global, session: &Session) -> Result<File> {
-//!     let options = Options::new(Layout::Plain, false, Keep::All, None)?;
-//!     let linked = finish(alloc, session, &options)?;
-//!     match linked.report.status() {
-//!         0 => Ok(linked.file),
-//!         _ => Err(anyhow!("there is something to report")),
-//!     }
-//! }
-//! ```
+//!
+//! Types:
+//!
+//! - `Linked`, `Report`: a linked file, and what is reported of it
+//! - `LinkFault`: why there is no file
+//! - `Bases`: where the segments of a link begin and end
+//! - `Edit`, `Reply`, `RunFault`: a change of what is linked, the reply to it, and why a run gave no link
+//! - `Options`, `Layout`, `Keep`, `OptionFault`: what a link is asked for, from `link_options`
+//!
+//! Functions:
+//!
+//! - `finish`: links the objects of a session
+//! - `run`: makes edits, replies to each, and links what is left
+//! - `link_bases`: where the segments of a session's link are
+//! - `link_externals`: the externals of a link with their addresses, also if it is refused
+//! - `is_missing`: whether a link reports a name as undefined
+//!
+//! Limits:
+//!
+//! - `LAST_ADDRESS`, `MOST_ROWS`, `MOST_NUMBER`: of addresses, of the symbols of a table, and of a symbol's number in a relocation word
+//!
+//! Modules:
+//!
+//! - `laws`: what is proved of links
 #![tactic(auto)]
 
 mod edit;

@@ -1,22 +1,31 @@
-//! A session of a linker: the objects added so far, their merged image, and a journal.
+//! Joins objects to one image, and takes the last one out again so that the image is as it was.
 //!
-//! The image is bound in place while objects are added, and the object added last can be taken out again: the image is
-//! then what it was before.
-//!
-//! An example, which `library_uses` runs:
-//!
+//! ```rust
+//! let before = session.external_count();
+//! session.add(label, object)?;
+//! let after = session.external_count();
+//! session.withdraw().unwrap();
 //! ```
-//! /// How many names an object would bring; the session is then as it was before.
-//! fn new_names(session: &mut Session, label: String, object: Object) -> Result<u16> {
-//!     let before = session.external_count();
-//!     if let Err(refused) = session.add(label, object) {
-//!         return Err(anyhow!("{}: {}", refused.label, refused.cause));
-//!     }
-//!     let behind = session.external_count();
-//!     session.withdraw();
-//!     Ok(behind.saturating_sub(before))
-//! }
-//! ```
+//!
+//! Types:
+//!
+//! - `Session`: the objects added so far, their merged image, and a journal
+//! - `Entry`: an object of a session, and its label
+//! - `AddRefused`, `AddFault`: an object that was not added, handed back, and why
+//! - `Cell`, `Target`: a word of the image, and what it refers to
+//! - `State`: what the objects define of a name, or at which size they want it
+//! - `Mark`, `Place`: what an addition overwrote, and where
+//! - `Starts`, `Shifts`: where the segments of an object start in the image, and by how much its addresses move
+//! - `Forced`: the names of `-u`, at most 64
+//! - `Memory`: memory ran out
+//!
+//! Limits:
+//!
+//! - `MOST_BYTES`, `MOST_NAMES`: of the bytes of a segment, and of the external names
+//!
+//! Modules:
+//!
+//! - `laws`: what is proved of withdrawals, marks and starts
 #![tactic(auto)]
 
 mod bind;

@@ -1,8 +1,31 @@
-//! The listing of a file as text, in both directions.
+//! Writes a file as a listing, and reads a listing as the file that it came from.
 //!
-//! `write_listing` writes the text of a file, and `read_listing` reads one: the words of text and data with their addresses and
-//! relocation words, the size of bss, the symbols, and the words of the header that do not follow from these. `laws` says that
-//! reading the listing of a file gives that file.
+//! ```rust
+//! let Ok(text) = write_listing(alloc, file, &Nothing) else {
+//!     return Err(ListingFault::Memory);
+//! };
+//! read_listing(alloc, &text)
+//! ```
+//!
+//! Types:
+//!
+//! - `ListingFault`, `Fault`, `Reason`: why a listing was not read: its first mistake, by line, column and reason
+//! - `Remark`, `Nothing`: what a listing remarks beside the file, and no remarks
+//!
+//! Functions:
+//!
+//! - `write_listing`: the listing of a file, with remarks
+//! - `read_listing`: the file of a listing
+//! - `data_start`: the address at which data begins
+//! - `put_name`: appends a name as a listing shows it
+//! - `put_octal`, `put_short_octal`: append a word in six octal digits, or without zeros in front
+//!
+//! Modules:
+//!
+//! - `laws`: reading the listing of a file gives that file
+//!
+//! A listing has the words of text and data with their addresses and relocation words, the size of bss, the symbols, and the
+//! words of the header that do not follow from these.
 #![tactic(auto)]
 
 mod columns;

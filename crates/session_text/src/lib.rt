@@ -1,4 +1,16 @@
-//! What a session knows, as text: lines for a reader, and JSON for a program.
+//! Shows the state of a session as lines for a reader, or as JSON for a program.
+//!
+//! ```rust
+//! use session_text::state_lines;
+//!
+//! session.withdraw();
+//! state_lines(alloc, session)
+//! ```
+//!
+//! Functions:
+//!
+//! - `state_lines`: the image and the last marks, a line each
+//! - `state_json`: the same as one JSON object
 #![tactic(auto)]
 
 mod json;

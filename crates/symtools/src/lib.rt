@@ -1,27 +1,24 @@
-//! The lines of nm and size, which show a file's symbols and its sizes.
+//! Writes the lines of nm and size for files of all four magic numbers, linked or not.
 //!
-//! Both work on files of all four magics, linked or not. Lines go out through a `Wire`; on a fault a prefix of them
-//! went out.
-//!
-//! An example, which `library_uses` runs:
-//!
+//! ```rust
+//! let files = [(path, file)];
+//! let mut out = Wire::new(Vec::new(alloc));
+//! nm(alloc, &files, options, &mut out)?;
+//! size(&files, &mut out)?;
+//! Ok(out.into_inner())
 //! ```
-//! /// Writes the externals of a file, and its sizes.
-//! fn list<W: Write>(
-//!     alloc: Global,
-//!     path: String,
-//!     file: File,
-//!     out: &mut Wire<W>,
-//! ) -> Result<()> {
-//!     let options = NmOptions {
-//!         external: true,
-//!         ..NmOptions::default()
-//!     };
-//!     let files = vec![in alloc; (path, file)]?;
-//!     nm(alloc, &files, options, out)?;
-//!     Ok(size(&files, out)?)
-//! }
-//! ```
+//!
+//! Types:
+//!
+//! - `NmOptions`: which symbols nm shows, and in which order
+//! - `ToolFault`: why not all lines went out
+//!
+//! Functions:
+//!
+//! - `nm`: the symbols of files
+//! - `size`: the sizes of files
+//! - `line`: the line of one symbol
+//! - `value_column`, `letter`: its value and its letter, as nm shows them
 #![tactic(auto)]
 
 mod buffer;

@@ -1,4 +1,31 @@
-//! The tools as commands: their words, the files that they open and store, and what they write.
+//! Runs the tools as commands: their arguments, the files that they open and store, and what they write.
+//!
+//! ```rust
+//! use v7tools::{CliFault, ld};
+//!
+//! let options = Options::new(Layout::Plain, false, Keep::All, None).unwrap();
+//! ld(alloc, inputs, &Forced::none(), &options)
+//! ```
+//!
+//! Types:
+//!
+//! - `Office`, `Stored`: what opens and stores the files of a command, and what became of a file
+//! - `Outputs`: where a command writes
+//! - `Call`: what the arguments ask for, from `command_words`
+//! - `CliFault`: why a command failed
+//! - `Script`, `Line`, `BlockWriter`: a session's script, its lines, and a writer for the answers
+//! - `Command`, `Step`: what a line of a script asks for, and what was done
+//!
+//! Functions:
+//!
+//! - `command`: does what the arguments ask for, with the system's files
+//! - `perform`: the same over any `Office` and any streams
+//! - `words`, `parse`: the arguments of a program, and what they ask for
+//! - `load`: reads the file at a path
+//! - `ld`: links the files that readers give
+//! - `emit`: writes a linked file and its report
+//! - `step`: does what a line of a script asks for, and answers
+//! - `link_answer`: answers to a link of a session
 #![tactic(auto)]
 
 mod additions;

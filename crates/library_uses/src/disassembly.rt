@@ -1,0 +1,22 @@
+//! A use of `disassemblies`.
+ghost use Rattle.std.specs.Prelude.{◌≡◌, ◌≢◌, Some, Err, option_map, string_bytes, IfOk, IfErr};
+ghost use Rattle.std.specs.Result.{result_ok};
+ghost use Rattle.aout_core.specs.Decoding.{decode};
+ghost use Rattle.aout_core.specs.Reading.{IsReadOf};
+ghost use Rattle.aout_core.specs.declared.file.ReadFault.TheVariants.{Memory};
+ghost use Rattle.disassemblies.specs.Columns.{disassembly};
+
+use aout_core::{ReadFault, Wire, read_file};
+use disassemblies::put_disassembly;
+use std::alloc::Global;
+
+/// The text of the file that the bytes begin with, as instructions with names.
+pub(crate) fn disassembled(alloc: Global, bytes: &[u8]) -> Result<String, ReadFault>
+    ensures ok { IfOk result (λ text. option_map disassembly (result_ok (decode bytes.now)) ≡ Some (string_bytes text)) }
+    ensures err { IfErr result (λ fault. fault ≢ Memory → IsReadOf (Err fault) bytes.now) }
+{
+    let file = read_file(alloc, &mut Wire::new(bytes))?;
+    let mut text = String::new(alloc);
+    put_disassembly(&mut text, &file)?;
+    Ok(text)
+}
