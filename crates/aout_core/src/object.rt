@@ -55,10 +55,14 @@ fn is_wanted(symbols: &[Symbol], number: usize) -> bool
     }
 }
 
-/// What is wrong with the relocation word at an index, if anything is.
+/// What is wrong with the relocation word at an index, if anything is. Most words are absolute or refer to a segment, and
+/// need no symbol: their bit 3 is 0.
 fn word_fault(symbols: &[Symbol], index: u16, reloc: Reloc) -> Option<ObjectFault>
     ensures { result ≡ word_fault symbols.now index reloc }
 {
+    if reloc.0 / 0o10 % 2 == 0 {
+        return None;
+    }
     match reloc.kind() {
         None => Some(ObjectFault::BadRelocation(index)),
         Some(Kind::External) if !is_wanted(symbols, reloc.number() as usize) => {
