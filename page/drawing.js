@@ -73,10 +73,7 @@ function bundles(state) {
 // gives each bundle a lane in which it meets no other, the most wanted and the shortest first; -1 where there is none
 function giveLanes(all, limit) {
     const lanes = Array.from({ length: limit }, () => []);
-    for (const bundle of all) {
-        bundle.start = Math.min(...bundle.places);
-        bundle.end = Math.max(...bundle.places);
-    }
+    for (const bundle of all) [bundle.start, bundle.end] = [Math.min(...bundle.places), Math.max(...bundle.places)];
     for (const bundle of all.sort((a, b) => a.rank - b.rank || a.end - a.start - (b.end - b.start))) {
         bundle.lane = lanes.findIndex((lane) => lane.every((other) => other.end < bundle.start || bundle.end < other.start));
         if (bundle.lane >= 0) lanes[bundle.lane].push(bundle);
@@ -90,8 +87,8 @@ function boxOf(row, frame) {
     return { left: box.left - frame.left, right: box.right - frame.left, middle: (box.top + box.bottom) / 2 - frame.top };
 }
 
-function arrow(row, target, lane, frame, size) {
-    const [from, to] = [boxOf(row, frame), boxOf(target, frame)];
+function arrow(row, target, lane, box, size) {
+    const [from, to] = [box(row), box(target)];
     const [y1, y2] = [from.middle - APART, to.middle + APART];
     const x = from.right + size.head + size.gap * lane;
     const bend = Math.min(size.gap, Math.abs(y2 - y1) / 2) * Math.sign(y2 - y1);
@@ -105,8 +102,8 @@ function arrow(row, target, lane, frame, size) {
     return group;
 }
 
-function chainLine(bundle, frame, size) {
-    const boxes = bundle.rows.map((row) => boxOf(row, frame));
+function chainLine(bundle, box, size) {
+    const boxes = bundle.rows.map(box);
     const x = boxes[0].left - size.dot - size.gap * (bundle.lane + 1);
     const group = svg("g", { class: "chain" });
     const ends = [boxes[0].middle, boxes[boxes.length - 1].middle];
@@ -124,6 +121,9 @@ function sizes() {
 }
 
 let drawn = { arrows: [], chains: [], left: 0 };
+// the size of the image that was drawn over
+let drawnSize = "";
+const sizeText = ({ width, height }) => `${width} ${height}`;
 
 // chooses what is drawn, and says what is not
 function chooseDrawn(state) {
@@ -134,22 +134,19 @@ function chooseDrawn(state) {
 }
 
 function draw() {
-    const image = byId("image");
-    const frame = image.getBoundingClientRect();
+    const frame = byId("image").getBoundingClientRect();
     const size = sizes();
-    const lines = drawn.arrows.flatMap(({ rows, key, lane }) => rows.map((row) => arrow(row, key, lane, frame, size)));
-    byId("drawing").replaceChildren(...lines, ...drawn.chains.map((chain) => chainLine(chain, frame, size)));
+    const boxes = new Map();
+    const box = (row) => boxes.get(row) ?? boxes.set(row, boxOf(row, frame)).get(row);
+    const lines = drawn.arrows.flatMap(({ rows, key, lane }) => rows.map((row) => arrow(row, key, lane, box, size)));
+    byId("drawing").replaceChildren(...lines, ...drawn.chains.map((chain) => chainLine(chain, box, size)));
+    drawnSize = sizeText(frame);
 }
 
 // draws again when the layout changes: by size, zoom, fonts, and on paper
 function watchLayout() {
-    let [size, head] = ["", 0];
     new ResizeObserver(() => {
-        const { width, height } = byId("image").getBoundingClientRect();
-        if (size !== `${width} ${height}`) draw();
-        size = `${width} ${height}`;
-        if (head !== byId("top").offsetHeight) document.documentElement.style.setProperty("--head", `${byId("top").offsetHeight + 8}px`);
-        head = byId("top").offsetHeight;
+        if (drawnSize !== sizeText(byId("image").getBoundingClientRect())) draw();
     }).observe(byId("image"));
     document.fonts.ready.then(draw);
     for (const name of ["resize", "beforeprint", "afterprint"]) window.addEventListener(name, draw);

@@ -45,10 +45,12 @@ function openFold(key) {
 
 // what Enter and a click do with a row
 function press(list, row) {
-    if (row.dataset.key.startsWith("fold ")) return openFold(row.dataset.key);
-    moveTo(list, row);
-    answer(row.dataset.key);
-    return undefined;
+    const { key } = row.dataset;
+    if (key.startsWith("fold ")) openFold(key);
+    else {
+        moveTo(list, row);
+        answer(key);
+    }
 }
 
 function keyInList(list, event) {

@@ -33,15 +33,14 @@ function tag(element, change) {
 }
 
 // ---- folds
-
 const FEW = 24;
 const NAMED = 12;
 const PIECE = 64;
 // how many objects the bar of a phone offers to add
 const OFFERED = 3;
-// the words that were unfolded, as keys of objects and words
-const opened = new Set();
-const openKey = (object, part, index) => `${object} ${part} ${index}`;
+// the words that were unfolded, for each segment of an object
+const opened = new Map();
+const openKey = (object, part) => `${object} ${part}`;
 
 // the words of a segment of an object that are shown although they are many
 function wanted(state, place, part, must) {
@@ -50,9 +49,8 @@ function wanted(state, place, part, must) {
     const indices = new Set([0, 1]);
     const named = [...object.references[part]].filter(([, { group }]) => object.groupTargets[group].kind < 0);
     for (const [index] of named.slice(0, NAMED)) indices.add(index);
-    for (let index = 0; index < object[part].length; index++) {
-        if (must.has(wordKey(part, front + 2 * index)) || opened.has(openKey(object.number, part, index))) indices.add(index);
-    }
+    for (const key of must) if (key.startsWith(part)) indices.add((Number(key.slice(part.length + 1)) - front) / 2);
+    for (const index of opened.get(openKey(object.number, part)) ?? []) indices.add(index);
     return indices;
 }
 
@@ -73,11 +71,12 @@ function runsOf(state, place, part, must) {
 
 // opens a fold, at most so many words of it
 function unfold(object, part, start, end) {
-    for (let index = start; index < Math.min(end, start + PIECE); index++) opened.add(openKey(object, part, index));
+    const key = openKey(object, part);
+    if (!opened.has(key)) opened.set(key, new Set());
+    for (let index = start; index < Math.min(end, start + PIECE); index++) opened.get(key).add(index);
 }
 
 // ---- the merged image
-
 // the names that are defined at a place, as labels
 function labelsOf(state) {
     const labels = new Map();
@@ -102,19 +101,24 @@ function computation(state, word) {
     return [make("span", "sum", `${shown(word.own.value)} + ${shown(plus)}${less} = ${shown(final)}`), " ", make("span", "of", of)];
 }
 
-// what a line says besides its numbers
+// the instruction of a word, and its source without a label, if it says something else
+function textsOf(object, { part, index }) {
+    const instruction = object.instructions?.[part]?.[index];
+    const source = (object.source?.[part]?.[index] ?? "").replace(/^\w+:\s*/, "");
+    const isSame = instruction && instruction.replace(/\s/g, "") === source.replace(/\s/g, "");
+    return { instruction, source: isSame ? "" : source };
+}
+
+// what a line says besides its numbers; where instructions are known they take the place of numbers, and of sources
 function meaning(state, word, labels) {
     const element = make("span", "meaning");
-    const names = labels.get(wordKey(word.part, word.offset)) ?? [];
-    for (const name of names) element.append(make("span", "label", `${name}:`), " ");
-    const object = DATA.objects[state.list[word.place]];
-    const instruction = object.instructions?.[word.part]?.[word.index];
+    for (const name of labels.get(wordKey(word.part, word.offset)) ?? []) element.append(make("span", "label", `${name}:`), " ");
+    const { instruction, source } = textsOf(DATA.objects[state.list[word.place]], word);
     if (instruction) element.append(make("span", "instruction", instruction), " ");
-    const line = object.source?.[word.part]?.[word.index] ?? "";
-    const source = names.reduce((text, name) => text.replace(`${name}:`, ""), line).trim();
-    if (isLinked(state)) element.append(...computation(state, word));
-    else element.append(make("span", "target", targetText(word)), make("span", "place", placeText(word, sizeOf(state, SEGMENTS[word.kind]))));
-    if (source && !instruction) element.append(" ", make("span", "source", source));
+    const isNumber = word.own.kind === 0 && !word.own.pc;
+    if (isLinked(state) && !(instruction && isNumber)) element.append(...computation(state, word));
+    else if (!(instruction && isNumber)) element.append(make("span", "target", targetText(word)), make("span", "place", placeText(word, sizeOf(state, SEGMENTS[word.kind]))));
+    if (source && instruction !== "") element.append(" ", make("span", "source", source));
     return element;
 }
 
@@ -128,7 +132,7 @@ function wordRow(state, word, labels, change) {
     const row = option(word.kind < 0 && !link ? "word waits" : "word", key);
     row.id = key;
     row.append(make("span", "offset", column(base + word.offset)), " ", make("span", "value", column(final)), " ");
-    row.append(make("span", "pc", word.pc ? "pc" : ""), " ", meaning(state, word, labels));
+    row.append(make("span", "pc", word.pc ? "pc" : "\u00a0\u00a0"), " ", meaning(state, word, labels));
     tag(row, change);
     row.setAttribute("aria-label", `${word.part} ${row.textContent.replace(/\s+/g, " ").trim()}`);
     return row;
@@ -207,13 +211,12 @@ function showImage(state, changed) {
 }
 
 // ---- the objects
-
 function listingRow(object, part, index) {
     const word = ownWord(object, part, index);
     const size = word.kind > 0 ? WORD / 2 : 0;
     const meant = word.kind < 0 ? word.name : word.kind > 0 || word.pc ? targetText(word) : "";
-    const source = object.instructions?.[part]?.[index] ?? object.source?.[part]?.[index] ?? "";
-    const said = [meant + placeText(word, size), source].filter(Boolean).join(" / ");
+    const { instruction, source } = textsOf(object, word);
+    const said = [meant + placeText(word, size), instruction, source].filter(Boolean).join(" / ");
     const cells = [column(word.offset), column(word.value), word.pc ? "pc" : "", said];
     return make("tr", "", ...cells.map((text) => make("td", "", text)));
 }
@@ -232,8 +235,7 @@ function card(object) {
     const { number, path } = object;
     const title = make("h3", "", make("span", "badge", String(number + 1)), " ", label(number));
     title.title = path;
-    const text = make("span", "do");
-    const add = makeButton(`add${number + 1}`, text, () => addObject(number));
+    const add = makeButton(`add${number + 1}`, make("span"), () => addObject(number));
     if (number < 9) {
         add.append(" ", make("kbd", "", String(number + 1)));
         add.setAttribute("aria-keyshortcuts", String(number + 1));
@@ -247,6 +249,7 @@ function card(object) {
 }
 
 function showListing(words, object) {
+    words.dataset.decimal = view.decimal;
     words.replaceChildren(words.firstChild);
     if (!words.open) return;
     words.append(listing(object));
@@ -272,19 +275,19 @@ function showCards() {
         element.classList.toggle("there", place >= 0);
         element.querySelector(".refused").hidden = !refusal;
         element.querySelector(".refused").textContent = refusal ? `refused here: ${refusal}` : "";
-        if (element.querySelector("details").open) showListing(element.querySelector("details"), object);
+        const words = element.querySelector("details");
+        if (words.open && words.dataset.decimal !== String(view.decimal)) showListing(words, object);
     });
 }
 
 // ---- names and marks
-
 function showNames(state, changed) {
     const rows = namesOf(state).map(({ name, i, kind, number }) => {
         const row = option("name", `name ${name}`, make("b", "", name), " ", make("span", "state", stateText(kind, number)));
         row.id = `name-${i}`;
         if (isLinked(state)) {
             const symbol = symbolOf(state, i, view.layout);
-            row.append(" ", make("span", "address", isAddress(symbol) ? shown(symbol.value) : "no address"));
+            row.append(" ", make("span", "address", !"UC".includes(symbol.letter) ? shown(symbol.value) : "no address"));
         }
         tag(row, changed.get(`name ${name}`));
         return row;

@@ -84,7 +84,6 @@ function closeGuide(withMenu = false) {
 }
 
 // ---- predictions
-
 function keyText(key) {
     if (key.startsWith("name ")) return key.slice(5);
     const [part, offset] = key.split("-");
@@ -110,7 +109,6 @@ function verdict() {
 }
 
 // ---- the panel
-
 function menuButtons() {
     return GUIDES.map(({ title }, guide) => makeButton("", guide === 0 ? "Take the tour, 5 steps" : `Lesson ${guide}: ${title}`, () => goTo(guide, 0)));
 }
@@ -141,8 +139,9 @@ function guideButtons(guide) {
     const isLast = view.done >= guide.steps.length - 1;
     const wait = nextStep();
     if (!isLast) {
-        const text = view.guide === 0 ? "Next" : wait.ask && wait.act ? `See: ${actText(wait.act)}` : actText(wait.act);
-        buttons.push(makeButton("next", text, () => goTo(view.guide, view.done + 1)));
+        const next = makeButton("next", view.guide === 0 ? "Next" : actText(wait.act), () => goTo(view.guide, view.done + 1));
+        next.classList.toggle("waits", Boolean(wait?.ask) && !predictions.has(predictionKey(view.done + 1)));
+        buttons.push(next);
     } else if (view.guide + 1 < GUIDES.length) {
         const next = view.guide + 1;
         buttons.push(makeButton("next", `Lesson ${next}: ${GUIDES[next].title}`, () => goTo(next, 0)));
@@ -182,6 +181,7 @@ function showGuide() {
 function showWelcome() {
     const isFirst = view.list.length === 0 && view.gone < 0 && view.guide < 0;
     byId("welcome").hidden = !isFirst;
+    document.body.classList.toggle("first", isFirst);
     byId("image-title").parentElement.hidden = isFirst;
     if (!isFirst || byId("menu").firstChild) return;
     const first = makeButton("first", `Add ${label(0)}`, () => addObject(0));

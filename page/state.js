@@ -20,10 +20,8 @@ for (const record of DATA.states) {
     else RECORDS.set(record.list.join(), record);
 }
 const STATES = new Map();
-
 const hasState = (list) => RECORDS.has(list.join());
-const fileName = (path) => path.replace(/^.*\//, "");
-const label = (object) => fileName(DATA.objects[object].path);
+const label = (object) => DATA.objects[object].path.replace(/^.*\//, "");
 
 // what a number of the page says that a word refers to: a segment or a name, and whether relative to the pc
 function targetOf(number, names) {
@@ -142,8 +140,6 @@ function symbolOf(state, i, layout) {
     return { value: state.names[at], letter: String.fromCharCode(state.names[at + 1]) };
 }
 
-const isAddress = (symbol) => !"UC".includes(symbol.letter);
-
 // the symbol table of a link, as `nm -p` prints it
 function tableOf(state, layout) {
     const lines = [];
@@ -180,7 +176,6 @@ function changesOf(view) {
 }
 
 // ---- what is shown
-
 // the objects that are there, the one that the last step withdrew or -1, the layout or -1, the guide (-1 for none, 0 for the
 // tour, then the lessons) and how many of its steps are done
 const START = { list: [], gone: -1, layout: -1, decimal: false, guide: -1, done: 0 };
@@ -190,7 +185,6 @@ let chosen = "";
 const stateNow = () => stateOf(view.list);
 
 // ---- numbers and words as text
-
 const octal = (number) => number.toString(8).padStart(6, "0");
 const shown = (number) => (view.decimal ? String(number) : octal(number));
 const column = (number) => (view.decimal ? String(number).padStart(5, "\u2007") : octal(number));

@@ -1,8 +1,7 @@
 // Steps, the address of the page, and showing it anew. Each step is an entry of the browser's history.
 "use strict";
 
-let at = 0;
-let last = 0;
+let [at, last] = [0, 0];
 
 function hashOf({ list, gone, layout, decimal, guide, done }) {
     const parts = [];
@@ -24,17 +23,13 @@ function viewOf(hash) {
     const guide = words.has("tour") ? 0 : GUIDES[Number(words.get("lesson"))] && words.has("lesson") ? Number(words.get("lesson")) : -1;
     const done = guide === 0 ? Number(words.get("tour")) - 1 : Number(words.get("done") ?? 0);
     return {
-        list: isThere ? list : [],
-        gone: isThere && hasState([...list, gone]) ? gone : -1,
-        layout: LAYOUTS.indexOf(words.get("addresses")),
-        decimal: words.get("numbers") === "decimal",
-        guide,
-        done: guide < 0 ? 0 : Math.max(0, Math.min(done, GUIDES[guide].steps.length - 1)) || 0,
+        list: isThere ? list : [], gone: isThere && hasState([...list, gone]) ? gone : -1,
+        layout: LAYOUTS.indexOf(words.get("addresses")), decimal: words.get("numbers") === "decimal",
+        guide, done: guide < 0 ? 0 : Math.max(0, Math.min(done, GUIDES[guide].steps.length - 1)) || 0,
     };
 }
 
 // ---- showing
-
 function stepText() {
     const { list, gone } = view;
     const changed = [...changesOf(view).entries()].filter(([key, how]) => /^(text|data)-/.test(key) && how !== "new").length;
@@ -49,8 +44,23 @@ function showBar() {
     byId("addresses").setAttribute("aria-pressed", String(view.layout >= 0));
     LAYOUTS.forEach((_, i) => byId(`layout${i}`).setAttribute("aria-pressed", String(view.layout === i)));
     byId("decimal").setAttribute("aria-pressed", String(view.decimal));
-    const where = view.layout < 0 ? "Merged image" : `Addresses, ld ${view.layout > 0 ? LAYOUTS[view.layout] : "with no option"}`;
-    byId("image-title").textContent = where;
+    byId("image-title").textContent = view.layout < 0 ? "Merged image" : `Addresses, ld ${view.layout > 0 ? LAYOUTS[view.layout] : "with no option"}`;
+}
+
+// why the chosen word changed in the last step, or the first of those that did
+function explanation(state) {
+    const isBack = view.gone >= 0;
+    const marks = stateOf(isBack ? [...view.list, view.gone] : view.list).marks.map(markOf).filter((mark) => markSum(mark, isBack));
+    const inOrder = marks.toSorted((a, b) => PARTS.indexOf(a.part) - PARTS.indexOf(b.part) || a.offset - b.offset);
+    const mark = chosen ? marks.find((one) => markKey(one) === chosen) : inOrder[0];
+    if (!mark) return [];
+    const { part, offset, name, bound } = mark;
+    const [word, where] = [wordAt(state, part, offset), `The word at ${part} ${shown(offset)}`];
+    const bind = `${where} waited for ${name}. ${name} is at ${shown(bound)} now, so the linker added this to the word: ${markSum(mark, false)}.`;
+    const notes = [isBack ? `${where} waits for ${name} again, so ${shown(bound)} was subtracted from it: ${markSum(mark, true)}.` : bind];
+    if (word.pc && word.kind === 1) notes.push(`With pc, this is the distance from ${shown(offset + 2)}, the place after the word, to ${shown(word.meant)}.`);
+    if (marks.length > 1 && !chosen) notes.push(`${counted(marks.length - 1, "other word")} changed too: choose one to see why.`);
+    return notes;
 }
 
 function showNotes(state) {
@@ -59,9 +69,8 @@ function showNotes(state) {
     byId("refused").textContent = refused ? `refused: ${refused}` : "";
     const notes = [];
     if (isLinked(state) && view.list.length > 0) notes.push("Each sum is the word of the object + the address of what it refers to (\u2212 how far the word has moved, with pc) = the word of the link.");
+    else notes.push(...explanation(state));
     if (drawn.left > 0) notes.push(`${counted(drawn.left, "arrow")} more: choose a word to see its own.`);
-    const mark = chosen && document.querySelector(`#marks [data-key="${CSS.escape(chosen)}"]`);
-    if (mark) notes.push(`${mark.textContent}.`);
     if (view.guide < 0 && view.list.length === 1 && view.gone < 0) notes.push("Now add another object, and look at which words change.");
     byId("note").textContent = notes.join(" ");
 }
@@ -74,8 +83,10 @@ function showChosen(isAnew, place = "", lead = () => null) {
     if (isAnew || [...mustShow(state, changed)].some((key) => /^(text|data)-/.test(key) && !byId(key))) showImage(state, changed);
     chooseDrawn(state);
     showNotes(state);
-    for (const row of document.querySelectorAll("[role=option]")) row.setAttribute("aria-selected", String(row.dataset.key === chosen));
+    const selected = document.querySelectorAll(`[aria-selected=true], [data-key="${CSS.escape(chosen)}"]`);
+    for (const row of selected) row.setAttribute("aria-selected", String(row.dataset.key === chosen));
     setActive();
+    document.documentElement.style.scrollPaddingTop = `${byId("top").offsetHeight + 8}px`;
     lead()?.scrollIntoView({ block: place });
     draw();
 }
@@ -96,22 +107,19 @@ function showAll() {
 }
 
 // ---- steps
-
-const addressOf = (newView) => `#${hashOf(newView)}`;
-
 // makes a new step
 function step(newView) {
     at += 1;
     last = at;
     view = newView;
-    history.pushState({ at }, "", addressOf(view));
+    history.pushState({ at }, "", `#${hashOf(view)}`);
     showAll();
 }
 
 // shows the same step in another way
 function show(newView) {
     view = newView;
-    history.replaceState({ at }, "", addressOf(view));
+    history.replaceState({ at }, "", `#${hashOf(view)}`);
     showAll();
 }
 
@@ -131,12 +139,9 @@ function choose(key, isLed) {
 }
 
 window.addEventListener("popstate", (event) => {
-    if (event.state) at = event.state.at;
-    else {
-        at += 1;
-        last = at;
-        history.replaceState({ at }, "", location.hash);
-    }
+    at = event.state?.at ?? at + 1;
+    if (!event.state) last = at;
+    history.replaceState({ at }, "", location.hash);
     view = viewOf(location.hash.slice(1));
     showAll();
 });

@@ -8,6 +8,7 @@ usage: tests/page.py LESSON V7 PAGE QUESTIONS FILE...     PAGE is the folder wit
 import json
 import os
 import re
+import statistics
 import struct
 import subprocess
 import sys
@@ -31,7 +32,8 @@ const one = (id) => { const element = document.getElementById(id); return elemen
 return {
     words: all(".word", (row) => ({
         segment: row.id.split("-")[0], number: Number(row.id.split("-")[1]),
-        ...Object.fromEntries(["offset", "value", "pc", "target", "place", "sum", "of", "tag"].map((name) => [name, part(row, name)])) })),
+        ...Object.fromEntries(["offset", "value", "pc", "place", "sum", "of", "tag"].map((name) => [name, part(row, name)])),
+        target: part(row, "target") || (part(row, "instruction") ? "a number" : "") })),
     bss: text(document.querySelector("#bss .size")),
     names: all(".name", (row) => [text(row.querySelector("b")), part(row, "state"), part(row, "address")]),
     marks: all(".overwrote .was", text), sums: all(".overwrote .sum", text),
@@ -231,7 +233,7 @@ def every_state(tools, page, files):
     orders = [order for count in range(1, 6) for order in permutations(range(5), count)]
     for order in orders:
         page.run("location.hash = arguments[0]", "objects=" + ",".join(str(number + 1) for number in order))
-        page.wait("return location.hash.length < 2 || view.list.join() === arguments[0]", ",".join(map(str, order)))
+        page.wait("return view.list.join() === arguments[0]", ",".join(map(str, order)))
         compare_state(tools, page, f"the list {order}", len(order), [files[number] for number in order])
     same("lists of five objects", len(orders), 325)
 
@@ -349,6 +351,27 @@ def large(tools, files):
     page.quit()
 
 
+# what is clicked in which state, to see how long the page takes
+CLICKS = {"an object": ("objects=1,2,3,4", "#add5"), "Withdraw": ("objects=1,2,3,4,5", "#withdraw"), "Addresses": ("objects=1,2,3,4,5", "#addresses"),
+          "a word": ("objects=1,2,3,4,5", ".word.bound"), "a name": ("objects=1,2,3,4,5", ".name"), "a fold": ("objects=1,2,3,4,5", ".fold")}
+
+
+def response(page):
+    """Prints the processor's time for each click, with the two frames after it: the middle of five."""
+    times = []
+    for what, (state, selector) in CLICKS.items():
+        taken = []
+        for _ in range(5):
+            page.open("#" + state)
+            page.settle()
+            before = page.busy()
+            page.run("document.querySelector(arguments[0]).click()", selector)
+            page.settle()
+            taken.append(page.busy() - before)
+        times.append(f"{what} {statistics.median(taken):.0f}")
+    print("milliseconds of the processor for a click, with five objects of 500 words: " + ", ".join(times), flush=True)
+
+
 def five_of_500(tools):
     """Each word of five objects of 500 words can be reached, in the image and in each link; what changed is never folded."""
     given = []
@@ -373,6 +396,7 @@ def five_of_500(tools):
         shown = compare_state(tools, page, f"five objects, {order}", len(here), here)
         same(f"{order}: words", len(shown["words"]), 500 * len(here))
         compare_addresses(tools, page, f"five objects, {order}", here)
+    response(page)
     page.quit()
     return path
 

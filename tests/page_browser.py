@@ -25,6 +25,20 @@ except ImportError:
 if not all(os.path.exists(path) for path in ("/usr/bin/chromium", "/usr/bin/chromedriver")):
     sys.exit(f"not run, as chromium or chromedriver is missing; {PACKAGES}")
 
+# how long a browser may take, in seconds, where the machine does other work too
+PATIENCE = 300
+# two frames later the page has been laid out and drawn
+SETTLED = "const done = arguments[arguments.length - 1]; requestAnimationFrame(() => requestAnimationFrame(() => done()));"
+
+
+def wait_for(page, script, *words):
+    """Waits until a script gives true."""
+    end = time.monotonic() + PATIENCE
+    while not page.run(script, *words):
+        if time.monotonic() > end:
+            raise TimeoutError(f"{page.name} does not come to: {script} {words}")
+        time.sleep(0.02)
+
 
 class Chromium:
     name = "Chromium"
@@ -37,6 +51,8 @@ class Chromium:
             options.add_argument(word)
         options.set_capability("goog:loggingPrefs", {"browser": "ALL"})
         self.driver = webdriver.Chrome(service=Service("/usr/bin/chromedriver"), options=options)
+        self.driver.set_script_timeout(PATIENCE)
+        self.driver.execute_cdp_cmd("Performance.enable", {"timeDomain": "threadTicks"})
         self.size(width, height)
         if path:
             self.load(path)
@@ -52,20 +68,21 @@ class Chromium:
     def size(self, width, height, scale=1):
         metrics = {"width": width, "height": height, "deviceScaleFactor": scale, "mobile": False}
         self.driver.execute_cdp_cmd("Emulation.setDeviceMetricsOverride", metrics)
+        self.settle()
 
     def media(self, medium="", scheme="light"):
         features = [{"name": "prefers-color-scheme", "value": scheme}]
         self.driver.execute_cdp_cmd("Emulation.setEmulatedMedia", {"media": medium, "features": features})
+        self.settle()
 
     def run(self, script, *words):
         return self.driver.execute_script(script, *words)
 
     def wait(self, script, *words):
-        """Waits until a script gives true; after five seconds it goes on."""
-        for _ in range(100):
-            if self.run(script, *words):
-                return
-            time.sleep(0.05)
+        wait_for(self, script, *words)
+
+    def settle(self):
+        self.driver.execute_async_script(SETTLED)
 
     def type(self, *keys):
         for key in keys:
@@ -92,6 +109,11 @@ class Chromium:
         """The accessibility tree, as pairs of a role and a name."""
         nodes = self.driver.execute_cdp_cmd("Accessibility.getFullAXTree", {})["nodes"]
         return [(node.get("role", {}).get("value", ""), node.get("name", {}).get("value", "")) for node in nodes if not node["ignored"]]
+
+    def busy(self):
+        """How many milliseconds of the processor the page has taken, with its layout and its drawing."""
+        metrics = self.driver.execute_cdp_cmd("Performance.getMetrics", {})["metrics"]
+        return 1000 * next(metric["value"] for metric in metrics if metric["name"] == "TaskDuration")
 
     def errors(self):
         return [entry["message"] for entry in self.driver.get_log("browser") if entry["level"] == "SEVERE"]
@@ -122,10 +144,11 @@ class Firefox:
         self.process = subprocess.Popen(words, stdout=subprocess.DEVNULL, stderr=subprocess.DEVNULL, env={**os.environ, "HOME": self.home})
         self.socket, self.rest, self.number = self.reach(port), b"", 0
         self.receive()
-        self.send("WebDriver:NewSession", {})
+        self.send("WebDriver:NewSession", {"timeouts": {"script": 1000 * PATIENCE}})
 
     def reach(self, port):
-        for _ in range(300):
+        end = time.monotonic() + PATIENCE
+        while time.monotonic() < end and self.process.poll() is None:
             try:
                 return socket.create_connection(("127.0.0.1", port))
             except OSError:
@@ -165,13 +188,16 @@ class Firefox:
             raise RuntimeError(f"the frame is not {width} wide")
 
     def run(self, script, *words):
-        return self.send("WebDriver:ExecuteScript", {"script": script, "args": list(words)})["value"]
+        """Runs a script where the page's own scripts run; Marionette would run it where it sees none of their variables."""
+        text = f"JSON.stringify((function () {{ {script}\n }}).apply(null, {json.dumps(words)}) ?? null)"
+        value = self.send("WebDriver:ExecuteScript", {"script": "return window.eval(arguments[0]);", "args": [text]})["value"]
+        return json.loads(value)
 
     def wait(self, script, *words):
-        for _ in range(100):
-            if self.run(script, *words):
-                return
-            time.sleep(0.05)
+        wait_for(self, script, *words)
+
+    def settle(self):
+        self.send("WebDriver:ExecuteAsyncScript", {"script": SETTLED, "args": []})
 
     def picture(self, path):
         with open(path, "wb") as out:

@@ -53,7 +53,7 @@ if (seen(image)) for (const arrow of document.querySelectorAll("g.arrow")) {
     if (!near(tip.y, middle(to)) || !near(tip.x, to.right) || !near(end.y, middle(to))) fault(`${name} ends at ${tip.x},${tip.y} and not at ${to.right},${middle(to)}`);
     crosses(line, name);
     crosses(head, name);
-    lanes.add(Math.round(line.getBoundingClientRect().right));
+    lanes.add(Math.round(Number(line.getAttribute("d").match(/Q ([\d.]+)/)[1])));
 }
 if (lanes.size > 8) fault(`${lanes.size} lanes`);
 for (const chain of document.querySelectorAll("g.chain")) {
@@ -141,7 +141,16 @@ CHOSEN = {"the default page": ["name _count", "text-6"], "five objects": ["name 
           "ten objects": ["name csv", "name _errno", "text-0", "name _v3"]}
 CHOOSE = "choose(arguments[0], true);"
 GO = "location.hash = arguments[0] || '#'; return true;"
-THERE = "return location.hash.replace('#', '') === arguments[0] && (document.getElementById('image').hidden || view.list.join() === stateNow().list.join())"
+THERE = "return location.hash.replace('#', '') === arguments[0] && hashOf(view) === arguments[0]"
+
+# gives each word of text an instruction, as long as they come; how many of them are shown
+INSTRUCTIONS = """
+for (const object of DATA.objects) object.instructions = { text: object.text.map((_, index) => index % 3 === 1 ? "" : "movb *-177776(r5),*_longname+177776(r4)") };
+document.getElementById("folded").open = true;
+document.querySelectorAll(".given").forEach((words, i) => { words.open = true; showListing(words, DATA.objects[i]); });
+showAll();
+return document.querySelectorAll(".instruction").length;
+"""
 
 # on paper nothing is drawn, and each word that refers to something says to what
 PAPER = r"""
@@ -150,7 +159,7 @@ const drawn = [...document.querySelectorAll("#drawing")].filter((element) => ele
 if (drawn) faults.push("arrows are on the paper");
 for (const row of document.querySelectorAll(".word")) {
     const word = wordAt(stateNow(), row.id.split("-")[0], Number(row.id.split("-")[1]));
-    const said = row.querySelector(".target")?.textContent + row.querySelector(".place")?.textContent;
+    const said = [...row.querySelectorAll(".target, .place")].filter((part) => part.checkVisibility()).map((part) => part.textContent).join("");
     if (word.kind > 0 && !said.startsWith(SEGMENTS[word.kind] + " ")) faults.push(`${row.id} says ${said}`);
     if (word.kind < 0 && !said.includes(word.name)) faults.push(`${row.id} says ${said}`);
 }
@@ -184,7 +193,7 @@ def look_on_paper(page, name, faults, counts):
         for state in STATES[name]:
             if "addresses" not in state and "objects" in state:
                 page.run(GO, state)
-                page.wait("return location.hash.replace('#', '') === arguments[0]", state)
+                page.wait(THERE, state)
                 look(page, f"{name}, {width} on paper, {state}", faults, counts)
                 add(page.run(PAPER), f"{name} on paper, {state}", faults, counts)
         page.media("")
@@ -192,8 +201,21 @@ def look_on_paper(page, name, faults, counts):
     counts["sheets"] = counts.get("sheets", 0) + pages
 
 
+def look_with_instructions(page, path, faults, counts):
+    """The longest instruction beside each word of text, in the image, in a link and in the objects."""
+    page.load(path)
+    for width, height, scale in SIZES:
+        page.size(width, height, scale)
+        for state in ("#objects=1,2", "#objects=4,3,1,2,5&addresses=-n"):
+            page.open(state)
+            counts["instructions"] = counts.get("instructions", 0) + page.run(INSTRUCTIONS)
+            page.settle()
+            look(page, f"instructions, {width} wide, {state}", faults, counts)
+
+
 def look_everywhere(page, pages, faults):
     counts = {}
+    look_with_instructions(page, pages["the default page"], faults, counts)
     for name, path in pages.items():
         page.load(path)
         for width, height, scale in SIZES:

@@ -4,7 +4,10 @@ import re
 from page_browser import Keys
 
 FIRST = """
-const text = (selector) => document.querySelector(selector)?.textContent.trim() ?? "";
+const text = (selector) => {
+    const element = document.querySelector(selector);
+    return element?.checkVisibility() ? element.textContent.trim() : "";
+};
 return { title: text("h1"), titles: document.querySelectorAll("h1").length, lead: text(".lead"), legend: document.querySelectorAll(".legend li").length,
     action: text("#first"), tour: text("#menu button"), status: text("#status"), border: getComputedStyle(document.getElementById("status")).borderStyle };
 """
@@ -57,8 +60,9 @@ def roles(page, same):
                        ("button", "One step forward"), ("button", "Addresses of a link with -n"), ("button", "Addresses of a partial link, with -r"),
                        ("button", "Decimal numbers"), ("button", "Shortcut keys"), ("region", "Objects"), ("main", ""), ("region", "Names and marks"),
                        ("listbox", "Merged image"), ("listbox", "Names"), ("listbox", "Marks"), ("region", "main.o"), ("region", "twice.o"),
-                       ("option", "text 000006 000002 pc text 000012 entry 1, from 010 bound"), ("option", "_twice text 000012 changed"), ("group", "text 14 bytes"), ("status", "")):
+                       ("option", "_twice text 000012 changed"), ("group", "text 14 bytes"), ("status", "")):
         same(f"the {role} {name}", (role, name) in tree, True)
+    same("the option of a word", [name for role, name in tree if role == "option" and re.match(r"text 000006 000002 pc text 000012 (.* )?bound$", name)] != [], True)
     same("buttons without a name", [pair for pair in tree if pair[0] in ("button", "option", "listbox", "region") and not pair[1].strip()], [])
     same("one place that is announced", page.run("return document.querySelectorAll('[aria-live], [role=status], [role=alert], [role=log]').length"), 1)
     page.run("window.kept = document.getElementById('status')")
@@ -229,7 +233,8 @@ def leads(page, default, same):
     page.size(390, 844)
     page.open("")
     same("on a phone the objects are folded", page.run("return [...document.querySelectorAll('.card')].filter((card) => card.checkVisibility()).length"), 0)
-    for number in (1, 2, 3):
+    page.click("first")
+    for number in (2, 3, 4):
         seen = page.run("const button = document.querySelector('#adds button:not([hidden])'), box = button.getBoundingClientRect(); button.click(); return box.top >= 0 && box.bottom <= innerHeight")
         same(f"on a phone the buttons stay, {number}", (seen, page.run("return view.list.length")), (True, number))
         same(f"on a phone the image is seen, {number}", page.run("const box = document.querySelector('.word.new').getBoundingClientRect(); return box.top < innerHeight && box.bottom > 0"), True)
@@ -245,8 +250,22 @@ def texts(page, default, same):
     page.open("#objects=3,4")
     same("a place before a segment", page.run("return document.querySelector('#text-2 .place').textContent"), " \u2212 2")
     page.open("#objects=1")
-    page.run("DATA.objects[0].instructions = { text: ['mov _count, r0', '', 'jsr pc, _twice'] }; showAll();")
-    same("a place for instructions", page.run("return [...document.querySelectorAll('.instruction')].map((e) => e.textContent)"), ["mov _count, r0", "jsr pc, _twice"])
+    page.run("DATA.objects[0].instructions = { text: ['mov _count,r0', '', 'jsr pc,_twice', '', 'rts pc'] }; showAll();")
+    same("instructions in the place of numbers", page.run("return [...document.querySelectorAll('#image .meaning')].map((e) => e.textContent.trim())"),
+         ["_main: mov _count,r0", "waits for _count", "jsr pc,_twice", "waits for _twice", "rts pc"])
+    page.type("p")
+    same("instructions beside sums", page.run("return [...document.querySelectorAll('#image .meaning')].map((e) => e.textContent.trim())")[:2],
+         ["_main: mov _count,r0", "177774 + 000012 = 000006 _count"])
+    page.run("document.querySelector('.given').open = false; document.querySelector('.given').open = true;")
+    page.wait("return document.querySelector('.listing') !== null")
+    same("instructions in an object", page.run("return [...document.querySelectorAll('.card')[0].querySelectorAll('.listing tr')].map((e) => e.lastChild.textContent)"),
+         ["text", "mov _count,r0", "_count / entry 2, from 004", "jsr pc,_twice", "_twice / entry 1, from 010", "rts pc"])
+    page.open("#objects=1,2")
+    same("why a word changed", page.run("return document.getElementById('note').textContent"),
+         "The word at text 000006 waited for _twice. _twice is at 000012 now, so the linker added this to the word: 177770 + 000012 = 000002. "
+         "With pc, this is the distance from 000010, the place after the word, to 000012.")
+    page.type("w")
+    same("why a word was put back", "waits for _twice again, so 000012 was subtracted from it: 000002 \u2212 000012 = 177770." in page.run("return document.getElementById('note').textContent"), True)
     css = page.run("return document.querySelector('style').textContent")
     same("no size follows the window's width", re.findall(r"[\d.]+(?:vw|vi|vmin|vmax)\b", css), [])
     same("sizes of text in pixels", re.findall(r"font(?:-size)?:[^;]*\dpx", css), [])
