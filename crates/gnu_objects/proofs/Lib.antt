@@ -1,3 +1,4 @@
 pub mod RowLemmas
 pub mod NameLemmas
+pub mod StayingLemmas
 pub mod FitsLemmas
