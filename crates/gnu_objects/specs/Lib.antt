@@ -5,4 +5,5 @@ pub mod Converted
 pub mod Remarks
 pub mod Clashes
 pub mod Places
+pub mod Laws
 pub mod internal

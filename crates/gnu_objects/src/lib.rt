@@ -9,6 +9,7 @@ mod bytes;
 mod checks;
 mod clash;
 mod conversion;
+pub mod laws;
 mod names;
 mod options;
 mod places;
