@@ -32,8 +32,32 @@ def gnu_object(words, relocation, symbols, strings):
     return numbers + b"".join(symbols) + long(4 + len(strings)) + strings
 
 
+def gnu_named(words, relocation, rows):
+    """The same of rows: a name, a type and a value."""
+    symbols, strings = [], b""
+    for name, kind, value in rows:
+        symbols.append(symbol(4 + len(strings), kind, value))
+        strings += name + b"\0"
+    return gnu_object(words, relocation, symbols, strings)
+
+
+def v7_named(words, relocation, rows):
+    """The object of the Seventh Edition with these words and rows."""
+    header = [0o407, 2 * len(words), 0, 0, 12 * len(rows), 0, 0, 0]
+    numbers = struct.pack(f"<{8 + 2 * len(words)}H", *header, *words, *relocation)
+    return numbers + b"".join(struct.pack("<8sHH", *row) for row in rows)
+
+
 # relocation at 022 to 024, symbols at 026 to 055, the length of the strings at 056
 GOOD = gnu_object([0o177774], [0o51], [symbol(4, 0o42, 0), symbol(7, 3, 2), symbol(9, 0o40, 0)], b"_f\0x\0_g\0")
+# as a C compiler makes it: a function whose rare part is a local, and a call of a routine that divides
+WORDS = [0o4767, 2, 0o207, 0o4767, 0o177770, 0o207]
+DIVIDED = [0, 0, 0, 0, 0o71, 0]
+ROWS = [(b"_regtail.part.0", 2, 6), (b"_regtail", 0o42, 0), (b"L2", 2, 4), (b"___udivmodhi4", 0o40, 0)]
+COMPILED = gnu_named(WORDS, DIVIDED, ROWS)
+OTHER = gnu_named([0o207], [0], [(b"___udivmodsi4", 0o42, 0)])
+LOCALS = "v7-from-gnu: in.gnu: the local _regtail.part.0 is dropped, being equal to _regtail in eight bytes\n"
+CUT = "v7-from-gnu: in.gnu: ___udivmodhi4 is cut to ___udivm\n"
 ALIKE = gnu_object([], [], [symbol(4, 0o41, 1), symbol(15, 0o41, 2)], b"_function1\0_function2\0")
 
 # a byte of the object, what it becomes, the option, and the byte of the file and the reason
@@ -49,12 +73,16 @@ CHANGES = [
     (25, 1, [], "byte 024 (20): symbol 0 belongs to an overlay: _f"),
     (41, 2, [], "byte 044 (36): symbol 2 belongs to an overlay: _g"),
     (22, 3, [], "byte 024 (20): symbol 0 has its name at no place of the strings"),
+    (28, 1, [], "byte 034 (28): symbol 1 has a description, and is not for a debugger: x"),
     (30, 12, [], "byte 034 (28): symbol 1 has its name at no place of the strings"),
     (32, 0o144, [], "byte 034 (28): symbol 1 is for a debugger, and -S drops such: x"),
     (40, 0o144, ["-S"], "byte 022 (18): word 0 refers to a symbol for a debugger"),
+    (18, 0o31, ["-x"], "byte 022 (18): word 0 refers to a local that is dropped: x"),
+    (18, 0o31, ["-X"], "byte 022 (18): bad symbol number at word 0"),
     (18, 0o52, [], "byte 022 (18): bad relocation at word 0"),
     (18, 0o31, [], "byte 022 (18): bad symbol number at word 0"),
 ]
+USAGE = "usage: v7-from-gnu [-SXxq] IN OUT\n       v7-from-gnu [-SXxq] -o FOLDER FILE...\n       v7-from-gnu --help | --version\n"
 failed = []
 
 
@@ -81,6 +109,77 @@ def converts(what, data, options, line):
         os.remove("out.o")
 
 
+def becomes(what, data, options, told, wanted):
+    """The bytes are converted to these, with these lines on standard error."""
+    with open("in.gnu", "wb") as file:
+        file.write(data)
+    expect(what, run(FROM_GNU, *options, "in.gnu", "out.o"), (0, "", told))
+    with open("out.o", "rb") as file:
+        expect(f"{what}: written", file.read(), wanted)
+    os.remove("out.o")
+
+
+def check_compiled():
+    """What a C compiler makes: locals that go, and names that are cut. Returns how many objects were tried."""
+    cut = [row for row in ROWS if row[0] != b"_regtail.part.0"]
+    alone = [row for row in cut if row[1] >= 0o40]
+    whole = v7_named(WORDS, [0, 0, 0, 0, 0o51, 0], cut)
+    bare = v7_named(WORDS, [0, 0, 0, 0, 0o31, 0], alone)
+    becomes("compiled", COMPILED, [], LOCALS + CUT, whole)
+    becomes("compiled, quiet", COMPILED, ["-q"], "", whole)
+    becomes("without locals that no word needs", COMPILED, ["-X"], CUT, bare)
+    becomes("without locals", COMPILED, ["-x"], CUT, bare)
+    becomes("both letters", COMPILED, ["-Xxq"], "", bare)
+    # two locals that are equal in eight bytes both go; a name of eight bytes is not cut
+    rows = [(b"_longname.0", 2, 0), (b"_longname.1", 2, 2), (b"_eight_8", 0o42, 4), (b"_eight_8", 2, 4)]
+    names = ["_longname.0", "_longname.1"]
+    told = "".join(f"v7-from-gnu: in.gnu: the local {one} is dropped, being equal to {other} in eight bytes\n"
+                   for one, other in (names, names[::-1]))
+    becomes("two locals alike", gnu_named(WORDS, [0] * 6, rows), [], told, v7_named(WORDS, [0] * 6, rows[2:]))
+    return 6
+
+
+def linked(entry, flag):
+    """The words of COMPILED with an entry point and a flag, as a linker leaves them."""
+    text = struct.pack("<8H6H", 0o407, 12, 0, 0, 0, entry, 0, flag, *WORDS)
+    return text if flag else text + struct.pack("<6H", *[0] * 6)
+
+
+def check_linked():
+    """A file without relocation is refused if it has an entry point. Returns how many were tried."""
+    line = "byte 012 (10): entry point 000006 and no relocation: this is a linked program"
+    converts("a linked program", linked(6, 1), [], line)
+    becomes("no entry point", linked(0, 1), [], "", v7_named(WORDS, [0] * 6, []))
+    converts("an entry point and relocation", linked(6, 0), [], "")
+    return 3
+
+
+def check_folder():
+    """Several files, which are written to a folder or not at all. Returns how many commands were tried."""
+    for folder in "one", "two", "to":
+        os.mkdir(folder)
+    for path, data in (("one/a.o", COMPILED), ("one/b.o", OTHER), ("two/a.o", GOOD)):
+        with open(path, "wb") as file:
+            file.write(data)
+    line = "v7-from-gnu: one/b.o: ___udivmodsi4 is equal in eight bytes to ___udivmodhi4 of one/a.o\n"
+    expect("two names alike", run(FROM_GNU, "-o", "to", "one/a.o", "two/a.o", "one/b.o")[0:2], (2, ""))
+    expect("two names alike", run(FROM_GNU, "-o", "to", "one/a.o", "one/b.o"), (1, "", line))
+    line = "v7-from-gnu: two/a.o: a second file of this name\n"
+    expect("two files of one name", run(FROM_GNU, "-o", "to", "one/a.o", "two/a.o"), (2, "", line))
+    line = "v7-from-gnu: missing.o: cannot open\n"
+    expect("a file that is missing", run(FROM_GNU, "-o", "to", "two/a.o", "missing.o"), (2, "", line))
+    expect("nothing is written", os.listdir("to"), [])
+    line = "v7-from-gnu: one/b.o: ___udivmodsi4 is cut to ___udivm\n"
+    expect("two files", run(FROM_GNU, "-xo", "to", "two/a.o", "one/b.o"), (0, "", line))
+    expect("both are written", sorted(os.listdir("to")), ["a.o", "b.o"])
+    with open("to/b.o", "rb") as file:
+        expect("the second file", file.read(), v7_named([0o207], [0], [(b"___udivmodsi4", 0o42, 0)]))
+    expect("no such folder", run(FROM_GNU, "-q", "-o", "no", "two/a.o"), (2, "", "v7-from-gnu: no/a.o: cannot create\n"))
+    for words in ["-o"], ["-o", "to"], ["-oo", "to", "two/a.o"], ["-ox", "to", "two/a.o"], ["-"], ["-", "out.o"], ["-y", "in.gnu", "out.o"]:
+        expect(f"{words}", run(FROM_GNU, *words), (2, "", USAGE))
+    return 13
+
+
 def check_refusals():
     """All reasons; returns how many objects were tried."""
     converts("good", GOOD, [], "")
@@ -99,7 +198,7 @@ def check_refusals():
     with open("good.gnu", "wb") as file:
         file.write(GOOD)
     expect("no folder", run(FROM_GNU, "good.gnu", "missing/out.o"), (2, "", "v7-from-gnu: missing/out.o: cannot create\n"))
-    expect("a word", run(FROM_GNU, "good.gnu"), (2, "", "usage: v7-from-gnu [-S] IN OUT\n       v7-from-gnu --help | --version\n"))
+    expect("a word", run(FROM_GNU, "good.gnu"), (2, "", USAGE))
     return len(CHANGES) + 9
 
 
@@ -119,7 +218,7 @@ def check_steps(*names):
 
 with tempfile.TemporaryDirectory() as room:
     os.chdir(room)
-    objects = check_refusals()
+    objects = check_refusals() + check_compiled() + check_linked() + check_folder()
     shown = check_steps("k.o", "l.o") + check_steps("main.o", "twice.o", "count.o") + check_steps("a.o")
     if failed:
         sys.exit(1)

@@ -19,5 +19,6 @@ mod StepExamples
 mod StripExamples
 mod MemoryExamples
 mod MemoryOfCalls
+mod ConversionExamples
 mod TextExamples
 mod InstructionExamples

@@ -1,14 +1,16 @@
 -- The parts of a converted object fit its header.
-use Rattle.std.proofs.Common.{◌≡◌, ℕ, ◌+◌, ◌*◌, ◌/◌, ◌%◌, ◌&&◌, ◌==◌, Bool, true, false, IsTrue, if◌then◌else◌, List, take, drop, length, replicate, refl, sym, ap, subst, arith}
+use Rattle.std.proofs.Common.{◌≡◌, ℕ, ◌+◌, ◌*◌, ◌/◌, ◌%◌, ◌&&◌, ◌==◌, Bool, true, false, IsTrue, if◌then◌else◌, List, take, drop, length, replicate, refl, sym, ap, subst, ◌∙◌, arith}
 use Rattle.std.proofs.lemmas.List.{length-map, length-take, length-drop, length-replicate}
 use Rattle.std.proofs.lemmas.List.FromFn.{length-map-range_with_len}
 use Rattle.aout_core.specs.declared.header.Header.{Header}
 use Rattle.aout_core.specs.Contents.{Fits, is_magic}
 use Rattle.aout_core.specs.Encoding.{relocation_at}
 use Rattle.gnu_objects.specs.declared.symbols.GnuSymbol.{GnuSymbol}
-use Rattle.gnu_objects.specs.GnuForm.{word_at, symbol_at, words_from, symbols_from, relocation_of, kept}
+use Rattle.gnu_objects.specs.GnuForm.{word_at, symbol_at, words_from, symbols_from, relocation_of}
+use Rattle.gnu_objects.specs.Staying.{pairs_kept, count}
 use Rattle.gnu_objects.specs.Converted.{contents_with, renumbered, converted_symbol}
 use Rattle.gnu_objects.specs.internal.Sizes.{IsObjectHeader}
+use Rattle.gnu_objects.proofs.StayingLemmas.{length-pairs_kept}
 
 pub length-words_from : (bytes : List ℕ) (at count : ℕ) → length (words_from bytes at count) ≡ count
 length-words_from bytes at count = length-map-range_with_len (λ n. word_at bytes (at + 2 * n)) 0 count
@@ -28,16 +30,17 @@ whole_sizes t d b n text «data» bss =
     let table : (12 * n) % 12 ≡ 0 = omega arith in
     rw (text, «data», bss, table) refl
 
-pub contents_fit : (size : ℕ) (bytes : List ℕ) (h : Header) (strings : List ℕ) (symbols : List GnuSymbol) (words : List ℕ) →
-    IsObjectHeader size h → length words ≡ h.text_size / 2 + h.data_size / 2 → Fits (contents_with bytes h strings symbols words)
-contents_fit size bytes h strings symbols words whole count = record {
+pub contents_fit : (size : ℕ) (bytes : List ℕ) (h : Header) (strings : List ℕ) (symbols : List GnuSymbol) (words : List ℕ) (flags : List Bool) →
+    IsObjectHeader size h → length words ≡ h.text_size / 2 + h.data_size / 2 → length flags ≡ length symbols →
+    Fits (contents_with bytes h strings symbols words flags)
+contents_fit size bytes h strings symbols words flags whole many beside = record {
   magic = subst (λ m. IsTrue (is_magic m)) (sym whole.magic) refl;
-  sizes = whole_sizes h.text_size h.data_size h.bss_size (length (kept strings symbols)) whole.sizes.text whole.sizes.data whole.sizes.bss;
+  sizes = whole_sizes h.text_size h.data_size h.bss_size (count flags) whole.sizes.text whole.sizes.data whole.sizes.bss;
   text = omega (arith, whole.sizes.text, length-words_from bytes 16 (h.text_size / 2));
   «data» = omega (arith, whole.sizes.data, length-words_from bytes (16 + h.text_size) (h.data_size / 2));
-  text_relocation = omega (arith, whole.sizes.text, count, length-map (take (h.text_size / 2) words) (renumbered strings symbols), length-take (h.text_size / 2) words);
-  data_relocation = omega (arith, whole.sizes.data, count, length-map (drop (h.text_size / 2) words) (renumbered strings symbols), length-drop (h.text_size / 2) words);
-  table = ap (λ n. 12 * n) (length-map (kept strings symbols) (converted_symbol strings));
+  text_relocation = omega (arith, whole.sizes.text, many, length-map (take (h.text_size / 2) words) (renumbered flags), length-take (h.text_size / 2) words);
+  data_relocation = omega (arith, whole.sizes.data, many, length-map (drop (h.text_size / 2) words) (renumbered flags), length-drop (h.text_size / 2) words);
+  table = ap (λ n. 12 * n) (length-map (pairs_kept flags symbols) (λ p. converted_symbol strings p.0) ∙ length-pairs_kept flags symbols beside);
 }
 
 pub ruleset lengths = (length-words_from, length-symbols_from, length-relocation_of)

@@ -2,7 +2,7 @@
 --
 -- The words of text and data stay. A relocation word of an external gets the number that its symbol has among those that stay, and
 -- else stays. A symbol keeps the first eight bytes of its name, its type and its value.
-use Rattle.std.specs.Prelude.{ℕ, ◌+◌, ◌*◌, ◌/◌, ◌%◌, Bool, ◌==◌, if◌then◌else◌, List, map, take, drop, length, Option, Some, None, Result, Ok, Err}
+use Rattle.std.specs.Prelude.{ℕ, ◌+◌, ◌*◌, ◌/◌, ◌%◌, Bool, if◌then◌else◌, List, map, take, drop, length, Option, Some, None, Result, Ok, Err}
 use Rattle.aout_core.specs.declared.header.Header.{Header}
 use Rattle.aout_core.specs.declared.reloc.Reloc.{Reloc}
 use Rattle.aout_core.specs.declared.symbol.Symbol.{Symbol}
@@ -13,16 +13,20 @@ use Rattle.aout_core.specs.WellFormed.{first_object_fault}
 use Rattle.gnu_objects.specs.declared.refusal.Refusal.{Refusal}
 use Rattle.gnu_objects.specs.declared.refusal.Refusal.TheVariants.{BadWord}
 use Rattle.gnu_objects.specs.declared.symbols.GnuSymbol.{GnuSymbol}
-use Rattle.gnu_objects.specs.GnuForm.{words_from, symbols_of, strings_of, relocation_of, name_at, kept}
+use Rattle.gnu_objects.specs.declared.options.Options.{Options}
+use Rattle.gnu_objects.specs.GnuForm.{words_from, symbols_of, strings_of, relocation_of, name_at}
+use Rattle.gnu_objects.specs.Staying.{refers, staying, pairs_kept, count}
 use Rattle.gnu_objects.specs.GnuRefusals.{header_refusal, strings_refusal, table_refusal}
 
 -- a relocation word, an external by its number among the symbols that stay
-abbrev pub renumbered : List ℕ → List GnuSymbol → ℕ → Reloc
-renumbered strings symbols w =
-    record { 0 = if w / 2 % 8 == 4 then 16 * length (kept strings (take (w / 16) symbols)) + w % 16 else w }
+abbrev pub renumbered : List Bool → ℕ → Reloc
+renumbered flags w = record { 0 = if refers w then 16 * count (take (w / 16) flags) + w % 16 else w }
 
 abbrev pub converted_symbol : List ℕ → GnuSymbol → Symbol
 converted_symbol strings s = record { name = take 8 (name_at strings s.place); type_bits = s.type_bits; value = s.value }
+
+abbrev pub converted_symbols : List ℕ → List Bool → List GnuSymbol → List Symbol
+converted_symbols strings flags symbols = map (λ p. converted_symbol strings p.0) (pairs_kept flags symbols)
 
 abbrev pub converted_header : Header → ℕ → Header
 converted_header h count = record {
@@ -36,15 +40,15 @@ converted_header h count = record {
   flag = 0;
 }
 
--- the converted object, of the strings, the symbols and the relocation words
-abbrev pub contents_with : List ℕ → Header → List ℕ → List GnuSymbol → List ℕ → Contents
-contents_with bytes h strings symbols words = record {
-  header = converted_header h (length (kept strings symbols));
+-- the converted object, of the strings, the symbols, the relocation words, and whether each symbol stays
+abbrev pub contents_with : List ℕ → Header → List ℕ → List GnuSymbol → List ℕ → List Bool → Contents
+contents_with bytes h strings symbols words flags = record {
+  header = converted_header h (count flags);
   text_words = words_from bytes 16 (h.text_size / 2);
   data_words = words_from bytes (16 + h.text_size) (h.data_size / 2);
-  text_reloc = map (renumbered strings symbols) (take (h.text_size / 2) words);
-  data_reloc = map (renumbered strings symbols) (drop (h.text_size / 2) words);
-  symbols = map (converted_symbol strings) (kept strings symbols);
+  text_reloc = map (renumbered flags) (take (h.text_size / 2) words);
+  data_reloc = map (renumbered flags) (drop (h.text_size / 2) words);
+  symbols = converted_symbols strings flags symbols;
 }
 
 -- the refusal, where there is one
@@ -60,16 +64,20 @@ object_unless (Some fault) c = Err (BadWord fault)
 abbrev pub object_of : Contents → Result Contents Refusal
 object_of c = object_unless (first_object_fault c) c
 
-abbrev pub converted_with : Bool → List ℕ → Header → List ℕ → List GnuSymbol → List ℕ → Result Contents Refusal
-converted_with drops bytes h strings symbols words =
-    unless (table_refusal strings drops symbols words) (object_of (contents_with bytes h strings symbols words))
+abbrev pub converted_by : Bool → List ℕ → Header → List ℕ → List GnuSymbol → List ℕ → List Bool → Result Contents Refusal
+converted_by drops bytes h strings symbols words flags =
+    unless (table_refusal drops h strings symbols words flags) (object_of (contents_with bytes h strings symbols words flags))
 
-abbrev pub converted_under : Bool → List ℕ → Header → Result Contents Refusal
-converted_under drops bytes h =
+abbrev pub converted_with : Options → List ℕ → Header → List ℕ → List GnuSymbol → List ℕ → Result Contents Refusal
+converted_with o bytes h strings symbols words =
+    converted_by o.drops_debugger bytes h strings symbols words (staying o.locals strings symbols words)
+
+abbrev pub converted_under : Options → List ℕ → Header → Result Contents Refusal
+converted_under o bytes h =
     unless (header_refusal (length bytes) h)
     (unless (strings_refusal bytes h)
-    (converted_with drops bytes h (strings_of bytes h) (symbols_of bytes h) (relocation_of bytes h)))
+    (converted_with o bytes h (strings_of bytes h) (symbols_of bytes h) (relocation_of bytes h)))
 
--- what an object in GNU's form becomes; symbols for a debugger are dropped or refused
-abbrev pub converted : Bool → List ℕ → Result Contents Refusal
-converted drops bytes = converted_under drops bytes (header_in (take 16 bytes))
+-- what an object in GNU's form becomes
+abbrev pub converted : Options → List ℕ → Result Contents Refusal
+converted o bytes = converted_under o bytes (header_in (take 16 bytes))

@@ -2,7 +2,7 @@
 --
 -- The header has the eight words of the Seventh Edition, and text, data and relocation follow it as there. After them come
 -- the symbols, 8 bytes each, and after these the strings, which begin with their own length in four bytes and count them.
-use Rattle.std.specs.Prelude.{ℕ, ◌+◌, ◌*◌, ◌/◌, Bool, ◌&&◌, ◌||◌, ◌==◌, not, nat_lt, if◌then◌else◌, List, [], map, filter, take, drop, replicate, slice_index}
+use Rattle.std.specs.Prelude.{ℕ, ◌+◌, ◌*◌, ◌/◌, Bool, ◌&&◌, ◌||◌, ◌==◌, nat_lt, if◌then◌else◌, List, [], map, take, drop, replicate, slice_index}
 use Rattle.std.specs.List.{list_any, range_with_len}
 use Rattle.aout_core.specs.declared.header.Header.{Header}
 use Rattle.aout_core.specs.Names.{before_nul}
@@ -57,10 +57,3 @@ abbrev pub is_stab : List ℕ → GnuSymbol → Bool
 is_stab strings s =
     nat_lt 0o44 s.type_bits
     || ((s.type_bits == 0o40 || s.type_bits == 0o44) && list_any (λ b. b == 58) (name_at strings s.place))
-
--- a symbol that stays
-abbrev pub stays : List ℕ → GnuSymbol → Bool
-stays strings s = not (is_stab strings s)
-
-abbrev pub kept : List ℕ → List GnuSymbol → List GnuSymbol
-kept strings symbols = filter (stays strings) symbols

@@ -1,17 +1,17 @@
 -- Why an object in GNU's form is refused, the first reason that applies. (own choice)
 --
--- First the header and the sizes are looked at, then the strings, each symbol, how many stay, names that are equal in eight bytes,
--- and last the relocation words.
-use Rattle.std.specs.Prelude.{ℕ, ◌+◌, ◌/◌, ◌%◌, Bool, false, ◌&&◌, ◌||◌, ◌==◌, not, nat_eq, nat_lt, nat_le, if◌then◌else◌, List, [], ◌∷◌, take, length, slice_get, Option, Some, None}
-use Rattle.std.specs.Cmp.Lexicographic.{pointwise}
+-- First the header and the sizes are looked at, then the strings, each symbol, the entry point, how many symbols stay, externals
+-- whose names are equal in eight bytes, and last the relocation words.
+use Rattle.std.specs.Prelude.{ℕ, ◌+◌, ◌/◌, ◌%◌, Bool, true, false, ◌&&◌, ◌||◌, ◌==◌, not, nat_lt, nat_le, if◌then◌else◌, List, [], ◌∷◌, take, length, slice_get, Option, Some, None}
 use Rattle.aout_core.specs.declared.header.Header.{Header}
 use Rattle.aout_core.specs.Decoding.{header_in}
 use Rattle.aout_core.specs.Encoding.{file_length}
 use Rattle.gnu_objects.specs.declared.refusal.Refusal.{Refusal}
-use Rattle.gnu_objects.specs.declared.refusal.Refusal.TheVariants.{ShortHeader, BadMagic, OddSize, Truncated, BadStrings, Overlay, BadPlace, Stab, TooManySymbols, AlikeNames, StabWord}
+use Rattle.gnu_objects.specs.declared.refusal.Refusal.TheVariants.{ShortHeader, BadMagic, OddSize, Truncated, BadStrings, Overlay, BadPlace, Stab, Description, Linked, TooManySymbols, AlikeNames, StabWord, LocalWord}
 use Rattle.gnu_objects.specs.declared.refusal.Size.TheVariants as sizes
 use Rattle.gnu_objects.specs.declared.symbols.GnuSymbol.{GnuSymbol}
-use Rattle.gnu_objects.specs.GnuForm.{long_at, name_at, is_stab, stays, kept}
+use Rattle.gnu_objects.specs.GnuForm.{long_at, name_at, is_stab}
+use Rattle.gnu_objects.specs.Staying.{counts, alike_with, refers, count}
 
 -- the first of two refusals, where there is one
 abbrev pub refused_first : Option Refusal → Option Refusal → Option Refusal
@@ -50,13 +50,14 @@ sizes_refusal_under bytes h = refused_first (header_refusal (length bytes) h) (s
 abbrev pub sizes_refusal : List ℕ → Option Refusal
 sizes_refusal bytes = sizes_refusal_under bytes (header_in (take 16 bytes))
 
--- what is wrong with symbol n: an overlay, a name that is not in the strings, or a symbol for a debugger that is not to be dropped
+-- what is wrong with symbol n: an overlay, a name that is not in the strings, a symbol for a debugger that is not to be dropped, or
+-- a description, which only such symbols have
 abbrev pub symbol_refusal : List ℕ → Bool → ℕ → GnuSymbol → Option Refusal
 symbol_refusal strings drops n s =
     if not (s.overlay == 0) then Some (Overlay n)
     else (if nat_le (length strings) s.place || (nat_lt 0 s.place && nat_lt s.place 4) then Some (BadPlace n)
     else (if is_stab strings s then (if drops then None else Some (Stab n))
-    else (if not (s.description == 0) then Some (BadPlace n)
+    else (if not (s.description == 0) then Some (Description n)
     else None)))
 
 -- the first bad symbol from number n on
@@ -64,44 +65,50 @@ abbrev pub first_bad_symbol : List ℕ → Bool → ℕ → List GnuSymbol → O
 first_bad_symbol strings drops n [] = None
 first_bad_symbol strings drops n (s ∷ rest) = refused_first (symbol_refusal strings drops n s) (first_bad_symbol strings drops (n + 1) rest)
 
+-- a linked program: relocation was stripped, and there is an entry point, which an assembler does not give
+abbrev pub linked_refusal : Header → Option Refusal
+linked_refusal h = if not (h.flag == 0) && not (h.entry_point == 0) then Some (Linked h.entry_point) else None
+
 -- a table of the Seventh Edition has 5,461 symbols at most
 abbrev pub count_refusal : ℕ → Option Refusal
-count_refusal count = if nat_lt 5461 count then Some (TooManySymbols count) else None
+count_refusal n = if nat_lt 5461 n then Some (TooManySymbols n) else None
 
--- two names that differ, and are equal in eight bytes
-abbrev pub are_alike : List ℕ → List ℕ → Bool
-are_alike first second = pointwise nat_eq (take 8 first) (take 8 second) && not (pointwise nat_eq first second)
+-- two externals whose names are alike
+abbrev pub alike_at : ℕ → Option ℕ → Option Refusal
+alike_at n None = None
+alike_at n (Some m) = Some (AlikeNames n m)
 
--- the first symbol from number m on whose name is alike with that of symbol n
-abbrev pub alike_with : List ℕ → ℕ → List ℕ → ℕ → List GnuSymbol → Option Refusal
-alike_with strings n name m [] = None
-alike_with strings n name m (s ∷ rest) =
-    if stays strings s && are_alike name (name_at strings s.place) then Some (AlikeNames n m) else alike_with strings n name (m + 1) rest
+-- an external of number n, and those after it
+abbrev pub alike_refusal : List ℕ → ℕ → GnuSymbol → List GnuSymbol → Option Refusal
+alike_refusal strings n s rest =
+    if counts strings true s then alike_at n (alike_with strings true (name_at strings s.place) (n + 1) rest) else None
 
--- the first two symbols from number n on whose names are alike
+-- the first two externals from number n on whose names are alike
 abbrev pub first_alike : List ℕ → ℕ → List GnuSymbol → Option Refusal
 first_alike strings n [] = None
-first_alike strings n (s ∷ rest) =
-    refused_first (if stays strings s then alike_with strings n (name_at strings s.place) (n + 1) rest else None) (first_alike strings (n + 1) rest)
+first_alike strings n (s ∷ rest) = refused_first (alike_refusal strings n s rest) (first_alike strings (n + 1) rest)
 
--- a word that refers to a symbol for a debugger
-abbrev pub is_stab_at : List ℕ → Option GnuSymbol → Bool
-is_stab_at strings None = false
-is_stab_at strings (Some s) = is_stab strings s
+-- word n refers to symbol m, and whether this stays is known
+abbrev pub dropped_refusal : List ℕ → ℕ → ℕ → Option GnuSymbol → Option Bool → Option Refusal
+dropped_refusal strings n m (Some s) (Some false) = Some (if is_stab strings s then StabWord n else LocalWord n m)
+dropped_refusal strings n m _ _ = None
 
-abbrev pub refers_to_stab : List ℕ → List GnuSymbol → ℕ → Bool
-refers_to_stab strings symbols w = (w / 2 % 8 == 4) && is_stab_at strings (slice_get symbols (w / 16))
+-- word n refers to a symbol that does not stay
+abbrev pub word_refusal : List ℕ → List GnuSymbol → List Bool → ℕ → ℕ → Option Refusal
+word_refusal strings symbols flags n w =
+    if refers w then dropped_refusal strings n (w / 16) (slice_get symbols (w / 16)) (slice_get flags (w / 16)) else None
 
 -- the first such word from number n on
-abbrev pub first_stab_word : List ℕ → List GnuSymbol → ℕ → List ℕ → Option Refusal
-first_stab_word strings symbols n [] = None
-first_stab_word strings symbols n (w ∷ rest) =
-    if refers_to_stab strings symbols w then Some (StabWord n) else first_stab_word strings symbols (n + 1) rest
+abbrev pub first_dropped_word : List ℕ → List GnuSymbol → List Bool → ℕ → List ℕ → Option Refusal
+first_dropped_word strings symbols flags n [] = None
+first_dropped_word strings symbols flags n (w ∷ rest) =
+    refused_first (word_refusal strings symbols flags n w) (first_dropped_word strings symbols flags (n + 1) rest)
 
 -- what is wrong with the symbols, and with the words that refer to them
-abbrev pub table_refusal : List ℕ → Bool → List GnuSymbol → List ℕ → Option Refusal
-table_refusal strings drops symbols words =
+abbrev pub table_refusal : Bool → Header → List ℕ → List GnuSymbol → List ℕ → List Bool → Option Refusal
+table_refusal drops h strings symbols words flags =
     refused_first (first_bad_symbol strings drops 0 symbols)
-    (refused_first (count_refusal (length (kept strings symbols)))
+    (refused_first (linked_refusal h)
+    (refused_first (count_refusal (count flags))
     (refused_first (first_alike strings 0 symbols)
-    (first_stab_word strings symbols 0 words)))
+    (first_dropped_word strings symbols flags 0 words))))

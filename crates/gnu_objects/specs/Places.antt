@@ -6,7 +6,7 @@ use Rattle.aout_core.specs.declared.object.ObjectFault.TheVariants.{NotAnObject,
 use Rattle.aout_core.specs.Decoding.{header_in}
 use Rattle.aout_core.specs.Encoding.{relocation_at, symbols_at, file_length}
 use Rattle.gnu_objects.specs.declared.refusal.Refusal.{Refusal}
-use Rattle.gnu_objects.specs.declared.refusal.Refusal.TheVariants.{ShortHeader, BadMagic, OddSize, Truncated, BadStrings, Overlay, BadPlace, Stab, TooManySymbols, AlikeNames, StabWord, BadWord, Memory}
+use Rattle.gnu_objects.specs.declared.refusal.Refusal.TheVariants.{ShortHeader, BadMagic, OddSize, Truncated, BadStrings, Overlay, BadPlace, Stab, Description, Linked, TooManySymbols, AlikeNames, StabWord, LocalWord, BadWord, Memory}
 use Rattle.gnu_objects.specs.declared.refusal.Size.{Size}
 use Rattle.gnu_objects.specs.declared.refusal.Size.TheVariants.{TextSize, DataSize, BssSize, SymbolSize}
 use Rattle.gnu_objects.specs.GnuForm.{symbol_at, strings_of, name_at}
@@ -41,9 +41,12 @@ place_with size h BadStrings = file_length h
 place_with size h (Overlay n) = symbol_place h n
 place_with size h (BadPlace n) = symbol_place h n
 place_with size h (Stab n) = symbol_place h n
+place_with size h (Description n) = symbol_place h n
+place_with size h (Linked entry) = 10
 place_with size h (TooManySymbols count) = 8
 place_with size h (AlikeNames n m) = symbol_place h m
 place_with size h (StabWord n) = word_place h n
+place_with size h (LocalWord n m) = word_place h n
 place_with size h (BadWord fault) = fault_place h fault
 place_with size h Memory = 0
 

@@ -1,15 +1,16 @@
 //! What is wrong with an object in GNU's form.
-ghost use Rattle.std.specs.Prelude.{◌≡◌, ◌+◌, ◌≤◌, ◌<◌, ◌^◌, length};
+ghost use Rattle.std.specs.Prelude.{◌≡◌, ◌+◌, ◌≤◌, ◌<◌, ◌^◌, length, slice_get};
 ghost use Rattle.aout_core.specs.Encoding.{symbols_at, file_length};
-ghost use Rattle.gnu_objects.specs.GnuRefusals.{size_refusal, header_refusal, strings_refusal, symbol_refusal, first_bad_symbol, count_refusal};
+ghost use Rattle.gnu_objects.specs.GnuRefusals.{size_refusal, header_refusal, strings_refusal, symbol_refusal, first_bad_symbol, linked_refusal, count_refusal};
 ghost use Rattle.gnu_objects.specs.internal.Sizes.{HasWholeSizes, IsObjectHeader};
-ghost use Rattle.gnu_objects.specs.GnuRefusals.{alike_with, first_alike, refers_to_stab, first_stab_word, table_refusal};
+ghost use Rattle.gnu_objects.specs.GnuRefusals.{alike_refusal, first_alike, dropped_refusal, word_refusal, first_dropped_word, table_refusal};
 
 use crate::bytes::long_at;
-use crate::names::{are_alike, is_stab, name_at};
+use crate::names::{is_stab, name_at};
 use crate::refusal::{Refusal, Size};
+use crate::staying::{alike_with, count, counts, refers};
 use crate::symbols::GnuSymbol;
-use crate::words::kept_count;
+use crate::tables::Tables;
 use aout_core::Header;
 
 /// Where the symbols begin.
@@ -92,7 +93,7 @@ fn symbol_refusal(strings: &[u8], drops: bool, n: u16, symbol: &GnuSymbol) -> Op
     } else if is_stab(strings, symbol) {
         if drops { None } else { Some(Refusal::Stab(n)) }
     } else if symbol.description != 0 {
-        Some(Refusal::BadPlace(n))
+        Some(Refusal::Description(n))
     } else {
         None
     }
@@ -112,6 +113,16 @@ fn first_bad_symbol(strings: &[u8], drops: bool, symbols: &[GnuSymbol]) -> Optio
     None
 }
 
+fn linked_refusal(header: &Header) -> Option<Refusal>
+    ensures { result ≡ linked_refusal header.now }
+{
+    if header.flag != 0 && header.entry_point != 0 {
+        Some(Refusal::Linked(header.entry_point))
+    } else {
+        None
+    }
+}
+
 fn count_refusal(count: u16) -> Option<Refusal>
     ensures { result ≡ count_refusal count }
 {
@@ -122,79 +133,117 @@ fn count_refusal(count: u16) -> Option<Refusal>
     }
 }
 
-/// The first of these symbols, counted from `m`, whose name is alike with that of symbol `n`.
-fn alike_with(strings: &[u8], n: u16, name: &[u8], m: u16, rest: &[GnuSymbol]) -> Option<Refusal>
-    requires { m + length rest.now < 2 ^ 16 }
-    ensures { result ≡ alike_with strings.now n name.now m rest.now }
+/// What is wrong with an external and those after it.
+fn alike_refusal(strings: &[u8], n: u16, symbol: &GnuSymbol, rest: &[GnuSymbol]) -> Option<Refusal>
+    requires { n + 1 + length rest.now < 2 ^ 16 }
+    ensures { result ≡ alike_refusal strings.now n symbol.now rest.now }
 {
-    for (k, symbol) in rest.iter().enumerate() {
-        if !is_stab(strings, symbol) && are_alike(name, name_at(strings, symbol.place)) {
-            return Some(Refusal::AlikeNames(n, m + k as u16));
-        }
+    if !counts(strings, true, symbol) {
+        return None;
     }
-    None
+    let name = name_at(strings, symbol.place);
+    match alike_with(strings, true, name, n + 1, rest) {
+        Some(m) => Some(Refusal::AlikeNames(n, m)),
+        None => None,
+    }
 }
 
-/// The first two symbols whose names are alike.
+/// The first two externals whose names are alike.
 fn first_alike(strings: &[u8], symbols: &[GnuSymbol]) -> Option<Refusal>
     requires { length symbols.now < 2 ^ 16 }
     ensures { result ≡ first_alike strings.now 0 symbols.now }
 {
     for (n, symbol) in symbols.iter().enumerate() {
-        if !is_stab(strings, symbol) {
-            let name = name_at(strings, symbol.place);
-            let refusal = alike_with(strings, n as u16, name, n as u16 + 1, &symbols[n + 1..]);
-            if refusal.is_some() {
-                return refusal;
-            }
+        let refusal = alike_refusal(strings, n as u16, symbol, &symbols[n + 1..]);
+        if refusal.is_some() {
+            return refusal;
         }
     }
     None
 }
 
-/// Whether a relocation word refers to a symbol for a debugger.
-fn refers_to_stab(strings: &[u8], symbols: &[GnuSymbol], word: u16) -> bool
-    ensures { result ≡ refers_to_stab strings.now symbols.now word }
+/// What is wrong with a word that refers to this symbol, if it does not stay.
+fn dropped_refusal(
+    strings: &[u8],
+    symbols: &[GnuSymbol],
+    flags: &[bool],
+    n: u16,
+    m: u16,
+) -> Option<Refusal>
+    ensures { result ≡ dropped_refusal strings.now n m (slice_get symbols.now m) (slice_get flags.now m) }
 {
-    word / 2 % 8 == 4
-        && match symbols.get(usize::from(word / 16)) {
-            Some(symbol) => is_stab(strings, symbol),
-            None => false,
-        }
+    let Some(symbol) = symbols.get(usize::from(m)) else {
+        return None;
+    };
+    match flags.get(usize::from(m)) {
+        Some(stays) if !*stays => Some(if is_stab(strings, symbol) {
+            Refusal::StabWord(n)
+        } else {
+            Refusal::LocalWord(n, m)
+        }),
+        _ => None,
+    }
 }
 
-/// The first relocation word that refers to a symbol for a debugger.
-fn first_stab_word(strings: &[u8], symbols: &[GnuSymbol], words: &[u16]) -> Option<Refusal>
+fn word_refusal(
+    strings: &[u8],
+    symbols: &[GnuSymbol],
+    flags: &[bool],
+    n: u16,
+    word: u16,
+) -> Option<Refusal>
+    ensures { result ≡ word_refusal strings.now symbols.now flags.now n word }
+{
+    if refers(word) {
+        dropped_refusal(strings, symbols, flags, n, word / 16)
+    } else {
+        None
+    }
+}
+
+/// The first relocation word that refers to a symbol that does not stay.
+fn first_dropped_word(
+    strings: &[u8],
+    symbols: &[GnuSymbol],
+    flags: &[bool],
+    words: &[u16],
+) -> Option<Refusal>
     requires { length words.now ≤ 2 ^ 16 }
-    ensures { result ≡ first_stab_word strings.now symbols.now 0 words.now }
+    ensures { result ≡ first_dropped_word strings.now symbols.now flags.now 0 words.now }
 {
     for (n, word) in words.iter().enumerate() {
-        if refers_to_stab(strings, symbols, *word) {
-            return Some(Refusal::StabWord(n as u16));
+        let refusal = word_refusal(strings, symbols, flags, n as u16, *word);
+        if refusal.is_some() {
+            return refusal;
         }
     }
     None
 }
 
 /// What is wrong with the symbols, and with the words that refer to them, if anything is.
-pub(crate) fn table_refusal(
-    strings: &[u8],
-    drops: bool,
-    symbols: &[GnuSymbol],
-    words: &[u16],
-) -> Option<Refusal>
-    requires symbols { length symbols.now < 2 ^ 16 }
-    requires words { length words.now ≤ 2 ^ 16 }
-    ensures { result ≡ table_refusal strings.now drops symbols.now words.now }
+pub(crate) fn table_refusal(drops: bool, header: &Header, tables: &Tables<'_>) -> Option<Refusal>
+    requires symbols { length tables.now.symbols.now < 2 ^ 16 }
+    requires flags { length tables.now.flags.now ≡ length tables.now.symbols.now }
+    requires words { length tables.now.words.now ≤ 2 ^ 16 }
+    ensures { result ≡ table_refusal drops header.now tables.now.strings.now tables.now.symbols.now tables.now.words.now tables.now.flags.now }
 {
+    let Tables {
+        strings,
+        symbols,
+        words,
+        flags,
+    } = *tables;
     if let Some(refusal) = first_bad_symbol(strings, drops, symbols) {
         return Some(refusal);
     }
-    if let Some(refusal) = count_refusal(kept_count(strings, symbols) as u16) {
+    if let Some(refusal) = linked_refusal(header) {
+        return Some(refusal);
+    }
+    if let Some(refusal) = count_refusal(count(flags) as u16) {
         return Some(refusal);
     }
     if let Some(refusal) = first_alike(strings, symbols) {
         return Some(refusal);
     }
-    first_stab_word(strings, symbols, words)
+    first_dropped_word(strings, symbols, flags, words)
 }

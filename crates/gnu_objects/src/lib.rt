@@ -26,14 +26,24 @@
 
 mod bytes;
 mod checks;
+mod clash;
 mod conversion;
+pub mod laws;
 mod names;
+mod options;
 mod places;
 mod refusal;
+mod remark;
+mod staying;
 mod symbols;
+mod tables;
+mod whole;
 mod words;
 
+pub use clash::{Clash, first_clash};
 pub use conversion::convert;
+pub use options::{Locals, Options};
 pub use places::{place_of, whole_name};
 pub use refusal::{Refusal, Size};
+pub use remark::{Remark, remarks};
 pub use symbols::GnuSymbol;

@@ -3,10 +3,10 @@ ghost use Rattle.std.specs.Prelude.{◌≡◌, ◌≢◌, []};
 ghost use Rattle.gnu_objects.specs.Places.{symbol_place, word_place, size_place, fault_place, place_of, whole_name, HasSymbol};
 
 use crate::checks::{header_refusal, strings_at, strings_refusal, symbols_at};
-use crate::conversion::{header_of, strings_of};
 use crate::names::name_at;
 use crate::refusal::{Refusal, Size};
 use crate::symbols::symbol_at;
+use crate::whole::{header_of, strings_of};
 use aout_core::{Header, ObjectFault};
 
 /// The place of a symbol.
@@ -58,10 +58,14 @@ pub fn place_of(bytes: &[u8], refusal: Refusal) -> usize
         Refusal::BadMagic(_) | Refusal::Memory => 0,
         Refusal::OddSize(size) => size_place(size),
         Refusal::BadStrings => strings_at(&header),
-        Refusal::Overlay(n) | Refusal::BadPlace(n) | Refusal::Stab(n) => symbol_place(&header, n),
+        Refusal::Overlay(n)
+        | Refusal::BadPlace(n)
+        | Refusal::Stab(n)
+        | Refusal::Description(n)
+        | Refusal::AlikeNames(_, n) => symbol_place(&header, n),
+        Refusal::Linked(_) => 10,
         Refusal::TooManySymbols(_) => 8,
-        Refusal::AlikeNames(_, n) => symbol_place(&header, n),
-        Refusal::StabWord(n) => word_place(&header, n),
+        Refusal::StabWord(n) | Refusal::LocalWord(n, _) => word_place(&header, n),
         Refusal::BadWord(fault) => fault_place(&header, fault),
     }
 }

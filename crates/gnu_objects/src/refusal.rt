@@ -47,19 +47,28 @@ pub enum Refusal {
     /// 8: this symbol is for a debugger, and such are not to be dropped.
     #[error("symbol {0} is for a debugger, and -S drops such")]
     Stab(u16),
-    /// 9: so many symbols stay, over 5,461.
+    /// 9: this symbol has a description, and is not for a debugger.
+    #[error("symbol {0} has a description, and is not for a debugger")]
+    Description(u16),
+    /// 10: there is no relocation, and this entry point: the file is a linked program.
+    #[error("entry point {0:06o} and no relocation: this is a linked program")]
+    Linked(u16),
+    /// 11: so many symbols stay, over 5,461.
     #[error("{0} symbols stay, and a table has 5461 at most")]
     TooManySymbols(u16),
-    /// 10: the names of these two symbols differ, and are equal in eight bytes.
+    /// 12: the names of these two externals differ, and are equal in eight bytes.
     #[error("symbols {0} and {1} have names that are equal in eight bytes")]
     AlikeNames(u16, u16),
-    /// 11: this word refers to a symbol for a debugger.
+    /// 13: this word refers to a symbol for a debugger.
     #[error("word {0} refers to a symbol for a debugger")]
     StabWord(u16),
-    /// 12: a word that an object may not have.
+    /// 14: this word refers to this local, which does not stay.
+    #[error("word {0} refers to a local that is dropped")]
+    LocalWord(u16, u16),
+    /// 15: a word that an object may not have.
     #[error("{0}")]
     BadWord(ObjectFault),
-    /// 13: memory runs out for what is converted.
+    /// 16: memory runs out for what is converted.
     #[error("no memory")]
     Memory,
 }

@@ -1,11 +1,10 @@
 //! Words and relocation words.
 ghost use Rattle.std.specs.Prelude.{◌≡◌, ◌+◌, ◌*◌, ◌≤◌, IfOk, length, map};
-ghost use Rattle.gnu_objects.specs.GnuForm.{words_from, kept};
+ghost use Rattle.gnu_objects.specs.GnuForm.{words_from};
 ghost use Rattle.gnu_objects.specs.Converted.{renumbered};
 
 use crate::bytes::word_at;
-use crate::names::is_stab;
-use crate::symbols::GnuSymbol;
+use crate::staying::{count, refers};
 use aout_core::Reloc;
 use std::alloc::{AllocError, Global};
 
@@ -26,40 +25,28 @@ pub(crate) fn words_from(
     Ok(words)
 }
 
-/// How many of these symbols stay.
-pub(crate) fn kept_count(strings: &[u8], symbols: &[GnuSymbol]) -> usize
-    ensures value { result ≡ length (kept strings.now symbols.now) }
-    ensures bound { result ≤ length symbols.now }
-{
-    symbols
-        .iter()
-        .filter(|symbol| !is_stab(strings, symbol))
-        .count()
-}
-
 /// A relocation word, an external by its number among the symbols that stay.
-fn renumbered(strings: &[u8], symbols: &[GnuSymbol], word: u16) -> Reloc
-    ensures { result ≡ renumbered strings.now symbols.now word }
+fn renumbered(flags: &[bool], word: u16) -> Reloc
+    ensures { result ≡ renumbered flags.now word }
 {
     let reloc = Reloc(word);
-    if word / 2 % 8 != 4 {
+    if !refers(word) {
         return reloc;
     }
-    let before = usize::from(reloc.number()).min(symbols.len());
-    Reloc(16 * kept_count(strings, &symbols[..before]) as u16 + word % 16)
+    let before = usize::from(reloc.number()).min(flags.len());
+    Reloc(16 * count(&flags[..before]) as u16 + word % 16)
 }
 
 /// Relocation words, externals by their numbers among the symbols that stay.
 pub(crate) fn all_renumbered(
     alloc: Global,
-    strings: &[u8],
-    symbols: &[GnuSymbol],
+    flags: &[bool],
     words: &[u16],
 ) -> Result<Vec<Reloc>, AllocError>
-    ensures { IfOk result (λ v. v.items ≡ map (renumbered strings.now symbols.now) words.now) }
+    ensures { IfOk result (λ v. v.items ≡ map (renumbered flags.now) words.now) }
 {
     words
         .iter()
-        .map(|word| renumbered(strings, symbols, *word))
+        .map(|word| renumbered(flags, *word))
         .collect(alloc)
 }

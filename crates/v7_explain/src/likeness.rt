@@ -1,6 +1,6 @@
 //! What a file is that is not an a.out file of the Seventh Edition.
 use aout_core::{Header, is_magic};
-use gnu_objects::{Refusal, convert};
+use gnu_objects::{Locals, Options, Refusal, convert};
 use std::alloc::Global;
 
 /// The header that a file begins with, if it is as long.
@@ -58,15 +58,23 @@ pub(crate) fn is_of_gnu(alloc: Global, bytes: &[u8], is_odd: bool) -> bool {
         Some(header) if header.symbol_size > 0 => {}
         _ => return false,
     }
-    match convert(alloc, bytes, true) {
+    let options = Options {
+        drops_debugger: true,
+        locals: Locals::KeepAll,
+    };
+    match convert(alloc, bytes, options) {
         Ok(_) => true,
         Err(
-            Refusal::TooManySymbols(_)
+            Refusal::Linked(_)
+            | Refusal::TooManySymbols(_)
             | Refusal::AlikeNames(_, _)
             | Refusal::StabWord(_)
+            | Refusal::LocalWord(_, _)
             | Refusal::BadWord(_),
         ) => true,
-        Err(Refusal::Overlay(_) | Refusal::BadPlace(_) | Refusal::Stab(_)) => is_odd,
+        Err(
+            Refusal::Overlay(_) | Refusal::BadPlace(_) | Refusal::Stab(_) | Refusal::Description(_),
+        ) => is_odd,
         Err(_) => false,
     }
 }

@@ -1,7 +1,9 @@
 -- Headers in which nothing is wrong.
-use Rattle.std.specs.Prelude.{◌≡◌, ℕ, ◌%◌, ◌≤◌}
+use Rattle.std.specs.Prelude.{◌≡◌, ℕ, ◌%◌, ◌≤◌, List, None, length, take}
 use Rattle.aout_core.specs.declared.header.Header.{Header}
+use Rattle.aout_core.specs.Decoding.{header_in}
 use Rattle.aout_core.specs.Encoding.{file_length}
+use Rattle.gnu_objects.specs.GnuRefusals.{header_refusal, strings_refusal}
 
 -- segments of whole words
 pub record HasWholeSizes (h : Header) : Type 0 where
@@ -14,3 +16,10 @@ pub record IsObjectHeader (size : ℕ) (h : Header) : Type 0 where
   pub magic : h.magic ≡ 0o407
   pub sizes : HasWholeSizes h
   pub long : file_length h ≤ size
+
+-- the header of these bytes, whose header, sizes and strings are not refused
+pub record IsWhole (bytes : List ℕ) (h : Header) : Type 0 where
+  pub is : h ≡ header_in (take 16 bytes)
+  pub header : header_refusal (length bytes) h ≡ None
+  pub strings : strings_refusal bytes h ≡ None
+  pub object : IsObjectHeader (length bytes) h

@@ -1,0 +1,105 @@
+-- The law of conversion.
+use Rattle.std.proofs.Common.{◌≡◌, ℕ, ◌+◌, ◌/◌, Bool, true, false, not, eqb, if◌then◌else◌, List, ◌++◌, map, take, drop, length, Option, Some, None, refl, ap, ◌∙◌, subst}
+use Rattle.std.specs.Prelude.{Result, Ok}
+use Rattle.std.proofs.lemmas.List.{take-append-drop}
+use Rattle.aout_core.specs.declared.header.Header.{Header}
+use Rattle.aout_core.specs.declared.object.ObjectFault.{ObjectFault}
+use Rattle.aout_core.specs.declared.object.ObjectFault.TheVariants.{NotAnObject, NoRelocation}
+use Rattle.aout_core.specs.Contents.{Contents}
+use Rattle.aout_core.specs.Decoding.{header_in}
+use Rattle.aout_core.specs.WellFormed.{first_bad_word, first_object_fault}
+use Rattle.gnu_objects.specs.declared.options.Options.{Options}
+use Rattle.gnu_objects.specs.declared.refusal.Refusal.{Refusal}
+use Rattle.gnu_objects.specs.declared.symbols.GnuSymbol.{GnuSymbol}
+use Rattle.gnu_objects.specs.GnuForm.{words_from, symbols_of, strings_of, relocation_of}
+use Rattle.gnu_objects.specs.Staying.{staying, kept, count}
+use Rattle.gnu_objects.specs.GnuRefusals.{header_refusal, strings_refusal, first_bad_symbol, linked_refusal, count_refusal, first_alike, first_dropped_word, table_refusal, refused_first}
+use Rattle.gnu_objects.specs.Converted.{unless, object_unless, object_of, contents_with, converted_by, converted_with, converted_under, renumbered, converted_symbol}
+use Rattle.gnu_objects.specs.Laws.{GnuFile, file_under, IsConversion, ConversionLaw}
+use Rattle.gnu_objects.proofs.StayingLemmas.{length-staying, kept_fused}
+use Rattle.gnu_objects.proofs.ReferenceLemmas.{both_none, bad_split, dropped_split, references}
+use Rattle.gnu_objects.proofs.DistinctLemmas.{distinct}
+
+unless_ok : (r : Option Refusal) (x : Result Contents Refusal) (c : Contents) → unless r x ≡ Ok c → (r ≡ None) × (x ≡ Ok c)
+unless_ok None x c e = (refl, e)
+unless_ok (Some r) x c e = absurd (cc)
+
+object_ok : (f : Option ObjectFault) (x c : Contents) → object_unless f x ≡ Ok c → (f ≡ None) × (x ≡ c)
+object_ok None x c e = let same : x ≡ c = cc in (refl, same)
+object_ok (Some f) x c e = absurd (cc)
+
+object_words : (c : Contents) → first_object_fault c ≡ None → first_bad_word c.symbols 0 (c.text_reloc ++ c.data_reloc) ≡ None
+object_words c e = by (eqb c.header.magic 0o407) (eqb c.header.flag 0) e
+  where
+    by : (m f : Bool) → (if not m then Some NotAnObject else (if not f then Some NoRelocation else first_bad_word c.symbols 0 (c.text_reloc ++ c.data_reloc))) ≡ None →
+        first_bad_word c.symbols 0 (c.text_reloc ++ c.data_reloc) ≡ None
+    by true true e = e
+    by true false e = absurd (cc)
+    by false f e = absurd (cc)
+
+-- a file by its tables
+abbrev file_of : List ℕ → Header → List ℕ → List GnuSymbol → List ℕ → GnuFile
+file_of bytes h strings symbols words = record {
+  header = h;
+  text_words = words_from bytes 16 (h.text_size / 2);
+  data_words = words_from bytes (16 + h.text_size) (h.data_size / 2);
+  relocation = words;
+  strings = strings;
+  symbols = symbols;
+}
+
+of_contents : (o : Options) (bytes : List ℕ) (h : Header) (strings : List ℕ) (symbols : List GnuSymbol) (words : List ℕ) (flags : List Bool) →
+    flags ≡ staying o.locals strings symbols words → first_alike strings 0 symbols ≡ None → first_dropped_word strings symbols flags 0 words ≡ None →
+    first_object_fault (contents_with bytes h strings symbols words flags) ≡ None →
+    IsConversion o (file_of bytes h strings symbols words) (contents_with bytes h strings symbols words flags)
+of_contents o bytes h strings symbols words flags is apart stay whole =
+    let g = file_of bytes h strings symbols words in
+    let c = contents_with bytes h strings symbols words flags in
+    let beside : length flags ≡ length symbols = ap length is ∙ length-staying o.locals strings symbols words in
+    let table : c.symbols ≡ map (converted_symbol strings) (kept flags symbols) = kept_fused (converted_symbol strings) flags symbols in
+    let front = take (h.text_size / 2) words in
+    let back = drop (h.text_size / 2) words in
+    let split : first_dropped_word strings symbols flags 0 (front ++ back) ≡ None =
+    ap (first_dropped_word strings symbols flags 0) (take-append-drop (h.text_size / 2) words) ∙ stay in
+    let stay_in = dropped_split strings symbols flags 0 front back split in
+    let good_in = bad_split c.symbols 0 (map (renumbered flags) front) (map (renumbered flags) back) (object_words c whole) in
+    record {
+      text_size = refl;
+      data_size = refl;
+      bss_size = refl;
+      text_words = refl;
+      data_words = refl;
+      text_reloc = references g c flags 0 0 front beside table stay_in.0 good_in.0;
+      data_reloc = references g c flags stay_in.1.0 good_in.1.0 back beside table stay_in.1.1 good_in.1.1;
+      symbols = table ∙ ap (λ (f : List Bool). map (converted_symbol strings) (kept f symbols)) is;
+      names = λ m n s t stays_s stays_t ne. distinct o.locals strings symbols words apart m n s t stays_s.is stays_t.is stays_s.stays stays_t.stays ne;
+    }
+
+of_tables : (o : Options) (bytes : List ℕ) (h : Header) (strings : List ℕ) (symbols : List GnuSymbol) (words : List ℕ) (flags : List Bool) (c : Contents) →
+    flags ≡ staying o.locals strings symbols words → converted_by o.drops_debugger bytes h strings symbols words flags ≡ Ok c →
+    IsConversion o (file_of bytes h strings symbols words) c
+of_tables o bytes h strings symbols words flags c is e =
+    let made = contents_with bytes h strings symbols words flags in
+    let table = unless_ok (table_refusal o.drops_debugger h strings symbols words flags) (object_of made) c e in
+    let object = object_ok (first_object_fault made) made c table.1 in
+    let dropped = first_dropped_word strings symbols flags 0 words in
+    let alike = refused_first (first_alike strings 0 symbols) dropped in
+    let many = refused_first (count_refusal (count flags)) alike in
+    let linked = refused_first (linked_refusal h) many in
+    let first = both_none (first_bad_symbol strings o.drops_debugger 0 symbols) linked table.0 in
+    let second = both_none (linked_refusal h) many first.1 in
+    let third = both_none (count_refusal (count flags)) alike second.1 in
+    let last = both_none (first_alike strings 0 symbols) dropped third.1 in
+    subst (λ (x : Contents). IsConversion o (file_of bytes h strings symbols words) x) object.1
+    (of_contents o bytes h strings symbols words flags is last.0 last.1 object.0)
+
+of_header : (o : Options) (bytes : List ℕ) (h : Header) (c : Contents) → converted_under o bytes h ≡ Ok c → IsConversion o (file_under bytes h) c
+of_header o bytes h c e =
+    let tables = converted_with o bytes h (strings_of bytes h) (symbols_of bytes h) (relocation_of bytes h) in
+    let first = unless_ok (header_refusal (length bytes) h) (unless (strings_refusal bytes h) tables) c e in
+    let second = unless_ok (strings_refusal bytes h) tables c first.1 in
+    of_tables o bytes h (strings_of bytes h) (symbols_of bytes h) (relocation_of bytes h)
+    (staying o.locals (strings_of bytes h) (symbols_of bytes h) (relocation_of bytes h)) c refl second.1
+
+pub conversion : ConversionLaw
+conversion o bytes c e = of_header o bytes (header_in (take 16 bytes)) c e

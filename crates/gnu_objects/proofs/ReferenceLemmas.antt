@@ -1,0 +1,184 @@
+-- What the words of a converted object refer to.
+use Rattle.std.proofs.Common.{◌≡◌, ℕ, zero, suc, ◌+◌, ◌*◌, ◌/◌, ◌%◌, ◌<◌, ◌≤◌, Bool, true, false, ◌==◌, eqb, eqb-true, if◌then◌else◌, List, [], ◌∷◌, ◌++◌, map, take, length, Option, Some, None, option_map, slice_get, refl, sym, ap, ◌∙◌, arith, ◌⊎◌, inl, inr}
+use Rattle.std.proofs.lemmas.Bool.{cases_lt}
+use Rattle.std.proofs.lemmas.List.{length-map}
+use Rattle.std.proofs.lemmas.Option.{slice_get-map, slice_get_past}
+use Rattle.aout_core.specs.declared.object.ObjectFault.{ObjectFault}
+use Rattle.aout_core.specs.declared.object.ObjectFault.TheVariants.{BadSymbolNumber}
+use Rattle.aout_core.specs.declared.reloc.Reloc.{Reloc}
+use Rattle.aout_core.specs.declared.reloc.Kind.TheVariants.{External}
+use Rattle.aout_core.specs.declared.symbol.Symbol.{Symbol}
+use Rattle.aout_core.specs.Contents.{Contents}
+use Rattle.aout_core.specs.WellFormed.{kind_numbered, kind_of, symbol_number, is_wanted, kind_fault, word_fault, first_of, first_bad_word}
+use Rattle.gnu_objects.specs.declared.refusal.Refusal.{Refusal}
+use Rattle.gnu_objects.specs.declared.symbols.GnuSymbol.{GnuSymbol}
+use Rattle.gnu_objects.specs.Staying.{refers, kept, count}
+use Rattle.gnu_objects.specs.GnuRefusals.{refused_first, dropped_refusal, word_refusal, first_dropped_word}
+use Rattle.gnu_objects.specs.Converted.{renumbered, converted_symbol}
+use Rattle.gnu_objects.specs.Laws.{GnuFile, RefersAlike, IsSameReference, AreSameReferences}
+use Rattle.gnu_objects.proofs.StayingLemmas.{length-kept, kept_at}
+
+pub both_none : (a b : Option Refusal) → refused_first a b ≡ None → (a ≡ None) × (b ≡ None)
+both_none None b e = (refl, e)
+both_none (Some r) b e = absurd (cc)
+
+first_none : (a b : Option ObjectFault) → first_of a b ≡ None → (a ≡ None) × (b ≡ None)
+first_none None b e = (refl, e)
+first_none (Some f) b e = absurd (cc)
+
+pub bad_split : (symbols : List Symbol) (i : ℕ) (xs ys : List Reloc) → first_bad_word symbols i (xs ++ ys) ≡ None →
+    (first_bad_word symbols i xs ≡ None) × ((j : ℕ) × (first_bad_word symbols j ys ≡ None))
+bad_split symbols i [] ys e = (refl, (i, e))
+bad_split symbols i (r ∷ rs) ys e =
+    let heads = first_none (word_fault symbols i r) (first_bad_word symbols (i + 1) (rs ++ ys)) e in
+    let rest = bad_split symbols (i + 1) rs ys heads.1 in
+    (ap (λ (f : Option ObjectFault). first_of f (first_bad_word symbols (i + 1) rs)) heads.0 ∙ rest.0, rest.1)
+
+pub dropped_split : (strings : List ℕ) (symbols : List GnuSymbol) (flags : List Bool) (i : ℕ) (xs ys : List ℕ) →
+    first_dropped_word strings symbols flags i (xs ++ ys) ≡ None →
+    (first_dropped_word strings symbols flags i xs ≡ None) × ((j : ℕ) × (first_dropped_word strings symbols flags j ys ≡ None))
+dropped_split strings symbols flags i [] ys e = (refl, (i, e))
+dropped_split strings symbols flags i (w ∷ ws) ys e =
+    let heads = both_none (word_refusal strings symbols flags i w) (first_dropped_word strings symbols flags (i + 1) (ws ++ ys)) e in
+    let rest = dropped_split strings symbols flags (i + 1) ws ys heads.1 in
+    (ap (λ (f : Option Refusal). refused_first f (first_dropped_word strings symbols flags (i + 1) ws)) heads.0 ∙ rest.0, rest.1)
+
+-- ---- the bits of a relocation word
+
+same_pc : (c w : ℕ) → (16 * c + w % 16) % 2 ≡ w % 2
+same_pc c w = omega arith
+
+same_kind : (c w : ℕ) → (16 * c + w % 16) / 2 % 8 ≡ w / 2 % 8
+same_kind c w = omega arith
+
+new_number : (c w : ℕ) → (16 * c + w % 16) / 16 ≡ c
+new_number c w = omega arith
+
+kind_external : (n : ℕ) → kind_numbered n ≡ Some External → n ≡ 4
+kind_external zero e = absurd (cc)
+kind_external (suc zero) e = absurd (cc)
+kind_external (suc (suc zero)) e = absurd (cc)
+kind_external (suc (suc (suc zero))) e = absurd (cc)
+kind_external (suc (suc (suc (suc zero)))) e = refl
+kind_external (suc (suc (suc (suc (suc n))))) e = absurd (cc)
+
+abbrev reloc : ℕ → Reloc
+reloc w = record { 0 = w }
+
+not_external : (w : ℕ) → refers w ≡ false → kind_of (reloc w) ≡ Some External → ⊥
+not_external w e k =
+    let four : w / 2 % 8 ≡ 4 = kind_external (w / 2 % 8) k in
+    let bad : true ≡ false = sym (ap (λ (n : ℕ). n == 4) four) ∙ e in
+    cc
+
+is_kind_external : (w : ℕ) → refers w ≡ true → kind_of (reloc w) ≡ Some External
+is_kind_external w e = ap kind_numbered (eqb-true (w / 2 % 8) 4 e)
+
+-- ---- a word that refers to a symbol
+
+found : {A : Type 0} (xs : List A) (k : ℕ) → k < length xs → (x : A) × (slice_get xs k ≡ Some x)
+found [] k lt = absurd (omega arith)
+found (x ∷ xs) zero lt = (x, refl)
+found (x ∷ xs) (suc k) lt = found xs k (omega arith)
+
+take_past : {A : Type 0} (xs : List A) (k : ℕ) → length xs ≤ k → take k xs ≡ xs
+take_past [] zero le = refl
+take_past [] (suc k) le = refl
+take_past (x ∷ xs) zero le = absurd (omega arith)
+take_past (x ∷ xs) (suc k) le = ap (λ l. x ∷ l) (take_past xs k (omega arith))
+
+wanted : (symbols : List Symbol) (i : ℕ) (r : Reloc) → kind_of r ≡ Some External → slice_get symbols (symbol_number r) ≡ None → word_fault symbols i r ≡ None → ⊥
+wanted symbols i r kind missing e =
+    let fault : word_fault symbols i r ≡ Some (BadSymbolNumber i) =
+    ap (λ k. kind_fault symbols i k (symbol_number r)) kind
+    ∙ ap (λ (o : Option Symbol). if is_wanted o then None else Some (BadSymbolNumber i)) missing in
+    let bad : Some (BadSymbolNumber i) ≡ None = sym fault ∙ e in
+    cc
+
+referred : (strings : List ℕ) (symbols : List GnuSymbol) (flags : List Bool) (i k : ℕ) → length flags ≡ length symbols → k < length symbols →
+    dropped_refusal strings i k (slice_get symbols k) (slice_get flags k) ≡ None →
+    (s : GnuSymbol) × (slice_get symbols k ≡ Some s) × (slice_get flags k ≡ Some true)
+referred strings symbols flags i k beside lt h = by (found symbols k lt) (found flags k (omega arith))
+  where
+    by_flag : (s : GnuSymbol) (b : Bool) → slice_get symbols k ≡ Some s → slice_get flags k ≡ Some b →
+        (s : GnuSymbol) × (slice_get symbols k ≡ Some s) × (slice_get flags k ≡ Some true)
+    by_flag s true is flag = (s, is, flag)
+    by_flag s false is flag =
+        let refused : dropped_refusal strings i k (Some s) (Some false) ≡ None =
+        sym (ap (λ (o : Option GnuSymbol). dropped_refusal strings i k o (slice_get flags k)) is
+        ∙ ap (λ (o : Option Bool). dropped_refusal strings i k (Some s) o) flag) ∙ h in
+        absurd (cc)
+
+    by : (s : GnuSymbol) × (slice_get symbols k ≡ Some s) → (b : Bool) × (slice_get flags k ≡ Some b) →
+        (s : GnuSymbol) × (slice_get symbols k ≡ Some s) × (slice_get flags k ≡ Some true)
+    by (s, is) (b, flag) = by_flag s b is flag
+
+abbrev new_reloc : List Bool → ℕ → Reloc
+new_reloc flags w = reloc (16 * count (take (w / 16) flags) + w % 16)
+
+refers_alike : (g : GnuFile) (c : Contents) (flags : List Bool) (i j w : ℕ) →
+    length flags ≡ length g.symbols → c.symbols ≡ map (converted_symbol g.strings) (kept flags g.symbols) →
+    dropped_refusal g.strings i (w / 16) (slice_get g.symbols (w / 16)) (slice_get flags (w / 16)) ≡ None →
+    kind_of (new_reloc flags w) ≡ Some External → word_fault c.symbols j (new_reloc flags w) ≡ None →
+    RefersAlike g c (w / 16) (symbol_number (new_reloc flags w))
+refers_alike g c flags i j w beside table stays kind good = by (cases_lt (w / 16) (length g.symbols))
+  where
+    number : symbol_number (new_reloc flags w) ≡ count (take (w / 16) flags)
+    number = new_number (count (take (w / 16) flags)) w
+
+    at : (s : GnuSymbol) × (slice_get g.symbols (w / 16) ≡ Some s) × (slice_get flags (w / 16) ≡ Some true) →
+        RefersAlike g c (w / 16) (symbol_number (new_reloc flags w))
+    at (s, is, flag) =
+        let there : slice_get c.symbols (symbol_number (new_reloc flags w)) ≡ Some (converted_symbol g.strings s) =
+        ap (λ (l : List Symbol). slice_get l (symbol_number (new_reloc flags w))) table
+        ∙ ap (λ (n : ℕ). slice_get (map (converted_symbol g.strings) (kept flags g.symbols)) n) number
+        ∙ slice_get-map (converted_symbol g.strings) (kept flags g.symbols) (count (take (w / 16) flags))
+        ∙ ap (λ (o : Option GnuSymbol). option_map (converted_symbol g.strings) o) (kept_at flags g.symbols (w / 16) s is flag) in
+        (s, is, there)
+
+    by : (w / 16 < length g.symbols) ⊎ (length g.symbols ≤ w / 16) → RefersAlike g c (w / 16) (symbol_number (new_reloc flags w))
+    by (inl lt) = at (referred g.strings g.symbols flags i (w / 16) beside lt stays)
+    by (inr past) =
+        let all : count (take (w / 16) flags) ≡ count flags = ap count (take_past flags (w / 16) (omega arith)) in
+        let many : length c.symbols ≡ count flags =
+        ap length table ∙ length-map (kept flags g.symbols) (converted_symbol g.strings) ∙ length-kept flags g.symbols beside in
+        let place : length c.symbols ≤ symbol_number (new_reloc flags w) = omega (arith, number) in
+        absurd (wanted c.symbols j (new_reloc flags w) kind (slice_get_past c.symbols (symbol_number (new_reloc flags w)) place) good)
+
+abbrev chosen_reloc : List Bool → ℕ → Bool → Reloc
+chosen_reloc flags w b = record { 0 = if b then 16 * count (take (w / 16) flags) + w % 16 else w }
+
+same_reference : (g : GnuFile) (c : Contents) (flags : List Bool) (i j w : ℕ) →
+    length flags ≡ length g.symbols → c.symbols ≡ map (converted_symbol g.strings) (kept flags g.symbols) →
+    word_refusal g.strings g.symbols flags i w ≡ None → word_fault c.symbols j (renumbered flags w) ≡ None →
+    IsSameReference g c (reloc w) (renumbered flags w)
+same_reference g c flags i j w beside table stays good = by (refers w) refl stays good
+  where
+    by : (b : Bool) → refers w ≡ b →
+        (if b then dropped_refusal g.strings i (w / 16) (slice_get g.symbols (w / 16)) (slice_get flags (w / 16)) else None) ≡ None →
+        word_fault c.symbols j (chosen_reloc flags w b) ≡ None → IsSameReference g c (reloc w) (chosen_reloc flags w b)
+    by false e stays good = record {
+      pc = refl;
+      kind = refl;
+      number = λ _. refl;
+      refers = λ k. absurd (not_external w e k);
+    }
+    by true e stays good =
+        let kind : kind_of (new_reloc flags w) ≡ kind_of (reloc w) = ap kind_numbered (same_kind (count (take (w / 16) flags)) w) in
+        let external : kind_of (reloc w) ≡ Some External = is_kind_external w e in
+        record {
+          pc = ap (λ (n : ℕ). eqb n 1) (same_pc (count (take (w / 16) flags)) w);
+          kind = kind;
+          number = λ other. absurd (other external);
+          refers = λ _. refers_alike g c flags i j w beside table stays (kind ∙ external) good;
+        }
+
+pub references : (g : GnuFile) (c : Contents) (flags : List Bool) (i j : ℕ) (ws : List ℕ) →
+    length flags ≡ length g.symbols → c.symbols ≡ map (converted_symbol g.strings) (kept flags g.symbols) →
+    first_dropped_word g.strings g.symbols flags i ws ≡ None → first_bad_word c.symbols j (map (renumbered flags) ws) ≡ None →
+    AreSameReferences g c ws (map (renumbered flags) ws)
+references g c flags i j [] beside table stays good = tt
+references g c flags i j (w ∷ ws) beside table stays good =
+    let s = both_none (word_refusal g.strings g.symbols flags i w) (first_dropped_word g.strings g.symbols flags (i + 1) ws) stays in
+    let b = first_none (word_fault c.symbols j (renumbered flags w)) (first_bad_word c.symbols (j + 1) (map (renumbered flags) ws)) good in
+    (same_reference g c flags i j w beside table s.0 b.0, references g c flags (i + 1) (j + 1) ws beside table s.1 b.1)

@@ -1,7 +1,0 @@
-use Rattle.std.proofs.Common.{◌≡◌, drop}
-use Rattle.gnu_objects.specs.GnuRefusals.{first_stab_word}
-use Rattle.gnu_objects.proofs.checks.first_stab_word.Given as goal
-
--- the words so far refer to symbols that stay
-abbrev pub invariant-loop-n : goal.invariant-loop-n
-invariant-loop-n l = first_stab_word l.strings l.symbols 0 l.words ≡ first_stab_word l.strings l.symbols l.n (drop l.n l.words)

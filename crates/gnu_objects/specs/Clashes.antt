@@ -1,0 +1,34 @@
+-- Externals of two files that differ, and are equal in eight bytes. (own choice)
+use Rattle.std.specs.Prelude.{ℕ, ◌+◌, true, if◌then◌else◌, List, [], ◌∷◌, take, Option, Some, None}
+use Rattle.aout_core.specs.declared.header.Header.{Header}
+use Rattle.aout_core.specs.Decoding.{header_in}
+use Rattle.gnu_objects.specs.declared.clash.Clash.{Clash}
+use Rattle.gnu_objects.specs.declared.symbols.GnuSymbol.{GnuSymbol}
+use Rattle.gnu_objects.specs.GnuForm.{name_at, strings_of, symbols_of}
+use Rattle.gnu_objects.specs.Staying.{counts, alike_with}
+
+abbrev pub clash_at : ℕ → Option ℕ → Option Clash
+clash_at n None = None
+clash_at n (Some m) = Some (record { first = n; second = m })
+
+-- symbol n of one file, and the first external of the other whose name is alike with its own
+abbrev pub clash_of : List ℕ → ℕ → GnuSymbol → List ℕ → List GnuSymbol → Option Clash
+clash_of strings n s others symbols =
+    if counts strings true s then clash_at n (alike_with others true (name_at strings s.place) 0 symbols) else None
+
+abbrev pub clash_first : Option Clash → Option Clash → Option Clash
+clash_first None later = later
+clash_first (Some clash) later = Some clash
+
+-- the first clash of the symbols from number n on
+abbrev pub first_clash_from : List ℕ → List ℕ → List GnuSymbol → ℕ → List GnuSymbol → Option Clash
+first_clash_from strings others symbols n [] = None
+first_clash_from strings others symbols n (s ∷ rest) =
+    clash_first (clash_of strings n s others symbols) (first_clash_from strings others symbols (n + 1) rest)
+
+abbrev pub first_clash_under : List ℕ → Header → List ℕ → Header → Option Clash
+first_clash_under first h second k =
+    first_clash_from (strings_of first h) (strings_of second k) (symbols_of second k) 0 (symbols_of first h)
+
+abbrev pub first_clash : List ℕ → List ℕ → Option Clash
+first_clash first second = first_clash_under first (header_in (take 16 first)) second (header_in (take 16 second))

@@ -1,0 +1,18 @@
+//! What a conversion leaves out.
+
+/// Which locals stay. (own choice)
+#[derive(Clone, Copy, Debug, PartialEq, Eq)]
+pub enum Locals {
+    KeepAll,
+    /// Those to which a relocation word refers by number.
+    KeepNeeded,
+    KeepNone,
+}
+
+/// The options of a conversion. (own choice)
+#[derive(Clone, Copy, Debug, PartialEq, Eq)]
+pub struct Options {
+    /// Symbols for a debugger are dropped, and not refused.
+    pub drops_debugger: bool,
+    pub locals: Locals,
+}

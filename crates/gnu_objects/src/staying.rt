@@ -1,0 +1,116 @@
+//! Which symbols stay in the table.
+ghost use Rattle.std.specs.Prelude.{◌≡◌, ◌+◌, ◌≤◌, ◌<◌, ◌^◌, IfOk, length, map, take};
+ghost use Rattle.gnu_objects.specs.Staying.{is_external, refers, is_needed, is_chosen, counts, alike_with, collides, stays, staying, count, kept};
+
+use crate::names::{are_alike, is_stab, name_at};
+use crate::options::Locals;
+use crate::symbols::GnuSymbol;
+use std::alloc::{AllocError, Global};
+
+/// Whether other files see the symbol.
+pub(crate) fn is_external(symbol: &GnuSymbol) -> bool
+    ensures { result ≡ is_external symbol.now }
+{
+    symbol.type_bits / 0o40 % 2 == 1
+}
+
+/// Whether a relocation word refers to a symbol by its number.
+pub(crate) fn refers(word: u16) -> bool
+    ensures { result ≡ refers word }
+{
+    word / 2 % 8 == 4
+}
+
+fn is_needed(words: &[u16], n: u16) -> bool
+    ensures { result ≡ is_needed words.now n }
+{
+    words.iter().any(|word| refers(*word) && *word / 16 == n)
+}
+
+/// Whether the options keep the local of this number.
+pub(crate) fn is_chosen(locals: Locals, words: &[u16], n: u16) -> bool
+    ensures { result ≡ is_chosen locals words.now n }
+{
+    match locals {
+        Locals::KeepAll => true,
+        Locals::KeepNeeded => is_needed(words, n),
+        Locals::KeepNone => false,
+    }
+}
+
+pub(crate) fn counts(strings: &[u8], externals: bool, symbol: &GnuSymbol) -> bool
+    ensures { result ≡ counts strings.now externals symbol.now }
+{
+    !is_stab(strings, symbol) && (!externals || is_external(symbol))
+}
+
+/// The first of these symbols, counted from `m`, whose name is alike with this one: of all but those for a debugger, or
+/// of the externals.
+pub(crate) fn alike_with(
+    strings: &[u8],
+    externals: bool,
+    name: &[u8],
+    m: u16,
+    rest: &[GnuSymbol],
+) -> Option<u16>
+    requires { m + length rest.now < 2 ^ 16 }
+    ensures { result ≡ alike_with strings.now externals name.now m rest.now }
+{
+    for (k, symbol) in rest.iter().enumerate() {
+        if counts(strings, externals, symbol) && are_alike(name, name_at(strings, symbol.place)) {
+            return Some(m + k as u16);
+        }
+    }
+    None
+}
+
+fn collides(strings: &[u8], symbols: &[GnuSymbol], symbol: &GnuSymbol) -> bool
+    requires { length symbols.now < 2 ^ 16 }
+    ensures { result ≡ collides strings.now symbols.now symbol.now }
+{
+    alike_with(strings, false, name_at(strings, symbol.place), 0, symbols).is_some()
+}
+
+/// Whether symbol `n` stays.
+fn stays(
+    locals: Locals,
+    strings: &[u8],
+    symbols: &[GnuSymbol],
+    words: &[u16],
+    n: u16,
+    symbol: &GnuSymbol,
+) -> bool
+    requires { length symbols.now < 2 ^ 16 }
+    ensures { result ≡ stays locals strings.now symbols.now words.now n symbol.now }
+{
+    !is_stab(strings, symbol)
+        && (is_external(symbol)
+            || (is_chosen(locals, words, n) && !collides(strings, symbols, symbol)))
+}
+
+/// For each symbol whether it stays.
+pub(crate) fn staying(
+    alloc: Global,
+    locals: Locals,
+    strings: &[u8],
+    symbols: &[GnuSymbol],
+    words: &[u16],
+) -> Result<Vec<bool>, AllocError>
+    requires { length symbols.now < 2 ^ 16 }
+    ensures value { IfOk result (λ v. v.items ≡ staying locals strings.now symbols.now words.now) }
+    ensures count { IfOk result (λ v. length v.items ≡ length symbols.now) }
+{
+    let mut flags = Vec::new(alloc);
+    for (n, symbol) in symbols.iter().enumerate() {
+        flags.push(stays(locals, strings, symbols, words, n as u16, symbol))?;
+    }
+    Ok(flags)
+}
+
+/// How many stay.
+pub(crate) fn count(flags: &[bool]) -> usize
+    ensures value { result ≡ count flags.now }
+    ensures bound { result ≤ length flags.now }
+{
+    flags.iter().filter(|stays| **stays).count()
+}
