@@ -1,9 +1,9 @@
 //! Converts objects of GNU's assembler for the PDP-11 (`pdp11-aout`) to objects of the Seventh Edition.
 //!
 //! ```rust
-//! use gnu_objects::{Refusal, convert, place_of};
+//! use gnu_objects::{Options, Refusal, convert, place_of};
 //!
-//! match convert(alloc, bytes, true) {
+//! match convert(alloc, bytes, options) {
 //!     Ok(object) => Ok(object),
 //!     Err(refusal) => Err((refusal, place_of(bytes, refusal))),
 //! }
@@ -11,14 +11,22 @@
 //!
 //! Types:
 //!
+//! - `Options`, `Locals`: what a conversion leaves out
 //! - `Refusal`, `Size`: why an object is refused, and which size is wrong
+//! - `Remark`, `Clash`: what there is to say of a name, and two names that would be one
 //! - `GnuSymbol`: a symbol in GNU's form
 //!
 //! Functions:
 //!
 //! - `convert`: the object of the Seventh Edition
+//! - `remarks`: the external names that are cut, and the locals that go because of their names
+//! - `first_clash`: the first names of two files that would be one in a link
 //! - `place_of`: the byte of the file that a refusal names
 //! - `whole_name`: the whole name of a symbol
+//!
+//! Modules:
+//!
+//! - `laws`: what is proved of conversions
 //!
 //! Header, text, data and relocation words are the same in both. A symbol of GNU's form has 8 bytes, of which a word is the place
 //! of its name in a table of strings after the symbols. docs/OBJECTS.md explains how such objects are made.

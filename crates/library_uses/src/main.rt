@@ -23,6 +23,7 @@ use conversion::converted_object;
 use disassembly::disassembled;
 use externals::externals_and_sizes;
 use line::put_first;
+use gnu_objects::{Locals, Options};
 use link_session::{Session, Starts};
 use listed::read_back;
 use program::program_of;
@@ -138,7 +139,11 @@ fn show_nothing(rt: &HostRuntime) -> Result<()> {
 
 /// Prints why no bytes are not an object in GNU's form, and what a partial link asks for.
 fn show_others(rt: &HostRuntime) -> io::Result<()> {
-    if let Err((refusal, place)) = converted_object(rt.alloc(), b"") {
+    let options = Options {
+        drops_debugger: true,
+        locals: Locals::KeepAll,
+    };
+    if let Err((refusal, place)) = converted_object(rt.alloc(), b"", options) {
         println!(rt; "byte {place}: {refusal}")?;
     }
     println!(rt; "{:?}", partial_options().keep())
