@@ -2,7 +2,7 @@
 ghost use Rattle.laws.specs.CoreLaws.{SegmentsLieApart, SpacesAreOne, AddressesFit, WordsAreLoaded, WordsOfRowsAreLoaded, KeepChangesNothing, StrippedIsLoaded, BssIsZero, CommonsAreZero, NothingElse};
 ghost use Rattle.laws.specs.Operands.{NamesAreFound, SegmentsAreFound, CallsArrive};
 ghost use Rattle.laws.specs.Instructions.{InstructionsAreKept, TextsAreKept};
-ghost use Rattle.laws.specs.OperandWords.{OperandsGiveNames, OperandsGiveSegments, InstructionsArrive};
+ghost use Rattle.laws.specs.OperandWords.{OperandsGiveNames, OperandsGiveSegments, LinesGiveOperands, InstructionsArrive};
 ghost use Rattle.laws.specs.Listings.{UndefinedAreListed, UndefinedLines, RowLines, ExternalsAreListed, SizesAreSums};
 ghost use Rattle.laws.specs.Orders.{OrderAddsAlike, OrderLinksAlike, OrderRefusesAlike, OrderKeepsSizes, OrderReportsAlike, OrderFindsEntry, OrderKeepsMeanings, OrderKeepsReferents, OnceInAnyOrder};
 
@@ -70,6 +70,9 @@ pub fn instruction_law()
 ///   external symbol more than it does in the object.
 /// - `segments`: a word that refers to a segment of its object gives it more by how far that segment was moved; an absolute one
 ///   the same as there.
+/// - `lines`: so do the operand words of an object whose instructions the link preserves: the file's text decoded from where that
+///   of the object begins has the same instructions first, and each operand word gives the machine what `names` and
+///   `segments` say.
 /// - `arrive`: in a link that keeps symbols, and if no name is multiply defined, an instruction with mode 67 of a name, and
 ///   nothing beyond it, finds the definition of the name in the space in which it looks: `jmp` and `jsr` in that of
 ///   instructions, any other in that of data. With split spaces this requires that the definition is in that space, or
@@ -77,6 +80,7 @@ pub fn instruction_law()
 pub fn operand_word_law()
     ensures names { OperandsGiveNames }
     ensures segments { OperandsGiveSegments }
+    ensures lines { LinesGiveOperands }
     ensures arrive { InstructionsArrive }
 {}
 
