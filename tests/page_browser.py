@@ -14,6 +14,7 @@ PACKAGES = "Debian's packages are chromium, chromium-driver and python3-selenium
 
 try:
     from selenium import webdriver
+    from selenium.common.exceptions import SessionNotCreatedException
     from selenium.webdriver.chrome.service import Service
     from selenium.webdriver.common.action_chains import ActionChains
     from selenium.webdriver.common.keys import Keys
@@ -50,12 +51,22 @@ class Chromium:
         for word in ("--headless=new", "--no-sandbox", "--disable-dev-shm-usage", "--disable-gpu"):
             options.add_argument(word)
         options.set_capability("goog:loggingPrefs", {"browser": "ALL"})
-        self.driver = webdriver.Chrome(service=Service("/usr/bin/chromedriver"), options=options)
+        self.driver = self.begin(options)
         self.driver.set_script_timeout(PATIENCE)
         self.driver.execute_cdp_cmd("Performance.enable", {"timeDomain": "threadTicks"})
         self.size(width, height)
         if path:
             self.load(path)
+
+    def begin(self, options):
+        """Starts the browser. The driver gives up after a minute, which a busy machine can need for other work: then once more."""
+        end = time.monotonic() + PATIENCE
+        while True:
+            try:
+                return webdriver.Chrome(service=Service("/usr/bin/chromedriver"), options=options)
+            except SessionNotCreatedException:
+                if time.monotonic() > end:
+                    raise
 
     def load(self, path):
         self.url = "file://" + path

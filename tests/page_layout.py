@@ -235,10 +235,12 @@ def look_in_firefox(pages, faults):
     counts = {}
     for zoom, widths in ((1, FIREFOX_WIDTHS), (2, [640])):
         page = Firefox(zoom)
-        for name, path in pages.items():
-            page.load(path)
-            for width in widths:
-                page.show(width, 800)
-                look_at_states(page, name, f"{width} wide in Firefox, zoom {zoom}", faults, counts)
-        page.quit()
+        try:
+            for name, path in pages.items():
+                page.load(path)
+                for width in widths:
+                    page.show(width, 800)
+                    look_at_states(page, name, f"{width} wide in Firefox, zoom {zoom}", faults, counts)
+        finally:
+            page.quit()
     return counts

@@ -217,7 +217,7 @@ def leads(page, default, same):
     page.load(default)
     page.size(1280, 300)
     page.open("#objects=1,2")
-    page.run("document.querySelector('#marks [data-key=text-6]').click()")
+    page.run("document.getElementById('main').scrollTop = 10000; document.querySelector('#marks [data-key=text-6]').click()")
     seen = page.run("const box = document.getElementById('text-6').getBoundingClientRect(); const bar = document.getElementById('top').getBoundingClientRect();"
                     "return [document.querySelector('#image [aria-selected=true]').id, box.top >= bar.bottom - 1 && box.bottom <= innerHeight + 1]")
     same("a mark leads to its word", seen, ["text-6", True])
