@@ -23,7 +23,9 @@ mod line;
 mod linked;
 mod naming;
 mod relocated;
+mod starts;
 
 pub use columns::put_disassembly;
 pub use label::put_labels;
 pub use line::{line_in, put_line_text};
+pub use starts::line_starts;
