@@ -1,11 +1,11 @@
 #!/usr/bin/env python3
-"""Compares what `v7-explain -d` prints with what this script computes from docs/OBJECTS.md and v7-explain(1).
+"""Compares what `v7-explain -d` and listings show of instructions with what this script computes from v7-explain(1).
 
 usage: disassembly.py V7_EXPLAIN
 
 Each of the 65,536 words is the first word of a line four times, each time with two other words after it: 262,144 lines. Then 400 made
-files are compared, objects and linked ones, with names, labels and relocated words. The table of instructions and the rules of names
-are written here anew. If GNU's assembler for the PDP-11 is installed, it assembles the text back to the same words, the floating
+files are compared, objects and linked ones, with names, labels and relocated words, and the text of their listings. The table of
+instructions and the rules of names are written here anew. If GNU's assembler for the PDP-11 is installed, it assembles the text back to the same words, the floating
 instructions aside.
 """
 import os
@@ -16,7 +16,6 @@ import subprocess
 import sys
 import tempfile
 
-EXPLAIN = os.path.abspath(sys.argv[1])
 FOUR_PAIRS = [(0o000005, 0o177774), (0o177777, 0o000000), (0o100000, 0o077776), (0o012345, 0o165432)]
 NOP = 0o000240
 REGISTERS = "r0 r1 r2 r3 r4 r5 sp pc".split()
@@ -244,6 +243,49 @@ class File:
             place += length
         return lines + self.labels(2 * place, 0)
 
+    def owner(self, place):
+        """The place of the instruction that has the word at a place as an operand word, or None if a line begins there."""
+        first = 0
+        while True:
+            length = self.line(first)[0]
+            if place < first + length:
+                return first if first < place else None
+            first += length
+
+    def remark(self, place):
+        """What a listing says of an operand word."""
+        if self.relocation is None:
+            return ""
+        relocation, word = self.relocation[place], self.words[place]
+        number, kind = (word + 2 * place + 2) & 0o177777 if relocation & 1 else word, relocation >> 1 & 7
+        after = ", from the pc" if relocation & 1 else ""
+        if kind > 4:
+            return "no kind of relocation" + after
+        if kind == 0:
+            return "the number %06o%s" % (number, after) if after else "a number"
+        if kind < 4:
+            return "%s %06o%s" % (("text", "data", "bss")[kind - 1], number, after)
+        index = relocation >> 4
+        if index >= len(self.symbols):
+            text = "no symbol %d" % index
+        else:
+            name, of, _ = self.symbols[index]
+            text = in_listing(name) if of & 0o77 == 0o40 else "not wanted: symbol %d %s" % (index, in_listing(name))
+        return text + (" + " + octal(number) if number else "") + after
+
+    def listing(self):
+        """The lines of the text in a listing, with the labels of its end."""
+        place, lines = 0, []
+        while place < len(self.words):
+            length, text = self.line(place)
+            lines += self.labels(2 * place, length)
+            for number in range(place, place + length):
+                said = text if number == place else self.remark(number)
+                relocated = "" if self.relocation is None else "  %4o" % self.relocation[number]
+                lines.append("%06o  %06o%s%s" % (2 * number, self.words[number], relocated, "  " + said if said else ""))
+            place += length
+        return lines + self.labels(2 * place, 0)
+
 
 def shown(padded):
     """A name: no number, no register."""
@@ -258,22 +300,42 @@ def shown(padded):
     return "".join(texts)
 
 
-def compare(file, folder, what):
-    """Compares the lines of a file but for the notes, and returns how many there are."""
+def in_listing(padded):
+    """A name as a listing has it in its remarks."""
+    name = padded.split(b"\0")[0]
+    return "".join(chr(byte) if 32 < byte < 127 and byte != 92 else "\\%03o" % byte for byte in name) or "\\000"
+
+
+def shown_by(words, made, folder, what):
+    """The lines of a file but for the notes."""
     path = os.path.join(folder, "file")
     with open(path, "wb") as out:
-        out.write(file.encoded())
-    done = subprocess.run([EXPLAIN, "-d", path], capture_output=True, check=False)
+        out.write(made.encoded())
+    done = subprocess.run([*words, path], capture_output=True, check=False)
     if done.stderr or done.returncode not in (0, 1):
         sys.exit("%s: status %d, %r" % (what, done.returncode, done.stderr))
-    lines = [line for line in done.stdout.decode("latin-1").split("\n")[:-1] if not line.startswith("/")]
-    expected = file.disassembly()
-    for number, (got, want) in enumerate(zip(lines, expected)):
+    return [line for line in done.stdout.decode("latin-1").split("\n")[:-1] if not line.startswith("/")]
+
+
+def compare(made, folder, what):
+    """Compares the lines of a file, and returns how many there are."""
+    compare_lines(shown_by([EXPLAIN, "-d"], made, folder, what), made.disassembly(), what)
+    return len(made.disassembly())
+
+
+def compare_listing(made, folder, what):
+    """Compares the text of the listing, and returns how many lines it has."""
+    lines = shown_by([EXPLAIN], made, folder, what)
+    compare_lines(lines[lines.index("text") + 1 : lines.index("data")], made.listing(), what)
+    return len(made.listing())
+
+
+def compare_lines(lines, wanted, what):
+    for number, (got, want) in enumerate(zip(lines, wanted)):
         if got != want:
             sys.exit("%s: line %d is\n%s\nand should be\n%s" % (what, number + 1, got, want))
-    if len(lines) != len(expected):
-        sys.exit("%s: %d lines, and should be %d" % (what, len(lines), len(expected)))
-    return len(expected)
+    if len(lines) != len(wanted):
+        sys.exit("%s: %d lines, and should be %d" % (what, len(lines), len(wanted)))
 
 
 def each_first_word(folder):
@@ -368,10 +430,12 @@ def main():
     with tempfile.TemporaryDirectory() as folder:
         texts = each_first_word(folder)
         print("262,144 first words with two words after each are shown as computed")
-        dice, count = random.Random(47), 0
+        dice, count, listed = random.Random(47), 0, 0
         for number in range(400):
-            count += compare(random_file(dice), folder, "made file %d" % number)
-        print("400 made files are shown as computed, %d lines with their labels" % count)
+            made = random_file(dice)
+            count += compare(made, folder, "made file %d" % number)
+            listed += compare_listing(made, folder, "listing of made file %d" % number)
+        print("400 made files are shown as computed, %d lines with their labels, and %d of their listings" % (count, listed))
         assembler = next((name for name in ("pdp11-aout-as", "pdp11-dec-aout-as") if shutil.which(name)), None)
         if assembler is None:
             print("not assembled back, as GNU's assembler for the PDP-11 is not installed")
@@ -382,4 +446,6 @@ def main():
         print("%s makes the same words of the text" % assembler)
 
 
-main()
+if __name__ == "__main__":
+    EXPLAIN = os.path.abspath(sys.argv[1])
+    main()

@@ -14,6 +14,8 @@ import subprocess
 import sys
 import tempfile
 
+from disassembly import File as Text
+
 EXPLAIN = os.path.abspath(sys.argv[1])
 PROGRAMS = {0o405: "an overlay", 0o407: "a program", 0o410: "a program, pure text", 0o411: "a program, separate text and data"}
 SEGMENTS = {2: "text", 3: "data", 4: "bss"}
@@ -62,6 +64,12 @@ class File:
         return {"text": (0, self.text), "data": (data, bss), "bss": (bss, bss + self.bss)}
 
 
+def owner_said(text, place):
+    """The instruction that has a word as an operand word, if it is one of text."""
+    first = text.owner(place) if place < len(text.words) else None
+    return "" if first is None else f"; the instruction at {2 * first:06o} is {text.line(first)[1]}"
+
+
 def is_undefined(kind):
     return kind & 0o77 == 0o40
 
@@ -85,6 +93,8 @@ def cut_off(file):
 
 def bad_words(file):
     symbols = file.symbols()
+    relocated = [(word, reloc) for at, word, reloc in file.words() if at < file.text]
+    text = Text([word for word, _ in relocated], [reloc for _, reloc in relocated], [field[1:] for field in symbols])
     for at, _, reloc in file.words():
         number = reloc >> 4
         if reloc & 0o16 > 0o10:
@@ -98,7 +108,7 @@ def bad_words(file):
         else:
             said = f"symbol {number}, and the table has {len(symbols)}, counted from 0"
             said = f"bad symbol number at word {at // 2}: {reloc:o} refers to {said}"
-        yield file.relocation_at + at, said
+        yield file.relocation_at + at, said + owner_said(text, at // 2)
 
 
 def wrong(data):

@@ -32,7 +32,7 @@ const one = (id) => { const element = document.getElementById(id); return elemen
 return {
     words: all(".word", (row) => ({
         segment: row.id.split("-")[0], number: Number(row.id.split("-")[1]),
-        ...Object.fromEntries(["offset", "value", "pc", "place", "sum", "of", "tag"].map((name) => [name, part(row, name)])),
+        ...Object.fromEntries(["offset", "value", "pc", "place", "instruction", "sum", "of", "tag"].map((name) => [name, part(row, name)])),
         target: part(row, "target") || (part(row, "instruction") ? "a number" : "") })),
     bss: text(document.querySelector("#bss .size")),
     names: all(".name", (row) => [text(row.querySelector("b")), part(row, "state"), part(row, "address")]),
@@ -118,7 +118,8 @@ class Page(Chromium):
 
 def lines_on(shown):
     """What the page shows, as the lines that `v7-lesson` has."""
-    lines = [words_of(f"{word['segment']} {word['offset']} {word['value']} {word['pc']} {word['target']}") for word in shown["words"]]
+    lines = [words_of(f"{word['segment']} {word['offset']} {word['value']} {word['pc']} {word['target']}")
+             + (f" / {word['instruction']}" if word["instruction"] else "") for word in shown["words"]]
     lines += [f"bss {shown['bss']}"] if shown["bss"] else []
     lines += [f"name {name}: {known}" for name, known, _ in shown["names"]]
     lines += [words_of(f"mark {mark}") for mark in shown["marks"]]

@@ -25,7 +25,11 @@ use Rattle.link_out.specs.relation.Relocated.{base_in, entry_of}
 use Rattle.link_out.specs.laws.CommonsAndLayouts.{IsCommon}
 use Rattle.laws.specs.Core.{Space, of_instructions, of_data, has_segment, first_address, bytes_of, is_in, core}
 use Rattle.laws.specs.CoreLaws.{IsLoaded, IsZero, IsOfWord, NothingElse}
+use Rattle.laws.specs.OperandWords.{space_used}
 use Rattle.laws.specs.Operands.{FindsMore, FindsName, segment_meant, Calls, Defines, is_usable_in, Arrives, CallsArrive}
+use Rattle.instructions.specs.declared.operation.Operation.{Operation}
+use Rattle.instructions.specs.declared.operation.Operation.TheVariants.{Jsr}
+use Rattle.instructions.specs.declared.mode.Addressing.TheVariants.{Relative}
 use Rattle.laws.proofs.OperandLemmas.{calls_arrive}
 use Rattle.laws.proofs.LoadedLemmas.{words_loaded}
 use Rattle.conformance.specs.Samples.{sym as entry, object, sized, _f, _x, _twice, a_o, b_o, c_o, d_o, d2_o, k_o, x4_o, main_o, twice_o, plain, plain_s, relocatable, with_layout}
@@ -440,3 +444,26 @@ calls_of_references law =
 kept_and_relocated : ((forced : List (List ℕ)) (os : List Contents) (o : Choices) (keep : Keep) (x y : Outcome) → link forced os o ≡ Ok x → link forced os (record o { keep = keep; relocatable = true }) ≡ Ok y →
     (space : Space) (address : ℕ) → core y.file space address ≡ core x.file space address) → ⊥
 kept_and_relocated law = no_byte 0 (law [] (x4_o ∷ []) plain All (outcome (x4_o ∷ []) plain) (outcome (x4_o ∷ []) relocatable) refl refl of_data 0)
+
+-- instructions: in the space that they do not use
+
+abbrev other_space : Space → Space
+other_space of_instructions = of_data
+other_space of_data = of_instructions
+
+abbrev in_text : Symbol
+in_text = entry _f 34 0
+
+text_defined : Defines (text_and in_text) _f TextSeg 0
+text_defined = record { number = 0; symbol = in_text; stands = refl; outer = refl; inner = refl; names = refl; is = refl; value = refl }
+
+arrive_in_the_other_space : ((forced : List (List ℕ)) (os : List Contents) (o : Choices) (x : Outcome) → AllByRecursion IsObject os → o.keep ≢ Nothing → link forced os o ≡ Ok x → x.report.multiples ≡ [] →
+    (before : List Contents) (k : Contents) (after : List Contents) → os ≡ before ++ k ∷ after → (front : List Contents) (c : Contents) (back : List Contents) → os ≡ front ++ c ∷ back →
+    (operation : Operation) (to : Segment) (i n : ℕ) (name : List ℕ) → Calls k TextSeg i name → Defines c name to n →
+    is_usable_in x.file.header.magic to (space_used operation Relative) ≡ true → Arrives x.file (other_space (space_used operation Relative)) os before k TextSeg i front c to n) → ⊥
+arrive_in_the_other_space law =
+    let os : List Contents = c_o ∷ text_and in_text ∷ [] in
+    let h = law [] os split (outcome os split) (c_good, (as_object (text_and in_text) refl refl refl refl refl refl refl refl, tt)) all_kept refl refl
+    [] c_o (text_and in_text ∷ []) refl (c_o ∷ []) (text_and in_text) [] refl Jsr TextSeg 1 0 _f c_calls text_defined refl in
+    let bad : false ≡ true = h.loaded (less_so 0 2 refl) in
+    absurd (cc)

@@ -6,7 +6,7 @@ use Rattle.aout_core.specs.declared.symbol.Symbol.{Symbol}
 use Rattle.aout_core.specs.Contents.{Contents, IsSound}
 use Rattle.listings.specs.declared.fault.Fault.{Fault}
 use Rattle.listings.specs.declared.fault.Reason.{Reason}
-use Rattle.listings.specs.declared.fault.Reason.TheVariants.{NotOctal, WrongNumber, NoMagic, OddSize}
+use Rattle.listings.specs.declared.fault.Reason.TheVariants.{NotOctal, UnknownWord, WrongNumber, NoMagic, OddSize}
 use Rattle.listings.specs.Octal.{octal, short_octal}
 use Rattle.listings.specs.Names.{shown_name}
 use Rattle.listings.specs.Listing.{gap, text_of, no_remarks, listing}
@@ -27,6 +27,10 @@ spaced_written = refl
 
 spaced_read : read (codes "text\n0 177777 51 remark\n\nbss 2\nsymbols\n/ note\n0 a\\040b 40 2\n1 _f 42 0") ≡ Ok spaced
 spaced_read = refl
+
+-- labels and instructions say nothing
+labelled_read : read (codes "text\n_f:\n0 207 0 rts pc\nbss = .+1\nbss 2\nsymbols\n0 _f 42 0\nend:\n") ≡ Ok (object (0o207 ∷ []) (0 ∷ []) [] [] 2 (entry_of _f 0o42 0 ∷ []))
+labelled_read = refl
 
 -- pure text, so data begins at the next multiple of 020000
 abbrev pure : Contents
@@ -49,6 +53,12 @@ mistake line column reason = Err (record { line = line; column = column; reason 
 bad_magic : read (codes "/ note\n magic 404\n") ≡ mistake 2 8 NoMagic
 bad_magic = refl
 
+no_label : read (codes "bss: 2\n") ≡ mistake 1 1 UnknownWord
+no_label = refl
+
+no_equation : read (codes "bss = 2\n") ≡ mistake 1 5 NotOctal
+no_equation = refl
+
 odd_bss : read (codes "bss 3\n") ≡ mistake 1 5 OddSize
 odd_bss = refl
 
@@ -57,7 +67,7 @@ abbrev ReadsBack : (Contents → List ℕ) → Type 0
 ReadsBack written = (c : Contents) → IsSound c → read (written c) ≡ Ok c
 
 law_of_listings : ListingLaw → ReadsBack (listing no_remarks)
-law_of_listings law = λ c sound. law no_remarks c (record { notes = tt; findings = tt; word = λ at w r. tt; symbol = λ s. tt }) sound
+law_of_listings law = λ c sound. law no_remarks c (record { notes = tt; findings = tt; labels = λ p i. tt; word = λ p i. tt; symbol = λ s. tt }) sound
 
 -- other ways: other digits of a word, other names, and another order of the table
 abbrev rows : (ℕ → List ℕ) → ℕ → List ℕ → List Reloc → List (List ℕ)

@@ -1,2 +1,3 @@
-pub mod ColumnLemmas
+pub mod StartLemmas
 pub mod LabelLemmas
+pub mod SilentLabels

@@ -1,10 +1,8 @@
 //! A text in columns.
 ghost use Rattle.std.specs.Prelude.{◌≡◌, ◌<◌, ◌≤◌, ◌+◌, ◌-◌, ◌*◌, ◌++◌, length, take, drop, replicate, OnOk, string_bytes};
 ghost use Rattle.std.specs.List.{flat_map};
-ghost use Rattle.instructions.specs.Lines.{line_length};
-ghost use Rattle.disassemblies.specs.Lines.{line_in};
 ghost use Rattle.disassemblies.specs.Labels.{labels};
-ghost use Rattle.disassemblies.specs.Columns.{word_column, row, lines_from, disassembly};
+ghost use Rattle.disassemblies.specs.Columns.{word_column, row, labelled_row, disassembly};
 
 use crate::label::put_labels;
 use crate::line::{line_in, put_line_text};
@@ -62,10 +60,10 @@ fn put_labelled_row(
     requires within { place + count ≤ length file.now.text_words }
     requires some { 1 ≤ count }
     requires short { count ≤ 3 }
-    ensures { OnOk result (string_bytes text.new ≡ string_bytes text.old ++ (labels file.now.symbols (2 * place) count ++ row file.now place count)) }
+    ensures { OnOk result (string_bytes text.new ≡ string_bytes text.old ++ labelled_row file.now place count) }
 {
     let _words = file.text_words();
-    put_labels(text, file.symbols(), (2 * place) as u16, count)?;
+    put_labels(text, file.symbols(), (2 * place) as u16, count as u8)?;
     put_row(text, file, place, count)
 }
 

@@ -1,6 +1,7 @@
 //! Labels: the symbols of text, at their addresses.
 ghost use Rattle.std.specs.Prelude.{◌≡◌, ◌<◌, ◌≤◌, ◌*◌, ◌+◌, ◌++◌, OnOk, string_bytes};
 ghost use Rattle.std.specs.List.{flat_map};
+ghost use Rattle.listings.specs.Listing.{text_of};
 ghost use Rattle.disassemblies.specs.Labels.{label_at, is_within, label_within, labels};
 
 use crate::naming::is_at;
@@ -10,7 +11,7 @@ use std::alloc::AllocError;
 
 /// Appends the label of a symbol of text, if it has this address.
 fn put_label_at(text: &mut String, address: u16, symbol: &Symbol) -> Result<(), AllocError>
-    ensures { OnOk result (string_bytes text.new ≡ string_bytes text.old ++ label_at address symbol.now) }
+    ensures { OnOk result (string_bytes text.new ≡ string_bytes text.old ++ text_of (label_at address symbol.now)) }
 {
     if !is_at(Segment::TextSeg, address, symbol) {
         return Ok(());
@@ -20,24 +21,22 @@ fn put_label_at(text: &mut String, address: u16, symbol: &Symbol) -> Result<(), 
 }
 
 /// Whether a symbol of text has an address within a line of so many words.
-fn is_within(address: u16, length: usize, symbol: &Symbol) -> bool
-    requires { length ≤ 3 }
+fn is_within(address: u16, length: u8, symbol: &Symbol) -> bool
     ensures { result ≡ is_within address length symbol.now }
 {
     symbol.type_bits % 0o40 == 2
         && address < symbol.value
-        && usize::from(symbol.value) < usize::from(address) + 2 * length
+        && usize::from(symbol.value) < usize::from(address) + 2 * usize::from(length)
 }
 
 /// Appends the label of a symbol of text, if it has an address within a line of so many words.
 fn put_label_within(
     text: &mut String,
     address: u16,
-    length: usize,
+    length: u8,
     symbol: &Symbol,
 ) -> Result<(), AllocError>
-    requires { length ≤ 3 }
-    ensures { OnOk result (string_bytes text.new ≡ string_bytes text.old ++ label_within address length symbol.now) }
+    ensures { OnOk result (string_bytes text.new ≡ string_bytes text.old ++ text_of (label_within address length symbol.now)) }
 {
     if !is_within(address, length, symbol) {
         return Ok(());
@@ -49,7 +48,7 @@ fn put_label_within(
 }
 
 fn put_labels_at(text: &mut String, symbols: &[Symbol], address: u16) -> Result<(), AllocError>
-    ensures { OnOk result (string_bytes text.new ≡ string_bytes text.old ++ flat_map (λ s. label_at address s) symbols.now) }
+    ensures { OnOk result (string_bytes text.new ≡ string_bytes text.old ++ flat_map (λ s. text_of (label_at address s)) symbols.now) }
 {
     for symbol in symbols {
         put_label_at(text, address, symbol)?;
@@ -61,10 +60,9 @@ fn put_labels_within(
     text: &mut String,
     symbols: &[Symbol],
     address: u16,
-    length: usize,
+    length: u8,
 ) -> Result<(), AllocError>
-    requires { length ≤ 3 }
-    ensures { OnOk result (string_bytes text.new ≡ string_bytes text.old ++ flat_map (λ s. label_within address length s) symbols.now) }
+    ensures { OnOk result (string_bytes text.new ≡ string_bytes text.old ++ flat_map (λ s. text_of (label_within address length s)) symbols.now) }
 {
     for symbol in symbols {
         put_label_within(text, address, length, symbol)?;
@@ -79,9 +77,8 @@ pub fn put_labels(
     text: &mut String,
     symbols: &[Symbol],
     address: u16,
-    length: usize,
+    length: u8,
 ) -> Result<(), AllocError>
-    requires { length ≤ 3 }
     ensures { OnOk result (string_bytes text.new ≡ string_bytes text.old ++ labels symbols.now address length) }
 {
     put_labels_at(text, symbols, address)?;

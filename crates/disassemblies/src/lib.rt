@@ -15,6 +15,7 @@
 //! - `line_in`: the line at a place of a file's text
 //! - `put_line_text`: appends the text of that line
 //! - `put_labels`: appends the labels before a line
+//! - `line_starts`: for each word of a text, whether a line begins there
 //!
 //! A file with relocation is an object, in which relocation words name what each operand refers to; in any other the symbols
 //! name the addresses. Addresses are in bytes from the start of the text, which is at 0.
@@ -26,7 +27,9 @@ mod line;
 mod linked;
 mod naming;
 mod relocated;
+mod starts;
 
 pub use columns::put_disassembly;
 pub use label::put_labels;
 pub use line::{line_in, put_line_text};
+pub use starts::line_starts;

@@ -1,5 +1,6 @@
 //! The objects that a page is made of.
 use crate::files::{bytes_at, object_in};
+use crate::instructions::put_instructions;
 use crate::json::{begin, put_key, put_numbers, put_text, put_word, put_words};
 use crate::parts::{place_meant, put_name_meant, put_segment_meant};
 use crate::sources::put_sources;
@@ -185,6 +186,7 @@ fn put_file(alloc: Global, out: &mut String, given: &Given, file: &File) -> Resu
     put_groups(out, file.symbols(), given)?;
     put_references(out, "textReferences", given, Part::Text)?;
     put_references(out, "dataReferences", given, Part::Data)?;
+    put_instructions(alloc, out, file)?;
     put_key(out, "symbols")?;
     put_lines(alloc, out, file.symbols())
 }

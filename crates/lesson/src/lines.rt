@@ -1,12 +1,39 @@
 //! What a session knows, as lines.
+use crate::instructions::instructions_of;
 use anyhow::Result;
 use link_session::Session;
 use session_text::state_lines;
+use std::alloc::{AllocError, Global};
 use std::io::{self, Write};
 
-/// The merged image, the externals, and what the last addition overwrote.
+/// The instructions of the objects, for the words of the merged text.
+fn merged_instructions(alloc: Global, session: &Session) -> Result<Vec<String>, AllocError> {
+    let mut all = Vec::new(alloc);
+    for entry in session.entries() {
+        for text in instructions_of(alloc, entry.object().file())? {
+            all.push(text)?;
+        }
+    }
+    Ok(all)
+}
+
+/// The merged image with the instructions of the objects, the externals, and what the last addition overwrote.
 pub(crate) fn show(rt: &HostRuntime, session: &Session) -> Result<()> {
     let lines = state_lines(rt.alloc(), session)?;
-    io::writer(rt).write_all(&lines)?;
+    let instructions = merged_instructions(rt.alloc(), session)?;
+    let mut text = Vec::new(rt.alloc());
+    // the words of text come first
+    for (index, line) in lines.split_inclusive(|byte| *byte == b'\n').enumerate() {
+        match instructions.get(index) {
+            Some(instruction) if !instruction.is_empty() => {
+                text.extend_from_slice(line.strip_suffix(b"\n").unwrap_or(line))?;
+                text.extend_from_slice(b" / ")?;
+                text.extend_from_slice(instruction.as_bytes())?;
+                text.push(b'\n')?;
+            }
+            _ => text.extend_from_slice(line)?,
+        }
+    }
+    io::writer(rt).write_all(&text)?;
     Ok(())
 }

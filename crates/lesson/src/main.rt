@@ -4,6 +4,7 @@
 mod files;
 mod fronts;
 mod given;
+mod instructions;
 mod json;
 mod lines;
 mod links;

@@ -1,6 +1,6 @@
 //! The numbers of a state. The page has, for each state, only those that differ from the state before it.
 use crate::fronts::Fronts;
-use crate::given::{Given, Part, Reference, offset_of};
+use crate::given::{Given, Part, Reference, offset_of, words_of};
 use crate::json::{begin, put_key, put_number};
 use crate::links::Link;
 use crate::parts::{place_meant, state_numbers, target_number};
@@ -163,16 +163,6 @@ fn cell_at(session: &Session, part: Part, offset: u16) -> Option<Cell> {
     cells.get(usize::from(offset / 2)).copied()
 }
 
-/// The word at an offset of a segment of a linked file.
-fn linked_word(link: &Link, part: Part, offset: u16) -> Option<u16> {
-    let file = link.file()?;
-    let words = match part {
-        Part::Text => file.text_words(),
-        Part::Data => file.data_words(),
-    };
-    words.get(usize::from(offset / 2)).copied()
-}
-
 /// Adds the numbers of a word.
 fn push_word(
     out: &mut Vec<u32>,
@@ -207,7 +197,9 @@ fn push_word(
         } else {
             0
         };
-        let last = linked_word(link, part, offset).unwrap_or(word);
+        let place = usize::from(offset / 2);
+        let linked = link.file().and_then(|file| words_of(file, part).get(place));
+        let last = linked.copied().unwrap_or(word);
         out.push(u32::from(last.wrapping_sub(word).wrapping_add(minus)))?;
         out.push(u32::from(minus))?;
     }

@@ -7,6 +7,7 @@ use crate::links::{links_of, put_links};
 use crate::marks::put_marks;
 use crate::numbers::{Computed, Numbers};
 use crate::parts::put_names;
+use crate::steps::withdraw;
 use crate::walk::Walk;
 use anyhow::{Result, anyhow};
 use link_session::{AddFault, Session};
@@ -140,11 +141,6 @@ fn step_to(
         Some(_) => walk.pass(object),
     }
     Ok(refused)
-}
-
-/// Whether an object was withdrawn.
-fn withdraw(session: &mut Session) -> bool {
-    session.withdraw().is_some()
 }
 
 /// Adds each state that the objects can reach, by additions to a session and withdrawals from it.

@@ -22,11 +22,6 @@ impl All {
     }
 }
 
-fn object_at(rt: &HostRuntime, path: &str) -> Result<Object> {
-    let bytes = bytes_at(rt, path)?;
-    object_in(rt.alloc(), path, &bytes)
-}
-
 /// The text of a step, if it is shown.
 fn show_step(
     rt: &HostRuntime,
@@ -51,7 +46,8 @@ pub(crate) fn add(session: &mut Session, path: String, object: Object) -> Result
 }
 
 fn add_file(rt: &HostRuntime, session: &mut Session, path: String, is_shown: bool) -> Result<()> {
-    let object = object_at(rt, path.as_str())?;
+    let bytes = bytes_at(rt, path.as_str())?;
+    let object = object_in(rt.alloc(), path.as_str(), &bytes)?;
     let label = path.clone()?;
     add(session, path, object)?;
     show_step(rt, session, is_shown, "add", label.as_str())
@@ -73,7 +69,7 @@ fn add_all(
 }
 
 /// The label of the object that was withdrawn.
-fn withdraw(session: &mut Session) -> Option<String> {
+pub(crate) fn withdraw(session: &mut Session) -> Option<String> {
     let (label, _) = session.withdraw()?;
     Some(label)
 }

@@ -70,6 +70,15 @@ first_last : (f t : List ℕ) → IsColumn f → column (skip (f ++ remarked t))
 first_last f [] h = rw (append-nil f, skip_all f h) (column_all f (ink f h))
 first_last f (b ∷ bs) h = first_more 1 f (b ∷ bs) h
 
+pub row_one : (f : List ℕ) → IsColumn f → row_of f ≡ record { first = f; second = []; third = []; fourth = [] }
+row_one f h =
+    let one : skip f ≡ f = skip_all f h in
+    let a : column (skip f) ≡ f = ap column one ∙ column_all f (ink f h) in
+    let two : from_second f ≡ [] = ap (λ (x : List ℕ). skip (after_column x)) one ∙ ap skip (past_all f (ink f h)) in
+    let three : from_third f ≡ [] = ap (λ (x : List ℕ). skip (after_column x)) two in
+    let four : from_fourth f ≡ [] = ap (λ (x : List ℕ). skip (after_column x)) three in
+    λ z. record { first = a z; second = column (two z); third = column (three z); fourth = column (four z) }
+
 pub row_two : (i : ℕ) (f g t : List ℕ) → IsColumn f → IsColumn g →
     (let line = gap i f (g ++ remarked t) in row_of line ≡ record { first = f; second = g; third = column (from_third line); fourth = column (from_fourth line) })
 row_two i f g t hf hg =

@@ -14,7 +14,7 @@ use Rattle.listings.specs.Octal.{number}
 use Rattle.listings.specs.Columns.{Row}
 use Rattle.listings.specs.Names.{name_of}
 use Rattle.listings.specs.Drafts.{Segment, Draft, empty_draft, finished, data_start}
-use Rattle.listings.specs.Reading.{Mistake, ◌>>=◌, in_column, relocs_of, with_word, word_entry, symbol_entry, entry_in, word_in, rank, only_first, not_last, named_by, named, is_decimal, row_by, row_read}
+use Rattle.listings.specs.Reading.{Mistake, ◌>>=◌, in_column, relocs_of, with_word, word_entry, symbol_entry, entry_in, word_in, rank, only_first, not_last, named_by, named, is_decimal, is_label, row_by, row_read}
 use Rattle.listings.specs.internal.Whole.{IsWhole, IsEmpty, Begins, IsDraft}
 
 -- what holds of a value that may be missing
@@ -147,9 +147,10 @@ word_keeps Unknown d n h = tt
 row_keeps_by : (first : List ℕ) (d : Draft) (r : Row) → IsDraft d → Holds IsDraft (row_by first d r)
 row_keeps_by [] d r h = h
 row_keeps_by (b ∷ bs) d r h =
-    if_holds IsDraft (eqb b 47) (Ok d) (if is_decimal b then entry_in d.section d r else named d r) (λ e. h)
-    (if_holds IsDraft (is_decimal b) (entry_in d.section d r) (named d r) (λ e. entry_keeps d r d.section refl h)
-    (last_holds d.section (named_by (word_in r.first) d (in_column 1 (number r.second))) (word_keeps (word_in r.first) d (in_column 1 (number r.second)) h)))
+    if_holds IsDraft (eqb b 47) (Ok d) (if is_decimal b then entry_in d.section d r else (if is_label r then Ok d else named d r)) (λ e. h)
+    (if_holds IsDraft (is_decimal b) (entry_in d.section d r) (if is_label r then Ok d else named d r) (λ e. entry_keeps d r d.section refl h)
+    (if_holds IsDraft (is_label r) (Ok d) (named d r) (λ e. h)
+    (last_holds d.section (named_by (word_in r.first) d (in_column 1 (number r.second))) (word_keeps (word_in r.first) d (in_column 1 (number r.second)) h))))
 
 pub row_keeps : (d e : Draft) (r : Row) → IsDraft d → row_read d r ≡ Ok e → IsDraft e
 row_keeps d e r h found = subst (λ (x : Result Draft Mistake). Holds IsDraft x) found (row_keeps_by r.first d r h)

@@ -1,7 +1,9 @@
 -- The listing of a file says that file.
 use Rattle.std.proofs.Common.{◌≡◌, ℕ, ◌+◌, ◌*◌, ◌%◌, ◌<◌, Bool, true, false, cond, eqb, eqb-true, List, [], ◌∷◌, ◌++◌, length, refl, sym, ◌∙◌, ap, subst, arith}
-use Rattle.std.specs.Prelude.{codes, map, ◌-◌, ◌&&◌, if◌then◌else◌, IsTrue, drop, slice_get, Option, Some, None, Result, Ok, Err}
-use Rattle.std.specs.List.{AllByRecursion}
+use Rattle.std.specs.Prelude.{codes, map, ◌-◌, ◌&&◌, nat_eq, if◌then◌else◌, IsTrue, drop, slice_get, Option, Some, None, Result, Ok, Err}
+use Rattle.std.specs.List.{AllByRecursion, starts_with}
+use Rattle.std.specs.Cmp.Lexicographic.{pointwise}
+use Rattle.std.proofs.lemmas.Bool.{ne_eqb}
 use Rattle.std.proofs.lemmas.List.{append-nil}
 use Rattle.aout_core.specs.declared.reloc.Reloc.{Reloc}
 use Rattle.aout_core.specs.declared.symbol.Symbol.{Symbol}
@@ -11,16 +13,18 @@ use Rattle.listings.specs.declared.fault.Reason.{Reason}
 use Rattle.listings.specs.declared.fault.Reason.TheVariants.{NoMagic, OddSize}
 use Rattle.listings.specs.declared.fault.Section.TheVariants.{InText, InData, InSymbols}
 use Rattle.listings.specs.Octal.{octal, short_octal, number}
-use Rattle.listings.specs.Columns.{lines_in, row_of, column, from_third, from_fourth}
+use Rattle.listings.specs.Columns.{lines_in, Row, row_of, column, from_third, from_fourth}
 use Rattle.listings.specs.Names.{shown_name}
 use Rattle.listings.specs.Drafts.{Segment, Draft, empty_segment, empty_draft, finished, data_start}
 use Rattle.listings.specs.Listing.{Remarks, gap, wide, remarked, word_line, word_lines, symbol_lines, named_line, unusual, note_lines, head_lines, text_lines, data_lines, bss_lines, table_lines, listing_lines, listing}
-use Rattle.listings.specs.Reading.{◌>>=◌, in_column, row_read, lines_read, file_of, read}
-use Rattle.listings.proofs.OctalLemmas.{octal_again, short_again, octal_digits, short_digits}
+use Rattle.listings.specs.Reading.{◌>>=◌, in_column, named, is_label, row_read, lines_read, file_of, read}
+use Rattle.listings.proofs.OctalLemmas.{IsNumber, octal_again, short_again, octal_digits, short_digits}
 use Rattle.listings.proofs.ColumnLemmas.{IsColumn, ink, number_column, row_two, line_of_column, line_gap, line_last, lines_again}
-use Rattle.listings.specs.Laws.{IsLine, AreRemarks}
+use Rattle.listings.specs.declared.part.Part.{Part}
+use Rattle.listings.specs.declared.part.Part.TheVariants as parts
+use Rattle.listings.specs.Laws.{IsLine, IsLabel, AreRemarks}
 use Rattle.listings.proofs.NameLemmas.{name_column}
-use Rattle.listings.proofs.RowLemmas.{Reads, reads_nil, reads_one, reads_both, reads_more, entry_row, Enters, AreRelocs, words_with, words_alone, symbols_read}
+use Rattle.listings.proofs.RowLemmas.{Reads, reads_nil, reads_one, reads_both, reads_more, entry_row, Enters, AreRelocs, line_with, line_alone, words_with, words_alone, symbols_read}
 
 -- no line has a newline
 abbrev AreLines : List (List ℕ) → Type 0
@@ -36,16 +40,24 @@ octal_column n = number_column (octal n) (octal_digits n)
 short_column : (n : ℕ) → IsColumn (short_octal n)
 short_column n = number_column (short_octal n) (short_digits n)
 
-word_line_is : (x : Remarks) (at w : ℕ) (r : Option Reloc) → AreRemarks x → IsLine (word_line x at w r)
-word_line_is x at w None are = line_gap 1 (octal at) (octal w ++ remarked []) (octal_column at) (line_last (octal w) [] (octal_column w) tt)
-word_line_is x at w (Some r) are =
-    line_gap 1 (octal at) (gap (wide 4 (short_octal r.0)) (octal w) (short_octal r.0 ++ remarked (x.word at w r))) (octal_column at)
-    (line_gap (wide 4 (short_octal r.0)) (octal w) (short_octal r.0 ++ remarked (x.word at w r)) (octal_column w)
-    (line_last (short_octal r.0) (x.word at w r) (short_column r.0) (are.word at w r)))
+word_line_is : (said : List ℕ) (at w : ℕ) (r : Option Reloc) → IsLine said → IsLine (word_line said at w r)
+word_line_is said at w None is =
+    subst IsLine (sym (line_alone said at w)) (line_gap 1 (octal at) (octal w ++ remarked said) (octal_column at) (line_last (octal w) said (octal_column w) is))
+word_line_is said at w (Some r) is =
+    let k = short_octal r.0 in
+    subst IsLine (sym (line_with said at w r))
+    (line_gap 1 (octal at) (gap (wide 4 k) (octal w) (k ++ remarked said)) (octal_column at)
+    (line_gap (wide 4 k) (octal w) (k ++ remarked said) (octal_column w) (line_last k said (short_column r.0) is)))
 
-word_lines_are : (x : Remarks) (at : ℕ) (ws : List ℕ) (rs : List Reloc) → AreRemarks x → AreLines (word_lines x at ws rs)
-word_lines_are x at [] rs are = tt
-word_lines_are x at (w ∷ ws) rs are = (word_line_is x (at % 65536) w (slice_get rs 0) are, word_lines_are x (at + 2) ws (drop 1 rs) are)
+labels_are : (ls : List (List ℕ)) → AllByRecursion IsLabel ls → AreLines ls
+labels_are [] h = tt
+labels_are (l ∷ ls) h = (h.0.0, labels_are ls h.1)
+
+word_lines_are : (x : Remarks) (p : Part) (i at : ℕ) (ws : List ℕ) (rs : List Reloc) → AreRemarks x → AreLines (word_lines x p i at ws rs)
+word_lines_are x p i at [] rs are = labels_are (x.labels p i) (are.labels p i)
+word_lines_are x p i at (w ∷ ws) rs are =
+    lines_append (x.labels p i) (word_line (x.word p i) (at % 65536) w (slice_get rs 0) ∷ word_lines x p (i + 1) (at + 2) ws (drop 1 rs)) (labels_are (x.labels p i) (are.labels p i))
+    (word_line_is (x.word p i) (at % 65536) w (slice_get rs 0) (are.word p i), word_lines_are x p (i + 1) (at + 2) ws (drop 1 rs) are)
 
 symbol_lines_are : (x : Remarks) (n : ℕ) (ss : List Symbol) → AreRemarks x → AreLines (symbol_lines x n ss)
 symbol_lines_are x n [] are = tt
@@ -105,15 +117,30 @@ listing_lines_are x c are =
     (lines_append (unusual 0o407 (codes "magic") c.header.magic) (unusual 0 (codes "flag") c.header.flag)
     (unusual_are 0o407 c.header.magic (codes "magic") magic_column) (unusual_are 0 c.header.flag (codes "flag") flag_column))
     (lines_append (text_lines x c) (data_lines x c ++ (bss_lines c.header ++ (table_lines x c ++ note_lines x.findings)))
-    (line_of_column (codes "text") text_column, word_lines_are x 0 c.text_words c.text_reloc are)
+    (line_of_column (codes "text") text_column, word_lines_are x parts.Text 0 0 c.text_words c.text_reloc are)
     (lines_append (data_lines x c) (bss_lines c.header ++ (table_lines x c ++ note_lines x.findings))
-    (line_of_column (codes "data") data_column, word_lines_are x (data_start c.header.magic c.header.text_size) c.data_words c.data_reloc are)
+    (line_of_column (codes "data") data_column, word_lines_are x parts.Data 0 (data_start c.header.magic c.header.text_size) c.data_words c.data_reloc are)
     (lines_append (bss_lines c.header) (table_lines x c ++ note_lines x.findings) (
       line_gap 0 (codes "bss") (short_octal c.header.bss_size) bss_column (line_of_column (short_octal c.header.bss_size) (ink (short_octal c.header.bss_size) (short_column c.header.bss_size))),
       lines_append (unusual 0 (codes "entry") c.header.entry_point) (unusual 0 (codes "unused") c.header.unused)
           (unusual_are 0 c.header.entry_point (codes "entry") entry_column) (unusual_are 0 c.header.unused (codes "unused") unused_column),
     )
     (lines_append (table_lines x c) (note_lines x.findings) (line_of_column (codes "symbols") symbols_column, symbol_lines_are x 0 c.symbols are) (notes_are x.findings are.findings))))))
+
+-- a row with a number in its second column is no label
+not_label : (f g k m : List ℕ) → IsNumber g → is_label (record { first = f; second = g; third = k; fourth = m }) ≡ false
+not_label f [] k m h = absurd h
+not_label f (b ∷ bs) k m h =
+    let high = h.0.1 in
+    let other : nat_eq b 61 ≡ false = ne_eqb b 61 (λ (e : b ≡ 61). absurd (omega arith)) in
+    ap (λ (t : Bool). (t && pointwise nat_eq bs []) && starts_with eqb k (codes ".+")) other
+
+unlabelled : (d : Draft) (f g k m : List ℕ) → IsNumber g →
+    let r : Row = record { first = f; second = g; third = k; fourth = m } in
+    (if is_label r then Ok d else named d r) ≡ named d r
+unlabelled d f g k m h =
+    let r : Row = record { first = f; second = g; third = k; fourth = m } in
+    ap (λ (t : Bool). if t then Ok d else named d r) (not_label f g k m h)
 
 -- a word of the header
 header_row : (d : Draft) (w : List ℕ) (n : ℕ) (put : ℕ → Draft) → IsColumn w → IsWord n →
@@ -152,6 +179,7 @@ whole_bss h whole = whole_bss_by (eqb (h.text_size % 2) 0) (eqb (h.data_size % 2
 magic_row : (n : ℕ) → IsWord n → IsTrue (is_magic n) → row_read empty_draft (row_of (named_line (codes "magic") n)) ≡ Ok (with_magic n)
 magic_row n small is =
     ap (row_read empty_draft) (ap (λ (y : List ℕ). row_of (gap 0 (codes "magic") y)) (sym (append-nil (octal n))) ∙ row_two 0 (codes "magic") (octal n) [] magic_column (octal_column n))
+    ∙ unlabelled empty_draft (codes "magic") (octal n) (column (from_third (gap 0 (codes "magic") (octal n ++ [])))) (column (from_fourth (gap 0 (codes "magic") (octal n ++ [])))) (octal_digits n)
     ∙ ap (λ (x : Result ℕ Reason). in_column 1 x >>= (λ (y : ℕ). if is_magic y then Ok (with_magic y) else Err (1, NoMagic))) (octal_again n small)
     ∙ rw is refl
 
@@ -182,7 +210,7 @@ head_reads c sound =
     reads_both empty_draft (with_magic c.header.magic) (head_draft c) (unusual 0o407 (codes "magic") c.header.magic) (unusual 0 (codes "flag") c.header.flag)
     (unusual_reads with_magic 0o407 c.header.magic (codes "magic") (magic_row c.header.magic h.magic sound.fits.magic))
     (unusual_reads (with_flag c) 0 c.header.flag (codes "flag")
-    (header_row (with_magic c.header.magic) (codes "flag") c.header.flag (with_flag c) flag_column h.flag (λ k m. refl)))
+    (header_row (with_magic c.header.magic) (codes "flag") c.header.flag (with_flag c) flag_column h.flag (λ k m. unlabelled (with_magic c.header.magic) (codes "flag") (octal c.header.flag) k m (octal_digits c.header.flag))))
 
 -- what has been read within the text, the data and the table
 abbrev in_text : Contents → Segment → Draft
@@ -218,33 +246,33 @@ bss_reads c sound =
     let data_draft = in_data c (data_segment c) in
     reads_more data_draft (with_bss c c.header.bss_size) (header_draft c) (gap 0 (codes "bss") (short_octal c.header.bss_size))
     (unusual 0 (codes "entry") c.header.entry_point ++ unusual 0 (codes "unused") c.header.unused)
-    (short_row data_draft (codes "bss") c.header.bss_size (with_bss c) bss_column h.bss_size (whole_bss c.header sound.fits.sizes) (λ k m. refl))
+    (short_row data_draft (codes "bss") c.header.bss_size (with_bss c) bss_column h.bss_size (whole_bss c.header sound.fits.sizes) (λ k m. unlabelled data_draft (codes "bss") (short_octal c.header.bss_size) k m (short_digits c.header.bss_size)))
     (reads_both (with_bss c c.header.bss_size) (with_entry c c.header.entry_point) (header_draft c)
     (unusual 0 (codes "entry") c.header.entry_point) (unusual 0 (codes "unused") c.header.unused)
     (unusual_reads (with_entry c) 0 c.header.entry_point (codes "entry")
-    (header_row (with_bss c c.header.bss_size) (codes "entry") c.header.entry_point (with_entry c) entry_column h.entry_point (λ k m. refl)))
+    (header_row (with_bss c c.header.bss_size) (codes "entry") c.header.entry_point (with_entry c) entry_column h.entry_point (λ k m. unlabelled (with_bss c c.header.bss_size) (codes "entry") (octal c.header.entry_point) k m (octal_digits c.header.entry_point))))
     (unusual_reads (with_unused c) 0 c.header.unused (codes "unused")
-    (header_row (with_entry c c.header.entry_point) (codes "unused") c.header.unused (with_unused c) unused_column h.unused (λ k m. refl))))
+    (header_row (with_entry c c.header.entry_point) (codes "unused") c.header.unused (with_unused c) unused_column h.unused (λ k m. unlabelled (with_entry c c.header.entry_point) (codes "unused") (octal c.header.unused) k m (octal_digits c.header.unused)))))
 
 -- the relocation of a segment is whole, or not there
-segment_reads : (x : Remarks) (put : Segment → Draft) (start flag at size : ℕ) (ws : List ℕ) (rs : List Reloc) (t : Bool) → eqb flag 0 ≡ t → Enters put start flag →
-    at ≡ start → 2 * length ws ≡ size → size < 65536 → 2 * length rs ≡ cond t size 0 → AllByRecursion IsWord ws → AreRelocs rs →
-    Reads (put empty_segment) (word_lines x at ws rs) (put (record { words = ws; relocs = rs }))
-segment_reads x put start flag at size ws rs true on enters place long small also words relocs =
-    words_with x put start flag at empty_segment ws rs enters on (omega arith) (omega arith) words relocs (omega arith)
-segment_reads x put start flag at size ws [] false off enters place long small also words relocs =
-    words_alone x put start flag at empty_segment ws enters off (omega arith) words (omega arith)
-segment_reads x put start flag at size ws (r ∷ rs) false off enters place long small also words relocs = absurd (omega arith)
+segment_reads : (x : Remarks) (p : Part) (put : Segment → Draft) (start flag at size : ℕ) (ws : List ℕ) (rs : List Reloc) (t : Bool) → AreRemarks x → eqb flag 0 ≡ t →
+    Enters put start flag → at ≡ start → 2 * length ws ≡ size → size < 65536 → 2 * length rs ≡ cond t size 0 → AllByRecursion IsWord ws → AreRelocs rs →
+    Reads (put empty_segment) (word_lines x p 0 at ws rs) (put (record { words = ws; relocs = rs }))
+segment_reads x p put start flag at size ws rs true are on enters place long small also words relocs =
+    words_with x p 0 put start flag at empty_segment ws rs are enters on (omega arith) (omega arith) words relocs (omega arith)
+segment_reads x p put start flag at size ws [] false are off enters place long small also words relocs =
+    words_alone x p 0 put start flag at empty_segment ws are enters off (omega arith) words (omega arith)
+segment_reads x p put start flag at size ws (r ∷ rs) false are off enters place long small also words relocs = absurd (omega arith)
 
-body_reads : (x : Remarks) (c : Contents) → IsSound c → Reads (head_draft c) (text_lines x c ++ (data_lines x c ++ (bss_lines c.header ++ (table_lines x c ++ note_lines x.findings)))) (in_table c c.symbols)
-body_reads x c sound =
+body_reads : (x : Remarks) (c : Contents) → AreRemarks x → IsSound c → Reads (head_draft c) (text_lines x c ++ (data_lines x c ++ (bss_lines c.header ++ (table_lines x c ++ note_lines x.findings)))) (in_table c c.symbols)
+body_reads x c are sound =
     let fits = sound.fits in
     let flag = c.header.flag in
-    let text : Reads (in_text c empty_segment) (word_lines x 0 c.text_words c.text_reloc) (in_text c (text_segment c)) =
-    segment_reads x (in_text c) 0 flag 0 c.header.text_size c.text_words c.text_reloc (eqb flag 0) refl (λ s f g k m h. entry_row (in_text c s) f g k m h) refl
+    let text : Reads (in_text c empty_segment) (word_lines x parts.Text 0 0 c.text_words c.text_reloc) (in_text c (text_segment c)) =
+    segment_reads x parts.Text (in_text c) 0 flag 0 c.header.text_size c.text_words c.text_reloc (eqb flag 0) are refl (λ s f g k m h. entry_row (in_text c s) f g k m h) refl
     fits.text sound.header.text_size fits.text_relocation sound.text_words sound.text_reloc in
-    let data_rows : Reads (in_data c empty_segment) (word_lines x (data_start c.header.magic c.header.text_size) c.data_words c.data_reloc) (in_data c (data_segment c)) =
-    segment_reads x (in_data c) (data_start c.header.magic (2 * length c.text_words)) flag (data_start c.header.magic c.header.text_size) c.header.data_size c.data_words c.data_reloc (eqb flag 0) refl
+    let data_rows : Reads (in_data c empty_segment) (word_lines x parts.Data 0 (data_start c.header.magic c.header.text_size) c.data_words c.data_reloc) (in_data c (data_segment c)) =
+    segment_reads x parts.Data (in_data c) (data_start c.header.magic (2 * length c.text_words)) flag (data_start c.header.magic c.header.text_size) c.header.data_size c.data_words c.data_reloc (eqb flag 0) are refl
     (λ s f g k m h. entry_row (in_data c s) f g k m h) (ap (data_start c.header.magic) (sym fits.text)) fits.«data» sound.header.data_size fits.data_relocation sound.data_words sound.data_reloc in
     let whole = fits.table in
     let small = sound.header.symbol_size in
@@ -253,9 +281,9 @@ body_reads x c sound =
     let data_draft = in_data c (data_segment c) in
     let last = in_table c c.symbols in
     reads_both (head_draft c) text_draft last (text_lines x c) (data_lines x c ++ (bss_lines c.header ++ (table_lines x c ++ note_lines x.findings)))
-    (reads_more (head_draft c) (in_text c empty_segment) text_draft (codes "text") (word_lines x 0 c.text_words c.text_reloc) refl text)
+    (reads_more (head_draft c) (in_text c empty_segment) text_draft (codes "text") (word_lines x parts.Text 0 0 c.text_words c.text_reloc) refl text)
     (reads_both text_draft data_draft last (data_lines x c) (bss_lines c.header ++ (table_lines x c ++ note_lines x.findings))
-    (reads_more text_draft (in_data c empty_segment) data_draft (codes "data") (word_lines x (data_start c.header.magic c.header.text_size) c.data_words c.data_reloc) refl data_rows)
+    (reads_more text_draft (in_data c empty_segment) data_draft (codes "data") (word_lines x parts.Data 0 (data_start c.header.magic c.header.text_size) c.data_words c.data_reloc) refl data_rows)
     (reads_both data_draft (header_draft c) last (bss_lines c.header) (table_lines x c ++ note_lines x.findings) (bss_reads c sound)
     (reads_both (header_draft c) last last (table_lines x c) (note_lines x.findings) (reads_more (header_draft c) (in_table c []) last (codes "symbols") (symbol_lines x 0 c.symbols) refl table) (notes_read last x.findings))))
 
@@ -288,7 +316,7 @@ listing_read x c are sound =
     let last = in_table c c.symbols in
     let body = text_lines x c ++ (data_lines x c ++ (bss_lines c.header ++ (table_lines x c ++ note_lines x.findings))) in
     let all = reads_both empty_draft empty_draft last (note_lines x.notes) (head_lines c.header ++ body) (notes_read empty_draft x.notes)
-    (reads_both empty_draft (head_draft c) last (head_lines c.header) body (head_reads c sound) (body_reads x c sound)) 1 [] in
+    (reads_both empty_draft (head_draft c) last (head_lines c.header) body (head_reads c sound) (body_reads x c are sound)) 1 [] in
     let said : lines_read 1 empty_draft (lines_in (listing x c)) ≡ Ok last =
     ap (lines_read 1 empty_draft) (lines_again (listing_lines x c) (listing_lines_are x c are))
     ∙ ap (lines_read 1 empty_draft) (sym (append-nil (listing_lines x c)))

@@ -1,5 +1,5 @@
 -- Rows that were written say what was written.
-use Rattle.std.proofs.Common.{◌≡◌, ℕ, ◌+◌, ◌*◌, ◌%◌, ◌<◌, true, false, eqb, List, [], ◌∷◌, ◌++◌, length, refl, sym, ◌∙◌, ap, subst, arith, append_assoc, length-append}
+use Rattle.std.proofs.Common.{◌≡◌, ℕ, ◌+◌, ◌*◌, ◌%◌, ◌<◌, true, false, eqb, List, [], ◌∷◌, ◌++◌, length, refl, sym, ◌∙◌, ap, subst, arith, append_assoc, length-append, replicate}
 use Rattle.std.specs.Prelude.{ltb, leb, ◌-◌, Some, None, Result, Ok}
 use Rattle.std.specs.List.{AllByRecursion}
 use Rattle.std.proofs.lemmas.Bool.{lt-ltb, le-leb, ne_eqb, eq-eqb}
@@ -11,7 +11,9 @@ use Rattle.listings.specs.Octal.{octal, short_octal, number}
 use Rattle.listings.specs.Columns.{row_of, column, from_third, from_fourth}
 use Rattle.listings.specs.Names.{shown_name, name_of}
 use Rattle.listings.specs.Drafts.{Segment, Draft}
-use Rattle.listings.specs.Listing.{Remarks, wide, word_line, word_lines, symbol_line, symbol_lines}
+use Rattle.listings.specs.declared.part.Part.{Part}
+use Rattle.listings.specs.Laws.{IsLabel, AreRemarks}
+use Rattle.listings.specs.Listing.{Remarks, gap, wide, remarked, word_line, word_lines, symbol_line, symbol_lines}
 use Rattle.listings.specs.Reading.{Mistake, ◌>>=◌, relocs_of, with_word, word_entry, symbol_entry, entry_in, row_read, in_line, lines_read}
 use Rattle.listings.proofs.OctalLemmas.{octal_again, short_again, IsNumber, octal_digits, short_digits}
 use Rattle.listings.proofs.ColumnLemmas.{number_column, row_two, row_three, row_four}
@@ -80,56 +82,87 @@ Enters put start flag = (s : Segment) (f g k m : List ℕ) → IsNumber f →
 abbrev pub AreRelocs : List Reloc → Type 0
 AreRelocs rs = AllByRecursion (λ (r : Reloc). IsWord r.0) rs
 
+-- the columns of a line, and a remark
+gap_append : (n : ℕ) (a b t : List ℕ) → gap n a b ++ t ≡ gap n a (b ++ t)
+gap_append n a b t = append_assoc a (32 ∷ (replicate n 32 ++ b)) t ∙ ap (λ (y : List ℕ). a ++ 32 ∷ y) (append_assoc (replicate n 32) b t)
+
+pub line_with : (said : List ℕ) (at w : ℕ) (r : Reloc) →
+    word_line said at w (Some r) ≡ gap 1 (octal at) (gap (wide 4 (short_octal r.0)) (octal w) (short_octal r.0 ++ remarked said))
+line_with said at w r =
+    let k = short_octal r.0 in
+    gap_append 1 (octal at) (gap (wide 4 k) (octal w) k) (remarked said)
+    ∙ ap (λ (y : List ℕ). gap 1 (octal at) y) (gap_append (wide 4 k) (octal w) k (remarked said))
+
+pub line_alone : (said : List ℕ) (at w : ℕ) → word_line said at w None ≡ gap 1 (octal at) (octal w ++ remarked said)
+line_alone said at w = gap_append 1 (octal at) (octal w) (remarked said)
+
+labels_read : (d : Draft) (ls : List (List ℕ)) → AllByRecursion IsLabel ls → Reads d ls d
+labels_read d [] h = reads_nil d
+labels_read d (l ∷ ls) h = reads_more d d d l ls (h.0.1 d) (labels_read d ls h.1)
+
 -- the words of a segment with relocation
-pub words_with : (x : Remarks) (put : Segment → Draft) (start flag at : ℕ) (s : Segment) (ws : List ℕ) (rs : List Reloc) → Enters put start flag → eqb flag 0 ≡ true →
-    at ≡ start + 2 * length s.words → length rs ≡ length ws → AllByRecursion IsWord ws → AreRelocs rs → length s.words + length ws < 32768 →
-    Reads (put s) (word_lines x at ws rs) (put (joined s ws rs))
-words_with x put start flag at s [] [] enters on place same words relocs room = subst (λ (t : Segment). Reads (put s) [] (put t)) (joined_nil s) (reads_nil (put s))
-words_with x put start flag at s [] (r ∷ rs) enters on place same words relocs room = absurd (omega arith)
-words_with x put start flag at s (w ∷ ws) [] enters on place same words relocs room = absurd (omega arith)
-words_with x put start flag at s (w ∷ ws) (r ∷ rs) enters on place same words relocs room =
+pub words_with : (x : Remarks) (p : Part) (i : ℕ) (put : Segment → Draft) (start flag at : ℕ) (s : Segment) (ws : List ℕ) (rs : List Reloc) → AreRemarks x →
+    Enters put start flag → eqb flag 0 ≡ true → at ≡ start + 2 * length s.words → length rs ≡ length ws → AllByRecursion IsWord ws → AreRelocs rs →
+    length s.words + length ws < 32768 → Reads (put s) (word_lines x p i at ws rs) (put (joined s ws rs))
+words_with x p i put start flag at s [] [] are enters on place same words relocs room =
+    subst (λ (t : Segment). Reads (put s) (x.labels p i) (put t)) (joined_nil s) (labels_read (put s) (x.labels p i) (are.labels p i))
+words_with x p i put start flag at s [] (r ∷ rs) are enters on place same words relocs room = absurd (omega arith)
+words_with x p i put start flag at s (w ∷ ws) [] are enters on place same words relocs room = absurd (omega arith)
+words_with x p i put start flag at s (w ∷ ws) (r ∷ rs) are enters on place same words relocs room =
     let place_here : at % 65536 ≡ (start + 2 * length s.words) % 65536 = omega arith in
     let here = at % 65536 in
     let a = octal here in
     let b = octal w in
     let k = short_octal r.0 in
-    let note = x.word here w r in
-    let line = word_line x here w (Some r) in
+    let note = x.word p i in
+    let line = word_line note here w (Some r) in
+    let form = gap 1 a (gap (wide 4 k) b (k ++ remarked note)) in
     let t : Segment = with_word s w (r ∷ []) in
-    let last = column (from_fourth line) in
+    let last = column (from_fourth form) in
     let found : row_read (put s) (row_of line) ≡ Ok (put t) =
-    ap (row_read (put s)) (row_three 1 (wide 4 k) a b k note (number_column a (octal_digits here)) (number_column b (octal_digits w)) (number_column k (short_digits r.0)))
+    ap (λ (l : List ℕ). row_read (put s) (row_of l)) (line_with note here w r)
+    ∙ ap (row_read (put s)) (row_three 1 (wide 4 k) a b k note (number_column a (octal_digits here)) (number_column b (octal_digits w)) (number_column k (short_digits r.0)))
     ∙ enters s a b k last (octal_digits here)
     ∙ ap (λ (y : Result Segment Mistake). y >>= (λ u. Ok (put u)))
     (word_found start flag here w s (r ∷ []) a b k last (octal_again here (omega arith)) (octal_again w words.0) (relocs_there flag r on relocs.0) place_here (omega arith)) in
     let long : length (s.words ++ w ∷ []) ≡ length s.words + 1 = length-append s.words (w ∷ []) in
-    let rest = words_with x put start flag (at + 2) t ws rs enters on (omega arith) (omega arith) words.1 relocs.1 (omega arith) in
-    reads_more (put s) (put t) (put (joined s (w ∷ ws) (r ∷ rs))) line (word_lines x (at + 2) ws rs) found
-    (subst (λ (u : Segment). Reads (put t) (word_lines x (at + 2) ws rs) (put u)) (joined_more s w (r ∷ []) rs ws) rest)
+    let rest = words_with x p (i + 1) put start flag (at + 2) t ws rs are enters on (omega arith) (omega arith) words.1 relocs.1 (omega arith) in
+    let last_draft = put (joined s (w ∷ ws) (r ∷ rs)) in
+    let others = word_lines x p (i + 1) (at + 2) ws rs in
+    reads_both (put s) (put s) last_draft (x.labels p i) (line ∷ others) (labels_read (put s) (x.labels p i) (are.labels p i))
+    (reads_more (put s) (put t) last_draft line others found
+    (subst (λ (u : Segment). Reads (put t) others (put u)) (joined_more s w (r ∷ []) rs ws) rest))
 
 -- the words of a segment without relocation
-pub words_alone : (x : Remarks) (put : Segment → Draft) (start flag at : ℕ) (s : Segment) (ws : List ℕ) → Enters put start flag → eqb flag 0 ≡ false →
-    at ≡ start + 2 * length s.words → AllByRecursion IsWord ws → length s.words + length ws < 32768 →
-    Reads (put s) (word_lines x at ws []) (put (joined s ws []))
-words_alone x put start flag at s [] enters off place words room = subst (λ (t : Segment). Reads (put s) [] (put t)) (joined_nil s) (reads_nil (put s))
-words_alone x put start flag at s (w ∷ ws) enters off place words room =
+pub words_alone : (x : Remarks) (p : Part) (i : ℕ) (put : Segment → Draft) (start flag at : ℕ) (s : Segment) (ws : List ℕ) → AreRemarks x →
+    Enters put start flag → eqb flag 0 ≡ false → at ≡ start + 2 * length s.words → AllByRecursion IsWord ws → length s.words + length ws < 32768 →
+    Reads (put s) (word_lines x p i at ws []) (put (joined s ws []))
+words_alone x p i put start flag at s [] are enters off place words room =
+    subst (λ (t : Segment). Reads (put s) (x.labels p i) (put t)) (joined_nil s) (labels_read (put s) (x.labels p i) (are.labels p i))
+words_alone x p i put start flag at s (w ∷ ws) are enters off place words room =
     let place_here : at % 65536 ≡ (start + 2 * length s.words) % 65536 = omega arith in
     let here = at % 65536 in
     let a = octal here in
     let b = octal w in
-    let line = word_line x here w None in
+    let note = x.word p i in
+    let line = word_line note here w None in
+    let form = gap 1 a (b ++ remarked note) in
     let t : Segment = with_word s w [] in
-    let third = column (from_third line) in
-    let last = column (from_fourth line) in
+    let third = column (from_third form) in
+    let last = column (from_fourth form) in
     let found : row_read (put s) (row_of line) ≡ Ok (put t) =
-    ap (row_read (put s)) (row_two 1 a b [] (number_column a (octal_digits here)) (number_column b (octal_digits w)))
+    ap (λ (l : List ℕ). row_read (put s) (row_of l)) (line_alone note here w)
+    ∙ ap (row_read (put s)) (row_two 1 a b note (number_column a (octal_digits here)) (number_column b (octal_digits w)))
     ∙ enters s a b third last (octal_digits here)
     ∙ ap (λ (y : Result Segment Mistake). y >>= (λ u. Ok (put u)))
     (word_found start flag here w s [] a b third last (octal_again here (omega arith)) (octal_again w words.0) (relocs_none flag third off) place_here (omega arith)) in
     let long : length (s.words ++ w ∷ []) ≡ length s.words + 1 = length-append s.words (w ∷ []) in
-    let rest = words_alone x put start flag (at + 2) t ws enters off (omega arith) words.1 (omega arith) in
-    reads_more (put s) (put t) (put (joined s (w ∷ ws) [])) line (word_lines x (at + 2) ws []) found
-    (subst (λ (u : Segment). Reads (put t) (word_lines x (at + 2) ws []) (put u)) (joined_more s w [] [] ws) rest)
+    let rest = words_alone x p (i + 1) put start flag (at + 2) t ws are enters off (omega arith) words.1 (omega arith) in
+    let last_draft = put (joined s (w ∷ ws) []) in
+    let others = word_lines x p (i + 1) (at + 2) ws [] in
+    reads_both (put s) (put s) last_draft (x.labels p i) (line ∷ others) (labels_read (put s) (x.labels p i) (are.labels p i))
+    (reads_more (put s) (put t) last_draft line others found
+    (subst (λ (u : Segment). Reads (put t) others (put u)) (joined_more s w [] [] ws) rest))
 
 -- symbols
 symbol_found : (n : ℕ) (done : List Symbol) (s : Symbol) (f g k m : List ℕ) →

@@ -2,7 +2,9 @@
 use Rattle.std.proofs.Common.{◌≡◌, ℕ, zero, suc, ◌+◌, ◌-◌, replicate, ◌*◌, ◌%◌, ◌<◌, List, [], ◌∷◌, ◌++◌, drop, length, get_or, refl, sym, ◌∙◌, ap, arith, append_assoc, drop-drop}
 use Rattle.std.specs.Prelude.{Option, slice_get}
 use Rattle.std.proofs.lemmas.List.{drop_more}
+use Rattle.std.proofs.Math.Seq.{drop-length}
 use Rattle.aout_core.specs.declared.reloc.Reloc.{Reloc}
+use Rattle.listings.specs.declared.part.Part.{Part}
 use Rattle.listings.specs.Listing.{Remarks, word_line, word_lines, text_of}
 
 get_dropped : (i : ℕ) (rs : List Reloc) → slice_get (drop i rs) 0 ≡ slice_get rs i
@@ -10,24 +12,42 @@ get_dropped zero rs = refl
 get_dropped (suc i) [] = refl
 get_dropped (suc i) (r ∷ rs) = get_dropped i rs
 
-lines_step : (x : Remarks) (start i w : ℕ) (ws : List ℕ) (rs : List Reloc) → i < length ws → w ≡ get_or ws i 0 →
-    word_lines x (start + 2 * i) (drop i ws) (drop i rs)
-    ≡ word_line x ((start + 2 * i) % 65536) w (slice_get rs i) ∷ word_lines x (start + 2 * (i + 1)) (drop (i + 1) ws) (drop (i + 1) rs)
-lines_step x start i w ws rs lt is =
-    let next : start + 2 * i + 2 ≡ start + 2 * (i + 1) = omega arith in
-    ap (λ (y : List ℕ). word_lines x (start + 2 * i) y (drop i rs)) (drop_more ws i 0 lt)
-    ∙ (λ k. word_line x ((start + 2 * i) % 65536) (sym is k) (get_dropped i rs k) ∷ word_lines x (next k) (drop (i + 1) ws) (drop-drop 1 i rs k))
+-- the parts of a listing, one after another
+pub two_texts : (xs ys : List (List ℕ)) → text_of (xs ++ ys) ≡ text_of xs ++ text_of ys
+two_texts [] ys = refl
+two_texts (x ∷ xs) ys = ap (λ (t : List ℕ). (x ++ 10 ∷ []) ++ t) (two_texts xs ys) ∙ sym (append_assoc (x ++ 10 ∷ []) (text_of xs) (text_of ys))
 
-pub put_step : (x : Remarks) (init items new : List ℕ) (at start i w : ℕ) (r : Option Reloc) (ws : List ℕ) (rs : List Reloc) → i < length ws → w ≡ get_or ws i 0 → r ≡ slice_get rs i →
-    at ≡ (start + 2 * i) % 65536 → new ≡ items ++ (word_line x at w r ++ 10 ∷ []) →
-    items ++ text_of (word_lines x (start + 2 * i) (drop i ws) (drop i rs)) ≡ init →
-    new ++ text_of (word_lines x (start + 2 * (i + 1)) (drop (i + 1) ws) (drop (i + 1) rs)) ≡ init
-put_step x init items new at start i w r ws rs lt is reloc place grown before =
-    let tail = text_of (word_lines x (start + 2 * (i + 1)) (drop (i + 1) ws) (drop (i + 1) rs)) in
-    ap (λ (y : List ℕ). y ++ tail) grown
-    ∙ append_assoc items (word_line x at w r ++ 10 ∷ []) tail
-    ∙ (λ k. items ++ ((word_line x (place k) w (reloc k) ++ 10 ∷ []) ++ tail))
-    ∙ ap (λ (y : List (List ℕ)). items ++ text_of y) (sym (lines_step x start i w ws rs lt is))
+lines_step : (x : Remarks) (p : Part) (start i w : ℕ) (ws : List ℕ) (rs : List Reloc) → i < length ws → w ≡ get_or ws i 0 →
+    word_lines x p i (start + 2 * i) (drop i ws) (drop i rs)
+    ≡ x.labels p i ++ (word_line (x.word p i) ((start + 2 * i) % 65536) w (slice_get rs i) ∷ word_lines x p (i + 1) (start + 2 * (i + 1)) (drop (i + 1) ws) (drop (i + 1) rs))
+lines_step x p start i w ws rs lt is =
+    let next : start + 2 * i + 2 ≡ start + 2 * (i + 1) = omega arith in
+    ap (λ (y : List ℕ). word_lines x p i (start + 2 * i) y (drop i rs)) (drop_more ws i 0 lt)
+    ∙ (λ k. x.labels p i ++ (word_line (x.word p i) ((start + 2 * i) % 65536) (sym is k) (get_dropped i rs k) ∷ word_lines x p (i + 1) (next k) (drop (i + 1) ws) (drop-drop 1 i rs k)))
+
+pub put_step : (x : Remarks) (p : Part) (init items new : List ℕ) (at start i w : ℕ) (r : Option Reloc) (ws : List ℕ) (rs : List Reloc) → i < length ws → w ≡ get_or ws i 0 → r ≡ slice_get rs i →
+    at ≡ (start + 2 * i) % 65536 → new ≡ items ++ (text_of (x.labels p i) ++ (word_line (x.word p i) at w r ++ 10 ∷ [])) →
+    items ++ text_of (word_lines x p i (start + 2 * i) (drop i ws) (drop i rs)) ≡ init →
+    new ++ text_of (word_lines x p (i + 1) (start + 2 * (i + 1)) (drop (i + 1) ws) (drop (i + 1) rs)) ≡ init
+put_step x p init items new at start i w r ws rs lt is reloc place grown before =
+    let others = word_lines x p (i + 1) (start + 2 * (i + 1)) (drop (i + 1) ws) (drop (i + 1) rs) in
+    let labels = text_of (x.labels p i) in
+    let line = word_line (x.word p i) at w r in
+    ap (λ (y : List ℕ). y ++ text_of others) grown
+    ∙ append_assoc items (labels ++ (line ++ 10 ∷ [])) (text_of others)
+    ∙ ap (λ (y : List ℕ). items ++ y) (append_assoc labels (line ++ 10 ∷ []) (text_of others))
+    ∙ (λ k. items ++ (labels ++ ((word_line (x.word p i) (place k) w (reloc k) ++ 10 ∷ []) ++ text_of others)))
+    ∙ ap (λ (y : List ℕ). items ++ y) (sym (two_texts (x.labels p i) (word_line (x.word p i) ((start + 2 * i) % 65536) w (slice_get rs i) ∷ others)))
+    ∙ ap (λ (y : List (List ℕ)). items ++ text_of y) (sym (lines_step x p start i w ws rs lt is))
+    ∙ before
+
+-- the labels of the end
+pub put_end : (x : Remarks) (p : Part) (init items new : List ℕ) (start i : ℕ) (ws : List ℕ) (rs : List Reloc) → i ≡ length ws → new ≡ items ++ text_of (x.labels p (length ws)) →
+    items ++ text_of (word_lines x p i (start + 2 * i) (drop i ws) (drop i rs)) ≡ init → new ≡ init
+put_end x p init items new start i ws rs end grown before =
+    grown
+    ∙ ap (λ (k : ℕ). items ++ text_of (x.labels p k)) (sym end)
+    ∙ ap (λ (y : List ℕ). items ++ text_of (word_lines x p i (start + 2 * i) y (drop i rs))) (sym (ap (λ (k : ℕ). drop k ws) end ∙ drop-length ws))
     ∙ before
 
 -- one more blank
@@ -40,11 +60,6 @@ blank_more init items new n i lt grown before =
     ∙ append_assoc items (32 ∷ []) (replicate (n - (i + 1)) 32)
     ∙ ap (λ (x : List ℕ). items ++ x) (sym (blanks_step n i lt))
     ∙ before
-
--- the parts of a listing, one after another
-two_texts : (xs ys : List (List ℕ)) → text_of (xs ++ ys) ≡ text_of xs ++ text_of ys
-two_texts [] ys = refl
-two_texts (x ∷ xs) ys = ap (λ (t : List ℕ). (x ++ 10 ∷ []) ++ t) (two_texts xs ys) ∙ sym (append_assoc (x ++ 10 ∷ []) (text_of xs) (text_of ys))
 
 grown : (from next : List ℕ) (xs ys : List (List ℕ)) → next ≡ from ++ text_of xs → next ++ text_of ys ≡ from ++ text_of (xs ++ ys)
 grown from next xs ys e =

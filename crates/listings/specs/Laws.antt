@@ -1,20 +1,27 @@
 -- The law of listings: reading the listing of a file gives that file.
 use Rattle.std.specs.Prelude.{◌≡◌, ℕ, ◌≤◌, List, Ok}
 use Rattle.std.specs.List.{AllByRecursion}
-use Rattle.aout_core.specs.declared.reloc.Reloc.{Reloc}
 use Rattle.aout_core.specs.declared.symbol.Symbol.{Symbol}
 use Rattle.aout_core.specs.Contents.{Contents, IsSound}
+use Rattle.listings.specs.declared.part.Part.{Part}
+use Rattle.listings.specs.Columns.{row_of}
+use Rattle.listings.specs.Drafts.{Draft}
 use Rattle.listings.specs.Listing.{Remarks, listing}
-use Rattle.listings.specs.Reading.{read}
+use Rattle.listings.specs.Reading.{row_read, read}
 
 -- no newline, and no other byte below the blank
 abbrev pub IsLine : List ℕ → Type 0
 IsLine l = AllByRecursion (λ (b : ℕ). 32 ≤ b) l
 
+-- a line that says nothing to a reader
+abbrev pub IsLabel : List ℕ → Type 0
+IsLabel l = IsLine l × ((d : Draft) → row_read d (row_of l) ≡ Ok d)
+
 pub record AreRemarks (x : Remarks) : Type 0 where
   pub notes : AllByRecursion IsLine x.notes
   pub findings : AllByRecursion IsLine x.findings
-  pub word : (at w : ℕ) (r : Reloc) → IsLine (x.word at w r)
+  pub labels : (p : Part) (i : ℕ) → AllByRecursion IsLabel (x.labels p i)
+  pub word : (p : Part) (i : ℕ) → IsLine (x.word p i)
   pub symbol : (s : Symbol) → IsLine (x.symbol s)
 
 -- whatever is remarked in it

@@ -2,13 +2,15 @@
 --
 -- A listing begins and ends with notes, and each note is a line that begins with a slash. A line gives the magic number unless it is
 -- 0407, and another the flag unless it is 0. The words of text and of data follow, the size of bss, the entry point and the unused word
--- unless they are 0, and the table. A line may end with a remark.
+-- unless they are 0, and the table. A line may end with a remark, and labels may precede the line of a word or follow the last one.
 use Rattle.std.specs.Prelude.{ℕ, ◌+◌, ◌-◌, ◌%◌, eqb, if◌then◌else◌, List, [], ◌∷◌, ◌++◌, drop, map, replicate, length, Option, Some, None, slice_get, codes}
 use Rattle.std.specs.List.{flat_map}
 use Rattle.aout_core.specs.declared.header.Header.{Header}
 use Rattle.aout_core.specs.declared.reloc.Reloc.{Reloc}
 use Rattle.aout_core.specs.declared.symbol.Symbol.{Symbol}
 use Rattle.aout_core.specs.Contents.{Contents}
+use Rattle.listings.specs.declared.part.Part.{Part}
+use Rattle.listings.specs.declared.part.Part.TheVariants as parts
 use Rattle.listings.specs.Octal.{octal, short_octal}
 use Rattle.listings.specs.Drafts.{data_start}
 use Rattle.listings.specs.Names.{shown_name}
@@ -17,7 +19,8 @@ use Rattle.listings.specs.Names.{shown_name}
 pub record Remarks : Type 0 where
   pub notes : List (List ℕ)
   pub findings : List (List ℕ)
-  pub word : ℕ → ℕ → Reloc → List ℕ
+  pub labels : Part → ℕ → List (List ℕ)
+  pub word : Part → ℕ → List ℕ
   pub symbol : Symbol → List ℕ
 
 -- two columns, and one blank more than n between them
@@ -33,13 +36,17 @@ remarked [] = []
 remarked (b ∷ bs) = 32 ∷ 32 ∷ b ∷ bs
 
 -- an address, a word, and its relocation word if it has one
-abbrev pub word_line : Remarks → ℕ → ℕ → Option Reloc → List ℕ
-word_line x at w None = gap 1 (octal at) (octal w ++ [])
-word_line x at w (Some r) = gap 1 (octal at) (gap (wide 4 (short_octal r.0)) (octal w) (short_octal r.0 ++ remarked (x.word at w r)))
+abbrev pub word_columns : ℕ → ℕ → Option Reloc → List ℕ
+word_columns at w None = gap 1 (octal at) (octal w)
+word_columns at w (Some r) = gap 1 (octal at) (gap (wide 4 (short_octal r.0)) (octal w) (short_octal r.0))
 
-abbrev pub word_lines : Remarks → ℕ → List ℕ → List Reloc → List (List ℕ)
-word_lines x at [] rs = []
-word_lines x at (w ∷ ws) rs = word_line x (at % 65536) w (slice_get rs 0) ∷ word_lines x (at + 2) ws (drop 1 rs)
+abbrev pub word_line : List ℕ → ℕ → ℕ → Option Reloc → List ℕ
+word_line said at w r = word_columns at w r ++ remarked said
+
+-- the words of a part from a place and an address on, and the labels of its end
+abbrev pub word_lines : Remarks → Part → ℕ → ℕ → List ℕ → List Reloc → List (List ℕ)
+word_lines x p i at [] rs = x.labels p i
+word_lines x p i at (w ∷ ws) rs = x.labels p i ++ (word_line (x.word p i) (at % 65536) w (slice_get rs 0) ∷ word_lines x p (i + 1) (at + 2) ws (drop 1 rs))
 
 -- the numbers of a symbol, and a remark
 abbrev pub symbol_numbers : Remarks → Symbol → List ℕ
@@ -68,10 +75,10 @@ abbrev pub head_lines : Header → List (List ℕ)
 head_lines h = unusual 0o407 (codes "magic") h.magic ++ unusual 0 (codes "flag") h.flag
 
 abbrev pub text_lines : Remarks → Contents → List (List ℕ)
-text_lines x c = codes "text" ∷ word_lines x 0 c.text_words c.text_reloc
+text_lines x c = codes "text" ∷ word_lines x parts.Text 0 0 c.text_words c.text_reloc
 
 abbrev pub data_lines : Remarks → Contents → List (List ℕ)
-data_lines x c = codes "data" ∷ word_lines x (data_start c.header.magic c.header.text_size) c.data_words c.data_reloc
+data_lines x c = codes "data" ∷ word_lines x parts.Data 0 (data_start c.header.magic c.header.text_size) c.data_words c.data_reloc
 
 abbrev pub bss_lines : Header → List (List ℕ)
 bss_lines h = gap 0 (codes "bss") (short_octal h.bss_size) ∷ (unusual 0 (codes "entry") h.entry_point ++ unusual 0 (codes "unused") h.unused)
@@ -90,4 +97,4 @@ abbrev pub listing : Remarks → Contents → List ℕ
 listing x c = text_of (listing_lines x c)
 
 abbrev pub no_remarks : Remarks
-no_remarks = record { notes = []; findings = []; word = λ at w r. []; symbol = λ s. [] }
+no_remarks = record { notes = []; findings = []; labels = λ p i. []; word = λ p i. []; symbol = λ s. [] }

@@ -1,9 +1,10 @@
 -- What a listing says: line by line, each line by its columns and by what was read before it.
 --
 -- A row that begins with a digit belongs to the section that was opened last. Any other row begins with a word. A row without columns
--- says nothing, and neither does one that begins with a slash. Columns after those that a row needs are not read.
-use Rattle.std.specs.Prelude.{ℕ, ◌+◌, ◌*◌, ◌%◌, Bool, ◌&&◌, nat_le, nat_lt, nat_eq, eqb, if◌then◌else◌, List, [], ◌∷◌, ◌++◌, length, Result, Ok, Err, codes}
+-- says nothing, and neither does one that begins with a slash, or a label. Columns after those that a row needs are not read.
+use Rattle.std.specs.Prelude.{ℕ, ◌+◌, ◌*◌, ◌%◌, Bool, ◌&&◌, ◌||◌, nat_le, nat_lt, nat_eq, eqb, if◌then◌else◌, List, [], ◌∷◌, ◌++◌, length, Result, Ok, Err, codes}
 use Rattle.std.specs.Cmp.Lexicographic.{pointwise}
+use Rattle.std.specs.List.{starts_with, ends_with}
 use Rattle.aout_core.specs.declared.reloc.Reloc.{Reloc}
 use Rattle.aout_core.specs.declared.symbol.Symbol.{Symbol}
 use Rattle.aout_core.specs.Contents.{Contents, is_magic}
@@ -119,9 +120,13 @@ named d r = not_last d.section (named_by (word_in r.first) d (in_column 1 (numbe
 abbrev pub is_decimal : ℕ → Bool
 is_decimal b = nat_le 48 b && nat_lt b 58
 
+-- `NAME:` alone, or `NAME = .+K`
+abbrev pub is_label : Row → Bool
+is_label r = (is_word r.second [] && ends_with eqb r.first (codes ":")) || (is_word r.second (codes "=") && starts_with eqb r.third (codes ".+"))
+
 abbrev pub row_by : List ℕ → Draft → Row → Result Draft Mistake
 row_by [] d r = Ok d
-row_by (b ∷ bs) d r = if eqb b 47 then Ok d else (if is_decimal b then entry_in d.section d r else named d r)
+row_by (b ∷ bs) d r = if eqb b 47 then Ok d else (if is_decimal b then entry_in d.section d r else (if is_label r then Ok d else named d r))
 
 abbrev pub row_read : Draft → Row → Result Draft Mistake
 row_read d r = row_by r.first d r

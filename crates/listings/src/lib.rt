@@ -33,6 +33,7 @@ mod draft;
 mod fault;
 pub mod laws;
 mod numbers;
+mod part;
 mod read;
 mod remark;
 mod rows;
@@ -40,6 +41,7 @@ mod write;
 
 pub use draft::data_start;
 pub use fault::{Fault, ListingFault, Reason};
+pub use part::Part;
 pub use read::read_listing;
 pub use remark::{Nothing, Remark};
 pub use write::{put_name, put_octal, put_short_octal, write_listing};

@@ -3,7 +3,8 @@ ghost use Rattle.std.specs.Prelude.{◌≡◌, ◌++◌, [], OnOk};
 ghost use Rattle.listings.specs.Listing.{Remarks, no_remarks, remarked, note_lines, text_of};
 ghost use Rattle.listings.specs.Laws.{AreRemarks};
 
-use aout_core::{Reloc, Symbol};
+use crate::part::Part;
+use aout_core::Symbol;
 use std::alloc::AllocError;
 
 /// What a listing says to people beside the file. Reading a listing skips it.
@@ -18,15 +19,13 @@ pub trait Remark {
     fn put_findings(&self, text: &mut Vec<u8>) -> Result<(), AllocError>
         ensures { OnOk result (text.new.items ≡ text.old.items ++ text_of (note_lines (said self.now).findings)) };
 
-    /// Appends two blanks and what is remarked of a word, or nothing if there is no remark.
-    fn put_word(
-        &self,
-        text: &mut Vec<u8>,
-        at: u16,
-        word: u16,
-        reloc: Reloc,
-    ) -> Result<(), AllocError>
-        ensures { OnOk result (text.new.items ≡ text.old.items ++ remarked ((said self.now).word at word reloc)) };
+    /// Appends the labels before the word at a place of a part, a line each, or at the end of the part those of the end.
+    fn put_labels(&self, text: &mut Vec<u8>, part: Part, place: usize) -> Result<(), AllocError>
+        ensures { OnOk result (text.new.items ≡ text.old.items ++ text_of ((said self.now).labels part place)) };
+
+    /// Appends two blanks and what is remarked of the word at a place of a part, or nothing if there is no remark.
+    fn put_word(&self, text: &mut Vec<u8>, part: Part, place: usize) -> Result<(), AllocError>
+        ensures { OnOk result (text.new.items ≡ text.old.items ++ remarked ((said self.now).word part place)) };
 
     /// Appends two blanks and what is remarked of a symbol, or nothing.
     fn put_symbol(&self, text: &mut Vec<u8>, symbol: &Symbol) -> Result<(), AllocError>
@@ -49,13 +48,11 @@ impl Remark for Nothing {
         Ok(())
     }
 
-    fn put_word(
-        &self,
-        text: &mut Vec<u8>,
-        at: u16,
-        word: u16,
-        reloc: Reloc,
-    ) -> Result<(), AllocError> {
+    fn put_labels(&self, text: &mut Vec<u8>, part: Part, place: usize) -> Result<(), AllocError> {
+        Ok(())
+    }
+
+    fn put_word(&self, text: &mut Vec<u8>, part: Part, place: usize) -> Result<(), AllocError> {
         Ok(())
     }
 
@@ -63,5 +60,5 @@ impl Remark for Nothing {
         Ok(())
     }
 
-    ghost are = { λ r. record { notes = tt; findings = tt; word = λ at w q. tt; symbol = λ s. tt } };
+    ghost are = { λ r. record { notes = tt; findings = tt; labels = λ p i. tt; word = λ p i. tt; symbol = λ s. tt } };
 }

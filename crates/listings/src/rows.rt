@@ -6,7 +6,7 @@ ghost use Rattle.listings.specs.internal.Rows.{row_in};
 ghost use Rattle.listings.specs.declared.fault.Word.TheVariants.{Bss, Magic, Flag};
 ghost use Rattle.listings.specs.Octal.{number};
 ghost use Rattle.listings.specs.Drafts.{data_start};
-ghost use Rattle.listings.specs.Reading.{in_column, relocs_of, with_word, word_entry, symbol_entry, entry_in, is_word, word_in, rank, opened, named_by, named, row_read};
+ghost use Rattle.listings.specs.Reading.{in_column, relocs_of, with_word, word_entry, symbol_entry, entry_in, is_word, word_in, rank, opened, named_by, named, is_label, row_read};
 ghost use Rattle.listings.specs.internal.DraftParts.{segment_of, draft_of};
 ghost use Rattle.listings.specs.internal.Whole.{IsDraft};
 ghost use Rattle.listings.specs.internal.Answers.{Found, Leaves};
@@ -233,6 +233,14 @@ fn named(draft: &mut FileDraft, columns: Columns) -> Result<(), RowFault>
     take_word(draft, word_of(columns), columns.second)
 }
 
+/// Whether a row is a label: `NAME:` alone, or `NAME = .+K`.
+fn is_label(columns: Columns) -> bool
+    ensures { result ≡ is_label (row_in columns.entry) }
+{
+    (is_word(columns.second, b"") && columns.first.ends_with(b":"))
+        || (is_word(columns.second, b"=") && columns.third.starts_with(b".+"))
+}
+
 /// Reads a row.
 pub(crate) fn read_row(alloc: Global, draft: &mut FileDraft, line: &[u8]) -> Result<(), RowFault>
     requires { IsDraft (draft_of draft.old) }
@@ -247,6 +255,9 @@ pub(crate) fn read_row(alloc: Global, draft: &mut FileDraft, line: &[u8]) -> Res
     }
     if byte >= b'0' && byte <= b'9' {
         return entry_in(alloc, draft, columns);
+    }
+    if is_label(columns) {
+        return Ok(());
     }
     named(draft, columns)
 }

@@ -2,10 +2,11 @@
 ghost use Rattle.std.specs.Prelude.{◌≡◌, ◌<◌, [], ◌∷◌, ◌++◌, codes, length, replicate, slice_get, Ok, IfOk, OnOk};
 ghost use Rattle.listings.specs.Octal.{digit, octal, short, short_octal};
 ghost use Rattle.listings.specs.Names.{shown_byte, shown_name};
-ghost use Rattle.listings.specs.Listing.{note_lines, gap, wide, word_line, word_lines, symbol_numbers, symbol_line, symbol_lines, named_line, unusual, head_lines, text_lines, data_lines, bss_lines, table_lines, text_of, listing};
+ghost use Rattle.listings.specs.Listing.{note_lines, gap, wide, word_columns, word_line, word_lines, symbol_numbers, symbol_line, symbol_lines, named_line, unusual, head_lines, text_lines, data_lines, bss_lines, table_lines, text_of, listing};
 ghost use Rattle.listings.specs.Reading.{read};
 
 use crate::draft::data_start;
+use crate::part::Part;
 use crate::remark::Remark;
 use aout_core::laws::sound_law;
 use aout_core::{File, Header, Name, Reloc, Symbol};
@@ -94,24 +95,45 @@ fn put_place(text: &mut Vec<u8>, at: u16, word: u16) -> Result<(), AllocError>
     put_column(text, 1, &octal(word))
 }
 
-/// Appends a word of a segment: its address, the word, and its relocation word.
-fn put_word<R: Remark>(
-    remarks: &R,
+/// Appends the address of a word, the word, and its relocation word if it has one.
+fn put_columns(
     text: &mut Vec<u8>,
     at: u16,
     word: u16,
     reloc: Option<Reloc>,
 ) -> Result<(), AllocError>
-    ensures { OnOk result (text.new.items ≡ text.old.items ++ (word_line (R.said remarks.now) at word reloc ++ 10 ∷ [])) }
+    ensures { OnOk result (text.new.items ≡ text.old.items ++ word_columns at word reloc) }
 {
     put_place(text, at, word)?;
     let Some(reloc) = reloc else {
-        return text.extend_from_slice(b"\n");
+        return Ok(());
     };
     let digits = octal(reloc.0);
     let digits = short(&digits);
-    put_column(text, wide(4, digits), digits)?;
-    remarks.put_word(text, at, word, reloc)?;
+    put_column(text, wide(4, digits), digits)
+}
+
+/// A word of a part, by its place and its address.
+#[derive(Clone, Copy)]
+struct Place {
+    part: Part,
+    index: usize,
+    at: u16,
+}
+
+/// Appends the line of a word, and the labels before it.
+fn put_word<R: Remark>(
+    remarks: &R,
+    text: &mut Vec<u8>,
+    place: Place,
+    word: u16,
+    reloc: Option<Reloc>,
+) -> Result<(), AllocError>
+    ensures { OnOk result (text.new.items ≡ text.old.items ++ (text_of ((R.said remarks.now).labels place.part place.index) ++ (word_line ((R.said remarks.now).word place.part place.index) place.at word reloc ++ 10 ∷ []))) }
+{
+    remarks.put_labels(text, place.part, place.index)?;
+    put_columns(text, place.at, word, reloc)?;
+    remarks.put_word(text, place.part, place.index)?;
     text.extend_from_slice(b"\n")
 }
 
@@ -121,23 +143,25 @@ fn reloc_at(relocs: &[Reloc], index: usize) -> Option<Reloc>
     relocs.get(index).copied()
 }
 
-/// Appends the words of a segment that begins at an address.
+/// Appends the words of a part that begins at an address, and the labels of its end.
 fn put_words<R: Remark>(
     remarks: &R,
     text: &mut Vec<u8>,
+    part: Part,
     start: usize,
     words: &[u16],
     relocs: &[Reloc],
 ) -> Result<(), AllocError>
     requires { start < 131072 }
-    ensures { OnOk result (text.new.items ≡ text.old.items ++ text_of (word_lines (R.said remarks.now) start words.now relocs.now)) }
+    ensures { OnOk result (text.new.items ≡ text.old.items ++ text_of (word_lines (R.said remarks.now) part 0 start words.now relocs.now)) }
 {
     let mut at = (start % 65536) as u16;
     for (index, word) in words.iter().enumerate() {
-        put_word(remarks, text, at, *word, reloc_at(relocs, index))?;
+        let place = Place { part, index, at };
+        put_word(remarks, text, place, *word, reloc_at(relocs, index))?;
         at = at.wrapping_add(2);
     }
-    Ok(())
+    remarks.put_labels(text, part, words.len())
 }
 
 /// Appends a byte of a name.
@@ -301,7 +325,14 @@ fn put_text<R: Remark>(remarks: &R, text: &mut Vec<u8>, file: &File) -> Result<(
     ensures { OnOk result (text.new.items ≡ text.old.items ++ text_of (text_lines (R.said remarks.now) file.now)) }
 {
     text.extend_from_slice(b"text\n")?;
-    put_words(remarks, text, 0, file.text_words(), file.text_reloc())
+    put_words(
+        remarks,
+        text,
+        Part::Text,
+        0,
+        file.text_words(),
+        file.text_reloc(),
+    )
 }
 
 /// Appends the lines of the data.
@@ -313,6 +344,7 @@ fn put_data<R: Remark>(remarks: &R, text: &mut Vec<u8>, file: &File) -> Result<(
     put_words(
         remarks,
         text,
+        Part::Data,
         data_start(header.magic, usize::from(header.text_size)),
         file.data_words(),
         file.data_reloc(),

@@ -1,7 +1,8 @@
--- What a listing remarks of a file: its notes, what each relocation word says, and the letter that nm has for each symbol.
+-- What a listing remarks of a file: its notes, the labels of its text, for each word the instruction that begins there or what the
+-- relocation word says, and the letter that nm has for each symbol.
 --
 -- A byte below the blank is shown as a backslash and three octal digits, so a note or a remark never leaves its line.
-use Rattle.std.specs.Prelude.{ℕ, ◌/◌, nat_lt, eqb, if◌then◌else◌, List, [], ◌∷◌, ◌++◌, map, Option, Some, None, slice_get, codes, decimal}
+use Rattle.std.specs.Prelude.{ℕ, ◌+◌, ◌*◌, ◌/◌, ◌%◌, Bool, false, ◌&&◌, nat_lt, eqb, if◌then◌else◌, List, [], ◌∷◌, ◌++◌, length, map, Option, Some, None, slice_get, slice_index, codes, decimal}
 use Rattle.std.specs.List.{flat_map}
 use Rattle.aout_core.specs.declared.reloc.Reloc.{Reloc}
 use Rattle.aout_core.specs.declared.reloc.Kind.{Kind}
@@ -12,7 +13,14 @@ use Rattle.aout_core.specs.Words.{plus}
 use Rattle.symtools.specs.SymbolLines.{letter}
 use Rattle.listings.specs.Octal.{digit, octal, short_octal}
 use Rattle.listings.specs.Names.{shown_name}
+use Rattle.aout_core.specs.Contents.{Contents}
+use Rattle.listings.specs.declared.part.Part.{Part}
+use Rattle.listings.specs.declared.part.Part.TheVariants as parts
+use Rattle.listings.specs.Drafts.{data_start}
 use Rattle.listings.specs.Listing.{Remarks}
+use Rattle.instructions.specs.Lines.{line_length}
+use Rattle.disassemblies.specs.Lines.{line_in, line_text_in}
+use Rattle.disassemblies.specs.Labels.{label_lines}
 
 abbrev pub printed_byte : ℕ → List ℕ
 printed_byte b = if nat_lt b 32 then 92 ∷ digit (b / 64) ∷ digit (b / 8) ∷ digit b ∷ [] else b ∷ []
@@ -51,11 +59,51 @@ pc_said r = if is_pc_relative r then codes ", from the pc" else []
 abbrev pub word_said : List Symbol → ℕ → ℕ → Reloc → List ℕ
 word_said symbols at w r = target_said symbols at w r (kind_of r) ++ pc_said r
 
--- these notes before a file with these symbols, and these after it
-abbrev pub explained : List Symbol → List (List ℕ) → List (List ℕ) → Remarks
-explained symbols notes findings = record {
+-- what the relocation word of a word says, if it has one
+abbrev pub reloc_said : List Symbol → ℕ → ℕ → Option Reloc → List ℕ
+reloc_said symbols at w None = []
+reloc_said symbols at w (Some r) = word_said symbols at w r
+
+abbrev pub start_by : Option Bool → Bool
+start_by None = false
+start_by (Some b) = b
+
+abbrev pub is_start : List Bool → ℕ → Bool
+is_start starts i = start_by (slice_get starts i)
+
+-- of a word of text: the instruction that begins there, or what the relocation word says
+abbrev pub text_said : List Bool → Contents → ℕ → List ℕ
+text_said starts c i =
+    if nat_lt i (length c.text_words)
+    then (if is_start starts i then line_text_in c i else reloc_said c.symbols (2 * i) (slice_index c.text_words i) (slice_get c.text_reloc i))
+    else []
+
+abbrev pub data_said : Contents → ℕ → List ℕ
+data_said c i =
+    if nat_lt i (length c.data_words)
+    then reloc_said c.symbols ((data_start c.header.magic c.header.text_size + 2 * i) % 65536) (slice_index c.data_words i) (slice_get c.data_reloc i)
+    else []
+
+abbrev pub word_remark : List Bool → Contents → Part → ℕ → List ℕ
+word_remark starts c parts.Text i = text_said starts c i
+word_remark starts c parts.Data i = data_said c i
+
+-- the labels before the line that begins at a place of the text, or at its end
+abbrev pub labels_said : List Bool → Contents → ℕ → List (List ℕ)
+labels_said starts c i =
+    if eqb i (length c.text_words) then label_lines c.symbols (2 * i) 0
+    else (if nat_lt i (length c.text_words) && is_start starts i then label_lines c.symbols (2 * i) (line_length (line_in c i)) else [])
+
+abbrev pub labels_before : List Bool → Contents → Part → ℕ → List (List ℕ)
+labels_before starts c parts.Text i = labels_said starts c i
+labels_before starts c parts.Data i = []
+
+-- these notes before a file, and these after it; and the words at which lines of instructions begin
+abbrev pub explained : List Bool → Contents → List (List ℕ) → List (List ℕ) → Remarks
+explained starts c notes findings = record {
   notes = map printed notes;
   findings = map printed findings;
-  word = λ at w r. printed (word_said symbols at w r);
+  labels = λ p i. labels_before starts c p i;
+  word = λ p i. printed (word_remark starts c p i);
   symbol = λ s. printed (letter s ∷ []);
 }

@@ -2,10 +2,12 @@
 ghost use Rattle.std.specs.Prelude.{◌≡◌, Ok, IfOk, map, string_bytes};
 ghost use Rattle.listings.specs.Listing.{listing};
 ghost use Rattle.listings.specs.Reading.{read};
+ghost use Rattle.disassemblies.specs.Starts.{starts};
 ghost use Rattle.v7_explain.specs.Said.{explained};
 
 use crate::remarks::Explained;
 use aout_core::{File, Header};
+use disassemblies::line_starts;
 use listings::write_listing;
 use std::alloc::{AllocError, Global};
 
@@ -72,12 +74,14 @@ pub(crate) fn listing_of(
     notes: &[String],
     findings: &[String],
 ) -> Result<Vec<u8>, AllocError>
-    ensures lists { IfOk result (λ v. v.items ≡ listing (explained file.now.symbols (map string_bytes notes.now) (map string_bytes findings.now)) file.now) }
+    ensures lists { IfOk result (λ v. v.items ≡ listing (explained (starts file.now) file.now (map string_bytes notes.now) (map string_bytes findings.now)) file.now) }
     ensures again { IfOk result (λ v. read v.items ≡ Ok file.now) }
 {
+    let starts = line_starts(alloc, file)?;
     let remarks = Explained {
         alloc,
-        symbols: file.symbols(),
+        file,
+        starts: &starts,
         notes,
         findings,
     };

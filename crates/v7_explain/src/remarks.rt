@@ -1,19 +1,25 @@
 //! What a listing remarks of a file.
-ghost use Rattle.std.specs.Prelude.{◌≡◌, ◌++◌, ◌∷◌, [], map, string_bytes, OnOk, IfOk};
+ghost use Rattle.std.specs.Prelude.{◌≡◌, ◌<◌, ◌+◌, ◌*◌, ◌%◌, ◌++◌, ◌∷◌, [], length, map, slice_get, slice_index, string_bytes, OnOk, IfOk};
+ghost use Rattle.listings.specs.Drafts.{data_start};
 ghost use Rattle.listings.specs.Listing.{remarked, note_lines, text_of};
-ghost use Rattle.v7_explain.specs.Said.{printed_byte, printed, word_said};
+ghost use Rattle.disassemblies.specs.Lines.{line_text_in};
+ghost use Rattle.disassemblies.specs.Labels.{label_lines};
+ghost use Rattle.v7_explain.specs.Said.{printed_byte, printed, word_said, reloc_said, is_start, text_said, data_said, labels_said};
 
 use crate::words_in::put_word_text;
-use aout_core::{Reloc, Symbol};
-use listings::Remark;
+use aout_core::{File, Reloc, Symbol};
+use disassemblies::{line_in, put_labels, put_line_text};
+use listings::{Part, Remark, data_start};
 use std::alloc::{AllocError, Global};
 use symtools::letter;
 
-/// The notes of a file, and its symbols, to which relocation words refer.
+/// A file that is listed, with what is remarked of it.
 #[derive(Clone, Copy)]
 pub(crate) struct Explained<'a> {
     pub(crate) alloc: Global,
-    pub(crate) symbols: &'a [Symbol],
+    pub(crate) file: &'a File,
+    /// For each word of the text, whether a line of instructions begins there.
+    pub(crate) starts: &'a [bool],
     /// Lines before the file, each without its slash.
     pub(crate) notes: &'a [String],
     /// Lines after it.
@@ -75,19 +81,146 @@ fn put_remark(text: &mut Vec<u8>, remark: &[u8]) -> Result<(), AllocError>
     put_printed(text, remark)
 }
 
-/// What a relocation word says of a word at an address.
-fn word_text(
-    alloc: Global,
-    symbols: &[Symbol],
+/// A word at an address, and its relocation word if it has one.
+#[derive(Clone, Copy)]
+struct Spot {
     at: u16,
     word: u16,
-    reloc: Reloc,
-) -> Result<Vec<u8>, AllocError>
-    ensures { IfOk result (λ v. v.items ≡ word_said symbols.now at word reloc) }
+    reloc: Option<Reloc>,
+}
+
+/// What the relocation word of a word says.
+fn reloc_text(alloc: Global, symbols: &[Symbol], spot: Spot) -> Result<Vec<u8>, AllocError>
+    ensures { IfOk result (λ v. v.items ≡ reloc_said symbols.now spot.at spot.word spot.reloc) }
 {
     let mut text = Vec::new(alloc);
-    put_word_text(&mut text, symbols, at, word, reloc)?;
+    if let Some(reloc) = spot.reloc {
+        put_word_text(&mut text, symbols, spot.at, spot.word, reloc)?;
+    }
     Ok(text)
+}
+
+/// Appends what the relocation word of a word says.
+fn put_reloc(
+    alloc: Global,
+    text: &mut Vec<u8>,
+    symbols: &[Symbol],
+    spot: Spot,
+) -> Result<(), AllocError>
+    ensures { OnOk result (text.new.items ≡ text.old.items ++ remarked (printed (reloc_said symbols.now spot.at spot.word spot.reloc))) }
+{
+    let remark = reloc_text(alloc, symbols, spot)?;
+    put_remark(text, &remark)
+}
+
+fn text_spot(file: &File, place: usize) -> Spot
+    requires { place < length file.now.text_words }
+    ensures at { result.at ≡ 2 * place }
+    ensures word { result.word ≡ slice_index file.now.text_words place }
+    ensures reloc { result.reloc ≡ slice_get file.now.text_reloc place }
+{
+    let words = file.text_words();
+    Spot {
+        at: (2 * place) as u16,
+        word: words[place],
+        reloc: file.text_reloc().get(place).copied(),
+    }
+}
+
+fn data_spot(file: &File, place: usize) -> Spot
+    requires { place < length file.now.data_words }
+    ensures at { result.at ≡ (data_start file.now.header.magic file.now.header.text_size + 2 * place) % 65536 }
+    ensures word { result.word ≡ slice_index file.now.data_words place }
+    ensures reloc { result.reloc ≡ slice_get file.now.data_reloc place }
+{
+    let header = file.header();
+    let start = data_start(header.magic, usize::from(header.text_size));
+    let words = file.data_words();
+    Spot {
+        at: ((start + 2 * place) % 65536) as u16,
+        word: words[place],
+        reloc: file.data_reloc().get(place).copied(),
+    }
+}
+
+/// Appends the instruction that begins at a place of the text.
+fn put_instruction(
+    alloc: Global,
+    text: &mut Vec<u8>,
+    file: &File,
+    place: usize,
+) -> Result<(), AllocError>
+    requires { place < length file.now.text_words }
+    ensures { OnOk result (text.new.items ≡ text.old.items ++ remarked (printed (line_text_in file.now place))) }
+{
+    let mut line = String::new(alloc);
+    put_line_text(&mut line, file, place)?;
+    put_remark(text, line.as_bytes())
+}
+
+/// Whether a line begins at a place.
+fn is_start(starts: &[bool], place: usize) -> bool
+    ensures { result ≡ is_start starts.now place }
+{
+    match starts.get(place) {
+        Some(is_start) => *is_start,
+        None => false,
+    }
+}
+
+/// Appends what is remarked of a word of text: its instruction, or what its relocation word says.
+fn put_text_remark(x: &Explained<'_>, text: &mut Vec<u8>, place: usize) -> Result<(), AllocError>
+    ensures { OnOk result (text.new.items ≡ text.old.items ++ remarked (printed (text_said x.now.starts.now x.now.file.now place))) }
+{
+    if place >= x.file.text_words().len() {
+        return Ok(());
+    }
+    if is_start(x.starts, place) {
+        put_instruction(x.alloc, text, x.file, place)
+    } else {
+        put_reloc(x.alloc, text, x.file.symbols(), text_spot(x.file, place))
+    }
+}
+
+/// Appends what is remarked of a word of data.
+fn put_data_remark(x: &Explained<'_>, text: &mut Vec<u8>, place: usize) -> Result<(), AllocError>
+    ensures { OnOk result (text.new.items ≡ text.old.items ++ remarked (printed (data_said x.now.file.now place))) }
+{
+    if place >= x.file.data_words().len() {
+        return Ok(());
+    }
+    put_reloc(x.alloc, text, x.file.symbols(), data_spot(x.file, place))
+}
+
+/// Appends the labels of a line of so many words at a place of the text, 0 for its end.
+fn put_line_labels(
+    alloc: Global,
+    text: &mut Vec<u8>,
+    symbols: &[Symbol],
+    place: usize,
+    length: u8,
+) -> Result<(), AllocError>
+    requires { place < 32768 }
+    ensures { OnOk result (text.new.items ≡ text.old.items ++ text_of (label_lines symbols.now (2 * place) length)) }
+{
+    let mut lines = String::new(alloc);
+    put_labels(&mut lines, symbols, (2 * place) as u16, length)?;
+    text.extend_from_slice(lines.as_bytes())
+}
+
+/// Appends the labels before the line that begins at a place of the text, or at the end of the text.
+fn put_text_labels(x: &Explained<'_>, text: &mut Vec<u8>, place: usize) -> Result<(), AllocError>
+    ensures { OnOk result (text.new.items ≡ text.old.items ++ text_of (labels_said x.now.starts.now x.now.file.now place)) }
+{
+    let end = x.file.text_words().len();
+    if place == end {
+        return put_line_labels(x.alloc, text, x.file.symbols(), place, 0);
+    }
+    if place < end && is_start(x.starts, place) {
+        let length = line_in(x.file, place).length() as u8;
+        return put_line_labels(x.alloc, text, x.file.symbols(), place, length);
+    }
+    Ok(())
 }
 
 impl Remark for Explained<'_> {
@@ -95,7 +228,7 @@ impl Remark for Explained<'_> {
     ghost use Rattle.v7_explain.specs.Said.{explained};
     ghost use Rattle.v7_explain.specs.internal.Lines.{explained_lines};
 
-    ghost said = { λ x. explained x.symbols.now (map string_bytes x.notes.now) (map string_bytes x.findings.now) };
+    ghost said = { λ x. explained x.starts.now x.file.now (map string_bytes x.notes.now) (map string_bytes x.findings.now) };
 
     fn put_notes(&self, text: &mut Vec<u8>) -> Result<(), AllocError> {
         put_lines(text, self.notes)
@@ -105,20 +238,23 @@ impl Remark for Explained<'_> {
         put_lines(text, self.findings)
     }
 
-    fn put_word(
-        &self,
-        text: &mut Vec<u8>,
-        at: u16,
-        word: u16,
-        reloc: Reloc,
-    ) -> Result<(), AllocError> {
-        let remark = word_text(self.alloc, self.symbols, at, word, reloc)?;
-        put_remark(text, &remark)
+    fn put_labels(&self, text: &mut Vec<u8>, part: Part, place: usize) -> Result<(), AllocError> {
+        match part {
+            Part::Text => put_text_labels(self, text, place),
+            Part::Data => Ok(()),
+        }
+    }
+
+    fn put_word(&self, text: &mut Vec<u8>, part: Part, place: usize) -> Result<(), AllocError> {
+        match part {
+            Part::Text => put_text_remark(self, text, place),
+            Part::Data => put_data_remark(self, text, place),
+        }
     }
 
     fn put_symbol(&self, text: &mut Vec<u8>, symbol: &Symbol) -> Result<(), AllocError> {
         put_remark(text, &[letter(symbol)])
     }
 
-    ghost are = { λ x. explained_lines x.symbols.now (map string_bytes x.notes.now) (map string_bytes x.findings.now) };
+    ghost are = { λ x. explained_lines x.starts.now x.file.now (map string_bytes x.notes.now) (map string_bytes x.findings.now) };
 }

@@ -5,6 +5,7 @@ use crate::places::Places;
 use crate::text::shown;
 use crate::words_in::is_wanted;
 use aout_core::{File, Header, Kind, ReadFault, Reloc, Symbol};
+use disassemblies::{line_starts, put_line_text};
 use std::alloc::{AllocError, Global};
 
 /// How many bad relocation words are shown one by one.
@@ -149,20 +150,55 @@ fn word_text(
     }
 }
 
+/// Adds the instruction that has a word of text as an operand word, if it is one.
+fn put_owner(
+    alloc: Global,
+    text: &mut String,
+    file: &File,
+    starts: &[bool],
+    index: usize,
+) -> Result<(), AllocError> {
+    if starts.get(index) != Some(&false) {
+        return Ok(());
+    }
+    let one = index.saturating_sub(1);
+    let place = if starts.get(one) == Some(&true) {
+        one
+    } else {
+        index.saturating_sub(2)
+    };
+    if place >= file.text_words().len() {
+        return Ok(());
+    }
+    let address = place.saturating_mul(2);
+    let before = format!(in alloc; "; the instruction at {address:06o} is ")?;
+    text.push_str(before.as_str())?;
+    put_line_text(text, file, place)
+}
+
+/// Where bad relocation words are looked for: in a file, at the words of whose text lines begin as told.
+#[derive(Clone, Copy)]
+struct Search<'a> {
+    file: &'a File,
+    starts: &'a [bool],
+}
+
 /// Adds the bad words among these, and returns how many there were of text and data so far, and how many bad ones.
 fn find_words(
     alloc: Global,
     findings: &mut Vec<Finding>,
-    file: &File,
+    search: Search<'_>,
     relocs: &[Reloc],
     so_far: (u32, u32),
 ) -> Result<(u32, u32), AllocError> {
+    let Search { file, starts } = search;
     let places = Places::of(file.header());
     let (mut index, mut bad) = so_far;
     for reloc in relocs {
-        if let Some(text) = word_text(alloc, file.symbols(), index, *reloc)? {
+        if let Some(mut text) = word_text(alloc, file.symbols(), index, *reloc)? {
             bad = bad.saturating_add(1);
             if bad <= MOST {
+                put_owner(alloc, &mut text, file, starts, index as usize)?;
                 find(findings, places.relocation_of(index as usize), text)?;
             }
         }
@@ -174,8 +210,13 @@ fn find_words(
 /// The bad relocation words of a file, the first of them one by one.
 pub(crate) fn wrong_words(alloc: Global, file: &File) -> Result<Vec<Finding>, AllocError> {
     let mut findings = Vec::new(alloc);
-    let so_far = find_words(alloc, &mut findings, file, file.text_reloc(), (0, 0))?;
-    let (_, bad) = find_words(alloc, &mut findings, file, file.data_reloc(), so_far)?;
+    let starts = line_starts(alloc, file)?;
+    let search = Search {
+        file,
+        starts: &starts,
+    };
+    let so_far = find_words(alloc, &mut findings, search, file.text_reloc(), (0, 0))?;
+    let (_, bad) = find_words(alloc, &mut findings, search, file.data_reloc(), so_far)?;
     if bad > MOST {
         let more = bad - MOST;
         let text = format!(in alloc; "and {more} more such relocation words")?;

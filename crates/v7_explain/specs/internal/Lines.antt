@@ -2,10 +2,18 @@
 use Rattle.std.proofs.Common.{◌≡◌, ℕ, ◌≤◌, Bool, true, false, ltb, List, [], ◌∷◌, ◌++◌, map, refl, arith}
 use Rattle.std.specs.List.{AllByRecursion}
 use Rattle.std.proofs.lemmas.Bool.{ltb-false}
-use Rattle.aout_core.specs.declared.symbol.Symbol.{Symbol}
-use Rattle.listings.specs.Laws.{IsLine, AreRemarks}
+use Rattle.std.specs.Prelude.{◌*◌, ◌&&◌, eqb, nat_lt, if◌then◌else◌, length}
+use Rattle.aout_core.specs.Contents.{Contents}
+use Rattle.listings.specs.declared.part.Part.{Part}
+use Rattle.listings.specs.declared.part.Part.TheVariants as parts
+use Rattle.listings.specs.Laws.{IsLine, IsLabel, AreRemarks}
+use Rattle.instructions.specs.Lines.{line_length}
+use Rattle.instructions.proofs.LineLemmas.{length_from}
+use Rattle.disassemblies.specs.Lines.{line_in}
+use Rattle.disassemblies.specs.Labels.{label_lines}
+use Rattle.disassemblies.proofs.SilentLabels.{are_labels}
 use Rattle.symtools.specs.SymbolLines.{letter}
-use Rattle.v7_explain.specs.Said.{printed_byte, printed, word_said, explained}
+use Rattle.v7_explain.specs.Said.{printed_byte, printed, is_start, word_remark, labels_before, explained}
 
 append_line : (f g : List ℕ) → IsLine f → IsLine g → IsLine (f ++ g)
 append_line [] g hf hg = hg
@@ -23,10 +31,21 @@ printed_lines : (ls : List (List ℕ)) → AllByRecursion IsLine (map printed ls
 printed_lines [] = tt
 printed_lines (l ∷ ls) = (printed_line l, printed_lines ls)
 
-pub explained_lines : (symbols : List Symbol) (notes findings : List (List ℕ)) → AreRemarks (explained symbols notes findings)
-explained_lines symbols notes findings = record {
+labels_by : (c : Contents) (i : ℕ) (last first : Bool) →
+    AllByRecursion IsLabel (if last then label_lines c.symbols (2 * i) 0 else (if first then label_lines c.symbols (2 * i) (line_length (line_in c i)) else []))
+labels_by c i true first = are_labels c.symbols (2 * i) 0 (omega arith)
+labels_by c i false true = are_labels c.symbols (2 * i) (line_length (line_in c i)) (length_from (line_in c i)).1
+labels_by c i false false = tt
+
+labels_are : (starts : List Bool) (c : Contents) (p : Part) (i : ℕ) → AllByRecursion IsLabel (labels_before starts c p i)
+labels_are starts c parts.Text i = labels_by c i (eqb i (length c.text_words)) (nat_lt i (length c.text_words) && is_start starts i)
+labels_are starts c parts.Data i = tt
+
+pub explained_lines : (starts : List Bool) (c : Contents) (notes findings : List (List ℕ)) → AreRemarks (explained starts c notes findings)
+explained_lines starts c notes findings = record {
   notes = printed_lines notes;
   findings = printed_lines findings;
-  word = λ at w r. printed_line (word_said symbols at w r);
+  labels = λ p i. labels_are starts c p i;
+  word = λ p i. printed_line (word_remark starts c p i);
   symbol = λ s. printed_line (letter s ∷ []);
 }

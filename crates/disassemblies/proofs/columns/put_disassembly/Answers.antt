@@ -1,28 +1,30 @@
-use Rattle.std.proofs.Common.{◌≡◌, ◌+◌, ◌*◌, ◌<◌, ◌≤◌, ◌++◌, length, ◌∙◌, ap, arith, rules}
+use Rattle.std.proofs.Common.{◌≡◌, ℕ, List, ◌+◌, ◌*◌, ◌<◌, ◌≤◌, ◌++◌, length, ◌∙◌, ap, arith, rules}
 use Rattle.std.specs.Prelude.{string_bytes}
 use Rattle.instructions.specs.Lines.{line_length}
 use Rattle.disassemblies.specs.Lines.{line_in}
-use Rattle.disassemblies.specs.Columns.{disassembly}
+use Rattle.disassemblies.specs.Columns.{labelled_row, disassembly}
 use Rattle.disassemblies.specs.Labels.{labels}
-use Rattle.disassemblies.proofs.ColumnLemmas.{line_more, end_more}
+use Rattle.disassemblies.proofs.StartLemmas.{line_more, end_more}
 use Rattle.disassemblies.proofs.LabelLemmas.{on_ok}
 use Rattle.disassemblies.proofs.columns.put_disassembly.Goals as goal
 
 pub loop-place-preserved : goal.loop-place-preserved
 loop-place-preserved c =
-    let count : c.length-count.result ≡ line_length (line_in c.args.file.now c.loop-place.place) = c.length-count.ensures ∙ ap line_length c.line_in.ensures.line in
-    let inside : c.loop-place.place < length c.args.file.now.text_words = search rules in
-    let fits : c.loop-place.place + c.length-count.result ≤ length c.args.file.now.text_words = search rules in (
-      line_more c.args.file.now (string_bytes c.args.text.now ++ disassembly c.args.file.now) (string_bytes c.loop-place.text) (string_bytes c.put_labelled_row.new.text) c.loop-place.place c.length-count.result
-          inside count c.in_ok-put_labelled_row.ensures c.loop-place.invariant.0,
+    let file = c.args.file.now in
+    let count : c.length-count.result ≡ line_length (line_in file c.loop-place.place) = c.length-count.ensures ∙ ap line_length c.line_in.ensures.line in
+    let inside : c.loop-place.place < length file.text_words = search rules in
+    let fits : c.loop-place.place + c.length-count.result ≤ length file.text_words = search rules in (
+      line_more file (λ place n. labelled_row file place n) (labels file.symbols (2 * length file.text_words) 0) (string_bytes c.args.text.now ++ disassembly file) (string_bytes c.loop-place.text) (string_bytes c.put_labelled_row.new.text)
+          c.loop-place.place c.length-count.result inside count c.in_ok-put_labelled_row.ensures c.loop-place.invariant.0,
       fits,
       c.loop-place.invariant.2,
     )
 
 pub returns : goal.returns
 returns c =
-    let end : c.loop-place.place ≡ length c.args.file.now.text_words = omega (arith, c.loop-place.invariant.1, c.loop-place.invariant.2) in
-    on_ok (string_bytes c.put_end_labels.new.text ≡ string_bytes c.loop-place.text ++ labels c.args.file.now.symbols (2 * length c.args.file.now.text_words) 0)
-    (string_bytes c.put_end_labels.new.text ≡ string_bytes c.args.text.now ++ disassembly c.args.file.now) c.put_end_labels.result
-    (λ added. end_more c.args.file.now (string_bytes c.args.text.now ++ disassembly c.args.file.now) (string_bytes c.loop-place.text) (string_bytes c.put_end_labels.new.text) c.loop-place.place end added c.loop-place.invariant.0)
+    let file = c.args.file.now in
+    let end_labels : List ℕ = labels file.symbols (2 * length file.text_words) 0 in
+    let end : c.loop-place.place ≡ length file.text_words = omega (arith, c.loop-place.invariant.1, c.loop-place.invariant.2) in
+    on_ok (string_bytes c.put_end_labels.new.text ≡ string_bytes c.loop-place.text ++ end_labels) (string_bytes c.put_end_labels.new.text ≡ string_bytes c.args.text.now ++ disassembly file) c.put_end_labels.result
+    (λ added. end_more file (λ place n. labelled_row file place n) end_labels (string_bytes c.args.text.now ++ disassembly file) (string_bytes c.loop-place.text) (string_bytes c.put_end_labels.new.text) c.loop-place.place end added c.loop-place.invariant.0)
     c.put_end_labels.ensures

@@ -1,0 +1,41 @@
+//! The instructions of the objects' texts.
+use crate::json::{begin, put_key, put_text};
+use aout_core::File;
+use disassemblies::{line_in, line_starts, put_line_text};
+use instructions::Line;
+use std::alloc::{AllocError, Global};
+
+/// For each word of a file's text the instruction that begins there; an empty text if none does.
+pub(crate) fn instructions_of(alloc: Global, file: &File) -> Result<Vec<String>, AllocError> {
+    let mut texts = Vec::new(alloc);
+    for (place, is_start) in line_starts(alloc, file)?.iter().enumerate() {
+        let mut text = String::new(alloc);
+        if *is_start && place < file.text_words().len() {
+            if let Line::Decoded(..) = line_in(file, place) {
+                put_line_text(&mut text, file, place)?;
+            }
+        }
+        texts.push(text)?;
+    }
+    Ok(texts)
+}
+
+/// Adds the instructions of a text, by the indices of their first words.
+pub(crate) fn put_instructions(
+    alloc: Global,
+    out: &mut String,
+    file: &File,
+) -> Result<(), AllocError> {
+    put_key(out, "instructions")?;
+    begin(out, '{')?;
+    put_key(out, "text")?;
+    begin(out, '{')?;
+    for (index, text) in instructions_of(alloc, file)?.iter().enumerate() {
+        if !text.is_empty() {
+            let key = format!(in alloc; "{index}")?;
+            put_key(out, key.as_str())?;
+            put_text(out, text.as_str())?;
+        }
+    }
+    out.push_str("}}")
+}
