@@ -26,7 +26,8 @@ IDS = ["command_words", "instructions"]
 os.chdir(os.path.join(os.path.dirname(os.path.abspath(__file__)), ".."))
 LIBRARIES = [
     "aout_core", "link_session", "link_options", "link_out", "scripts", "symtools", "session_text", "link_laws",
-    "command_words", "v7tools", "command_laws", "gnu_objects", "listings", "instructions", "disassemblies", "library_calls", "v7_c",
+    "link_maps", "command_words", "v7tools", "command_laws", "gnu_objects", "listings", "instructions", "disassemblies",
+    "library_calls", "v7_c",
 ]
 IMPORT = re.compile(
     r"^ *(?:pub )?(?:ghost )?use Rattle\.(\w+)\.(specs|proofs)\.([\w.]+?)(?:\.\{([^}]*)\}|(?: as (\w+))?);?$"
