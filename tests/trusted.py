@@ -26,7 +26,7 @@ IDS = ["command_words", "instructions"]
 os.chdir(os.path.join(os.path.dirname(os.path.abspath(__file__)), ".."))
 LIBRARIES = [
     "aout_core", "link_session", "link_options", "link_out", "scripts", "symtools", "session_text", "link_laws",
-    "link_maps", "command_words", "v7tools", "command_laws", "gnu_objects", "listings", "instructions", "disassemblies",
+    "link_maps", "command_words", "v7tools", "command_laws", "gnu_objects", "listings", "instructions", "disassemblies", "findings",
     "library_calls", "v7_c",
 ]
 IMPORT = re.compile(

@@ -1,9 +1,9 @@
 //! What is damaged in a file.
 use crate::finding::{Finding, find};
-use crate::likeness::header_of;
+use crate::other_files::header_of;
 use crate::places::Places;
 use crate::text::shown;
-use crate::words_in::is_wanted;
+use crate::words::is_wanted;
 use aout_core::{File, Header, Kind, ReadFault, Reloc, Symbol};
 use std::alloc::{AllocError, Global};
 
@@ -70,7 +70,7 @@ fn truncated_text(alloc: Global, header: &Header, size: usize) -> Result<String,
 }
 
 /// What is wrong with bytes that are not a file.
-pub(crate) fn wrong_bytes(
+pub fn wrong_bytes(
     alloc: Global,
     bytes: &[u8],
     fault: ReadFault,
@@ -107,7 +107,7 @@ fn unwanted_text(alloc: Global, symbols: &[Symbol], number: u16) -> Result<Strin
     let count = symbols.len();
     match symbols.get(usize::from(number)) {
         Some(symbol) => {
-            let name = shown(alloc, symbol.name.as_bytes())?;
+            let name = shown(alloc, &symbol.name)?;
             let type_bits = symbol.type_bits;
             format!(in alloc;
                 "symbol {number} of {count}, {name} of type {type_bits:o}, and not an undefined external, 40"
@@ -172,7 +172,7 @@ fn find_words(
 }
 
 /// The bad relocation words of a file, the first of them one by one.
-pub(crate) fn wrong_words(alloc: Global, file: &File) -> Result<Vec<Finding>, AllocError> {
+pub fn wrong_words(alloc: Global, file: &File) -> Result<Vec<Finding>, AllocError> {
     let mut findings = Vec::new(alloc);
     let so_far = find_words(alloc, &mut findings, file, file.text_reloc(), (0, 0))?;
     let (_, bad) = find_words(alloc, &mut findings, file, file.data_reloc(), so_far)?;
