@@ -49,7 +49,7 @@ build/v7-explain: crates/v7_explain/out/v7_explain
 	mkdir -p build
 	cp crates/v7_explain/out/v7_explain build/v7-explain
 
-EXPLAIN_CRATES := $(addprefix crates/,aout_core link_session link_options link_out symtools command_words gnu_objects listings instructions disassemblies programs v7_explain)
+EXPLAIN_CRATES := $(addprefix crates/,aout_core link_session link_options link_out symtools command_words gnu_objects listings instructions disassemblies findings link_maps programs v7_explain)
 crates/v7_explain/out/v7_explain: crates.txt $(shell find $(EXPLAIN_CRATES) -name out -prune -o -type f -print)
 	python3 tests/prove.py v7_explain $@
 	touch $@

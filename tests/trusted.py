@@ -25,8 +25,8 @@ IDS = [("command_words", "words"), ("command_words", "link_words"), ("instructio
 
 os.chdir(os.path.join(os.path.dirname(os.path.abspath(__file__)), ".."))
 LIBRARIES = [
-    "aout_core", "link_session", "link_options", "link_out", "symtools", "session_text",
-    "command_words", "v7tools", "laws", "gnu_objects", "listings", "instructions", "disassemblies", "library_calls", "v7_c",
+    "aout_core", "link_session", "link_options", "link_out", "symtools", "session_text", "link_maps",
+    "command_words", "v7tools", "laws", "gnu_objects", "listings", "instructions", "disassemblies", "findings", "library_calls", "v7_c",
 ]
 IMPORT = re.compile(
     r"^ *(?:pub )?(?:ghost )?use Rattle\.(\w+)\.(specs|proofs)\.([\w.]+?)(?:\.\{([^}]*)\}|(?: as (\w+))?);?$"

@@ -11,6 +11,7 @@
 //!
 //! - `ListingFault`, `Fault`, `Reason`: why a listing was not read: its first mistake, by line, column and reason
 //! - `Remark`, `Nothing`: what a listing remarks beside the file, and no remarks
+//! - `Part`: text or data, the parts that have words
 //!
 //! Functions:
 //!

@@ -1,5 +1,5 @@
 mod PutsLemmas
-mod SortLemmas
+pub mod SortLemmas
 mod OrderLemmas
 mod DigitLemmas
 mod TextLemmas

@@ -9,7 +9,6 @@ use Rattle.aout_core.specs.declared.reloc.Kind.{Kind}
 use Rattle.aout_core.specs.declared.reloc.Kind.TheVariants as kinds
 use Rattle.aout_core.specs.declared.symbol.Symbol.{Symbol}
 use Rattle.aout_core.specs.WellFormed.{is_wanted, is_pc_relative, kind_of, symbol_number}
-use Rattle.aout_core.specs.Words.{plus}
 use Rattle.symtools.specs.SymbolLines.{letter}
 use Rattle.listings.specs.Octal.{digit, octal, short_octal}
 use Rattle.listings.specs.Names.{shown_name}
@@ -21,16 +20,13 @@ use Rattle.listings.specs.Listing.{Remarks}
 use Rattle.instructions.specs.Lines.{line_length}
 use Rattle.disassemblies.specs.Lines.{line_in, line_text_in}
 use Rattle.disassemblies.specs.Labels.{label_lines}
+use Rattle.findings.specs.Words.{meant}
 
 abbrev pub printed_byte : ℕ → List ℕ
 printed_byte b = if nat_lt b 32 then 92 ∷ digit (b / 64) ∷ digit (b / 8) ∷ digit b ∷ [] else b ∷ []
 
 abbrev pub printed : List ℕ → List ℕ
 printed bs = flat_map printed_byte bs
-
--- what a word at an address stands for: if it is relative to the pc, the sum with the address after the word
-abbrev pub meant : ℕ → ℕ → Reloc → ℕ
-meant at w r = if is_pc_relative r then plus (plus w at) 2 else w
 
 abbrev pub number_said : ℕ → ℕ → Reloc → List ℕ
 number_said at w r = if is_pc_relative r then codes "the number " ++ octal (meant at w r) else codes "a number"

@@ -1,16 +1,14 @@
 //! Files as listings, or their texts as instructions.
 use crate::disassembly::disassembly_of;
-use crate::finding::{put_findings, tell_findings};
-use crate::kind::kind_text;
-use crate::likeness::{header_of, is_of_gnu, likeness};
-use crate::listing::{listing_of, put_header};
-use crate::odd::odd_of;
+use crate::listing::listing_of;
 use crate::remarks::put_lines;
-use crate::text::put_note;
-use crate::told::Told;
+use crate::told::{Told, tell_findings};
 use crate::words::ListingWords;
-use crate::wrong::{wrong_bytes, wrong_words};
 use aout_core::{File, Object, ObjectFault, ReadFault, Wire, read_file};
+use findings::{
+    header_of, is_of_gnu, kind_text, likeness, odd_of, put_findings, put_header, put_note,
+    wrong_bytes, wrong_words,
+};
 use programs::{FileFault, read_all};
 use std::alloc::{AllocError, Global};
 use std::fs;

@@ -4,26 +4,16 @@
 
 mod disassembly;
 mod explaining;
-mod finding;
-mod kind;
-mod likeness;
 mod listing;
 mod map;
 mod map_limits;
 mod map_names;
 mod map_objects;
-mod map_outcome;
-mod map_places;
-mod map_references;
 mod map_text;
-mod odd;
-mod places;
 mod remarks;
-mod text;
 mod told;
 mod words;
 mod words_in;
-mod wrong;
 
 use explaining::{check_files, disassemble_files, explain_files};
 use map::write_map;

@@ -1,14 +1,12 @@
 //! The map of a link, made or refused.
-use crate::map_limits::{put_largest, put_limits, sums_of};
+use crate::map_limits::{put_largest, put_limits};
 use crate::map_names::{Names, put_externals, put_faults};
-use crate::map_objects::{Gathered, Member, gather};
-use crate::map_outcome::{Made, Outcome, outcome_of};
-use crate::map_places::{Places, starts_of};
-use crate::map_text::put_name;
+use crate::map_objects::read_objects;
 use crate::told::Told;
 use command_words::Call;
-use link_out::{Bases, Options};
-use link_session::Session;
+use findings::put_name;
+use link_maps::{LinkMap, Member, Objects, Places, Refused, map_of};
+use link_out::{Bases, Linked, Options};
 use std::alloc::{AllocError, Global};
 use std::fmt::Write;
 
@@ -32,40 +30,42 @@ fn put_segments(text: &mut String, bases: &Bases) -> Result<(), AllocError> {
 
 /// Adds the line of an object.
 fn put_member(text: &mut String, at: Places, member: &Member) -> Result<(), AllocError> {
-    write!(text, "  {:06o}{:>7}", at.text, member.text)?;
-    write!(text, "  {:06o}{:>7}", at.data, member.data)?;
-    write!(text, "  {:06o}{:>7}", at.bss, member.bss)?;
-    if PATH < member.path.len() {
+    let header = &member.header;
+    write!(text, "  {:06o}{:>7}", at.text, header.text_size)?;
+    write!(text, "  {:06o}{:>7}", at.data, header.data_size)?;
+    write!(text, "  {:06o}{:>7}", at.bss, header.bss_size)?;
+    if PATH < member.label.len() {
         text.push_str("\n    ")?;
     } else {
         text.push_str("  ")?;
     }
-    text.push_str(member.path.as_str())?;
+    text.push_str(member.label.as_str())?;
     text.push('\n')
 }
 
 /// Adds the objects.
-fn put_members(text: &mut String, names: &Names<'_>) -> Result<(), AllocError> {
+fn put_members(text: &mut String, map: &LinkMap) -> Result<(), AllocError> {
     text.push_str("\nObjects\n    text  bytes    data  bytes     bss  bytes\n")?;
-    for (member, at) in names.gathered.members.iter().zip(names.starts) {
+    for (member, at) in map.members.iter().zip(map.places.iter()) {
         put_member(text, *at, member)?;
     }
     Ok(())
 }
 
 /// Adds what becomes of a link that is made.
-fn put_made(text: &mut String, made: &Made) -> Result<(), AllocError> {
-    if made.status == 0 {
-        text.push_str("made, with nothing to report\n")?;
-    } else {
-        text.push_str("made, with something to report\n")?;
-    }
+fn put_made(text: &mut String, linked: &Linked) -> Result<(), AllocError> {
+    let header = linked.file.header();
+    let what = match linked.report.status() {
+        0 => "nothing",
+        _ => "something",
+    };
+    write!(text, "made, with {what} to report\n")?;
     write!(
         text,
         "  magic {:04o}, entry point {:06o}\n",
-        made.magic, made.entry
+        header.magic, header.entry_point
     )?;
-    if let Some(name) = &made.entry_bad {
+    if let Some(name) = &linked.report.entry_bad {
         text.push_str("  entry point not in text: ")?;
         put_name(text, name)?;
         text.push('\n')?;
@@ -74,38 +74,34 @@ fn put_made(text: &mut String, made: &Made) -> Result<(), AllocError> {
 }
 
 /// Adds why an object is refused.
-fn put_refused(text: &mut String, gathered: &Gathered) -> Result<(), AllocError> {
-    let Some((object, fault)) = gathered.refused else {
-        return Ok(());
-    };
-    write!(text, "refused, {fault} at\n  ")?;
-    if let Some(member) = gathered.members.get(object) {
-        text.push_str(member.path.as_str())?;
+fn put_refused(text: &mut String, refused: &Refused) -> Result<(), AllocError> {
+    write!(text, "refused, {} at\n  ", refused.cause)?;
+    if let Some(first) = refused.left.first() {
+        text.push_str(first.label.as_str())?;
     }
     text.push_str("\n  (addresses below count from 0 in each segment)\n")
 }
 
 /// Adds what becomes of the link.
-fn put_head(
-    text: &mut String,
-    gathered: &Gathered,
-    outcome: Option<&Outcome>,
-) -> Result<(), AllocError> {
-    write!(text, "Link of {} objects: ", gathered.members.len())?;
-    match outcome {
-        Some(outcome) => match &outcome.made {
-            Ok(made) => put_made(text, made),
+fn put_head(text: &mut String, map: &LinkMap, objects: &Objects) -> Result<(), AllocError> {
+    write!(text, "Link of {} objects: ", map.members.len())?;
+    if let Some(refused) = &objects.refused {
+        return put_refused(text, refused);
+    }
+    match &map.outcome {
+        Some(outcome) => match &outcome.linked {
+            Ok(linked) => put_made(text, linked),
             Err(fault) => write!(text, "refused, {fault}\n"),
         },
-        None => put_refused(text, gathered),
+        None => Ok(()),
     }
 }
 
-/// The status of a map: 0 for a link with nothing to report.
-fn status_of(outcome: Option<&Outcome>) -> u8 {
-    match outcome {
-        Some(outcome) => match &outcome.made {
-            Ok(made) => made.status,
+/// The status of a map: 0 for a link with nothing to report; 1 for one that is refused too.
+fn status_of(map: &LinkMap) -> u8 {
+    match &map.outcome {
+        Some(outcome) => match &outcome.linked {
+            Ok(linked) => linked.report.status(),
             Err(_) => 1,
         },
         None => 1,
@@ -113,9 +109,9 @@ fn status_of(outcome: Option<&Outcome>) -> u8 {
 }
 
 /// Whether there is no file.
-fn is_refused(outcome: Option<&Outcome>) -> bool {
-    match outcome {
-        Some(outcome) => outcome.made.is_err(),
+fn is_refused(map: &LinkMap) -> bool {
+    match &map.outcome {
+        Some(outcome) => outcome.linked.is_err(),
         None => true,
     }
 }
@@ -127,19 +123,12 @@ fn put_sizes(
     names: &Names<'_>,
     options: &Options,
 ) -> Result<(), AllocError> {
-    let members = names.gathered.members.as_slice();
-    let outcome = names.outcome;
-    put_limits(
-        text,
-        sums_of(members),
-        names.session,
-        outcome,
-        options.is_relocatable(),
-    )?;
-    if is_refused(outcome) {
-        put_largest(alloc, text, members)?;
+    let map = names.map;
+    put_limits(text, map, names.session, options.is_relocatable())?;
+    if is_refused(map) {
+        put_largest(alloc, text, &map.members)?;
     }
-    if let Some(outcome) = outcome {
+    if let Some(outcome) = &map.outcome {
         put_segments(text, &outcome.bases)?;
     }
     Ok(())
@@ -149,57 +138,23 @@ fn put_sizes(
 fn put_map(
     alloc: Global,
     text: &mut String,
-    names: &Names<'_>,
+    objects: &Objects,
+    map: &LinkMap,
     options: &Options,
 ) -> Result<(), AllocError> {
-    let outcome = names.outcome;
-    put_head(text, names.gathered, outcome)?;
-    put_sizes(alloc, text, names, options)?;
-    put_faults(alloc, text, names)?;
-    put_members(text, names)?;
-    put_externals(alloc, text, names)
-}
-
-/// Tells a map, and its status.
-fn tell_names(
-    alloc: Global,
-    told: &mut Told,
-    names: &Names<'_>,
-    options: &Options,
-) -> Result<(), AllocError> {
-    let mut text = String::new(alloc);
-    put_map(alloc, &mut text, names, options)?;
-    told.status = status_of(names.outcome);
-    told.text.extend_from_slice(text.as_bytes())
-}
-
-/// Tells the map of the objects that were taken.
-fn tell_map(
-    alloc: Global,
-    told: &mut Told,
-    session: &Session,
-    options: &Options,
-    gathered: &Gathered,
-) -> Result<(), AllocError> {
-    let outcome = if gathered.refused.is_some() {
-        None
-    } else {
-        Some(outcome_of(alloc, session, options)?)
-    };
-    let outcome = outcome.as_ref();
-    let starts = starts_of(alloc, outcome, &gathered.members)?;
-    let names = Names {
-        gathered,
-        session,
-        outcome,
-        starts: &starts,
-    };
-    tell_names(alloc, told, &names, options)
+    let session = &objects.session;
+    let names = Names { map, session };
+    put_head(text, map, objects)?;
+    put_sizes(alloc, text, &names, options)?;
+    put_faults(text, &names)?;
+    put_members(text, map)?;
+    put_externals(text, &names)
 }
 
 /// Tells the map of the link that a call of `ld` asks for.
 pub(crate) fn write_map(rt: &HostRuntime, call: &Call) -> Result<Told, AllocError> {
-    let mut told = Told::new(rt.alloc());
+    let alloc = rt.alloc();
+    let mut told = Told::new(alloc);
     let Call::Ld {
         options,
         forced,
@@ -209,13 +164,14 @@ pub(crate) fn write_map(rt: &HostRuntime, call: &Call) -> Result<Told, AllocErro
     else {
         return Ok(told);
     };
-    let mut session = match Session::with_forced(rt.alloc(), forced) {
-        Ok(session) => session,
-        Err(_) => return Err(AllocError),
-    };
-    let gathered = gather(rt, &mut session, forced, files, &mut told)?;
+    let mut objects = Objects::new(alloc, forced)?;
+    read_objects(rt, &mut objects, files, &mut told)?;
     if told.status == 0 {
-        tell_map(rt.alloc(), &mut told, &session, options, &gathered)?;
+        let map = map_of(alloc, &objects, forced, options)?;
+        let mut text = String::new(alloc);
+        put_map(alloc, &mut text, &objects, &map, options)?;
+        told.status = status_of(&map);
+        told.text.extend_from_slice(text.as_bytes())?;
     }
     Ok(told)
 }

@@ -1,49 +1,52 @@
 //! The limits of a link, how much of each is used, and the largest objects of one that is refused.
-use crate::map_objects::Member;
-use crate::map_outcome::{Made, Outcome};
-use link_session::Session;
+use aout_core::File;
+use link_maps::{LinkMap, Member, Outcome, largest_number};
+use link_out::{LAST_ADDRESS, MOST_NUMBER, MOST_ROWS};
+use link_session::{MOST_BYTES, MOST_NAMES, Session};
 use std::alloc::{AllocError, Global};
 use std::fmt::Write;
 
-/// The most bytes of text, of data and of bss. (docs/LIMITS.md has all limits)
-const MOST_BYTES: u64 = 65_534;
-/// The last address.
-const LAST_ADDRESS: u64 = 65_535;
-/// The most symbols of a table.
-const MOST_SYMBOLS: u64 = 5_461;
-/// The largest symbol number of a relocation word.
-const LAST_NUMBER: u64 = 4_095;
-/// The most externals.
-const MOST_NAMES: u64 = 65_535;
 /// How many of the largest objects are shown.
 const LARGEST: usize = 10;
 
-/// What objects have in all.
+/// The bytes of segments.
 #[derive(Clone, Copy)]
-pub(crate) struct Sums {
+struct Sizes {
     text: u64,
     data: u64,
     bss: u64,
-    symbols: u64,
 }
 
-/// The sums over all objects, even if they are over the limits.
-pub(crate) fn sums_of(members: &[Member]) -> Sums {
-    let mut sums = Sums {
-        text: 0,
-        data: 0,
-        bss: 0,
-        symbols: 0,
-    };
-    for member in members {
-        sums = Sums {
-            text: sums.text.saturating_add(member.text),
-            data: sums.data.saturating_add(member.data),
-            bss: sums.bss.saturating_add(member.bss),
-            symbols: sums.symbols.saturating_add(member.symbols),
-        };
+impl Sizes {
+    fn of(member: &Member) -> Sizes {
+        Sizes {
+            text: u64::from(member.header.text_size),
+            data: u64::from(member.header.data_size),
+            bss: u64::from(member.header.bss_size),
+        }
     }
-    sums
+
+    /// The sums over all objects, even if they are over the limits.
+    fn of_all(members: &[Member]) -> Sizes {
+        let mut sums = Sizes {
+            text: 0,
+            data: 0,
+            bss: 0,
+        };
+        for member in members {
+            let sizes = Sizes::of(member);
+            sums = Sizes {
+                text: sums.text.saturating_add(sizes.text),
+                data: sums.data.saturating_add(sizes.data),
+                bss: sums.bss.saturating_add(sizes.bss),
+            };
+        }
+        sums
+    }
+
+    fn all(&self) -> u64 {
+        self.text.saturating_add(self.data).saturating_add(self.bss)
+    }
 }
 
 /// Adds a line: what is used of a limit, and what is left or over.
@@ -58,10 +61,12 @@ fn put_limit(text: &mut String, label: &str, used: u64, most: u64) -> Result<(),
 }
 
 /// Adds the limits of a file that is made.
-fn put_made(text: &mut String, made: &Made, is_relocatable: bool) -> Result<(), AllocError> {
-    put_limit(text, "symbols", made.symbols, MOST_SYMBOLS)?;
+fn put_file(text: &mut String, file: &File, is_relocatable: bool) -> Result<(), AllocError> {
+    let symbols = file.symbols().len() as u64;
+    put_limit(text, "symbols", symbols, MOST_ROWS as u64)?;
     if is_relocatable {
-        put_limit(text, "symbol number", made.number, LAST_NUMBER)?;
+        let number = u64::from(largest_number(file));
+        put_limit(text, "symbol number", number, u64::from(MOST_NUMBER))?;
     }
     Ok(())
 }
@@ -74,26 +79,26 @@ fn put_linked(
     is_relocatable: bool,
 ) -> Result<(), AllocError> {
     put_limit(text, "end of bss", outcome.bases.bss_end, LAST_ADDRESS)?;
-    if let Ok(made) = &outcome.made {
-        put_made(text, made, is_relocatable)?;
+    if let Ok(linked) = &outcome.linked {
+        put_file(text, &linked.file, is_relocatable)?;
     }
-    let names = session.external_count() as u64;
-    put_limit(text, "externals", names, MOST_NAMES)
+    let names = u64::from(session.external_count());
+    put_limit(text, "externals", names, MOST_NAMES as u64)
 }
 
-/// Adds the limits, with what all objects use of each.
+/// Adds the limits, with what all objects use of each. (docs/LIMITS.md)
 pub(crate) fn put_limits(
     text: &mut String,
-    sums: Sums,
+    map: &LinkMap,
     session: &Session,
-    outcome: Option<&Outcome>,
     is_relocatable: bool,
 ) -> Result<(), AllocError> {
+    let sums = Sizes::of_all(&map.members);
     text.push_str("\nLimits              used      of    left\n")?;
-    put_limit(text, "text", sums.text, MOST_BYTES)?;
-    put_limit(text, "data", sums.data, MOST_BYTES)?;
-    put_limit(text, "bss", sums.bss, MOST_BYTES)?;
-    match outcome {
+    put_limit(text, "text", sums.text, MOST_BYTES as u64)?;
+    put_limit(text, "data", sums.data, MOST_BYTES as u64)?;
+    put_limit(text, "bss", sums.bss, MOST_BYTES as u64)?;
+    match &map.outcome {
         Some(outcome) => put_linked(text, outcome, session, is_relocatable),
         None => Ok(()),
     }
@@ -110,23 +115,25 @@ struct Sized {
 fn by_size(alloc: Global, members: &[Member]) -> Result<Vec<Sized>, AllocError> {
     let mut sizes = Vec::new(alloc);
     for (place, member) in members.iter().enumerate() {
-        let bytes = member
-            .text
-            .saturating_add(member.data)
-            .saturating_add(member.bss);
+        let bytes = Sizes::of(member).all();
         sizes.push(Sized { place, bytes })?;
     }
     sizes.sort_by_key(|sized| u64::MAX - sized.bytes)?;
     Ok(sizes)
 }
 
-fn put_sized(text: &mut String, member: &Member, bytes: u64) -> Result<(), AllocError> {
+fn put_sized(text: &mut String, member: &Member) -> Result<(), AllocError> {
+    let sizes = Sizes::of(member);
     write!(
         text,
         "  {:>7}{:>8}{:>8}{:>8}{:>9}  ",
-        member.text, member.data, member.bss, bytes, member.symbols
+        sizes.text,
+        sizes.data,
+        sizes.bss,
+        sizes.all(),
+        member.symbols
     )?;
-    text.push_str(member.path.as_str())?;
+    text.push_str(member.label.as_str())?;
     text.push('\n')
 }
 
@@ -140,7 +147,7 @@ pub(crate) fn put_largest(
     let sizes = by_size(alloc, members)?;
     for sized in sizes.iter().take(LARGEST) {
         if let Some(member) = members.get(sized.place) {
-            put_sized(text, member, sized.bytes)?;
+            put_sized(text, member)?;
         }
     }
     Ok(())

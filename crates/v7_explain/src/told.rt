@@ -1,4 +1,5 @@
 //! What the program tells.
+use findings::{Finding, finding_text};
 use std::alloc::{AllocError, Global};
 
 /// A text for standard output, lines for standard error, and the status.
@@ -42,4 +43,18 @@ pub(crate) fn tell(rt: &HostRuntime, told: &Told) -> u8 {
             2
         }
     }
+}
+
+/// Adds findings as lines for standard error, of a file that is wrong.
+pub(crate) fn tell_findings(
+    alloc: Global,
+    told: &mut Told,
+    path: &str,
+    findings: &[Finding],
+) -> Result<(), AllocError> {
+    for finding in findings {
+        let text = finding_text(alloc, finding)?;
+        told.fault(path, text.as_str(), 1)?;
+    }
+    Ok(())
 }

@@ -1,40 +1,15 @@
 //! What a relocation word says, in words.
 ghost use Rattle.std.specs.Prelude.{◌≡◌, ◌++◌, ◌∷◌, Some, slice_get, decimal, OnOk};
-ghost use Rattle.aout_core.specs.WellFormed.{is_wanted, symbol_number, kind_of};
+ghost use Rattle.aout_core.specs.WellFormed.{symbol_number, kind_of};
 ghost use Rattle.listings.specs.Octal.{octal};
 ghost use Rattle.listings.specs.Names.{shown_name};
-ghost use Rattle.v7_explain.specs.Said.{meant, number_said, symbol_said, addend_said, target_said, pc_said, word_said};
+ghost use Rattle.v7_explain.specs.Said.{number_said, symbol_said, addend_said, target_said, pc_said, word_said};
 
-use aout_core::{Kind, Name, Reloc, Segment, Symbol};
+use aout_core::{Kind, Name, Reloc, Symbol};
+use findings::{is_wanted, meant};
 use itoa::Buffer;
 use listings::{put_name, put_octal, put_short_octal};
 use std::alloc::AllocError;
-
-/// The words of a segment, of which the first has this address, and their relocation words.
-#[derive(Clone, Copy)]
-pub(crate) struct Contents<'a> {
-    pub(crate) start: u16,
-    pub(crate) words: &'a [u16],
-    pub(crate) relocs: &'a [Reloc],
-}
-
-/// Whether a word may refer to a symbol: it is external and undefined, or a common.
-pub(crate) fn is_wanted(symbol: &Symbol) -> bool
-    ensures { result ≡ is_wanted (Some symbol.now) }
-{
-    symbol.is_external() && symbol.segment() == Segment::Undefined
-}
-
-/// What a word holds besides its own place: the address or the addend that it stands for.
-pub(crate) fn meant(word: u16, reloc: Reloc, address: u16) -> u16
-    ensures { result ≡ meant address word reloc }
-{
-    if reloc.is_pc() {
-        word.wrapping_add(address).wrapping_add(2)
-    } else {
-        word
-    }
-}
 
 /// Appends the decimal digits of a number.
 fn put_decimal(text: &mut Vec<u8>, number: u16) -> Result<(), AllocError>

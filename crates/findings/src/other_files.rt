@@ -4,7 +4,7 @@ use gnu_objects::{Locals, Options, Refusal, convert};
 use std::alloc::Global;
 
 /// The header that a file begins with, if it is as long.
-pub(crate) fn header_of(bytes: &[u8]) -> Option<Header> {
+pub fn header_of(bytes: &[u8]) -> Option<Header> {
     let mut start = [0u8; 16];
     if bytes.len() < start.len() {
         return None;
@@ -19,7 +19,7 @@ fn is_of_text(byte: u8) -> bool {
 }
 
 /// What a file with no magic number of ours is, if it is known.
-pub(crate) fn likeness(bytes: &[u8]) -> Option<&'static str> {
+pub fn likeness(bytes: &[u8]) -> Option<&'static str> {
     match bytes {
         [] => return Some("the file is empty"),
         [0x7f, b'E', b'L', b'F', ..] => {
@@ -53,7 +53,7 @@ pub(crate) fn likeness(bytes: &[u8]) -> Option<&'static str> {
 
 /// Whether a file is in the form of GNU's assembler and of 2.11BSD, with symbols of 8 bytes and their names after them.
 /// A file without symbols has both forms, and is not recognized, and neither is one of another magic than 0407.
-pub(crate) fn is_of_gnu(alloc: Global, bytes: &[u8], is_odd: bool) -> bool {
+pub fn is_of_gnu(alloc: Global, bytes: &[u8], is_odd: bool) -> bool {
     match header_of(bytes) {
         Some(header) if header.symbol_size > 0 => {}
         _ => return false,

@@ -1,15 +1,14 @@
 //! What is found in a file.
 use crate::text::{byte_text, put_note};
-use crate::told::Told;
 use std::alloc::{AllocError, Global};
 
 /// What is found at a byte of a file.
 #[derive(Debug, Drop)]
-pub(crate) struct Finding {
+pub struct Finding {
     /// The byte of the file.
-    pub(crate) place: usize,
+    pub place: usize,
     /// What is wrong or odd there.
-    pub(crate) text: String,
+    pub text: String,
 }
 
 /// Adds a finding to a list.
@@ -23,14 +22,14 @@ pub(crate) fn find(
 }
 
 /// A finding in a line.
-fn finding_text(alloc: Global, finding: &Finding) -> Result<String, AllocError> {
+pub fn finding_text(alloc: Global, finding: &Finding) -> Result<String, AllocError> {
     let byte = byte_text(alloc, finding.place)?;
     let text = finding.text.as_str();
     format!(in alloc; "{byte}: {text}")
 }
 
 /// Adds findings as notes, each after this word.
-pub(crate) fn put_findings(
+pub fn put_findings(
     alloc: Global,
     notes: &mut Vec<String>,
     word: &str,
@@ -41,20 +40,6 @@ pub(crate) fn put_findings(
         let text = text.as_str();
         let note = format!(in alloc; "{word}: {text}")?;
         put_note(alloc, notes, note.as_str())?;
-    }
-    Ok(())
-}
-
-/// Adds findings as lines for standard error, of a file that is wrong.
-pub(crate) fn tell_findings(
-    alloc: Global,
-    told: &mut Told,
-    path: &str,
-    findings: &[Finding],
-) -> Result<(), AllocError> {
-    for finding in findings {
-        let text = finding_text(alloc, finding)?;
-        told.fault(path, text.as_str(), 1)?;
     }
     Ok(())
 }

@@ -1,9 +1,9 @@
 //! What is damaged in a file.
 use crate::finding::{Finding, find};
-use crate::likeness::header_of;
+use crate::other_files::header_of;
 use crate::places::Places;
 use crate::text::shown;
-use crate::words_in::is_wanted;
+use crate::words::is_wanted;
 use aout_core::{File, Header, Kind, ReadFault, Reloc, Symbol};
 use disassemblies::{line_starts, put_line_text};
 use std::alloc::{AllocError, Global};
@@ -71,7 +71,7 @@ fn truncated_text(alloc: Global, header: &Header, size: usize) -> Result<String,
 }
 
 /// What is wrong with bytes that are not a file.
-pub(crate) fn wrong_bytes(
+pub fn wrong_bytes(
     alloc: Global,
     bytes: &[u8],
     fault: ReadFault,
@@ -108,7 +108,7 @@ fn unwanted_text(alloc: Global, symbols: &[Symbol], number: u16) -> Result<Strin
     let count = symbols.len();
     match symbols.get(usize::from(number)) {
         Some(symbol) => {
-            let name = shown(alloc, symbol.name.as_bytes())?;
+            let name = shown(alloc, &symbol.name)?;
             let type_bits = symbol.type_bits;
             format!(in alloc;
                 "symbol {number} of {count}, {name} of type {type_bits:o}, and not an undefined external, 40"
@@ -208,7 +208,7 @@ fn find_words(
 }
 
 /// The bad relocation words of a file, the first of them one by one.
-pub(crate) fn wrong_words(alloc: Global, file: &File) -> Result<Vec<Finding>, AllocError> {
+pub fn wrong_words(alloc: Global, file: &File) -> Result<Vec<Finding>, AllocError> {
     let mut findings = Vec::new(alloc);
     let starts = line_starts(alloc, file)?;
     let search = Search {

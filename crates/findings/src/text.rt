@@ -1,11 +1,11 @@
 //! Notes, and names as they are shown.
+use aout_core::Name;
 use std::alloc::{AllocError, Global};
 use std::fmt::Write;
 
-/// A name as it is shown: a byte that does not print, a blank and a backslash as `\ooo`. An empty name is `\000`.
-pub(crate) fn shown(alloc: Global, name: &[u8]) -> Result<String, AllocError> {
-    let mut text = String::new(alloc);
-    for byte in name {
+/// Appends a name; a byte that does not print, a blank and a backslash as `\ooo`.
+pub fn put_name(text: &mut String, name: &Name) -> Result<(), AllocError> {
+    for byte in name.as_bytes() {
         let byte = *byte;
         if byte > b' ' && byte < 127 && byte != b'\\' {
             text.push(char::from(byte))?;
@@ -13,18 +13,21 @@ pub(crate) fn shown(alloc: Global, name: &[u8]) -> Result<String, AllocError> {
             write!(text, "\\{byte:03o}")?;
         }
     }
-    if name.is_empty() {
+    Ok(())
+}
+
+/// A name as it is shown in a sentence: an empty one is `\000`.
+pub(crate) fn shown(alloc: Global, name: &Name) -> Result<String, AllocError> {
+    let mut text = String::new(alloc);
+    put_name(&mut text, name)?;
+    if text.is_empty() {
         text.push_str("\\000")?;
     }
     Ok(text)
 }
 
 /// Adds a note. The slash of its line is not there yet.
-pub(crate) fn put_note(
-    alloc: Global,
-    notes: &mut Vec<String>,
-    note: &str,
-) -> Result<(), AllocError> {
+pub fn put_note(alloc: Global, notes: &mut Vec<String>, note: &str) -> Result<(), AllocError> {
     notes.push(format!(in alloc; " {note}")?)?;
     Ok(())
 }

@@ -2,7 +2,7 @@
 use crate::finding::{Finding, find};
 use crate::places::{Places, Range, Segments};
 use crate::text::shown;
-use crate::words_in::{Contents, is_wanted, meant};
+use crate::words::{Contents, is_wanted, meant};
 use aout_core::{File, Header, Kind, Name, Reloc, Segment, Symbol};
 use std::alloc::{AllocError, Global};
 use symtools::letter;
@@ -236,7 +236,7 @@ fn find_symbol(
     let Source { bytes, file } = source;
     let place = Places::of(file.header()).symbol(number);
     let segments = Segments::of(file.header());
-    let name = shown(alloc, symbol.name.as_bytes())?;
+    let name = shown(alloc, &symbol.name)?;
     let title = format!(in alloc; "symbol {number} {name}")?;
     let title = title.as_str();
     let at = Titled {
@@ -358,7 +358,7 @@ fn find_ignored(
 }
 
 /// What is odd of a file, which these bytes begin with.
-pub(crate) fn odd_of(alloc: Global, bytes: &[u8], file: &File) -> Result<Vec<Finding>, AllocError> {
+pub fn odd_of(alloc: Global, bytes: &[u8], file: &File) -> Result<Vec<Finding>, AllocError> {
     let mut findings = Vec::new(alloc);
     let header = file.header();
     find_ignored(alloc, &mut findings, bytes, header)?;

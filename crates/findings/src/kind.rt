@@ -22,7 +22,7 @@ fn why_refused(header: &Header) -> &'static str {
 }
 
 /// What a file is that is an object, or that is not taken as one for this reason. A damaged file has no name.
-pub(crate) fn kind_text(
+pub fn kind_text(
     alloc: Global,
     header: &Header,
     refused: Option<ObjectFault>,

@@ -1,0 +1,36 @@
+//! What a file is, and what is wrong and odd of it: remarks of `v7-explain`.
+//!
+//! A finding has the byte of the file where it is, counted from 0. `wrong_bytes` and `wrong_words` find what is damaged, and why; `odd_of`
+//! finds what is not refused, but unusual. docs/OBJECTS.md shows both.
+//!
+//! An example:
+//!
+//! ```
+//! /// What is odd of a file, a line each.
+//! fn oddities(alloc: Global, bytes: &[u8]) -> Result<Vec<String>> {
+//!     let file = read_file(alloc, &mut Wire::new(bytes))?;
+//!     let mut notes = Vec::new(alloc);
+//!     put_findings(alloc, &mut notes, "odd", &odd_of(alloc, bytes, &file)?)?;
+//!     Ok(notes)
+//! }
+//! ```
+#![tactic(auto)]
+
+mod finding;
+mod heading;
+mod kind;
+mod odd;
+mod other_files;
+mod places;
+mod text;
+mod words;
+mod wrong;
+
+pub use finding::{Finding, finding_text, put_findings};
+pub use heading::put_header;
+pub use kind::kind_text;
+pub use odd::odd_of;
+pub use other_files::{header_of, is_of_gnu, likeness};
+pub use text::{put_name, put_note};
+pub use words::{is_wanted, meant};
+pub use wrong::{wrong_bytes, wrong_words};

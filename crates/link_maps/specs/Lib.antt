@@ -1,0 +1,5 @@
+-- The definitions that the contracts of this crate are written in.
+pub mod References
+pub mod Uses
+pub mod Members
+pub mod Rows

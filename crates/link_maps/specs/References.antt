@@ -1,0 +1,79 @@
+-- The words of an object that refer to a symbol, each with the label before it. (a.out(5); the label: own choice)
+--
+-- A label is a symbol of text or of data, at its address in the object. The one before a word is that with the largest address up to the
+-- word's own; of several at that address, the first of the table.
+use Rattle.std.specs.Prelude.{ℕ, ◌+◌, ◌-◌, Bool, true, false, ◌&&◌, eqb, nat_lt, nat_le, if◌then◌else◌, List, [], ◌∷◌, ◌++◌, Option, Some, None, min}
+use Rattle.aout_core.specs.declared.symbol.Symbol.{Symbol}
+use Rattle.aout_core.specs.declared.symbol.Segment.{Segment}
+use Rattle.aout_core.specs.declared.symbol.Segment.TheVariants.{TextSeg, DataSeg}
+use Rattle.aout_core.specs.declared.reloc.Reloc.{Reloc}
+use Rattle.aout_core.specs.declared.reloc.Kind.{Kind}
+use Rattle.aout_core.specs.declared.reloc.Kind.TheVariants.{External}
+use Rattle.aout_core.specs.Contents.{Contents}
+use Rattle.aout_core.specs.Words.{plus}
+use Rattle.aout_core.specs.WellFormed.{segment_of, segment_number, kind_of, symbol_number}
+use Rattle.link_session.specs.Starts.{own}
+use Rattle.link_maps.specs.declared.references.Part.{Part}
+use Rattle.link_maps.specs.declared.references.Part.TheVariants.{Text, Data}
+use Rattle.link_maps.specs.declared.references.Before.{Before}
+use Rattle.link_maps.specs.declared.references.Reference.{Reference}
+
+abbrev pub segment_of_part : Part → Segment
+segment_of_part Text = TextSeg
+segment_of_part Data = DataSeg
+
+abbrev pub relocs_of : Contents → Part → List Reloc
+relocs_of o Text = o.text_reloc
+relocs_of o Data = o.data_reloc
+
+-- a symbol of the segment, at the address or before it
+abbrev pub is_label : Segment → ℕ → Symbol → Bool
+is_label segment address s = eqb (segment_number (segment_of s)) (segment_number segment) && nat_le s.value address
+
+abbrev pub is_nearer : Option Symbol → Symbol → Bool
+is_nearer None s = true
+is_nearer (Some best) s = nat_lt best.value s.value
+
+-- the nearest label so far, with one more symbol
+abbrev pub nearer : Segment → ℕ → Option Symbol → Symbol → Option Symbol
+nearer segment address best s = if is_label segment address s && is_nearer best s then Some s else best
+
+-- the nearest label, after those that the table has before these symbols
+abbrev pub nearest : Segment → ℕ → Option Symbol → List Symbol → Option Symbol
+nearest segment address best [] = best
+nearest segment address best (s ∷ ss) = nearest segment address (nearer segment address best s) ss
+
+abbrev pub before : ℕ → Option Symbol → Option Before
+before address None = None
+before address (Some s) = Some (record { name = s.name; bytes = address - s.value })
+
+abbrev pub label_before : List Symbol → Segment → ℕ → Option Before
+label_before symbols segment address = before address (nearest segment address None symbols)
+
+-- the word of a segment so many bytes after its first
+abbrev pub reference_at : Contents → Part → ℕ → Reference
+reference_at o part offset =
+    record { part = part; offset = offset; before = label_before o.symbols (segment_of_part part) (plus offset (own o (segment_of_part part))) }
+
+abbrev pub is_external_kind : Option Kind → Bool
+is_external_kind (Some External) = true
+is_external_kind _ = false
+
+abbrev pub refers_to : ℕ → Reloc → Bool
+refers_to number r = is_external_kind (kind_of r) && eqb (symbol_number r) number
+
+-- the word with this relocation word, if it refers to the symbol
+abbrev pub reference_by : Contents → Part → ℕ → ℕ → Reloc → List Reference
+reference_by o part number offset r = if refers_to number r then reference_at o part offset ∷ [] else []
+
+-- the words with these relocation words, of which the first is so many bytes after the first of the segment
+abbrev pub references_in : Contents → Part → ℕ → ℕ → List Reloc → List Reference
+references_in o part number offset [] = []
+references_in o part number offset (r ∷ rs) = reference_by o part number offset r ++ references_in o part number (plus offset 2) rs
+
+abbrev pub references_of : Contents → Part → ℕ → List Reference
+references_of o part number = references_in o part number 0 (relocs_of o part)
+
+-- the words of an object that refer to the symbol of this number: those of text, and then those of data
+abbrev pub references_to : Contents → ℕ → List Reference
+references_to o number = references_of o Text number ++ references_of o Data number

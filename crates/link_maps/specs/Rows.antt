@@ -1,0 +1,60 @@
+-- What becomes of a link, and the row that its table has for a name. (ld(1))
+use Rattle.std.specs.Prelude.{◌≡◌, ◌≢◌, ◌↔◌, ℕ, ◌<◌, max, cond, List, [], ◌∷◌, Option, Some, None, Err, slice_get, position, bytes_eq, IfSome, IsNone}
+use Rattle.aout_core.specs.declared.symbol.Symbol.{Symbol}
+use Rattle.aout_core.specs.declared.reloc.Reloc.{Reloc}
+use Rattle.aout_core.specs.declared.reloc.Kind.{Kind}
+use Rattle.aout_core.specs.declared.reloc.Kind.TheVariants.{External}
+use Rattle.aout_core.specs.Contents.{Contents}
+use Rattle.aout_core.specs.WellFormed.{kind_of, symbol_number}
+use Rattle.link_session.specs.Labelled.{objects}
+use Rattle.link_session.specs.Mentions.{externals, is_among}
+use Rattle.link_session.specs.Undo.{Kept}
+use Rattle.link_options.specs.Choices.{Choices}
+use Rattle.link_out.specs.declared.linked.LinkFault.TheVariants.{Memory}
+use Rattle.link_out.specs.Layouts.{Bases}
+use Rattle.link_out.specs.Outcomes.{IsLinkOf}
+use Rattle.link_out.specs.function.Link.{link}
+use Rattle.link_out.specs.function.Plans.{Plan, plan}
+use Rattle.link_out.specs.function.Tables.{external_row, external_rows}
+use Rattle.link_maps.specs.declared.outcome.Outcome.{Outcome}
+
+abbrev pub plan_of : Kept → Choices → Plan
+plan_of k choices = plan k.forced (objects k.entries) choices
+
+-- where the segments lie, the link or why it is refused, and the rows of the externals, if the link fits
+pub record IsOutcome (o : Outcome) (k : Kept) (choices : Choices) : Type 0 where
+  pub bases : o.bases ≡ (plan_of k choices).at
+  pub made : IsLinkOf o.linked (link k.forced (objects k.entries) choices)
+  pub no_memory : o.linked ≢ Err Memory
+  pub rows : IfSome o.externals (λ rows. rows.items ≡ external_rows (plan_of k choices))
+  pub none : IsNone o.externals ↔ (65535 < (plan_of k choices).at.bss_end)
+
+-- the row with the index of a name, if it has one
+abbrev pub row_at : List Symbol → Option ℕ → Option Symbol
+row_at rows None = None
+row_at rows (Some i) = slice_get rows i
+
+-- the row of a name that is an external of the link
+abbrev pub row_of : Kept → Choices → List ℕ → Option Symbol
+row_of k choices name =
+    cond (is_among (externals k.forced (objects k.entries)) name) (Some (external_row (plan_of k choices) name)) None
+
+-- where the segments lie, if there is a link
+abbrev pub bases_of : Option Outcome → Option Bases
+bases_of None = None
+bases_of (Some o) = Some o.bases
+
+-- the symbol number of a relocation word; the largest among several
+abbrev pub number_by : Option Kind → ℕ → ℕ
+number_by (Some External) number = number
+number_by _ number = 0
+
+abbrev pub number_in : Reloc → ℕ
+number_in r = number_by (kind_of r) (symbol_number r)
+
+abbrev pub largest_in : List Reloc → ℕ
+largest_in [] = 0
+largest_in (r ∷ rs) = max (number_in r) (largest_in rs)
+
+abbrev pub largest_number : Contents → ℕ
+largest_number o = max (largest_in o.text_reloc) (largest_in o.data_reloc)

@@ -1,0 +1,36 @@
+//! The map of a link: where the segments of each object lie, who defines each external name, who wants it, and which words refer to
+//! it. A link that is refused has a map too. docs/OBJECTS.md shows one.
+//!
+//! An example:
+//!
+//! ```
+//! /// Who refers to what no object defines, in the link of some objects.
+//! fn undefined_uses(alloc: Global, objects: &Objects, forced: &Forced, options: &Options) -> Result<usize> {
+//!     let map = map_of(alloc, objects, forced, options)?;
+//!     let mut count = 0usize;
+//!     for uses in map.uses.chunk_by(|a, b| a.symbol.name == b.symbol.name) {
+//!         if stays_undefined(uses) {
+//!             count = count.saturating_add(uses.len());
+//!         }
+//!     }
+//!     Ok(count)
+//! }
+//! ```
+#![tactic(auto)]
+
+mod gather;
+mod map;
+mod members;
+mod names;
+mod outcome;
+mod places;
+mod references;
+mod uses;
+
+pub use map::{LinkMap, map_of};
+pub use members::{Left, Member, Objects, Refused};
+pub use names::{stays_undefined, telling};
+pub use outcome::{Outcome, largest_number, row_of};
+pub use places::Places;
+pub use references::{Before, Part, Reference};
+pub use uses::Use;

@@ -1,0 +1,80 @@
+//! The whole map.
+ghost use Rattle.std.specs.Prelude.{◌≡◌, is_some, not, map, IfOk, IfSome};
+ghost use Rattle.link_session.specs.Labelled.{objects};
+ghost use Rattle.link_maps.specs.Uses.{uses_in_order};
+ghost use Rattle.link_maps.specs.Members.{all_of, first_places, member_of, places_from};
+ghost use Rattle.link_maps.specs.Rows.{IsOutcome, bases_of};
+
+use crate::gather::{Gathered, gather};
+use crate::members::{Member, Objects};
+use crate::outcome::{Outcome, outcome_of};
+use crate::places::{Places, places_of};
+use crate::uses::Use;
+use link_out::{Bases, Options};
+use link_session::Forced;
+use std::alloc::{AllocError, Global};
+
+/// The map of a link.
+#[derive(Drop)]
+pub struct LinkMap {
+    /// The objects, in order.
+    pub members: Vec<Member>,
+    /// Where the segments of each object lie.
+    pub places: Vec<Places>,
+    /// The uses of all names, in the order of the names; those of one name in the order of the objects, forced ones first.
+    pub uses: Vec<Use>,
+    /// What becomes of the link, if no object is refused.
+    pub outcome: Option<Outcome>,
+}
+
+/// What becomes of the link of objects, if none is refused. An error: out of memory.
+fn outcome_unless_refused(
+    alloc: Global,
+    objects: &Objects,
+    options: &Options,
+) -> Result<Option<Outcome>, AllocError>
+    ensures made { IfOk result (λ outcome. is_some outcome ≡ not (is_some objects.now.refused)) }
+    ensures outcome { IfOk result (λ outcome. IfSome outcome (λ o. IsOutcome o objects.now.session options.now)) }
+{
+    if objects.refused.is_some() {
+        return Ok(None);
+    }
+    let outcome = outcome_of(alloc, &objects.session, options)?;
+    Ok(Some(outcome))
+}
+
+/// Where the segments of a link lie, if there is one.
+fn bases_of(outcome: &Option<Outcome>) -> Option<Bases>
+    ensures { result ≡ bases_of outcome.now }
+{
+    match outcome {
+        Some(outcome) => Some(outcome.bases),
+        None => None,
+    }
+}
+
+/// The map of the link of these objects, whose session has these forced names. A link that is refused has a map too.
+///
+/// An error: out of memory.
+pub fn map_of(
+    alloc: Global,
+    all: &Objects,
+    forced: &Forced,
+    options: &Options,
+) -> Result<LinkMap, AllocError>
+    ensures members { IfOk result (λ m. m.members.items ≡ map member_of (all_of all.now)) }
+    ensures places { IfOk result (λ m. m.places.items ≡ places_from (first_places (bases_of m.outcome)) (map member_of (all_of all.now))) }
+    ensures uses { IfOk result (λ m. m.uses.items ≡ uses_in_order forced.now (objects (all_of all.now))) }
+    ensures made { IfOk result (λ m. is_some m.outcome ≡ not (is_some all.now.refused)) }
+    ensures outcome { IfOk result (λ m. IfSome m.outcome (λ o. IsOutcome o all.now.session options.now)) }
+{
+    let outcome = outcome_unless_refused(alloc, all, options)?;
+    let Gathered { members, uses } = gather(alloc, all, forced)?;
+    let places = places_of(alloc, bases_of(&outcome), &members)?;
+    Ok(LinkMap {
+        members,
+        places,
+        uses,
+        outcome,
+    })
+}

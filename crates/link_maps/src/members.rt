@@ -1,0 +1,169 @@
+//! The objects of a link: those that a session takes, and those that are left if it refuses one.
+ghost use Rattle.std.specs.Prelude.{◌≡◌, ◌++◌, ◌∷◌, [], None, is_some, if◌then◌else◌, IfOk, OnOk};
+ghost use Rattle.aout_core.specs.WellFormed.{first_of};
+ghost use Rattle.link_session.specs.Labelled.{objects};
+ghost use Rattle.link_session.specs.Limits.{refusal};
+ghost use Rattle.link_session.specs.Sessions.{labelled, nothing_kept};
+ghost use Rattle.link_maps.specs.Members.{left_of, cause_of, member_of};
+
+use aout_core::{File, Header, Object};
+use link_session::{AddFault, Forced, Session};
+use std::alloc::{AllocError, Global};
+use std::marker::Model;
+
+/// An object that a session did not take, with its label. Contracts see the bytes of the label.
+#[derive(Debug, Drop)]
+pub struct Left {
+    pub label: String,
+    pub object: Object,
+}
+
+impl Model for Left {
+    ghost use Rattle.link_session.specs.Labelled.{Labelled};
+
+    ghost Value = { Labelled };
+
+    ghost use Rattle.std.specs.Prelude.{string_bytes};
+
+    ghost view = { λ a. record { label = string_bytes a.label; object = a.object } };
+}
+
+/// Why a session refused an object, with that object and all after it.
+#[derive(Debug, Drop)]
+pub struct Refused {
+    pub cause: AddFault,
+    pub left: Vec<Left>,
+}
+
+/// The objects of a link, in order.
+#[derive(Drop)]
+pub struct Objects {
+    pub session: Session,
+    pub refused: Option<Refused>,
+}
+
+/// The object that a session refused, to which nothing is added yet.
+fn refused_with(
+    alloc: Global,
+    cause: AddFault,
+    label: String,
+    object: Object,
+) -> Result<Option<Refused>, AllocError>
+    ensures cause { IfOk result (λ refused. cause_of refused ≡ Some cause) }
+    ensures left { IfOk result (λ refused. left_of refused ≡ labelled label object ∷ []) }
+{
+    let mut left = Vec::new(alloc);
+    left.push(Left { label, object })?;
+    Ok(Some(Refused { cause, left }))
+}
+
+/// Adds an object to a session; if that refuses it, returns why, with the object. An error: out of memory.
+fn add(
+    alloc: Global,
+    session: &mut Session,
+    label: String,
+    object: Object,
+) -> Result<Option<Refused>, AllocError>
+    ensures cause { IfOk result (λ refused. cause_of refused ≡ refusal session.old.forced (objects session.old.entries) object) }
+    ensures left { IfOk result (λ refused. left_of refused ≡ (if is_some (cause_of refused) then labelled label object ∷ [] else [])) }
+    ensures entries { IfOk result (λ refused. session.new.entries ≡ (if is_some (cause_of refused) then session.old.entries else session.old.entries ++ labelled label object ∷ [])) }
+    ensures forced { session.new.forced ≡ session.old.forced }
+{
+    let Err(refused) = session.add(label, object) else {
+        return Ok(None);
+    };
+    if matches!(refused.cause, AddFault::Memory) {
+        return Err(AllocError);
+    }
+    refused_with(alloc, refused.cause, refused.label, refused.object)
+}
+
+/// Appends an object to those that are left.
+fn put_left(left: &mut Vec<Left>, label: String, object: Object) -> Result<(), AllocError>
+    ensures { OnOk result (left.new.items ≡ left.old.items ++ labelled label object ∷ []) }
+{
+    left.push(Left { label, object })?;
+    Ok(())
+}
+
+impl Objects {
+    /// No objects, and these forced names.
+    ///
+    /// An error: out of memory.
+    pub fn new(alloc: Global, forced: &Forced) -> Result<Objects, AllocError>
+        ensures session { IfOk result (λ objects. objects.session ≡ nothing_kept forced.now) }
+        ensures refused { IfOk result (λ objects. objects.refused ≡ None) }
+    {
+        match Session::with_forced(alloc, forced) {
+            Ok(session) => Ok(Objects {
+                session,
+                refused: None,
+            }),
+            Err(_) => Err(AllocError),
+        }
+    }
+
+    /// Takes the next object. After one that the session refuses, all are left.
+    ///
+    /// An error: out of memory.
+    pub fn take(&mut self, alloc: Global, label: String, object: Object) -> Result<(), AllocError>
+        ensures cause { OnOk result (cause_of self.new.refused ≡ first_of (cause_of self.old.refused) (refusal self.old.session.forced (objects self.old.session.entries) object)) }
+        ensures left { OnOk result (left_of self.new.refused ≡ (if is_some (cause_of self.new.refused) then left_of self.old.refused ++ labelled label object ∷ [] else [])) }
+        ensures entries { OnOk result (self.new.session.entries ≡ (if is_some (cause_of self.new.refused) then self.old.session.entries else self.old.session.entries ++ labelled label object ∷ [])) }
+        ensures forced { self.new.session.forced ≡ self.old.session.forced }
+    {
+        match &mut self.refused {
+            Some(refused) => put_left(&mut refused.left, label, object),
+            None => {
+                self.refused = add(alloc, &mut self.session, label, object)?;
+                Ok(())
+            }
+        }
+    }
+
+    /// The objects that are left, the one that was refused first.
+    pub fn left(&self) -> &[Left]
+        ensures { result.now ≡ left_of self.now.refused }
+    {
+        match &self.refused {
+            Some(refused) => &refused.left,
+            None => &[],
+        }
+    }
+}
+
+/// An object: its label, and what its header and its table tell.
+#[derive(Debug, Drop)]
+pub struct Member {
+    pub label: String,
+    pub header: Header,
+    /// How many symbols it has.
+    pub symbols: usize,
+}
+
+impl Model for Member {
+    ghost use Rattle.link_maps.specs.Members as spec;
+
+    ghost Value = { spec.Member };
+
+    ghost use Rattle.std.specs.Prelude.{string_bytes};
+
+    ghost view = { λ a. record { label = string_bytes a.label; header = a.header; symbols = a.symbols } };
+}
+
+/// Appends an object.
+pub(crate) fn put_member(
+    alloc: Global,
+    members: &mut Vec<Member>,
+    label: &str,
+    file: &File,
+) -> Result<(), AllocError>
+    ensures { OnOk result (members.new.items ≡ members.old.items ++ member_of (record { label = label.now; object = file.now }) ∷ []) }
+{
+    members.push(Member {
+        label: String::from_str(alloc, label)?,
+        header: *file.header(),
+        symbols: file.symbols().len(),
+    })?;
+    Ok(())
+}

@@ -1,0 +1,77 @@
+//! Where the segments of objects lie, and the words in them.
+ghost use Rattle.std.specs.Prelude.{◌≡◌, Option, IfOk};
+ghost use Rattle.link_maps.specs.Members.{capped, first_places, next_places, places_from, start_in};
+
+use crate::members::Member;
+use crate::references::{Part, Reference};
+use aout_core::Header;
+use link_out::Bases;
+use std::alloc::{AllocError, Global};
+
+/// Where each segment of an object lies, in bytes; counted from 0 in its merged segment if an object is refused. A sum
+/// that passes the largest number stays there.
+#[derive(Clone, Copy, Debug)]
+pub struct Places {
+    pub text: u64,
+    pub data: u64,
+    pub bss: u64,
+}
+
+/// Where the segments of the first object lie.
+fn first_places(bases: Option<Bases>) -> Places
+    ensures { result ≡ first_places bases }
+{
+    match bases {
+        Some(bases) => Places {
+            text: 0,
+            data: bases.data_start,
+            bss: bases.bss_start,
+        },
+        None => Places {
+            text: 0,
+            data: 0,
+            bss: 0,
+        },
+    }
+}
+
+impl Places {
+    /// Where the segments of the object after one with this header lie.
+    fn next(&self, header: &Header) -> Places
+        ensures { result ≡ next_places self.now header.now }
+    {
+        Places {
+            text: self.text.saturating_add(header.text_size as u64),
+            data: self.data.saturating_add(header.data_size as u64),
+            bss: self.bss.saturating_add(header.bss_size as u64),
+        }
+    }
+
+    /// The address of a word of the object.
+    pub fn address_of(&self, reference: &Reference) -> u64
+        ensures { result ≡ capped (start_in self.now reference.now.part) reference.now.offset }
+    {
+        let start = match reference.part {
+            Part::Text => self.text,
+            Part::Data => self.data,
+        };
+        start.saturating_add(reference.offset as u64)
+    }
+}
+
+/// Where the segments of each object lie, those of an object after those of the object before it. An error: out of memory.
+pub(crate) fn places_of(
+    alloc: Global,
+    bases: Option<Bases>,
+    members: &[Member],
+) -> Result<Vec<Places>, AllocError>
+    ensures { IfOk result (λ places. places.items ≡ places_from (first_places bases) members.now) }
+{
+    let mut places = Vec::new(alloc);
+    let mut at = first_places(bases);
+    for member in members {
+        places.push(at)?;
+        at = at.next(&member.header);
+    }
+    Ok(places)
+}
