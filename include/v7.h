@@ -2,7 +2,8 @@
  * docs/FORMAT.md the format.
  *
  * Each call takes bytes and gives bytes, and keeps nothing for the next call. An object or a file is the bytes of an a.out
- * file; a list of objects is their bytes one after another, since the header of each says how long it is.
+ * file; a list of objects is their bytes one after another, since the header of each says how long it is. v7_link_list takes
+ * the bytes of each object apart.
  *
  * Sizes are in bytes. A pointer may be null if its size is 0. What a call writes to, and *ANSWER, must not overlap each
  * other or what it reads. A call takes memory from malloc and gives it back before it returns. Calls share nothing, so threads
@@ -29,6 +30,7 @@
 
 /* The version of this header. Until 1.0 a new minor version may change a call, and the number after .so then changes too. */
 #define V7_VERSION "0.4.0"
+#define V7_VERSION_NUMBER 0x000400
 
 #ifdef __cplusplus
 extern "C" {
@@ -130,12 +132,17 @@ static inline const char *v7_strerror(uint32_t fault)
 struct v7_answer {
     uint32_t fault;     /* of enum v7_fault */
     uint32_t word;      /* V7_BAD_RELOCATION, V7_BAD_SYMBOL_NUMBER: the index of the word, text before data, from 0; else 0 */
-    size_t place;       /* a number, counted from 0. For the faults 11 to 34 of v7_link it is that of the object, for 7 to 24 of
+    size_t place;       /* a number, counted from 0. For the faults 11 to 34 of a link it is that of the object, for 7 to 24 of
                          * v7_session and v7_state that of the edit, and for V7_MANY_NAMES that of the name. For V7_NO_MEMORY it
                          * is that of an object or edit which the call reached, or 0. Otherwise 0 */
     size_t size;        /* the size of the result; of v7_take_apart 0 */
-    size_t report_size; /* for v7_link and v7_session the size of the report, for v7_state the number of replies; otherwise 0 */
+    size_t report_size; /* for v7_link, v7_link_list and v7_session the size of the report, for v7_state the number of replies;
+                         * otherwise 0 */
 };
+
+/* The version of the library: 65,536 for each major version, 256 for each minor version, and the patch. It is V7_VERSION_NUMBER if
+ * the library is that of this header. */
+uint32_t v7_version(void);
 
 /* Checks whether BYTES begin with an object, which can be linked. The size is then that of the object, so the next object of a
  * list begins there. Faults: 11 to 14, 21 to 24, V7_NO_MEMORY. */
@@ -177,6 +184,17 @@ enum v7_link_option {
 uint32_t v7_link(uint32_t options, const unsigned char *entry, size_t entry_size, const unsigned char *forced, size_t forced_size,
                  const unsigned char *objects, size_t objects_size, unsigned char *room, size_t room_size, unsigned char *report,
                  size_t report_size, struct v7_answer *answer);
+
+/* Links objects as v7_link does, with the bytes of each object apart. What follows an object in its bytes is not looked at, as in
+ * `v7 ld`. So an object that is cut short is refused itself; in a list of bytes the next object would be taken for its end. `place`
+ * is the number of the object in OBJECTS. The faults are those of v7_link. */
+struct v7_slice {
+    const unsigned char *bytes;
+    size_t size;
+};
+uint32_t v7_link_list(uint32_t options, const unsigned char *entry, size_t entry_size, const unsigned char *forced, size_t forced_size,
+                      const struct v7_slice *objects, size_t object_count, unsigned char *room, size_t room_size,
+                      unsigned char *report, size_t report_size, struct v7_answer *answer);
 
 /* Runs EDITS, and links what is left, as v7_link does. Each edit is a letter: V7_ADD adds the next of OBJECTS after those that
  * are kept, and V7_WITHDRAW withdraws the last object that is kept. Bytes after the last object that is added are not looked

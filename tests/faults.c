@@ -72,7 +72,7 @@ static void check_asked(const struct asked *row, unsigned bit, enum call kind)
         r.in[0] = (struct span){"_entry_pt", row->entry_size};
     if (row->forced_size)
         r.in[forced] = (struct span){many, row->forced_size};
-    if (row->edits && kind != LINK)
+    if (row->edits && kind != LINK && kind != LINK_LIST)
         r.in[forced + 1] = (struct span){row->edits, strlen(row->edits)};
     expect_fault("asked for", &r, row->fault, 0, row->place);
     if (row->fault <= V7_MANY_NAMES)
@@ -87,6 +87,7 @@ static void check_all_asked(void)
     for (n = 0; n < sizeof asked / sizeof *asked; n++) {
         check_asked(&asked[n], FOR_NM, NM);
         check_asked(&asked[n], FOR_LINK, LINK);
+        check_asked(&asked[n], FOR_LINK, LINK_LIST);
         check_asked(&asked[n], FOR_SESSION, SESSION);
         check_asked(&asked[n], FOR_STATE, STATE);
     }
@@ -168,6 +169,22 @@ static void check_list(const struct damage *d, enum call kind, int list, size_t 
     expect_fault("a list of objects", &r, d->fault, d->word, place);
 }
 
+/* A damaged object among others, each with its bytes apart: it is blamed itself, even where an object follows that would be taken for
+ * its end. The first of a list is refused without memory too. */
+static void check_slices(const struct damage *d)
+{
+    const struct v7_slice middle[] = {{object, sizeof object}, {objects, d->size}, {object, sizeof object}};
+    struct request r = good[LINK_LIST];
+
+    r.in[2] = (struct span){middle, 3};
+    expect_fault("a list of slices", &r, d->fault, d->word, 1);
+    r.in[1] = nothing;
+    r.in[2] = (struct span){middle + 1, 2};
+    expect_fault("the first slice", &r, d->fault, d->word, 0);
+    if (d->fault <= V7_TRUNCATED)
+        expect_fault_without_memory("the first slice without memory", &r, d->fault, d->word, 0);
+}
+
 static void check_damages(void)
 {
     const struct damage *d;
@@ -177,6 +194,7 @@ static void check_damages(void)
         put_damaged(d, objects);
         for (kind = CHECK; kind <= TAKE_APART; kind++)
             check_file(d, (enum call)kind);
+        check_slices(d);
         check_first(d, LINK, 2);
         check_first(d, SESSION, 3);
         check_first(d, STATE, 2);
@@ -260,6 +278,22 @@ static size_t put_objects(const struct limit *l, size_t *size)
     return count;
 }
 
+/* the N objects apart; each slice has the bytes of those after it too */
+static void put_slices(struct v7_slice *slices, size_t n, size_t size)
+{
+    const unsigned char *at = objects;
+    size_t i;
+
+    for (i = 0; i < n; i++) {
+        slices[i].bytes = at;
+        slices[i].size = size;
+        if (v7_check(at, size, &answer) != 0)
+            failures++;
+        at += answer.size;
+        size -= answer.size;
+    }
+}
+
 /* The last of N objects is not added: its reply is the fault, and all else is as without it. R has all but the number of edits,
  * which is at EDITS, and the sizes of the first two rooms. */
 static void check_replies(struct request *r, int edits, size_t n, uint32_t fault)
@@ -285,6 +319,8 @@ static void check_limit(const struct limit *l)
 {
     size_t size, n = put_objects(l, &size);
     const struct span list = {objects, size};
+    struct v7_slice slices[16];
+    struct request apart = {LINK_LIST, l->option, {nothing, nothing, {slices, n}}, {good[LINK].room[0], good[LINK].room[1]}};
     struct request link = {LINK, l->option, {nothing, nothing, list}, {good[LINK].room[0], good[LINK].room[1]}};
     struct request session = good[SESSION], state = good[STATE];
     const struct span in[4] = {nothing, nothing, {letters.at, n}, list};
@@ -292,12 +328,15 @@ static void check_limit(const struct limit *l)
     memcpy(session.in, in, sizeof in);
     memcpy(state.in, in + 1, 3 * sizeof *in);
     session.option = l->option;
+    put_slices(slices, n, size);
     if (l->fault >= V7_DOES_NOT_FIT) {
         expect_fault("a limit of links", &link, l->fault, 0, 0);
+        expect_fault("a limit of links", &apart, l->fault, 0, 0);
         expect_fault("a limit of links", &session, l->fault, 0, 0);
         return;
     }
     expect_fault("a limit of objects", &link, l->fault, 0, n - 1);
+    expect_fault("a limit of objects", &apart, l->fault, 0, n - 1);
     /* what is kept can be linked: without its names, and with its text in a space of its own */
     session.option = V7_STRIP | V7_SPLIT;
     check_replies(&session, 2, n, l->fault);
@@ -370,12 +409,17 @@ static void check_null(void)
     struct request link = {LINK, 0, {{NULL, 0}, {NULL, 0}, {NULL, 0}}, {room, {NULL, 0}}};
     const struct request session = {SESSION, 0, {{NULL, 0}, {NULL, 0}, {NULL, 0}, {NULL, 0}}, {{NULL, 0}, room, {NULL, 0}}};
     const struct request make = {MAKE, 0, {{NULL, 0}, {NULL, 0}, {NULL, 0}}, {room}};
+    const struct v7_slice none[] = {{NULL, 0}};
+    struct request list = {LINK_LIST, 0, {{NULL, 0}, {NULL, 0}, {NULL, 0}}, {room, {NULL, 0}}};
     const struct request check = {CHECK, 0, {{NULL, 0}}, {{0}}};
 
     put_word(bytes, 0407);
     expect("null parts", &make, &header);
     put_word(bytes + 14, 1);
     expect("null pointers", &link, &header);
+    expect("null pointers", &list, &header);
+    list.in[2] = (struct span){none, 1};
+    expect_fault("a null slice", &list, V7_SHORT_HEADER, 0, 0);
     expect("null pointers", &session, &session_header);
     expect_fault("null bytes", &check, V7_SHORT_HEADER, 0, 0);
     link.room[0] = (struct space){NULL, 0};
@@ -390,6 +434,10 @@ int main(void)
 
     check_good();
     check_null();
+    if (v7_version() != V7_VERSION_NUMBER) {
+        printf("the version of the library is another: %x\n", (unsigned)v7_version());
+        failures++;
+    }
     check_all_asked();
     check_damages();
     for (n = 0; n < sizeof limits / sizeof *limits; n++)

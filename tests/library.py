@@ -105,6 +105,7 @@ def main(header):
     checks = {
         "the texts of faults": [v7.FAULTS == {number: text for number, text in texts.items() if number}],
         "the constants": [getattr(v7, name) == number for name, number in constants_of(header).items()],
+        "the version": [f'#define V7_VERSION "{v7.version()}"' in open(header, encoding="utf-8").read().split("\n")],
         "numbers": [*numbers()],
         "blame": [*blames()],
         "replies": [*replies()],

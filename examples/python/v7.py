@@ -108,6 +108,10 @@ class _Symbol(ctypes.Structure):
     _fields_ = [("name", ctypes.c_ubyte * 8), ("type", ctypes.c_uint16), ("value", ctypes.c_uint16)]
 
 
+class _Slice(ctypes.Structure):
+    _fields_ = [("bytes", ctypes.c_char_p), ("size", ctypes.c_size_t)]
+
+
 class _Counts(ctypes.Structure):
     _fields_ = [("text", ctypes.c_size_t), ("data", ctypes.c_size_t), ("symbols", ctypes.c_size_t), ("bss", ctypes.c_uint32)]
 
@@ -185,6 +189,16 @@ def _given(name: str, *words: Any, guess: int = 0) -> bytes:
     return room.raw[: answer.size]
 
 
+def version() -> str:
+    """The version of the library.
+
+    >>> [part.isdigit() for part in version().split(".")]
+    [True, True, True]
+    """
+    number = _LIBRARY.v7_version()
+    return f"{number >> 16}.{number >> 8 & 255}.{number & 255}"
+
+
 def check(data: bytes) -> int:
     """How many bytes the object takes that the bytes begin with.
 
@@ -255,18 +269,14 @@ def _linked(call: Any, words: Sequence[Any], replies: Sequence[Any] = ()) -> Pro
     return Program(status, file, report.decode("latin-1"))
 
 
-def _whole(objects: Iterable[bytes]) -> bytes:
-    """The objects one after another, up to the first that is none. What comes after that one would be taken for its end."""
-    parts: List[bytes] = []
-    for data in objects:
-        try:
-            parts.append(data[: check(data)])
-        except Fault as fault:
-            if fault.fault == 50:
-                raise
-            parts.append(bytes(data) or b"\0")
-            break
-    return b"".join(parts)
+def _array(kind: Any, items: Sequence[Any]) -> List[Any]:
+    return [(kind * max(len(items), 1))(*items), ctypes.c_size_t(len(items))]
+
+
+def _apart(objects: Iterable[bytes]) -> List[Any]:
+    """The objects as slices."""
+    parts = [bytes(data) for data in objects]
+    return _array(_Slice, [_Slice(data, len(data)) for data in parts])
 
 
 def link(objects: Iterable[bytes], options: int = 0, entry: str = "", forced: Iterable[str] = ()) -> Program:
@@ -279,11 +289,7 @@ def link(objects: Iterable[bytes], options: int = 0, entry: str = "", forced: It
     ...     print(fault)
     truncated, object 1
     """
-    return _linked(_LIBRARY.v7_link, [*_wanted(options, entry, forced), *_slice(_whole(objects))])
-
-
-def _array(kind: Any, items: Sequence[Any]) -> List[Any]:
-    return [(kind * max(len(items), 1))(*items), ctypes.c_size_t(len(items))]
+    return _linked(_LIBRARY.v7_link_list, [*_wanted(options, entry, forced), *_apart(objects)])
 
 
 def _word(pair: Word) -> _Word:

@@ -3,8 +3,8 @@ use aout_core::samples::{A_O, B_O, C_O, D_O, G_O};
 use aout_core::{ObjectFault, ReadFault};
 use fixtures::{TWO_OBJECTS, UNDEFINED, sized};
 use library_calls::{
-    Cause, ObjectParts, Refusal, Shown, Wanted, check, link, list_symbols, make, run_session,
-    show_session, show_sizes, strip, take_apart,
+    Cause, ObjectBytes, ObjectParts, Refusal, Shown, Wanted, check, link, link_each, list_symbols,
+    make, run_session, show_session, show_sizes, strip, take_apart,
 };
 use std::alloc::{AllocError, Global};
 use std::test::Fail;
@@ -120,6 +120,21 @@ fn wishes_refused(rt: HostRuntime) {
     assert!(rt; refusal(alloc, &cut, &A_O, &B_O) == Some(Refusal { cause, place: 0 }));
     let cause = Cause::BadFile(ReadFault::Truncated);
     assert!(rt; refusal(alloc, &STRIPPED, &A_O, &C_O[..47]) == Some(Refusal { cause, place: 1 }));
+}
+
+#[test]
+fn objects_apart_linked(rt: HostRuntime) {
+    let alloc = rt.alloc();
+    let whole = [ObjectBytes { bytes: &A_O }, ObjectBytes { bytes: &B_O }];
+    let given = link_each(alloc, &STRIPPED, &whole);
+    assert!(rt; given.is_ok_and(|given| given.file.as_slice() == TWO_OBJECTS.as_slice()));
+    // the bytes of the second object are not taken for the end of the first
+    let cut = [
+        ObjectBytes { bytes: &C_O[..47] },
+        ObjectBytes { bytes: &G_O },
+    ];
+    let cause = Cause::BadFile(ReadFault::Truncated);
+    assert!(rt; link_each(alloc, &STRIPPED, &cut).err() == Some(Refusal { cause, place: 0 }));
 }
 
 /// What the edits with two objects give: the replies, the status and the file.

@@ -35,7 +35,7 @@ use Rattle.aout_core.specs.Strip.{stripped}
 use Rattle.symtools.specs.NmLists.{nm_text}
 use Rattle.symtools.specs.SizeLines.{size_text}
 use Rattle.library_calls.specs.FileAnswers.{behind_file, checked_in, file_in, file_of, has_bit, names_in, nm_options_in, nm_options_of, object_in, object_of, object_unless, sizes_in, stripped_in}
-use Rattle.library_calls.specs.LinkAnswers.{added_unless, linked_in, linked_or, objects_in, output_in, output_of, with_first, with_most, with_object}
+use Rattle.library_calls.specs.LinkAnswers.{added_unless, linked_each, linked_in, linked_or, objects_in, outcome_each, output_each, output_in, output_of, with_each, with_first, with_most, with_object}
 use Rattle.library_calls.specs.LinkWanted.{choices_by, choices_in, choices_with, forced_in, keep_of, layout_by, name_of, short_entry, unless, with_names}
 use Rattle.library_calls.specs.ObjectParts.{Pieces, contents_for, file_for, header_for, header_of, made_of, parts_in, pieces_of, too_long}
 use Rattle.library_calls.specs.SessionAnswers.{behind_edit, change_in, changes_in, output_with, reply_number, run_of, session_in, with_edit, with_edits}
@@ -224,6 +224,26 @@ told_output bits entry forced bytes =
     (is_told_at 0 (choices_in bits entry) (told_choices bits entry))
     (λ o. is_told_then (forced_in forced) (λ names. and_then (linked_in names o bytes) (λ x. Ok (output_of x))) (told_forced forced)
     (λ names. is_told_then (linked_in names o bytes) (λ x. Ok (output_of x)) (told_linked names o bytes) (λ x. tt)))
+
+told_each : (forced : List (List ℕ)) (os : List Contents) (parts : List (List ℕ)) → IsTold (with_each forced os parts)
+told_each forced os [] = tt
+told_each forced os (bytes ∷ rest) =
+    is_told_then (at (length os) (with_first forced os bytes)) (λ more. with_each forced more rest)
+    (is_told_at (length os) (with_first forced os bytes) (told_first forced os bytes)) (λ more. told_each forced more rest)
+
+told_linked_each : (forced : List (List ℕ)) (o : Choices) (parts : List (List ℕ)) → IsTold (linked_each forced o parts)
+told_linked_each forced o parts =
+    is_told_then (with_each forced [] parts) (λ os. at 0 (linked_or (link forced os o))) (told_each forced [] parts)
+    (λ os. is_told_at 0 (linked_or (link forced os o)) (told_link forced os o))
+
+told_outcome_each : (bits : ℕ) (entry forced : List ℕ) (parts : List (List ℕ)) → IsTold (outcome_each bits entry forced parts)
+told_outcome_each bits entry forced parts =
+    is_told_then (at 0 (choices_in bits entry)) (λ o. and_then (forced_in forced) (λ names. linked_each names o parts)) (is_told_at 0 (choices_in bits entry) (told_choices bits entry))
+    (λ o. is_told_then (forced_in forced) (λ names. linked_each names o parts) (told_forced forced) (λ names. told_linked_each names o parts))
+
+pub told_output_each : (bits : ℕ) (entry forced : List ℕ) (parts : List (List ℕ)) → IsTold (output_each bits entry forced parts)
+told_output_each bits entry forced parts =
+    is_told_then (outcome_each bits entry forced parts) (λ x. Ok (output_of x)) (told_outcome_each bits entry forced parts) (λ x. tt)
 
 -- ---- sessions
 

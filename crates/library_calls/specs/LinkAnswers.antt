@@ -2,7 +2,7 @@
 --
 -- Each object in order is read from the bytes after the one before it, has to be an object, and is added after those before it.
 -- The first that is not taken is the refusal. Then all are linked.
-use Rattle.std.specs.Prelude.{ℕ, zero, suc, List, [], ◌∷◌, ◌++◌, length, Option, Some, None, Result, Ok, Err}
+use Rattle.std.specs.Prelude.{ℕ, zero, suc, List, [], ◌∷◌, ◌++◌, length, map, Option, Some, None, Result, Ok, Err}
 use Rattle.aout_core.specs.Contents.{Contents}
 use Rattle.aout_core.specs.Encoding.{encoding}
 use Rattle.link_session.specs.declared.entry.AddFault.{AddFault}
@@ -15,6 +15,7 @@ use Rattle.library_calls.specs.declared.cause.Cause.{Cause}
 use Rattle.library_calls.specs.declared.cause.Cause.TheVariants.{NotAdded, NotLinked}
 use Rattle.library_calls.specs.declared.cause.Refusal.{Refusal}
 use Rattle.library_calls.specs.declared.link_call.Program.{Program}
+use Rattle.library_calls.specs.declared.parts.ObjectBytes.{ObjectBytes}
 use Rattle.library_calls.specs.Causes.{at, and_then}
 use Rattle.library_calls.specs.FileAnswers.{behind_file, object_in}
 use Rattle.library_calls.specs.LinkWanted.{choices_in, forced_in}
@@ -43,12 +44,24 @@ with_objects forced os bytes = with_most (length bytes) forced os bytes
 abbrev pub objects_in : List (List ℕ) → List ℕ → Result (List Contents) Refusal
 objects_in forced bytes = with_objects forced [] bytes
 
+-- the bytes of each object, where they are apart
+abbrev pub each_of : List ObjectBytes → List (List ℕ)
+each_of parts = map (λ (part : ObjectBytes). part.bytes.now) parts
+
+-- the objects with the one that each of these begins with; the bytes after it are not looked at, as in ld
+abbrev pub with_each : List (List ℕ) → List Contents → List (List ℕ) → Result (List Contents) Refusal
+with_each forced os [] = Ok os
+with_each forced os (bytes ∷ rest) = and_then (at (length os) (with_first forced os bytes)) (λ more. with_each forced more rest)
+
 abbrev pub linked_or : Result Outcome LinkFault → Result Outcome Cause
 linked_or (Ok x) = Ok x
 linked_or (Err fault) = Err (NotLinked fault)
 
 abbrev pub linked_in : List (List ℕ) → Choices → List ℕ → Result Outcome Refusal
 linked_in forced o bytes = and_then (objects_in forced bytes) (λ os. at 0 (linked_or (link forced os o)))
+
+abbrev pub linked_each : List (List ℕ) → Choices → List (List ℕ) → Result Outcome Refusal
+linked_each forced o parts = and_then (with_each forced [] parts) (λ os. at 0 (linked_or (link forced os o)))
 
 -- the bytes of a linked file and of its report, and the status
 pub record Output : Type 0 where
@@ -66,3 +79,10 @@ outputs_of p = record { status = p.status; file = p.file.items; report = p.repor
 abbrev pub output_in : ℕ → List ℕ → List ℕ → List ℕ → Result Output Refusal
 output_in bits entry forced bytes =
     and_then (at 0 (choices_in bits entry)) (λ o. and_then (forced_in forced) (λ names. and_then (linked_in names o bytes) (λ x. Ok (output_of x))))
+
+-- the same of objects whose bytes are apart
+abbrev pub outcome_each : ℕ → List ℕ → List ℕ → List (List ℕ) → Result Outcome Refusal
+outcome_each bits entry forced parts = and_then (at 0 (choices_in bits entry)) (λ o. and_then (forced_in forced) (λ names. linked_each names o parts))
+
+abbrev pub output_each : ℕ → List ℕ → List ℕ → List (List ℕ) → Result Output Refusal
+output_each bits entry forced parts = and_then (outcome_each bits entry forced parts) (λ x. Ok (output_of x))

@@ -21,6 +21,13 @@ pub struct SymbolRow {
     pub value: u16,
 }
 
+/// The bytes of a file that begin with an object. (own choice)
+#[repr(C)]
+#[derive(Clone, Copy)]
+pub struct ObjectBytes<'a> {
+    pub bytes: &'a [u8],
+}
+
 /// What an object is made of. (a.out(5))
 #[derive(Clone, Copy)]
 pub struct ObjectParts<'a> {

@@ -9,8 +9,8 @@ mod rooms;
 ghost use Rattle.std.specs.Prelude.{◌≡◌, ◌≢◌, ◌⊎◌, [], Err, IsOk};
 ghost use Rattle.library_calls.specs.declared.cause.Cause.TheVariants.{Memory};
 ghost use Rattle.library_calls.specs.FileAnswers.{checked_in, names_in, sizes_in, stripped_in};
-ghost use Rattle.library_calls.specs.LinkAnswers.{output_in};
-ghost use Rattle.library_calls.specs.MemoryWanted.{HasBody, LinkMayRunOut, SessionMayRunOut, StateMayRunOut};
+ghost use Rattle.library_calls.specs.LinkAnswers.{each_of, output_each, output_in};
+ghost use Rattle.library_calls.specs.MemoryWanted.{HasBody, LinkMayRunOut, LinkOfEachMayRunOut, SessionMayRunOut, StateMayRunOut};
 ghost use Rattle.library_calls.specs.ObjectParts.{file_for, made_of, parts_in, pieces};
 ghost use Rattle.library_calls.specs.SessionAnswers.{session_in};
 ghost use Rattle.library_calls.specs.StateAnswers.{asked_in};
@@ -20,8 +20,16 @@ use crate::answer::{Answer, Counts};
 use crate::rooms::{
     leave_bytes, leave_count, leave_output, leave_parts, leave_session, leave_state,
 };
-use library_calls::{ObjectParts, ObjectWord, SymbolRow, Wanted};
+use library_calls::{ObjectBytes, ObjectParts, ObjectWord, SymbolRow, Wanted};
 use std::alloc::Global;
+
+/// The version of the library, 0.4.0: 65,536 for each major version, 256 for each minor version, and the patch.
+#[unsafe(no_mangle)]
+pub extern "C" fn v7_version() -> u32
+    ensures { result ≡ 1024 }
+{
+    0x0000_0400
+}
 
 /// Checks an object, and gives how many bytes it takes.
 #[unsafe(no_mangle)]
@@ -98,6 +106,37 @@ pub extern "C" fn v7_link(
     };
     leave_output(
         library_calls::link(alloc, &wanted, objects),
+        room,
+        report,
+        answer,
+    )
+}
+
+/// Links objects whose bytes are apart.
+#[unsafe(no_mangle)]
+pub extern "C" fn v7_link_list(
+    alloc: Global,
+    options: u32,
+    entry: &[u8],
+    forced: &[u8],
+    objects: &[ObjectBytes<'_>],
+    room: &mut [u8],
+    report: &mut [u8],
+    answer: &mut Answer,
+) -> u32
+    ensures value { answer.new.fault ≢ 50 → link_left result answer.new room.new report.new
+        ≡ output_left (output_each options entry.now forced.now (each_of objects.now)) room.old report.old }
+    ensures memory { answer.new.fault ≡ 50 → link_left result answer.new room.new report.new
+        ≡ no_output answer.new.place room.old report.old }
+    ensures ran_out { answer.new.fault ≡ 50 → LinkOfEachMayRunOut options entry.now forced.now (each_of objects.now) answer.new.place }
+{
+    let wanted = Wanted {
+        options,
+        entry,
+        forced,
+    };
+    leave_output(
+        library_calls::link_each(alloc, &wanted, objects),
         room,
         report,
         answer,
