@@ -8,13 +8,14 @@
 enum { GUARD = 16, FILLER = 0xa5 };
 
 static const char *const names[CALLS] = {"v7_check", "v7_strip", "v7_nm", "v7_size", "v7_take_apart",
-                                         "v7_make", "v7_link", "v7_link_list", "v7_session", "v7_state"};
+                                         "v7_make", "v7_link", "v7_link_list", "v7_link_findings", "v7_session", "v7_state"};
 
-/* rooms, aligned for words and symbols */
+/* rooms, aligned for words, symbols and findings */
 static union {
     unsigned char bytes[ROOM + GUARD];
     struct v7_word word;
     struct v7_symbol symbol;
+    struct v7_finding finding;
 } rooms[3];
 struct v7_answer answer;
 unsigned failures;
@@ -103,6 +104,9 @@ static uint32_t call(const struct request *r)
     case LINK_LIST:
         return v7_link_list(r->option, in[0].at, in[0].size, in[1].at, in[1].size, in[2].at, in[2].size, room[0].at,
                             room[0].size, room[1].at, room[1].size, &answer);
+    case LINK_FINDINGS:
+        return v7_link_findings(r->option, in[0].at, in[0].size, in[1].at, in[1].size, in[2].at, in[2].size, room[0].at,
+                                room[0].size, room[1].at, room[1].size, &answer);
     case SESSION:
         return v7_session(r->option, in[0].at, in[0].size, in[1].at, in[1].size, in[2].at, in[2].size, in[3].at,
                           in[3].size, room[0].at, room[0].size, room[1].at, room[1].size, room[2].at, room[2].size,
@@ -115,10 +119,18 @@ static uint32_t call(const struct request *r)
     }
 }
 
+/* the size of what a room counts */
+static size_t unit(enum call kind, int i)
+{
+    if (kind == TAKE_APART)
+        return i < 2 ? sizeof(struct v7_word) : sizeof(struct v7_symbol);
+    return kind == LINK_FINDINGS && i == 1 ? sizeof(struct v7_finding) : 1;
+}
+
 /* the bytes of a room, and those after it that have to stay as they are */
 static size_t watched(const struct request *r, int i)
 {
-    return r->room[i].size * (r->call != TAKE_APART ? 1 : i < 2 ? sizeof(struct v7_word) : sizeof(struct v7_symbol)) + GUARD;
+    return r->room[i].size * unit(r->call, i) + GUARD;
 }
 
 /* the status of the call, with all that it may write to filled up before */
@@ -228,6 +240,7 @@ static const char state[] = "  text 000000  004767     a number\n"
                             "  mark text 000002 was 177774 pc  waits for _f\n";
 static const unsigned char definition[] = {DEFINITION};
 static const struct v7_slice apart[] = {{more, sizeof more}, {definition, sizeof definition}};
+static const struct v7_finding findings[] = {{"_x", V7_UNDEFINED_NAME}};
 static const struct v7_word text[] = {{04767, 0}, {0177774, 011}, {0207, 0}}, data[] = {{7, 0}};
 static const struct v7_symbol symbols[] = {{"_f", 040, 0}, {"L1", 02, 0}};
 
@@ -248,6 +261,7 @@ const struct request good[CALLS] = {
     {MAKE, 4, {LIST(text), LIST(data), LIST(symbols)}, {SPACE(0, 56)}},
     {LINK, V7_NOT_L, {STRING("_f"), FORCED, BYTES(both)}, {SPACE(0, 52), SPACE(1, 14)}},
     {LINK_LIST, V7_NOT_L, {STRING("_f"), FORCED, LIST(apart)}, {SPACE(0, 52), SPACE(1, 14)}},
+    {LINK_FINDINGS, V7_NOT_L, {STRING("_f"), FORCED, LIST(apart)}, {SPACE(0, 52), SPACE(1, 1)}},
     {SESSION, V7_NOT_L, {STRING("_f"), FORCED, STRING("waa"), BYTES(both)}, {SPACE(0, 3), SPACE(1, 52), SPACE(2, 14)}},
     {STATE, V7_LINES, {FORCED, STRING("waa"), BYTES(both)}, {SPACE(0, 3), SPACE(1, sizeof state - 1)}},
 };
@@ -260,6 +274,7 @@ static const struct wanted given[CALLS] = {
     {0, {0, 0, 0, 56, 0}, {0}, {BYTES(object)}},
     {1, {0, 0, 0, 52, 14}, {0}, {BYTES(linked), REPORT}},
     {1, {0, 0, 0, 52, 14}, {0}, {BYTES(linked), REPORT}},
+    {1, {0, 0, 0, 52, 1}, {0}, {BYTES(linked), BYTES(findings)}},
     {1, {0, 0, 0, 52, 14}, {0}, {REPLIES, BYTES(linked), REPORT}},
     {1, {0, 0, 0, sizeof state - 1, 3}, {0}, {REPLIES, STRING(state)}},
 };
@@ -288,7 +303,7 @@ static void check_rooms(enum call kind)
  * is that of an object or an edit, or 0. */
 static void check_memory(enum call kind)
 {
-    static const size_t last_place[CALLS] = {[LINK] = 1, [LINK_LIST] = 1, [SESSION] = 2, [STATE] = 2};
+    static const size_t last_place[CALLS] = {[LINK] = 1, [LINK_LIST] = 1, [LINK_FINDINGS] = 1, [SESSION] = 2, [STATE] = 2};
     const struct request *r = &good[kind];
     size_t all = (status_of(r), requests), n;
 
@@ -352,6 +367,7 @@ static void check_exchanged(void)
     exchange_spans(MAKE, 2);
     exchange_spans(LINK, 3);
     exchange_spans(LINK_LIST, 2);
+    exchange_spans(LINK_FINDINGS, 2);
     exchange_spans(SESSION, 4);
     exchange_spans(STATE, 3);
     exchange_rooms(TAKE_APART, 2);

@@ -1,8 +1,8 @@
 /* Random calls of v7_link_list, always the same, compared with v7_link: it links the bytes of the objects one after another, up to the
  * first that v7_check refuses, and that one last. The answer, the file and the report must be equal. Each buffer ends at a page that
  * may not be touched, or begins after one. What a call reads may not be written, and nothing is written beside a result. Each call is made
- * once more with each of its requests for memory refused, and all later ones. tests/library.sh compiles it as it does tests/faults.c,
- * and runs it.
+ * once more with each of its requests for memory refused, and all later ones. The findings of v7_link_findings, as lines, must be the
+ * report. tests/library.sh compiles it as it does tests/faults.c, and runs it.
  *
  * usage: random_calls NUMBER */
 #define _DEFAULT_SOURCE
@@ -247,6 +247,52 @@ static int is_refused(size_t all)
     return has_alone(&file, filled, 0) && has_alone(&report, filled, 0);
 }
 
+/* the lines of a report, by its findings; returns how many bytes they take */
+static size_t put_lines(const struct v7_finding *findings, size_t number, char *to)
+{
+    static const char *const texts[] = {"", ": Multiply defined", ": Multiply defined", ": Entry point not in text", ""};
+    size_t i, size = 0;
+    uint32_t last = 0;
+
+    for (i = 0; i < number; i++) {
+        if (findings[i].kind < last || findings[i].kind < 1 || findings[i].kind > 4)
+            return SPACE;
+        if (findings[i].kind == V7_UNDEFINED_NAME && last != V7_UNDEFINED_NAME)
+            size += (size_t)sprintf(to + size, "Undefined:\n");
+        last = findings[i].kind;
+        size += (size_t)sprintf(to + size, "%.8s%s\n", (const char *)findings[i].name, texts[last]);
+    }
+    return size;
+}
+
+static uint32_t find(struct v7_answer *answer, size_t number)
+{
+    fill(&report, number * sizeof(struct v7_finding));
+    return v7_link_findings(options, inputs[PARTS].at, inputs[PARTS].size, inputs[PARTS + 1].at, inputs[PARTS + 1].size,
+                            (const struct v7_slice *)inputs[PARTS + 2].at, count, file.at, file.size,
+                            (struct v7_finding *)report.at, number, answer);
+}
+
+/* whether v7_link_findings answers this and gives the same file and report; the first call asks for the number of findings */
+static int finds(uint32_t status, const struct v7_answer *wanted, const unsigned char *room, const unsigned char *lines)
+{
+    static char text[SPACE];
+    struct v7_answer answer;
+    uint32_t first, found;
+
+    fill(&file, wanted->size);
+    first = find(&answer, 0);
+    if (wanted->fault != 0 || answer.report_size == 0)
+        return first == status && answer.fault == wanted->fault && answer.word == wanted->word && answer.place == wanted->place &&
+               answer.size == wanted->size && wanted->report_size == 0 && has_alone(&file, room, answer.size);
+    if (first != 2 || answer.fault != V7_NO_ROOM || answer.size != wanted->size || !has_alone(&file, room, 0))
+        return 0;
+    found = find(&answer, answer.report_size);
+    return found == status && answer.fault == 0 && has_alone(&file, room, wanted->size) && has_alone(&report, report.at, report.size) &&
+           put_lines((const struct v7_finding *)report.at, answer.report_size, text) == wanted->report_size &&
+           memcmp(text, lines, wanted->report_size) == 0;
+}
+
 int main(int argc, char **argv)
 {
     static unsigned char room[SPACE], lines[SPACE];
@@ -266,7 +312,7 @@ int main(int argc, char **argv)
         linked += status != 2;
         requests = 0;
         if (!is_right(status, &wanted, room, lines, wanted.size, wanted.report_size) || !is_refused(requests) ||
-            !is_right(status, &wanted, room, lines, below(200), below(30))) {
+            !is_right(status, &wanted, room, lines, below(200), below(30)) || !finds(status, &wanted, room, lines)) {
             printf("call %ld: another answer than that of v7_link: fault %u\n", n, (unsigned)wanted.fault);
             return 1;
         }

@@ -12,6 +12,7 @@ enum { STACK = 32768, WORDS = 32767, SYMBOLS = 5461, COUNT = 200, ROOM = 1 << 23
 static struct v7_word text[WORDS], data[WORDS];
 static struct v7_symbol symbols[SYMBOLS];
 static struct v7_slice slices[COUNT];
+static struct v7_finding findings[SYMBOLS];
 static unsigned char *objects, *room, *more, *replies, edits[COUNT];
 static size_t objects_size, count;
 static unsigned calls, results;
@@ -38,6 +39,7 @@ static void *call_all(void *unused)
     for (option = 0; option < 128; option = 2 * option + (option == 0)) {
         called(v7_link(option, none, 0, none, 0, objects, objects_size, room, ROOM, more, ROOM, &answer), &answer);
         called(v7_link_list(option, none, 0, none, 0, slices, count, room, ROOM, more, ROOM, &answer), &answer);
+        called(v7_link_findings(option, none, 0, none, 0, slices, count, room, ROOM, findings, SYMBOLS, &answer), &answer);
         called(v7_session(option, none, 0, none, 0, edits, count, objects, objects_size, replies, COUNT, room, ROOM, more, ROOM, &answer), &answer);
     }
     called(v7_state(V7_LINES, none, 0, edits, count, objects, objects_size, replies, COUNT, room, ROOM, &answer), &answer);
@@ -96,5 +98,5 @@ int main(void)
     edits[COUNT - 1] = V7_WITHDRAW;
     call_in_thread();
     printf("%u calls, %u with a result\n", calls, results);
-    return calls != 64 || results < 54;
+    return calls != 80 || results < 68;
 }

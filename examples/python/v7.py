@@ -29,7 +29,7 @@ from __future__ import annotations
 import ctypes
 import json
 import os
-from typing import Any, Dict, Iterable, List, NamedTuple, Sequence, Tuple
+from typing import Any, Dict, Iterable, List, NamedTuple, Optional, Sequence, Tuple
 
 _BESIDE = os.path.join(os.path.dirname(os.path.abspath(__file__)), "libv7.so.0")
 _LIBRARY = ctypes.CDLL(os.environ.get("LIBV7") or (_BESIDE if os.path.exists(_BESIDE) else "libv7.so.0"))
@@ -49,6 +49,9 @@ EXTERNAL = 0o40
 NUMBER, IN_TEXT, IN_DATA, IN_BSS = 0, 2, 4, 6
 FROM_PC = 1
 
+# the parts of an object: the word of a fault if one is too long
+TEXT_PART, DATA_PART, BSS_PART, SYMBOLS_PART = 1, 2, 3, 4
+
 Word = Tuple[int, int]
 Symbol = Tuple[str, int, int]
 
@@ -59,6 +62,25 @@ class Program(NamedTuple):
     status: int
     file: bytes
     report: str
+
+
+class Findings(NamedTuple):
+    """What is reported of a link: names that are multiply defined, one for each definition that differs from the first; those of
+    `_etext`, `_edata` and `_end` that an object defines or makes a common; the entry point if it is not in text, and else
+    None; and undefined names."""
+
+    multiples: List[str]
+    reserved: List[str]
+    entry: Optional[str]
+    undefined: List[str]
+
+
+class Found(NamedTuple):
+    """What a link gives, with its report as `Findings`."""
+
+    status: int
+    file: bytes
+    findings: Findings
 
 
 class Parts(NamedTuple):
@@ -112,6 +134,10 @@ class _Slice(ctypes.Structure):
     _fields_ = [("bytes", ctypes.c_char_p), ("size", ctypes.c_size_t)]
 
 
+class _Finding(ctypes.Structure):
+    _fields_ = [("name", ctypes.c_ubyte * 8), ("kind", ctypes.c_uint32)]
+
+
 class _Counts(ctypes.Structure):
     _fields_ = [("text", ctypes.c_size_t), ("data", ctypes.c_size_t), ("symbols", ctypes.c_size_t), ("bss", ctypes.c_uint32)]
 
@@ -127,7 +153,8 @@ class _Answer(ctypes.Structure):
 
 
 class Fault(Exception):
-    """Why a call gives nothing: `fault` is its number, `place` that of the object or name, and `word` the index of the word.
+    """Why a call gives nothing: `fault` is its number, `place` that of the object or name, and `word` the index of the word, or the part
+    of an object that is too long.
 
     >>> try:
     ...     check(b"")
@@ -138,7 +165,7 @@ class Fault(Exception):
 
     def __init__(self, answer: _Answer) -> None:
         text = FAULTS.get(answer.fault, f"fault {answer.fault}")
-        where = f" at word {answer.word}" if answer.fault in (23, 24) else ""
+        where = f" at word {answer.word}" if answer.fault in (23, 24) else f" in part {answer.word}" if answer.fault == 6 else ""
         super().__init__(f"{text}{where}, object {answer.place}" if 10 < answer.fault < 40 else text + where)
         self.fault: int = answer.fault
         self.place: int = answer.place
@@ -253,19 +280,22 @@ def _wanted(options: int, entry: str, forced: Iterable[str]) -> List[Any]:
     return [_number("the options", options), *_slice(entry.encode("latin-1")), *_forced(forced)]
 
 
-def _linked(call: Any, words: Sequence[Any], replies: Sequence[Any] = ()) -> Program:
-    """Calls twice: for the sizes of the rooms for file and report, and for these."""
-    answer, sizes = _Answer(), [0, 0]
+def _linked(call: Any, words: Sequence[Any], kind: Any = ctypes.c_char) -> Tuple[int, bytes, Any]:
+    """Calls twice: for the sizes of the rooms for the file and for a report of this kind, and for these."""
+    answer, size, count = _Answer(), 0, 0
     for _ in range(2):
-        rooms = [_room(n) for n in sizes]
-        given = [part for room, n in zip(rooms, sizes) for part in (room, ctypes.c_size_t(n))]
-        status = call(*words, *replies, *given, ctypes.byref(answer))
+        file, report = _room(size), (kind * max(count, 1))()
+        status = call(*words, file, ctypes.c_size_t(size), report, ctypes.c_size_t(count), ctypes.byref(answer))
         if answer.fault != _NO_ROOM:
             break
-        sizes = [answer.size, answer.report_size]
+        size, count = answer.size, answer.report_size
     if answer.fault:
         raise Fault(answer)
-    file, report = (room.raw[:n] for room, n in zip(rooms, sizes))
+    return status, file.raw[:size], report[:count]
+
+
+def _program(call: Any, words: Sequence[Any]) -> Program:
+    status, file, report = _linked(call, words)
     return Program(status, file, report.decode("latin-1"))
 
 
@@ -289,7 +319,24 @@ def link(objects: Iterable[bytes], options: int = 0, entry: str = "", forced: It
     ...     print(fault)
     truncated, object 1
     """
-    return _linked(_LIBRARY.v7_link_list, [*_wanted(options, entry, forced), *_apart(objects)])
+    return _program(_LIBRARY.v7_link_list, [*_wanted(options, entry, forced), *_apart(objects)])
+
+
+def _name(row: Any) -> str:
+    return bytes(row.name).rstrip(b"\0").decode("latin-1")
+
+
+def link_findings(objects: Iterable[bytes], options: int = 0, entry: str = "", forced: Iterable[str] = ()) -> Found:
+    """The same, with the report as lists of names.
+
+    >>> refers = make(symbols=[("_f", UNDEFINED | EXTERNAL, 0), ("_end", ABSOLUTE | EXTERNAL, 0)])
+    >>> link_findings([refers], entry="_go").findings
+    Findings(multiples=[], reserved=['_end'], entry='_go', undefined=['_f'])
+    """
+    words = [*_wanted(options, entry, forced), *_apart(objects)]
+    status, file, rows = _linked(_LIBRARY.v7_link_findings, words, _Finding)
+    multiples, reserved, entries, undefined = ([_name(row) for row in rows if row.kind == kind] for kind in range(1, 5))
+    return Found(status, file, Findings(multiples, reserved, entries[0] if entries else None, undefined))
 
 
 def _word(pair: Word) -> _Word:
@@ -332,7 +379,7 @@ def take_apart(data: bytes) -> Parts:
         raise Fault(answer)
     text, words, rows = (list(room[0])[: room[1].value] for room in rooms)
     pairs = [[(word.value, word.reloc) for word in segment] for segment in (text, words)]
-    names = [(bytes(row.name).rstrip(b"\0").decode("latin-1"), row.type, row.value) for row in rows]
+    names = [(_name(row), row.type, row.value) for row in rows]
     return Parts(pairs[0], pairs[1], counts.bss, names)
 
 
@@ -385,7 +432,7 @@ class Session:
         """The link of what is there. The status is 1 also if an addition or a withdrawal was not made."""
         room = _room(len(self._kept))
         words = [*_wanted(options, self.entry, self.forced), *self._edits()]
-        program = _linked(_LIBRARY.v7_session, words, [room, ctypes.c_size_t(len(self._kept))])
+        program = _program(_LIBRARY.v7_session, [*words, room, ctypes.c_size_t(len(self._kept))])
         self._learn(room)
         return program._replace(status=max(program.status, int(any(self._replies))))
 

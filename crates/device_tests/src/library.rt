@@ -3,8 +3,9 @@ use aout_core::samples::{A_O, B_O, C_O, D_O, G_O};
 use aout_core::{ObjectFault, ReadFault};
 use fixtures::{TWO_OBJECTS, UNDEFINED, sized};
 use library_calls::{
-    Cause, ObjectBytes, ObjectParts, Refusal, Shown, Wanted, check, link, link_each, list_symbols,
-    make, run_session, show_session, show_sizes, strip, take_apart,
+    Cause, Finding, LongPart, ObjectBytes, ObjectParts, Refusal, Shown, Wanted, check, link,
+    link_each, link_findings, list_symbols, make, run_session, show_session, show_sizes, strip,
+    take_apart,
 };
 use std::alloc::{AllocError, Global};
 use std::test::Fail;
@@ -60,7 +61,8 @@ fn is_made_again(alloc: Global, object: &[u8]) -> bool {
         bss: 65_536,
         ..again
     };
-    gives(make(alloc, &again), object) && make(alloc, &longer).err() == Some(Cause::TooLong)
+    gives(make(alloc, &again), object)
+        && make(alloc, &longer).err() == Some(Cause::TooLong(LongPart::Bss))
 }
 
 #[test]
@@ -135,6 +137,36 @@ fn objects_apart_linked(rt: HostRuntime) {
     ];
     let cause = Cause::BadFile(ReadFault::Truncated);
     assert!(rt; link_each(alloc, &STRIPPED, &cut).err() == Some(Refusal { cause, place: 0 }));
+}
+
+#[test]
+fn findings_listed(rt: HostRuntime) {
+    let objects = [ObjectBytes { bytes: &C_O }, ObjectBytes { bytes: &G_O }];
+    let wanted = Wanted {
+        options: 0,
+        entry: b"_start_x",
+        ..STRIPPED
+    };
+    let found = [
+        Finding {
+            name: *b"_start_x",
+            kind: 3,
+        },
+        Finding {
+            name: *b"_f\0\0\0\0\0\0",
+            kind: 4,
+        },
+        Finding {
+            name: *b"_g\0\0\0\0\0\0",
+            kind: 4,
+        },
+    ];
+    let given = link_findings(rt.alloc(), &wanted, &objects);
+    assert!(rt;
+        given.is_ok_and(|given| given.status == 1
+            && given.file.as_slice() == UNDEFINED.as_slice()
+            && given.findings.as_slice() == found.as_slice())
+    );
 }
 
 /// What the edits with two objects give: the replies, the status and the file.

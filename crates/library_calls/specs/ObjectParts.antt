@@ -2,7 +2,7 @@
 --
 -- What is made of parts has magic 0407, its relocation, and 0 for the entry point and the word without a meaning, at neither of which
 -- a link looks. A name is eight bytes, filled up with NULs, as in a file.
-use Rattle.std.specs.Prelude.{ℕ, ◌*◌, ◌%◌, Bool, ◌||◌, eqb, nat_lt, if◌then◌else◌, List, map, length, Result, Ok, Err}
+use Rattle.std.specs.Prelude.{ℕ, ◌*◌, ◌%◌, eqb, nat_lt, if◌then◌else◌, List, map, length, Result, Ok, Err}
 use Rattle.std.specs.List.{zip}
 use Rattle.aout_core.specs.declared.header.Header.{Header}
 use Rattle.aout_core.specs.declared.reloc.Reloc.{Reloc}
@@ -16,6 +16,7 @@ use Rattle.library_calls.specs.declared.parts.SymbolRow.{SymbolRow}
 use Rattle.library_calls.specs.declared.parts.PartLists.{PartLists}
 use Rattle.library_calls.specs.declared.cause.Cause.{Cause}
 use Rattle.library_calls.specs.declared.cause.Cause.TheVariants.{TooLong, BadFile}
+use Rattle.library_calls.specs.declared.cause.LongPart.TheVariants.{Text, Data, Bss, Symbols}
 use Rattle.library_calls.specs.Causes.{and_then}
 use Rattle.library_calls.specs.FileAnswers.{object_in, object_of}
 use Rattle.library_calls.specs.LinkWanted.{name_of}
@@ -31,10 +32,6 @@ pieces text datas bss symbols = record { text = text; «data» = datas; bss = bs
 
 -- ---- parts made into an object
 
--- a header has no number for the size of a part
-abbrev pub too_long : Pieces → Bool
-too_long p = nat_lt 32767 (length p.text) || (nat_lt 32767 (length p.«data») || (nat_lt 65535 p.bss || nat_lt 5461 (length p.symbols)))
-
 abbrev pub header_of : Pieces → Header
 header_of p = record {
   magic = 0o407;
@@ -47,11 +44,15 @@ header_of p = record {
   flag = 0;
 }
 
+-- the first part for whose size a header has no number is refused
 abbrev pub header_for : Pieces → Result Header Cause
 header_for p =
-    if too_long p then Err TooLong
+    if nat_lt 32767 (length p.text) then Err (TooLong Text)
+    else (if nat_lt 32767 (length p.«data») then Err (TooLong Data)
+    else (if nat_lt 65535 p.bss then Err (TooLong Bss)
+    else (if nat_lt 5461 (length p.symbols) then Err (TooLong Symbols)
     else (if eqb (p.bss % 2) 0 then Ok (header_of p)
-    else Err (BadFile OddSize))
+    else Err (BadFile OddSize)))))
 
 abbrev pub reloc_of : ObjectWord → Reloc
 reloc_of w = record { 0 = w.reloc }

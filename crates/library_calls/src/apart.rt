@@ -6,7 +6,7 @@ ghost use Rattle.library_calls.specs.declared.cause.Cause.TheVariants.{Memory};
 
 use crate::cause::Cause;
 use crate::first::first_object;
-use crate::parts::{ObjectWord, PartLists, SymbolRow};
+use crate::parts::{ObjectWord, PartLists, SymbolRow, padded};
 use aout_core::{File, Reloc, Symbol};
 use std::alloc::{AllocError, Global};
 
@@ -31,11 +31,8 @@ fn words_with(
 fn row_of(symbol: &Symbol) -> SymbolRow
     ensures { result ≡ row_of symbol.now }
 {
-    let text = symbol.name.as_bytes();
-    let mut name = [0; 8];
-    name[..text.len()].copy_from_slice(text);
     SymbolRow {
-        name,
+        name: padded(&symbol.name),
         type_bits: symbol.type_bits,
         value: symbol.value,
     }

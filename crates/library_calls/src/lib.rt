@@ -8,6 +8,7 @@ mod apart;
 mod cause;
 mod edits;
 mod file_calls;
+mod findings_call;
 mod first;
 mod link_call;
 mod make_call;
@@ -18,8 +19,9 @@ mod taking;
 mod wanted;
 
 pub use apart::take_apart;
-pub use cause::{Cause, Refusal};
+pub use cause::{Cause, LongPart, Refusal};
 pub use file_calls::{check, list_symbols, show_sizes, strip};
+pub use findings_call::{Finding, Found, link_findings};
 pub use link_call::{Program, Wanted, link, link_each};
 pub use make_call::make;
 pub use parts::{ObjectBytes, ObjectParts, ObjectWord, PartLists, SymbolRow};

@@ -1,4 +1,8 @@
 //! An object by its parts.
+ghost use Rattle.std.specs.Prelude.{◌≡◌};
+ghost use Rattle.aout_core.specs.Names.{padded};
+
+use aout_core::Name;
 
 /// A word of text or data, and its relocation word. (a.out(5))
 #[repr(C)]
@@ -46,4 +50,14 @@ pub struct PartLists {
     /// The size of bss in bytes.
     pub bss: u16,
     pub symbols: Vec<SymbolRow>,
+}
+
+/// A name in eight bytes, filled up with NULs.
+pub(crate) fn padded(name: &Name) -> [u8; 8]
+    ensures { result ≡ padded name.now }
+{
+    let text = name.as_bytes();
+    let mut bytes = [0; 8];
+    bytes[..text.len()].copy_from_slice(text);
+    bytes
 }

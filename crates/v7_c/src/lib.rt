@@ -9,7 +9,7 @@ mod rooms;
 ghost use Rattle.std.specs.Prelude.{◌≡◌, ◌≢◌, ◌⊎◌, [], Err, IsOk};
 ghost use Rattle.library_calls.specs.declared.cause.Cause.TheVariants.{Memory};
 ghost use Rattle.library_calls.specs.FileAnswers.{checked_in, names_in, sizes_in, stripped_in};
-ghost use Rattle.library_calls.specs.LinkAnswers.{each_of, output_each, output_in};
+ghost use Rattle.library_calls.specs.LinkAnswers.{each_of, found_each, output_each, output_in};
 ghost use Rattle.library_calls.specs.MemoryWanted.{HasBody, LinkMayRunOut, LinkOfEachMayRunOut, SessionMayRunOut, StateMayRunOut};
 ghost use Rattle.library_calls.specs.ObjectParts.{file_for, made_of, parts_in, pieces};
 ghost use Rattle.library_calls.specs.SessionAnswers.{session_in};
@@ -18,9 +18,9 @@ ghost use Rattle.v7_c.specs.Left.{LeavesState, apart_left, counted_by, left, lef
 
 use crate::answer::{Answer, Counts};
 use crate::rooms::{
-    leave_bytes, leave_count, leave_output, leave_parts, leave_session, leave_state,
+    leave_bytes, leave_count, leave_findings, leave_output, leave_parts, leave_session, leave_state,
 };
-use library_calls::{ObjectBytes, ObjectParts, ObjectWord, SymbolRow, Wanted};
+use library_calls::{Finding, ObjectBytes, ObjectParts, ObjectWord, SymbolRow, Wanted};
 use std::alloc::Global;
 
 /// The version of the library, 0.4.0: 65,536 for each major version, 256 for each minor version, and the patch.
@@ -141,6 +141,33 @@ pub extern "C" fn v7_link_list(
         report,
         answer,
     )
+}
+
+/// Links objects whose bytes are apart, and gives the report as a list.
+#[unsafe(no_mangle)]
+pub extern "C" fn v7_link_findings(
+    alloc: Global,
+    options: u32,
+    entry: &[u8],
+    forced: &[u8],
+    objects: &[ObjectBytes<'_>],
+    room: &mut [u8],
+    findings: &mut [Finding],
+    answer: &mut Answer,
+) -> u32
+    ensures value { answer.new.fault ≢ 50 → link_left result answer.new room.new findings.new
+        ≡ output_left (found_each options entry.now forced.now (each_of objects.now)) room.old findings.old }
+    ensures memory { answer.new.fault ≡ 50 → link_left result answer.new room.new findings.new
+        ≡ no_output answer.new.place room.old findings.old }
+    ensures ran_out { answer.new.fault ≡ 50 → LinkOfEachMayRunOut options entry.now forced.now (each_of objects.now) answer.new.place }
+{
+    let wanted = Wanted {
+        options,
+        entry,
+        forced,
+    };
+    let found = library_calls::link_findings(alloc, &wanted, objects);
+    leave_findings(found, room, findings, answer)
 }
 
 /// Makes an object of its parts.
