@@ -136,7 +136,7 @@ struct v7_answer {
     size_t place;       /* a number, counted from 0. For the faults 11 to 34 of a link it is that of the object, for 7 to 24 of
                          * v7_session and v7_state that of the edit, and for V7_MANY_NAMES that of the name. For V7_NO_MEMORY it
                          * is that of an object or edit which the call reached, or 0. Otherwise 0 */
-    size_t size;        /* the size of the result; of v7_take_apart 0 */
+    size_t size;        /* the size of the result; of v7_take_apart and v7_read 0 */
     size_t report_size; /* for v7_link, v7_link_list and v7_session the size of the report, for v7_link_findings the number of
                          * findings, for v7_state the number of replies; otherwise 0 */
 };
@@ -307,6 +307,25 @@ struct v7_counts {
 uint32_t v7_take_apart(const unsigned char *bytes, size_t size, struct v7_word *text, size_t text_room, struct v7_word *data,
                        size_t data_room, struct v7_symbol *symbols, size_t symbol_room, struct v7_counts *counts,
                        struct v7_answer *answer);
+
+/* The eight words that a file begins with; docs/FORMAT.md describes them. Sizes are in bytes. */
+struct v7_header {
+    uint16_t magic;       /* 0407 normal, 0410 with read-only text, 0411 with text and data apart, 0405 an overlay */
+    uint16_t text_size;
+    uint16_t data_size;
+    uint16_t bss_size;
+    uint16_t symbol_size; /* 12 for each symbol */
+    uint16_t entry_point;
+    uint16_t unused;
+    uint16_t flag;        /* 0 if there are relocation words */
+};
+
+/* Reads the file that BYTES begin with, an object or another, as v7_take_apart reads an object, and fills *HEADER as well. If
+ * there are no relocation words, each word gets V7_NUMBER; if there are, they need not be right. With V7_NO_ROOM *HEADER is
+ * filled too, and with any other fault it is 0. Faults: 11 to 14, V7_NO_MEMORY, V7_NO_ROOM. */
+uint32_t v7_read(const unsigned char *bytes, size_t size, struct v7_header *header, struct v7_word *text, size_t text_room,
+                 struct v7_word *data, size_t data_room, struct v7_symbol *symbols, size_t symbol_room, struct v7_counts *counts,
+                 struct v7_answer *answer);
 
 #ifdef __cplusplus
 }

@@ -129,14 +129,14 @@ static void put_damaged(const struct damage *d, unsigned char *bytes)
         bytes[d->change[n].at] = (unsigned char)d->change[n].byte;
 }
 
-/* A damaged file alone. A file that is not an object is good enough for v7_strip, v7_nm and v7_size. No memory is wanted before
+/* A damaged file alone. A file that is not an object is good enough for v7_strip, v7_nm, v7_size and v7_read. No memory is wanted before
  * the file is known to be whole. */
 static void check_file(const struct damage *d, enum call kind)
 {
     struct request r = good[kind];
 
     r.in[0] = (struct span){objects, d->size};
-    if (d->fault >= V7_NOT_AN_OBJECT && (kind == STRIP || kind == NM || kind == SIZE)) {
+    if (d->fault >= V7_NOT_AN_OBJECT && (kind == STRIP || kind == NM || kind == SIZE || kind == READ)) {
         r.room[0].size = 256;
         if (status_of(&r) != 0)
             expect_fault("a file that is not an object", &r, V7_NO_FAULT, 0, 0);
@@ -360,7 +360,7 @@ static void check_findings(void)
     static const unsigned char file[20] = {7, 1, 4, 0, 0, 0, 0, 0, 0, 0, 0, 0, 0, 0, 1, 0, 0240, 0, 0207, 0};
     const struct v7_slice both[] = {{objects, 16 + 8 + 12}, {objects + 36, 16 + 36}};
     struct request r = {LINK_FINDINGS, V7_STRIP, {{"_nowhere", 8}, nothing, {both, 2}}, {good[LINK].room[0], good[LINK].room[1]}};
-    const struct wanted w = {1, {0, 0, 0, sizeof file, 4}, {0}, {{file, sizeof file}, {found, sizeof found}}};
+    const struct wanted w = {1, {0, 0, 0, sizeof file, 4}, {0}, {{file, sizeof file}, {found, sizeof found}}, {0}};
 
     v7_make(text, 2, NULL, 0, 0, first, 1, objects, 36, &answer);
     v7_make(NULL, 0, NULL, 0, 0, second, 3, objects + 36, 52, &answer);
@@ -437,8 +437,8 @@ static void check_null(void)
 {
     static unsigned char bytes[16];
     const struct span empty = {bytes, sizeof bytes};
-    const struct wanted header = {0, {0, 0, 0, 16, 0}, {0}, {empty}};
-    const struct wanted session_header = {0, {0, 0, 0, 16, 0}, {0}, {{NULL, 0}, empty}};
+    const struct wanted header = {0, {0, 0, 0, 16, 0}, {0}, {empty}, {0}};
+    const struct wanted session_header = {0, {0, 0, 0, 16, 0}, {0}, {{NULL, 0}, empty}, {0}};
     const struct space room = {good[LINK].room[0].at, 16};
     struct request link = {LINK, 0, {{NULL, 0}, {NULL, 0}, {NULL, 0}}, {room, {NULL, 0}}};
     const struct request session = {SESSION, 0, {{NULL, 0}, {NULL, 0}, {NULL, 0}, {NULL, 0}}, {{NULL, 0}, room, {NULL, 0}}};

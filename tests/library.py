@@ -122,7 +122,7 @@ def main(header):
         "blame": [*blames()],
         "parts": [*parts()],
         "replies": [*replies()],
-        "type hints": [typing.get_type_hints(getattr(v7, name)) != {} for name in ("link", "link_findings", "make", "take_apart", "nm", "check")],
+        "type hints": [typing.get_type_hints(getattr(v7, name)) != {} for name in ("link", "link_findings", "make", "read", "take_apart", "nm", "check")],
     }
     for name, outcomes in checks.items():
         if not outcomes or not all(outcomes):

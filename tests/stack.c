@@ -30,6 +30,7 @@ static void *call_all(void *unused)
 {
     struct v7_answer answer;
     struct v7_counts counts;
+    struct v7_header header;
     uint32_t option;
 
     called(v7_check(objects, objects_size, &answer), &answer);
@@ -44,6 +45,7 @@ static void *call_all(void *unused)
     }
     called(v7_state(V7_LINES, none, 0, edits, count, objects, objects_size, replies, COUNT, room, ROOM, &answer), &answer);
     called(v7_state(V7_JSON, none, 0, edits, count, objects, objects_size, replies, COUNT, room, ROOM, &answer), &answer);
+    called(v7_read(objects, objects_size, &header, text, WORDS, data, WORDS, symbols, SYMBOLS, &counts, &answer), &answer);
     called(v7_take_apart(objects, objects_size, text, WORDS, data, WORDS, symbols, SYMBOLS, &counts, &answer), &answer);
     called(v7_make(text, counts.text, data, counts.data, counts.bss, symbols, counts.symbols, room, ROOM, &answer), &answer);
     return unused;
@@ -98,5 +100,5 @@ int main(void)
     edits[COUNT - 1] = V7_WITHDRAW;
     call_in_thread();
     printf("%u calls, %u with a result\n", calls, results);
-    return calls != 80 || results < 68;
+    return calls != 82 || results < 70;
 }

@@ -93,6 +93,19 @@ class Parts(NamedTuple):
     symbols: List[Symbol]
 
 
+class Header(NamedTuple):
+    """The eight words that a file begins with. Sizes are in bytes; relocation words are there if the flag is 0."""
+
+    magic: int
+    text_size: int
+    data_size: int
+    bss_size: int
+    symbol_size: int
+    entry_point: int
+    unused: int
+    flag: int
+
+
 # what the faults of v7.h mean, by their numbers
 FAULTS: Dict[int, str] = {
     1: "no such option or form",
@@ -136,6 +149,10 @@ class _Slice(ctypes.Structure):
 
 class _Finding(ctypes.Structure):
     _fields_ = [("name", ctypes.c_ubyte * 8), ("kind", ctypes.c_uint32)]
+
+
+class _Header(ctypes.Structure):
+    _fields_ = [(name, ctypes.c_uint16) for name in Header._fields]
 
 
 class _Counts(ctypes.Structure):
@@ -362,25 +379,42 @@ def make(text: Iterable[Word] = (), data: Iterable[Word] = (), bss: int = 0, sym
     return _given("v7_make", *words, _number("the size of bss", bss), *_array(_Symbol, [*map(_symbol, symbols)]))
 
 
+def _parts(call: Any, *words: Any) -> Parts:
+    """Calls twice: for the numbers of words and symbols, and for these."""
+    counts, answer = _Counts(), _Answer()
+    for _ in range(2):
+        rooms = [_array(kind, [kind()] * n) for kind, n in ((_Word, counts.text), (_Word, counts.data), (_Symbol, counts.symbols))]
+        call(*words, *(part for room in rooms for part in room), ctypes.byref(counts), ctypes.byref(answer))
+        if answer.fault != _NO_ROOM:
+            break
+    if answer.fault:
+        raise Fault(answer)
+    text, data, rows = (list(room[0])[: room[1].value] for room in rooms)
+    pairs = [[(word.value, word.reloc) for word in segment] for segment in (text, data)]
+    names = [(_name(row), row.type, row.value) for row in rows]
+    return Parts(pairs[0], pairs[1], counts.bss, names)
+
+
 def take_apart(data: bytes) -> Parts:
     """The parts of the object that the bytes begin with.
 
     >>> take_apart(make(text=[(0, refers_to(0))], symbols=[("_f", UNDEFINED | EXTERNAL, 0)]))
     Parts(text=[(0, 8)], data=[], bss=0, symbols=[('_f', 32, 0)])
     """
-    counts, answer = _Counts(), _Answer()
-    for _ in range(2):
-        rooms = [_array(kind, [kind()] * n) for kind, n in ((_Word, counts.text), (_Word, counts.data), (_Symbol, counts.symbols))]
-        words = [part for room in rooms for part in room]
-        _LIBRARY.v7_take_apart(*_slice(data), *words, ctypes.byref(counts), ctypes.byref(answer))
-        if answer.fault != _NO_ROOM:
-            break
-    if answer.fault:
-        raise Fault(answer)
-    text, words, rows = (list(room[0])[: room[1].value] for room in rooms)
-    pairs = [[(word.value, word.reloc) for word in segment] for segment in (text, words)]
-    names = [(_name(row), row.type, row.value) for row in rows]
-    return Parts(pairs[0], pairs[1], counts.bss, names)
+    return _parts(_LIBRARY.v7_take_apart, *_slice(data))
+
+
+def read(data: bytes) -> Tuple[Header, Parts]:
+    """The header and the parts of the file that the bytes begin with, an object or another. A word without a relocation word has
+    NUMBER.
+
+    >>> header, parts = read(link([make(text=[(7, NUMBER)])]).file)
+    >>> header.magic == 0o407, header.flag, parts.text
+    (True, 1, [(7, 0)])
+    """
+    header = _Header()
+    parts = _parts(_LIBRARY.v7_read, *_slice(data), ctypes.byref(header))
+    return Header(*(getattr(header, name) for name in Header._fields)), parts
 
 
 class Session:

@@ -3,9 +3,9 @@ use aout_core::samples::{A_O, B_O, C_O, D_O, G_O};
 use aout_core::{ObjectFault, ReadFault};
 use fixtures::{TWO_OBJECTS, UNDEFINED, sized};
 use library_calls::{
-    Cause, Finding, LongPart, ObjectBytes, ObjectParts, Refusal, Shown, Wanted, check, link,
-    link_each, link_findings, list_symbols, make, run_session, show_session, show_sizes, strip,
-    take_apart,
+    Cause, Finding, LongPart, ObjectBytes, ObjectParts, ObjectWord, Refusal, Shown, Wanted, check,
+    link, link_each, link_findings, list_symbols, make, read_apart, run_session, show_session,
+    show_sizes, strip, take_apart,
 };
 use std::alloc::{AllocError, Global};
 use std::test::Fail;
@@ -70,6 +70,34 @@ fn parts_of_objects(rt: HostRuntime) {
     assert!(rt; is_made_again(rt.alloc(), &C_O));
     let cause = Cause::BadFile(ReadFault::Truncated);
     assert!(rt; take_apart(rt.alloc(), &A_O[..27]).err() == Some(cause));
+}
+
+fn word(value: u16, reloc: u16) -> ObjectWord {
+    ObjectWord { value, reloc }
+}
+
+/// Whether a file has this flag and this text.
+fn reads(alloc: Global, file: &[u8], flag: u16, text: &[ObjectWord]) -> bool {
+    match read_apart(alloc, file) {
+        Ok(read) => read.header.flag == flag && read.parts.text.as_slice() == text,
+        Err(_) => false,
+    }
+}
+
+#[test]
+fn files_read(rt: HostRuntime) {
+    let alloc = rt.alloc();
+    assert!(rt; reads(alloc, &C_O, 0, &[word(0o4767, 0), word(0o177774, 0o11)]));
+    assert!(rt;
+        reads(
+            alloc,
+            &TWO_OBJECTS,
+            1,
+            &[word(0o12700, 0), word(6, 0), word(0o207, 0)]
+        )
+    );
+    let cause = Cause::BadFile(ReadFault::Truncated);
+    assert!(rt; read_apart(alloc, &TWO_OBJECTS[..23]).err() == Some(cause));
 }
 
 /// Whether the link of two objects with these options is this file with this report.

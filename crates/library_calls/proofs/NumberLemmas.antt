@@ -38,7 +38,7 @@ use Rattle.symtools.specs.SizeLines.{size_text}
 use Rattle.library_calls.specs.FileAnswers.{behind_file, checked_in, file_in, file_of, has_bit, names_in, nm_options_in, nm_options_of, object_in, object_of, object_unless, sizes_in, stripped_in}
 use Rattle.library_calls.specs.LinkAnswers.{added_unless, found_each, found_of, linked_each, linked_in, linked_or, objects_in, outcome_each, output_each, output_in, output_of, with_each, with_first, with_most, with_object}
 use Rattle.library_calls.specs.LinkWanted.{choices_by, choices_in, choices_with, forced_in, keep_of, layout_by, name_of, short_entry, unless, with_names}
-use Rattle.library_calls.specs.ObjectParts.{Pieces, contents_for, file_for, header_for, header_of, made_of, parts_in, pieces_of}
+use Rattle.library_calls.specs.ObjectParts.{Pieces, contents_for, file_for, header_for, header_of, made_of, parts_in, pieces_of, whole_in}
 use Rattle.library_calls.specs.SessionAnswers.{behind_edit, change_in, changes_in, output_with, reply_number, run_of, session_in, with_edit, with_edits}
 use Rattle.library_calls.specs.declared.state_call.Form.{Form}
 use Rattle.library_calls.specs.StateAnswers.{Asked, asked_in, form_in}
@@ -103,6 +103,9 @@ told_sizes bytes = told_then (file_in bytes) (λ c. Ok (size_text (([], c) ∷ [
 
 pub told_apart : (bytes : List ℕ) → Told (parts_in bytes)
 told_apart bytes = told_then (object_in bytes) (λ c. Ok (pieces_of c)) (told_object bytes) (λ c. tt)
+
+pub told_whole : (bytes : List ℕ) → Told (whole_in bytes)
+told_whole bytes = told_then (file_in bytes) (λ c. Ok (record { header = c.header; parts = pieces_of c })) (told_file bytes) (λ c. tt)
 
 told_nm_options_by : (b : Bool) (bits : ℕ) → Told (if b then Err NoOption else Ok (nm_options_of bits))
 told_nm_options_by true bits = other 1 refl

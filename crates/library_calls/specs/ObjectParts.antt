@@ -11,6 +11,7 @@ use Rattle.aout_core.specs.declared.file.ReadFault.TheVariants.{OddSize}
 use Rattle.aout_core.specs.Names.{padded}
 use Rattle.aout_core.specs.Contents.{Contents}
 use Rattle.aout_core.specs.Encoding.{encoding}
+use Rattle.library_calls.specs.declared.parts.FileLists.{FileLists}
 use Rattle.library_calls.specs.declared.parts.ObjectWord.{ObjectWord}
 use Rattle.library_calls.specs.declared.parts.SymbolRow.{SymbolRow}
 use Rattle.library_calls.specs.declared.parts.PartLists.{PartLists}
@@ -18,7 +19,7 @@ use Rattle.library_calls.specs.declared.cause.Cause.{Cause}
 use Rattle.library_calls.specs.declared.cause.Cause.TheVariants.{TooLong, BadFile}
 use Rattle.library_calls.specs.declared.cause.LongPart.TheVariants.{Text, Data, Bss, Symbols}
 use Rattle.library_calls.specs.Causes.{and_then}
-use Rattle.library_calls.specs.FileAnswers.{object_in, object_of}
+use Rattle.library_calls.specs.FileAnswers.{file_in, object_in, object_of}
 use Rattle.library_calls.specs.LinkWanted.{name_of}
 
 pub record Pieces : Type 0 where
@@ -77,21 +78,42 @@ file_for p = and_then (header_for p) (λ h. Ok (contents_for p h))
 abbrev pub made_of : Pieces → Result (List ℕ) Cause
 made_of p = and_then (file_for p) (λ c. and_then (object_of c) (λ o. Ok (encoding o)))
 
--- ---- an object taken apart
+-- ---- a file taken apart
 
 -- each word with its relocation word
 abbrev pub words_with : List ℕ → List Reloc → List ObjectWord
 words_with ws rs = map (λ p. record { value = p.0; reloc = p.1.0 }) (zip ws rs)
 
+-- each word with a relocation word of 0
+abbrev pub words_alone : List ℕ → List ObjectWord
+words_alone ws = map (λ w. record { value = w; reloc = 0 }) ws
+
+-- relocation words are there if the flag is 0
+abbrev pub words_of : Header → List ℕ → List Reloc → List ObjectWord
+words_of h ws rs = if eqb h.flag 0 then words_with ws rs else words_alone ws
+
 abbrev pub row_of : Symbol → SymbolRow
 row_of s = record { name = padded s.name; type_bits = s.type_bits; value = s.value }
 
 abbrev pub pieces_of : Contents → Pieces
-pieces_of c = pieces (words_with c.text_words c.text_reloc) (words_with c.data_words c.data_reloc) c.header.bss_size (map row_of c.symbols)
+pieces_of c =
+    pieces (words_of c.header c.text_words c.text_reloc) (words_of c.header c.data_words c.data_reloc) c.header.bss_size (map row_of c.symbols)
 
 -- the parts of the object that the bytes begin with
 abbrev pub parts_in : List ℕ → Result Pieces Cause
 parts_in bytes = and_then (object_in bytes) (λ c. Ok (pieces_of c))
 
+-- a header and parts
+pub record Whole : Type 0 where
+  pub header : Header
+  pub parts : Pieces
+
+-- the header and the parts of the file that the bytes begin with
+abbrev pub whole_in : List ℕ → Result Whole Cause
+whole_in bytes = and_then (file_in bytes) (λ c. Ok (record { header = c.header; parts = pieces_of c }))
+
 abbrev pub pieces_in : PartLists → Pieces
 pieces_in p = pieces p.text.items p.«data».items p.bss p.symbols.items
+
+abbrev pub whole_of : FileLists → Whole
+whole_of f = record { header = f.header; parts = pieces_in f.parts }

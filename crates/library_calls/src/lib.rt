@@ -18,12 +18,12 @@ mod state_call;
 mod taking;
 mod wanted;
 
-pub use apart::take_apart;
+pub use apart::{read_apart, take_apart};
 pub use cause::{Cause, LongPart, Refusal};
 pub use file_calls::{check, list_symbols, show_sizes, strip};
 pub use findings_call::{Finding, Found, link_findings};
 pub use link_call::{Program, Wanted, link, link_each};
 pub use make_call::make;
-pub use parts::{ObjectBytes, ObjectParts, ObjectWord, PartLists, SymbolRow};
+pub use parts::{FileLists, ObjectBytes, ObjectParts, ObjectWord, PartLists, SymbolRow};
 pub use session_call::{Ran, run_session};
 pub use state_call::{Form, Shown, show_session};

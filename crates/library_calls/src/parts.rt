@@ -2,7 +2,7 @@
 ghost use Rattle.std.specs.Prelude.{◌≡◌};
 ghost use Rattle.aout_core.specs.Names.{padded};
 
-use aout_core::Name;
+use aout_core::{Header, Name};
 
 /// A word of text or data, and its relocation word. (a.out(5))
 #[repr(C)]
@@ -50,6 +50,13 @@ pub struct PartLists {
     /// The size of bss in bytes.
     pub bss: u16,
     pub symbols: Vec<SymbolRow>,
+}
+
+/// What a file holds. (a.out(5))
+#[derive(Debug, Drop)]
+pub struct FileLists {
+    pub header: Header,
+    pub parts: PartLists,
 }
 
 /// A name in eight bytes, filled up with NULs.

@@ -10,6 +10,7 @@ use Rattle.library_calls.specs.declared.findings_call.Finding.{Finding}
 use Rattle.library_calls.specs.declared.findings_call.Found.{Found}
 use Rattle.library_calls.specs.declared.link_call.Program.{Program}
 use Rattle.library_calls.proofs.NumberLemmas.{IsTold, Told, told_made}
+use Rattle.library_calls.specs.declared.parts.FileLists.{FileLists}
 use Rattle.library_calls.specs.declared.parts.ObjectWord.{ObjectWord}
 use Rattle.library_calls.specs.declared.parts.PartLists.{PartLists}
 use Rattle.library_calls.specs.declared.parts.SymbolRow.{SymbolRow}
@@ -21,7 +22,8 @@ use Rattle.library_calls.specs.ObjectParts.{Pieces, file_for, made_of, pieces_in
 use Rattle.library_calls.specs.StateAnswers.{Asked, IsShown, told_of}
 use Rattle.v7_c.specs.declared.answer.Answer.{Answer}
 use Rattle.v7_c.specs.declared.answer.Counts.{Counts}
-use Rattle.v7_c.specs.Left.{LeavesState, Left, LinkLeft, PartsLeft, counted_by, items_of, left, left_by, output_told, outputs_or, founds_or, SessionLeft, apart_left, counts_of, no_counts, of_none, parts_left, pieces_or, put_in, refused, given, link_left, output_left, no_output, no_session, ran_left, session_left, sessions_or, told_left, told_or}
+use Rattle.v7_c.specs.declared.answer.FileHeader.{FileHeader}
+use Rattle.v7_c.specs.Left.{FileLeft, LeavesState, Left, LinkLeft, PartsLeft, file_left, no_header, read_left, wholes_or, counted_by, items_of, left, left_by, output_told, outputs_or, founds_or, SessionLeft, apart_left, counts_of, no_counts, of_none, parts_left, pieces_or, put_in, refused, given, link_left, output_left, no_output, no_session, ran_left, session_left, sessions_or, told_left, told_or}
 
 -- a cause of the number of no memory lies in no word
 no_word : (cause : Cause) → number_of cause ≡ 50 → word_of cause ≡ 0
@@ -98,17 +100,29 @@ no_parts_memory true x y hx hy h = absurd (omega (arith, sym hx ∙ h))
 no_parts_memory false x y hx hy h = absurd (omega (arith, sym hy ∙ h))
 
 module _ (status : ℕ) (answer : Answer) (counts : Counts) (text_old text_new data_old data_new : List ObjectWord) (symbols_old symbols_new : List SymbolRow) where
+  -- what gives parts, or has no room for them, is not answered as a call without memory is
+  pub parts_given : (p : Pieces) → parts_left status answer counts text_new data_new symbols_new ≡ apart_left (Ok p) text_old data_old symbols_old → answer.fault ≡ 50 → ⊥
+  parts_given p is h =
+      no_parts_memory
+      (nat_lt (length text_old) (length p.text) || (nat_lt (length data_old) (length p.«data») || nat_lt (length symbols_old) (length p.symbols)))
+      (parts_left 2 (given 60 0 0) (counts_of p) text_old data_old symbols_old)
+      (parts_left 0 (given 0 0 0) (counts_of p) (put_in text_old p.text) (put_in data_old p.«data») (put_in symbols_old p.symbols))
+      refl refl (sym (ap (λ (l : PartsLeft). l.answer.fault) is) ∙ h)
+
   pub apart_memory : (r : Result PartLists Cause) → parts_left status answer counts text_new data_new symbols_new ≡ apart_left (pieces_or r) text_old data_old symbols_old → answer.fault ≡ 50 →
       parts_left status answer counts text_new data_new symbols_new ≡ apart_left (Err Memory) text_old data_old symbols_old
-  apart_memory (Ok p) is h =
-      absurd (no_parts_memory
-      (nat_lt (length text_old) (length p.text.items) || (nat_lt (length data_old) (length p.«data».items) || nat_lt (length symbols_old) (length p.symbols.items)))
-      (parts_left 2 (given 60 0 0) (counts_of (pieces_in p)) text_old data_old symbols_old)
-      (parts_left 0 (given 0 0 0) (counts_of (pieces_in p)) (put_in text_old p.text.items) (put_in data_old p.«data».items) (put_in symbols_old p.symbols.items))
-      refl refl (sym (ap (λ (l : PartsLeft). l.answer.fault) is) ∙ h))
+  apart_memory (Ok p) is h = absurd (parts_given (pieces_in p) is h)
   apart_memory (Err cause) is h =
       is
       ∙ ap (λ (a : Answer). parts_left 2 a no_counts text_old data_old symbols_old) (no_memory (of_none cause) (sym (ap (λ (l : PartsLeft). l.answer.fault) is) ∙ h))
+
+  pub read_memory : (header : FileHeader) (r : Result FileLists Cause) → file_left header (parts_left status answer counts text_new data_new symbols_new) ≡ read_left (wholes_or r) text_old data_old symbols_old → answer.fault ≡ 50 →
+      file_left header (parts_left status answer counts text_new data_new symbols_new) ≡ read_left (Err Memory) text_old data_old symbols_old
+  read_memory header (Ok f) is h = absurd (parts_given (pieces_in f.parts) (ap (λ (l : FileLeft). l.parts) is) h)
+  read_memory header (Err cause) is h =
+      is
+      ∙ ap (λ (a : Answer). file_left no_header (parts_left 2 a no_counts text_old data_old symbols_old))
+      (no_memory (of_none cause) (sym (ap (λ (l : FileLeft). l.parts.answer.fault) is) ∙ h))
 
 -- ---- a fault of the number of no memory
 
@@ -206,13 +220,14 @@ module _ (status : ℕ) (answer : Answer) (old new report_old report_new replies
 module _ (status : ℕ) (answer : Answer) (counts : Counts) (text_old text_new data_old data_new : List ObjectWord) (symbols_old symbols_new : List SymbolRow) where
   pub parts_fault : (r : Result PartLists Cause) → parts_left status answer counts text_new data_new symbols_new ≡ apart_left (pieces_or r) text_old data_old symbols_old → answer.fault ≡ 50 →
       IsErrAnd r (λ cause. number_of cause ≡ 50)
-  parts_fault (Ok p) is h =
-      absurd (no_parts_memory
-      (nat_lt (length text_old) (length p.text.items) || (nat_lt (length data_old) (length p.«data».items) || nat_lt (length symbols_old) (length p.symbols.items)))
-      (parts_left 2 (given 60 0 0) (counts_of (pieces_in p)) text_old data_old symbols_old)
-      (parts_left 0 (given 0 0 0) (counts_of (pieces_in p)) (put_in text_old p.text.items) (put_in data_old p.«data».items) (put_in symbols_old p.symbols.items))
-      refl refl (sym (ap (λ (l : PartsLeft). l.answer.fault) is) ∙ h))
+  parts_fault (Ok p) is h = absurd (parts_given status answer counts text_old text_new data_old data_new symbols_old symbols_new (pieces_in p) is h)
   parts_fault (Err cause) is h = sym (ap (λ (l : PartsLeft). l.answer.fault) is) ∙ h
+
+  pub read_fault : (header : FileHeader) (r : Result FileLists Cause) → file_left header (parts_left status answer counts text_new data_new symbols_new) ≡ read_left (wholes_or r) text_old data_old symbols_old → answer.fault ≡ 50 →
+      IsErrAnd r (λ cause. number_of cause ≡ 50)
+  read_fault header (Ok f) is h =
+      absurd (parts_given status answer counts text_old text_new data_old data_new symbols_old symbols_new (pieces_in f.parts) (ap (λ (l : FileLeft). l.parts) is) h)
+  read_fault header (Err cause) is h = sym (ap (λ (l : FileLeft). l.parts.answer.fault) is) ∙ h
 
 -- memory ran out for an object that is made of parts
 pub made_memory : (p : Pieces) (status : ℕ) (answer : Answer) (old new : List ℕ) (r : Result (Vec ℕ Global) Cause) → left status answer new ≡ left_by (items_of r) old →

@@ -4,12 +4,14 @@
 -- there are. A refusal is a number, with the place of what is refused.
 use Rattle.std.specs.declared.alloc.Global.{Global}
 use Rattle.std.specs.Prelude.{◌≡◌, ℕ, ◌||◌, nat_lt, if◌then◌else◌, List, [], ◌++◌, drop, length, Vec, Result, Ok, Err}
+use Rattle.aout_core.specs.declared.header.Header.{Header}
 use Rattle.library_calls.specs.declared.cause.Cause.{Cause}
 use Rattle.library_calls.specs.declared.cause.Cause.TheVariants.{Memory}
 use Rattle.library_calls.specs.declared.cause.Refusal.{Refusal}
 use Rattle.library_calls.specs.declared.findings_call.Finding.{Finding}
 use Rattle.library_calls.specs.declared.findings_call.Found.{Found}
 use Rattle.library_calls.specs.declared.link_call.Program.{Program}
+use Rattle.library_calls.specs.declared.parts.FileLists.{FileLists}
 use Rattle.library_calls.specs.declared.parts.ObjectWord.{ObjectWord}
 use Rattle.library_calls.specs.declared.parts.PartLists.{PartLists}
 use Rattle.library_calls.specs.declared.parts.SymbolRow.{SymbolRow}
@@ -17,11 +19,12 @@ use Rattle.library_calls.specs.declared.session_call.Ran.{Ran}
 use Rattle.library_calls.specs.declared.state_call.Shown.{Shown}
 use Rattle.library_calls.specs.Causes.{number_of, word_of}
 use Rattle.library_calls.specs.LinkAnswers.{Output, founds_of, outputs_of}
-use Rattle.library_calls.specs.ObjectParts.{Pieces, pieces_in}
+use Rattle.library_calls.specs.ObjectParts.{Pieces, Whole, pieces_in, whole_of}
 use Rattle.library_calls.specs.SessionAnswers.{SessionOutput, sessions_of}
 use Rattle.library_calls.specs.StateAnswers.{Asked, IsShown, Told, told_of}
 use Rattle.v7_c.specs.declared.answer.Answer.{Answer}
 use Rattle.v7_c.specs.declared.answer.Counts.{Counts}
+use Rattle.v7_c.specs.declared.answer.FileHeader.{FileHeader}
 
 -- these at the beginning of a buffer
 abbrev pub put_in : {A : Type 0} → List A → List A → List A
@@ -147,6 +150,34 @@ apart_left (Ok p) text datas symbols =
     then parts_left 2 (given 60 0 0) (counts_of p) text datas symbols
     else parts_left 0 (given 0 0 0) (counts_of p) (put_in text p.text) (put_in datas p.«data») (put_in symbols p.symbols)
 
+-- the words of a header
+abbrev pub header_of : Header → FileHeader
+header_of h = record {
+  magic = h.magic;
+  text_size = h.text_size;
+  data_size = h.data_size;
+  bss_size = h.bss_size;
+  symbol_size = h.symbol_size;
+  entry_point = h.entry_point;
+  unused = h.unused;
+  flag = h.flag;
+}
+
+abbrev pub no_header : FileHeader
+no_header = record { magic = 0; text_size = 0; data_size = 0; bss_size = 0; symbol_size = 0; entry_point = 0; unused = 0; flag = 0 }
+
+-- what reading a file leaves: the same with its header
+pub record FileLeft : Type 0 where
+  pub header : FileHeader
+  pub parts : PartsLeft
+
+abbrev pub file_left : FileHeader → PartsLeft → FileLeft
+file_left header parts = record { header = header; parts = parts }
+
+abbrev pub read_left : Result Whole Cause → List ObjectWord → List ObjectWord → List SymbolRow → FileLeft
+read_left (Err cause) text datas symbols = file_left no_header (apart_left (Err cause) text datas symbols)
+read_left (Ok f) text datas symbols = file_left (header_of f.header) (apart_left (Ok f.parts) text datas symbols)
+
 -- the results of the code as those of the definitions
 abbrev pub items_of : Result (Vec ℕ Global) Cause → Result (List ℕ) Cause
 items_of (Ok bytes) = Ok bytes.items
@@ -171,3 +202,7 @@ told_or (Err r) = Err r
 abbrev pub pieces_or : Result PartLists Cause → Result Pieces Cause
 pieces_or (Ok p) = Ok (pieces_in p)
 pieces_or (Err cause) = Err cause
+
+abbrev pub wholes_or : Result FileLists Cause → Result Whole Cause
+wholes_or (Ok f) = Ok (whole_of f)
+wholes_or (Err cause) = Err cause

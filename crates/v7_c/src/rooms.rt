@@ -4,11 +4,12 @@ ghost use Rattle.library_calls.specs.LinkAnswers.{founds_of, outputs_of};
 ghost use Rattle.library_calls.specs.ObjectParts.{pieces_in};
 ghost use Rattle.library_calls.specs.SessionAnswers.{sessions_of};
 ghost use Rattle.library_calls.specs.StateAnswers.{told_of};
-ghost use Rattle.v7_c.specs.Left.{apart_left, counted_by, counts_of, founds_or, items_of, left, left_by, link_left, output_left, outputs_or, parts_left, pieces_or, put_in, ran_left, session_left, sessions_or, told_left, told_or};
+ghost use Rattle.v7_c.specs.Left.{apart_left, counted_by, counts_of, file_left, founds_or, items_of, left, left_by, link_left, output_left, outputs_or, parts_left, pieces_or, put_in, ran_left, read_left, session_left, sessions_or, told_left, told_or, wholes_or};
 
-use crate::answer::{Answer, Counts};
+use crate::answer::{Answer, Counts, FileHeader};
 use library_calls::{
-    Cause, Finding, Found, ObjectWord, PartLists, Program, Ran, Refusal, Shown, SymbolRow,
+    Cause, FileLists, Finding, Found, ObjectWord, PartLists, Program, Ran, Refusal, Shown,
+    SymbolRow,
 };
 
 /// The fault if a buffer is too short.
@@ -286,6 +287,30 @@ pub(crate) fn leave_parts(
                 bss: 0,
             };
             (2, none)
+        }
+    }
+}
+
+/// Writes the header and the parts of a file, if there is one and all fit, and returns the status and their numbers.
+pub(crate) fn leave_file(
+    file: Result<FileLists, Cause>,
+    header: &mut FileHeader,
+    text: &mut [ObjectWord],
+    data_words: &mut [ObjectWord],
+    symbols: &mut [SymbolRow],
+    answer: &mut Answer,
+) -> (u32, Counts)
+    ensures { file_left header.new (parts_left result.0 answer.new result.1 text.new data_words.new symbols.new)
+        ≡ read_left (wholes_or file) text.old data_words.old symbols.old }
+{
+    match file {
+        Ok(file) => {
+            *header = FileHeader::of(&file.header);
+            leave_parts(Ok(file.parts), text, data_words, symbols, answer)
+        }
+        Err(cause) => {
+            *header = FileHeader::none();
+            leave_parts(Err(cause), text, data_words, symbols, answer)
         }
     }
 }
