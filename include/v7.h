@@ -2,7 +2,8 @@
  * docs/FORMAT.md the format.
  *
  * Each call takes bytes and gives bytes, and keeps nothing for the next call. An object or a file is the bytes of an a.out
- * file; a list of objects is their bytes one after another, since the header of each says how long it is.
+ * file; a list of objects is their bytes one after another, since the header of each says how long it is. v7_link_list and
+ * v7_link_findings take the bytes of each object apart.
  *
  * Sizes are in bytes. A pointer may be null if its size is 0. What a call writes to, and *ANSWER, must not overlap each
  * other or what it reads. A call takes memory from malloc and gives it back before it returns. Calls share nothing, so threads
@@ -29,6 +30,7 @@
 
 /* The version of this header. Until 1.0 a new minor version may change a call, and the number after .so then changes too. */
 #define V7_VERSION "0.4.0"
+#define V7_VERSION_NUMBER 0x000400
 
 #ifdef __cplusplus
 extern "C" {
@@ -42,7 +44,7 @@ enum v7_fault {
     V7_LONG_NAME = 3,          /* the name of the entry point has more than 8 bytes */
     V7_CUT_NAMES = 4,          /* the size of the forced names is not a multiple of 8 */
     V7_MANY_NAMES = 5,         /* more than 64 different names are forced; `place` is the number of the first too many */
-    V7_TOO_LONG = 6,           /* more than 32,767 words of text or data, 65,535 bytes of bss, or 5,461 symbols */
+    V7_TOO_LONG = 6,           /* more than 32,767 words of text or data, 65,535 bytes of bss, or 5,461 symbols; `word` is the part */
     V7_NO_EDIT = 7,            /* an edit is neither V7_ADD nor V7_WITHDRAW; `place` is its number */
     /* the bytes of a file */
     V7_SHORT_HEADER = 11,      /* fewer than 16 bytes */
@@ -129,13 +131,22 @@ static inline const char *v7_strerror(uint32_t fault)
 
 struct v7_answer {
     uint32_t fault;     /* of enum v7_fault */
-    uint32_t word;      /* V7_BAD_RELOCATION, V7_BAD_SYMBOL_NUMBER: the index of the word, text before data, from 0; else 0 */
-    size_t place;       /* a number, counted from 0. For the faults 11 to 34 of v7_link it is that of the object, for 7 to 24 of
+    uint32_t word;      /* V7_BAD_RELOCATION, V7_BAD_SYMBOL_NUMBER: the index of the word, text before data, from 0. V7_TOO_LONG:
+                         * the first part that is too long, of enum v7_part. Otherwise 0 */
+    size_t place;       /* a number, counted from 0. For the faults 11 to 34 of a link it is that of the object, for 7 to 24 of
                          * v7_session and v7_state that of the edit, and for V7_MANY_NAMES that of the name. For V7_NO_MEMORY it
                          * is that of an object or edit which the call reached, or 0. Otherwise 0 */
-    size_t size;        /* the size of the result; of v7_take_apart 0 */
-    size_t report_size; /* for v7_link and v7_session the size of the report, for v7_state the number of replies; otherwise 0 */
+    size_t size;        /* the size of the result; of v7_take_apart and v7_read 0 */
+    size_t report_size; /* for v7_link, v7_link_list and v7_session the size of the report, for v7_link_findings the number of
+                         * findings, for v7_state the number of replies; otherwise 0 */
 };
+
+/* The part of an object that is too long. */
+enum v7_part { V7_TEXT_PART = 1, V7_DATA_PART = 2, V7_BSS_PART = 3, V7_SYMBOLS_PART = 4 };
+
+/* The version of the library: 65,536 for each major version, 256 for each minor version, and the patch. It is V7_VERSION_NUMBER if
+ * the library is that of this header. */
+uint32_t v7_version(void);
 
 /* Checks whether BYTES begin with an object, which can be linked. The size is then that of the object, so the next object of a
  * list begins there. Faults: 11 to 14, 21 to 24, V7_NO_MEMORY. */
@@ -177,6 +188,33 @@ enum v7_link_option {
 uint32_t v7_link(uint32_t options, const unsigned char *entry, size_t entry_size, const unsigned char *forced, size_t forced_size,
                  const unsigned char *objects, size_t objects_size, unsigned char *room, size_t room_size, unsigned char *report,
                  size_t report_size, struct v7_answer *answer);
+
+/* Links objects as v7_link does, with the bytes of each object apart. What follows an object in its bytes is not looked at, as in
+ * `v7 ld`. So an object that is cut short is refused itself; in a list of bytes the next object would be taken for its end. `place`
+ * is the number of the object in OBJECTS. The faults are those of v7_link. */
+struct v7_slice {
+    const unsigned char *bytes;
+    size_t size;
+};
+uint32_t v7_link_list(uint32_t options, const unsigned char *entry, size_t entry_size, const unsigned char *forced, size_t forced_size,
+                      const struct v7_slice *objects, size_t object_count, unsigned char *room, size_t room_size,
+                      unsigned char *report, size_t report_size, struct v7_answer *answer);
+
+/* Links objects as v7_link_list does, and gives the report as a list: FINDINGS gets each name that is reported, and why, in the order
+ * of the report's lines. FINDING_ROOM is counted in findings. The faults are those of v7_link. */
+enum v7_finding_kind {
+    V7_MULTIPLY_DEFINED = 1,  /* a further definition of the name differs from the first; once for each that does */
+    V7_RESERVED_NAME = 2,     /* the name is _etext, _edata or _end, and an object defines it or makes it a common */
+    V7_ENTRY_NOT_IN_TEXT = 3, /* the name is that of the entry point, and it is not in text */
+    V7_UNDEFINED_NAME = 4     /* nothing defines the name; this is not reported with V7_RELOCATABLE */
+};
+struct v7_finding {
+    unsigned char name[8]; /* filled up with NULs */
+    uint32_t kind;         /* of enum v7_finding_kind */
+};
+uint32_t v7_link_findings(uint32_t options, const unsigned char *entry, size_t entry_size, const unsigned char *forced,
+                          size_t forced_size, const struct v7_slice *objects, size_t object_count, unsigned char *room,
+                          size_t room_size, struct v7_finding *findings, size_t finding_room, struct v7_answer *answer);
 
 /* Runs EDITS, and links what is left, as v7_link does. Each edit is a letter: V7_ADD adds the next of OBJECTS after those that
  * are kept, and V7_WITHDRAW withdraws the last object that is kept. Bytes after the last object that is added are not looked
@@ -269,6 +307,25 @@ struct v7_counts {
 uint32_t v7_take_apart(const unsigned char *bytes, size_t size, struct v7_word *text, size_t text_room, struct v7_word *data,
                        size_t data_room, struct v7_symbol *symbols, size_t symbol_room, struct v7_counts *counts,
                        struct v7_answer *answer);
+
+/* The eight words that a file begins with; docs/FORMAT.md describes them. Sizes are in bytes. */
+struct v7_header {
+    uint16_t magic;       /* 0407 normal, 0410 with read-only text, 0411 with text and data apart, 0405 an overlay */
+    uint16_t text_size;
+    uint16_t data_size;
+    uint16_t bss_size;
+    uint16_t symbol_size; /* 12 for each symbol */
+    uint16_t entry_point;
+    uint16_t unused;
+    uint16_t flag;        /* 0 if there are relocation words */
+};
+
+/* Reads the file that BYTES begin with, an object or another, as v7_take_apart reads an object, and fills *HEADER as well. If
+ * there are no relocation words, each word gets V7_NUMBER; if there are, they need not be right. With V7_NO_ROOM *HEADER is
+ * filled too, and with any other fault it is 0. Faults: 11 to 14, V7_NO_MEMORY, V7_NO_ROOM. */
+uint32_t v7_read(const unsigned char *bytes, size_t size, struct v7_header *header, struct v7_word *text, size_t text_room,
+                 struct v7_word *data, size_t data_room, struct v7_symbol *symbols, size_t symbol_room, struct v7_counts *counts,
+                 struct v7_answer *answer);
 
 #ifdef __cplusplus
 }

@@ -70,20 +70,31 @@ def options_of(arguments):
     return sum(BITS[letter] for letter in arguments.letters)
 
 
-def by_library(objects, arguments):
+def report_of(findings):
+    """The lines of a report, by its names."""
+    lines = [f"{name}: Multiply defined" for name in findings.multiples + findings.reserved]
+    lines += [] if findings.entry is None else [f"{findings.entry}: Entry point not in text"]
+    return "".join(line + "\n" for line in lines + ["Undefined:"] * bool(findings.undefined) + findings.undefined)
+
+
+def by_library(objects, arguments, is_found):
+    """What the library gives for a link, by the call that gives the report's lines or by the one that gives its names."""
     try:
-        return tuple(v7.link(objects, options_of(arguments), **asked_of(arguments)))
+        if not is_found:
+            return tuple(v7.link(objects, options_of(arguments), **asked_of(arguments)))
+        found = v7.link_findings(objects, options_of(arguments), **asked_of(arguments))
+        return found.status, found.file, report_of(found.findings)
     except v7.Fault as fault:
         return fault_of(fault)
 
 
 def link_case(number):
-    """What model and library give for a link."""
+    """What model and library give for a link, the library by two calls."""
     rng = random.Random(f"link {number}")
     names = rng.sample(agree.NAMES, rng.choice([2, 3, 5, 8]))
     arguments = arguments_of(rng, names)
     objects = objects_of(rng, names, number % 2 == 1)
-    return by_model(objects, arguments), by_library(objects, arguments)
+    return [by_model(objects, arguments)] * 2, [by_library(objects, arguments, is_found) for is_found in (False, True)]
 
 
 def model_edit(states, edit):
@@ -139,7 +150,7 @@ def session_case(number):
 
 def kind_of(outcome):
     """What to count: the status of a link, or that it was refused."""
-    last = outcome[-1] if isinstance(outcome[0], list) else outcome
+    last = outcome[-1]
     return "refused" if isinstance(last[0], str) else f"status {last[0]}"
 
 

@@ -7,18 +7,20 @@
 
 enum { GUARD = 16, FILLER = 0xa5 };
 
-static const char *const names[CALLS] = {"v7_check", "v7_strip", "v7_nm", "v7_size", "v7_take_apart",
-                                         "v7_make", "v7_link", "v7_session", "v7_state"};
+static const char *const names[CALLS] = {"v7_check", "v7_strip", "v7_nm", "v7_size", "v7_read", "v7_take_apart",
+                                         "v7_make", "v7_link", "v7_link_list", "v7_link_findings", "v7_session", "v7_state"};
 
-/* rooms, aligned for words and symbols */
+/* rooms, aligned for words, symbols and findings */
 static union {
     unsigned char bytes[ROOM + GUARD];
     struct v7_word word;
     struct v7_symbol symbol;
+    struct v7_finding finding;
 } rooms[3];
 struct v7_answer answer;
 unsigned failures;
 static struct v7_counts counts;
+static struct v7_header header;
 static unsigned compared;
 
 /* ---- memory: requests from one number to another, counted from 1, are refused */
@@ -82,6 +84,9 @@ static uint32_t call_with_bytes(const struct request *r)
         return v7_nm(r->option, in[0].at, in[0].size, room[0].at, room[0].size, &answer);
     case SIZE:
         return v7_size(in[0].at, in[0].size, room[0].at, room[0].size, &answer);
+    case READ:
+        return v7_read(in[0].at, in[0].size, &header, room[0].at, room[0].size, room[1].at, room[1].size, room[2].at,
+                       room[2].size, &counts, &answer);
     default:
         return v7_take_apart(in[0].at, in[0].size, room[0].at, room[0].size, room[1].at, room[1].size, room[2].at,
                              room[2].size, &counts, &answer);
@@ -100,6 +105,12 @@ static uint32_t call(const struct request *r)
     case LINK:
         return v7_link(r->option, in[0].at, in[0].size, in[1].at, in[1].size, in[2].at, in[2].size, room[0].at,
                        room[0].size, room[1].at, room[1].size, &answer);
+    case LINK_LIST:
+        return v7_link_list(r->option, in[0].at, in[0].size, in[1].at, in[1].size, in[2].at, in[2].size, room[0].at,
+                            room[0].size, room[1].at, room[1].size, &answer);
+    case LINK_FINDINGS:
+        return v7_link_findings(r->option, in[0].at, in[0].size, in[1].at, in[1].size, in[2].at, in[2].size, room[0].at,
+                                room[0].size, room[1].at, room[1].size, &answer);
     case SESSION:
         return v7_session(r->option, in[0].at, in[0].size, in[1].at, in[1].size, in[2].at, in[2].size, in[3].at,
                           in[3].size, room[0].at, room[0].size, room[1].at, room[1].size, room[2].at, room[2].size,
@@ -112,10 +123,18 @@ static uint32_t call(const struct request *r)
     }
 }
 
+/* the size of what a room counts */
+static size_t unit(enum call kind, int i)
+{
+    if (kind == TAKE_APART || kind == READ)
+        return i < 2 ? sizeof(struct v7_word) : sizeof(struct v7_symbol);
+    return kind == LINK_FINDINGS && i == 1 ? sizeof(struct v7_finding) : 1;
+}
+
 /* the bytes of a room, and those after it that have to stay as they are */
 static size_t watched(const struct request *r, int i)
 {
-    return r->room[i].size * (r->call != TAKE_APART ? 1 : i < 2 ? sizeof(struct v7_word) : sizeof(struct v7_symbol)) + GUARD;
+    return r->room[i].size * unit(r->call, i) + GUARD;
 }
 
 /* the status of the call, with all that it may write to filled up before */
@@ -128,6 +147,7 @@ uint32_t status_of(const struct request *r)
             memset(r->room[i].at, FILLER, watched(r, i));
     memset(&answer, FILLER, sizeof answer);
     memset(&counts, FILLER, sizeof counts);
+    memset(&header, FILLER, sizeof header);
     requests = 0;
     return call(r);
 }
@@ -154,8 +174,10 @@ static int is_answered(const struct request *r, const struct wanted *w)
     if (answer.fault != a->fault || answer.word != a->word || answer.place != a->place || answer.size != a->size ||
         answer.report_size != a->report_size)
         return 0;
-    if (r->call == TAKE_APART && (counts.text != c->text || counts.data != c->data || counts.symbols != c->symbols ||
-                                  counts.bss != c->bss))
+    if (r->call == READ && memcmp(&header, &w->header, sizeof header) != 0)
+        return 0;
+    if ((r->call == TAKE_APART || r->call == READ) && (counts.text != c->text || counts.data != c->data || counts.symbols != c->symbols ||
+                                                       counts.bss != c->bss))
         return 0;
     return has_alone(r, 0, w->out[0]) && has_alone(r, 1, w->out[1]) && has_alone(r, 2, w->out[2]);
 }
@@ -223,8 +245,13 @@ static const char state[] = "  text 000000  004767     a number\n"
                             "  name _f: text 000010\n"
                             "  mark _f was undefined\n"
                             "  mark text 000002 was 177774 pc  waits for _f\n";
+static const unsigned char definition[] = {DEFINITION};
+static const struct v7_slice apart[] = {{more, sizeof more}, {definition, sizeof definition}};
+static const struct v7_finding findings[] = {{"_x", V7_UNDEFINED_NAME}};
 static const struct v7_word text[] = {{04767, 0}, {0177774, 011}, {0207, 0}}, data[] = {{7, 0}};
 static const struct v7_symbol symbols[] = {{"_f", 040, 0}, {"L1", 02, 0}};
+static const struct v7_word linked_text[] = {{04767, 0}, {4, 0}, {0207, 0}, {0240, 0}, {0207, 0}};
+static const struct v7_symbol linked_symbols[] = {{"_x", 040, 0}, {"_f", 042, 8}};
 
 #define STRING(s) {s, sizeof s - 1}
 #define BYTES(a) {a, sizeof a}
@@ -239,22 +266,28 @@ const struct request good[CALLS] = {
     {STRIP, 0, {BYTES(more)}, {SPACE(0, 24)}},
     {NM, V7_NM_REVERSE, {BYTES(more)}, {SPACE(0, 24)}},
     {SIZE, 0, {BYTES(more)}, {SPACE(0, 19)}},
+    {READ, 0, {BYTES(linked)}, {SPACE(0, 5), SPACE(1, 1), SPACE(2, 2)}},
     {TAKE_APART, 0, {BYTES(more)}, {SPACE(0, 3), SPACE(1, 1), SPACE(2, 2)}},
     {MAKE, 4, {LIST(text), LIST(data), LIST(symbols)}, {SPACE(0, 56)}},
     {LINK, V7_NOT_L, {STRING("_f"), FORCED, BYTES(both)}, {SPACE(0, 52), SPACE(1, 14)}},
+    {LINK_LIST, V7_NOT_L, {STRING("_f"), FORCED, LIST(apart)}, {SPACE(0, 52), SPACE(1, 14)}},
+    {LINK_FINDINGS, V7_NOT_L, {STRING("_f"), FORCED, LIST(apart)}, {SPACE(0, 52), SPACE(1, 1)}},
     {SESSION, V7_NOT_L, {STRING("_f"), FORCED, STRING("waa"), BYTES(both)}, {SPACE(0, 3), SPACE(1, 52), SPACE(2, 14)}},
     {STATE, V7_LINES, {FORCED, STRING("waa"), BYTES(both)}, {SPACE(0, 3), SPACE(1, sizeof state - 1)}},
 };
 static const struct wanted given[CALLS] = {
-    {0, {0, 0, 0, 56, 0}, {0}, {{0}}},
-    {0, {0, 0, 0, 24, 0}, {0}, {BYTES(stripped)}},
-    {0, {0, 0, 0, 24, 0}, {0}, {STRING("       U _f\n000000 t L1\n")}},
-    {0, {0, 0, 0, 19, 0}, {0}, {STRING("6+2+4 = 12b = 014b\n")}},
-    {0, {0, 0, 0, 0, 0}, {3, 1, 2, 4}, {BYTES(text), BYTES(data), BYTES(symbols)}},
-    {0, {0, 0, 0, 56, 0}, {0}, {BYTES(object)}},
-    {1, {0, 0, 0, 52, 14}, {0}, {BYTES(linked), REPORT}},
-    {1, {0, 0, 0, 52, 14}, {0}, {REPLIES, BYTES(linked), REPORT}},
-    {1, {0, 0, 0, sizeof state - 1, 3}, {0}, {REPLIES, STRING(state)}},
+    {0, {0, 0, 0, 56, 0}, {0}, {{0}}, {0}},
+    {0, {0, 0, 0, 24, 0}, {0}, {BYTES(stripped)}, {0}},
+    {0, {0, 0, 0, 24, 0}, {0}, {STRING("       U _f\n000000 t L1\n")}, {0}},
+    {0, {0, 0, 0, 19, 0}, {0}, {STRING("6+2+4 = 12b = 014b\n")}, {0}},
+    {0, {0, 0, 0, 0, 0}, {5, 1, 2, 4}, {BYTES(linked_text), BYTES(data), BYTES(linked_symbols)}, {0407, 10, 2, 4, 24, 8, 0, 1}},
+    {0, {0, 0, 0, 0, 0}, {3, 1, 2, 4}, {BYTES(text), BYTES(data), BYTES(symbols)}, {0}},
+    {0, {0, 0, 0, 56, 0}, {0}, {BYTES(object)}, {0}},
+    {1, {0, 0, 0, 52, 14}, {0}, {BYTES(linked), REPORT}, {0}},
+    {1, {0, 0, 0, 52, 14}, {0}, {BYTES(linked), REPORT}, {0}},
+    {1, {0, 0, 0, 52, 1}, {0}, {BYTES(linked), BYTES(findings)}, {0}},
+    {1, {0, 0, 0, 52, 14}, {0}, {REPLIES, BYTES(linked), REPORT}, {0}},
+    {1, {0, 0, 0, sizeof state - 1, 3}, {0}, {REPLIES, STRING(state)}, {0}},
 };
 
 /* a room that is too small by one, and rooms of size 0 */
@@ -262,7 +295,8 @@ static void check_rooms(enum call kind)
 {
     const struct wanted w = {.status = 2,
                              .answer = {V7_NO_ROOM, 0, 0, given[kind].answer.size, given[kind].answer.report_size},
-                             .counts = given[kind].counts};
+                             .counts = given[kind].counts,
+                             .header = given[kind].header};
     struct request none = good[kind];
     int i;
 
@@ -281,7 +315,7 @@ static void check_rooms(enum call kind)
  * is that of an object or an edit, or 0. */
 static void check_memory(enum call kind)
 {
-    static const size_t last_place[CALLS] = {[LINK] = 1, [SESSION] = 2, [STATE] = 2};
+    static const size_t last_place[CALLS] = {[LINK] = 1, [LINK_LIST] = 1, [LINK_FINDINGS] = 1, [SESSION] = 2, [STATE] = 2};
     const struct request *r = &good[kind];
     size_t all = (status_of(r), requests), n;
 
@@ -344,12 +378,35 @@ static void check_exchanged(void)
 {
     exchange_spans(MAKE, 2);
     exchange_spans(LINK, 3);
+    exchange_spans(LINK_LIST, 2);
+    exchange_spans(LINK_FINDINGS, 2);
     exchange_spans(SESSION, 4);
     exchange_spans(STATE, 3);
+    exchange_rooms(READ, 2);
     exchange_rooms(TAKE_APART, 2);
     exchange_rooms(LINK, 2);
+    exchange_rooms(LINK_LIST, 2);
     exchange_rooms(SESSION, 3);
     exchange_rooms(STATE, 2);
+}
+
+/* an object read as a file, also if its first relocation word is wrong */
+static void check_object_read(void)
+{
+    unsigned char bytes[sizeof more];
+    struct request r = good[READ];
+    struct wanted w = given[TAKE_APART];
+    struct v7_word wrong[3];
+
+    memcpy(bytes, more, sizeof more);
+    memcpy(wrong, text, sizeof text);
+    r.in[0] = (struct span){bytes, sizeof bytes};
+    w.header = (struct v7_header){0407, 6, 2, 4, 24, 0, 0, 0};
+    expect("an object", &r, &w);
+    bytes[24] = 016;
+    wrong[0].reloc = 016;
+    w.out[0].at = wrong;
+    expect("an object with a wrong relocation word", &r, &w);
 }
 
 void check_good(void)
@@ -362,6 +419,7 @@ void check_good(void)
         check_memory((enum call)kind);
     }
     check_exchanged();
+    check_object_read();
 }
 
 int all_right(void)

@@ -4,7 +4,7 @@
 
 #include "v7.h"
 
-enum call { CHECK, STRIP, NM, SIZE, TAKE_APART, MAKE, LINK, SESSION, STATE, CALLS };
+enum call { CHECK, STRIP, NM, SIZE, READ, TAKE_APART, MAKE, LINK, LINK_LIST, LINK_FINDINGS, SESSION, STATE, CALLS };
 
 /* the most that a room may have */
 enum { ROOM = 1 << 22 };
@@ -20,7 +20,8 @@ struct space {
 };
 
 /* A call: OPTIONS, FORM or BSS, what it reads and its rooms, each in the order of the parameters. Sizes are those of the call:
- * of v7_make and v7_take_apart numbers of words and symbols. */
+ * of v7_make, v7_take_apart and v7_read numbers of words and symbols, of v7_link_list and v7_link_findings numbers of objects and
+ * findings. */
 struct request {
     enum call call;
     uint32_t option;
@@ -34,6 +35,7 @@ struct wanted {
     struct v7_answer answer;
     struct v7_counts counts;
     struct span out[3];
+    struct v7_header header;
 };
 
 /* the answer of the last call, and how many answers were wrong so far */

@@ -72,7 +72,7 @@ static void check_asked(const struct asked *row, unsigned bit, enum call kind)
         r.in[0] = (struct span){"_entry_pt", row->entry_size};
     if (row->forced_size)
         r.in[forced] = (struct span){many, row->forced_size};
-    if (row->edits && kind != LINK)
+    if (row->edits && (kind == SESSION || kind == STATE))
         r.in[forced + 1] = (struct span){row->edits, strlen(row->edits)};
     expect_fault("asked for", &r, row->fault, 0, row->place);
     if (row->fault <= V7_MANY_NAMES)
@@ -87,6 +87,8 @@ static void check_all_asked(void)
     for (n = 0; n < sizeof asked / sizeof *asked; n++) {
         check_asked(&asked[n], FOR_NM, NM);
         check_asked(&asked[n], FOR_LINK, LINK);
+        check_asked(&asked[n], FOR_LINK, LINK_LIST);
+        check_asked(&asked[n], FOR_LINK, LINK_FINDINGS);
         check_asked(&asked[n], FOR_SESSION, SESSION);
         check_asked(&asked[n], FOR_STATE, STATE);
     }
@@ -127,14 +129,14 @@ static void put_damaged(const struct damage *d, unsigned char *bytes)
         bytes[d->change[n].at] = (unsigned char)d->change[n].byte;
 }
 
-/* A damaged file alone. A file that is not an object is good enough for v7_strip, v7_nm and v7_size. No memory is wanted before
+/* A damaged file alone. A file that is not an object is good enough for v7_strip, v7_nm, v7_size and v7_read. No memory is wanted before
  * the file is known to be whole. */
 static void check_file(const struct damage *d, enum call kind)
 {
     struct request r = good[kind];
 
     r.in[0] = (struct span){objects, d->size};
-    if (d->fault >= V7_NOT_AN_OBJECT && (kind == STRIP || kind == NM || kind == SIZE)) {
+    if (d->fault >= V7_NOT_AN_OBJECT && (kind == STRIP || kind == NM || kind == SIZE || kind == READ)) {
         r.room[0].size = 256;
         if (status_of(&r) != 0)
             expect_fault("a file that is not an object", &r, V7_NO_FAULT, 0, 0);
@@ -168,6 +170,22 @@ static void check_list(const struct damage *d, enum call kind, int list, size_t 
     expect_fault("a list of objects", &r, d->fault, d->word, place);
 }
 
+/* A damaged object among others, each with its bytes apart: it is blamed itself, even where an object follows that would be taken for
+ * its end. The first of a list is refused without memory too. */
+static void check_slices(const struct damage *d, enum call kind)
+{
+    const struct v7_slice middle[] = {{object, sizeof object}, {objects, d->size}, {object, sizeof object}};
+    struct request r = good[kind];
+
+    r.in[2] = (struct span){middle, 3};
+    expect_fault("a list of slices", &r, d->fault, d->word, 1);
+    r.in[1] = nothing;
+    r.in[2] = (struct span){middle + 1, 2};
+    expect_fault("the first slice", &r, d->fault, d->word, 0);
+    if (d->fault <= V7_TRUNCATED)
+        expect_fault_without_memory("the first slice without memory", &r, d->fault, d->word, 0);
+}
+
 static void check_damages(void)
 {
     const struct damage *d;
@@ -177,6 +195,8 @@ static void check_damages(void)
         put_damaged(d, objects);
         for (kind = CHECK; kind <= TAKE_APART; kind++)
             check_file(d, (enum call)kind);
+        check_slices(d, LINK_LIST);
+        check_slices(d, LINK_FINDINGS);
         check_first(d, LINK, 2);
         check_first(d, SESSION, 3);
         check_first(d, STATE, 2);
@@ -260,6 +280,22 @@ static size_t put_objects(const struct limit *l, size_t *size)
     return count;
 }
 
+/* the N objects apart; each slice has the bytes of those after it too */
+static void put_slices(struct v7_slice *slices, size_t n, size_t size)
+{
+    const unsigned char *at = objects;
+    size_t i;
+
+    for (i = 0; i < n; i++) {
+        slices[i].bytes = at;
+        slices[i].size = size;
+        if (v7_check(at, size, &answer) != 0)
+            failures++;
+        at += answer.size;
+        size -= answer.size;
+    }
+}
+
 /* The last of N objects is not added: its reply is the fault, and all else is as without it. R has all but the number of edits,
  * which is at EDITS, and the sizes of the first two rooms. */
 static void check_replies(struct request *r, int edits, size_t n, uint32_t fault)
@@ -285,6 +321,8 @@ static void check_limit(const struct limit *l)
 {
     size_t size, n = put_objects(l, &size);
     const struct span list = {objects, size};
+    struct v7_slice slices[16];
+    struct request apart = {LINK_LIST, l->option, {nothing, nothing, {slices, n}}, {good[LINK].room[0], good[LINK].room[1]}};
     struct request link = {LINK, l->option, {nothing, nothing, list}, {good[LINK].room[0], good[LINK].room[1]}};
     struct request session = good[SESSION], state = good[STATE];
     const struct span in[4] = {nothing, nothing, {letters.at, n}, list};
@@ -292,16 +330,48 @@ static void check_limit(const struct limit *l)
     memcpy(session.in, in, sizeof in);
     memcpy(state.in, in + 1, 3 * sizeof *in);
     session.option = l->option;
+    put_slices(slices, n, size);
     if (l->fault >= V7_DOES_NOT_FIT) {
         expect_fault("a limit of links", &link, l->fault, 0, 0);
+        expect_fault("a limit of links", &apart, l->fault, 0, 0);
+        apart.call = LINK_FINDINGS;
+        expect_fault("a limit of links", &apart, l->fault, 0, 0);
         expect_fault("a limit of links", &session, l->fault, 0, 0);
         return;
     }
     expect_fault("a limit of objects", &link, l->fault, 0, n - 1);
+    expect_fault("a limit of objects", &apart, l->fault, 0, n - 1);
+    apart.call = LINK_FINDINGS;
+    expect_fault("a limit of objects", &apart, l->fault, 0, n - 1);
     /* what is kept can be linked: without its names, and with its text in a space of its own */
     session.option = V7_STRIP | V7_SPLIT;
     check_replies(&session, 2, n, l->fault);
     check_replies(&state, 1, n, l->fault);
+}
+
+/* ---- findings: one object defines _f, and another defines it again, and _end, and refers to _g; the entry point is nowhere */
+
+static void check_findings(void)
+{
+    static const struct v7_word text[] = {{0240, 0}, {0207, 0}};
+    static const struct v7_symbol first[] = {{"_f", 042, 2}}, second[] = {{"_f", 041, 7}, {"_end", 041, 1}, {"_g", 040, 0}};
+    static const struct v7_finding found[] = {{"_f", V7_MULTIPLY_DEFINED}, {"_end", V7_RESERVED_NAME},
+                                              {"_nowhere", V7_ENTRY_NOT_IN_TEXT}, {"_g", V7_UNDEFINED_NAME}};
+    static const unsigned char file[20] = {7, 1, 4, 0, 0, 0, 0, 0, 0, 0, 0, 0, 0, 0, 1, 0, 0240, 0, 0207, 0};
+    const struct v7_slice both[] = {{objects, 16 + 8 + 12}, {objects + 36, 16 + 36}};
+    struct request r = {LINK_FINDINGS, V7_STRIP, {{"_nowhere", 8}, nothing, {both, 2}}, {good[LINK].room[0], good[LINK].room[1]}};
+    const struct wanted w = {1, {0, 0, 0, sizeof file, 4}, {0}, {{file, sizeof file}, {found, sizeof found}}, {0}};
+
+    v7_make(text, 2, NULL, 0, 0, first, 1, objects, 36, &answer);
+    v7_make(NULL, 0, NULL, 0, 0, second, 3, objects + 36, 52, &answer);
+    r.room[0].size = sizeof file;
+    r.room[1].size = 4;
+    expect("each finding", &r, &w);
+    /* an object may leave names undefined */
+    r.option = V7_RELOCATABLE;
+    r.room[0].size = 256;
+    if (status_of(&r) != 1 || answer.report_size != 3)
+        expect_fault("findings of an object", &r, V7_NO_FAULT, 0, 0);
 }
 
 /* ---- parts: relocation words of the first words of text and data; no symbol is external */
@@ -316,12 +386,15 @@ static const struct parts {
     uint16_t reloc[2];
     uint32_t fault, word;
 } parts[] = {
-    {MOST_WORDS + 1, 0, 0, 0, {0, 0}, V7_TOO_LONG, 0},
-    {0, MOST_WORDS + 1, 0, 0, {0, 0}, V7_TOO_LONG, 0},
-    {0, 0, 65536, 0, {0, 0}, V7_TOO_LONG, 0},
-    {0, 0, 0xffffffff, 0, {0, 0}, V7_TOO_LONG, 0},
-    {0, 0, 0, MOST_SYMBOLS + 1, {0, 0}, V7_TOO_LONG, 0},
-    {1, 1, 65537, 1, {012, 012}, V7_TOO_LONG, 0},
+    {MOST_WORDS + 1, 0, 0, 0, {0, 0}, V7_TOO_LONG, V7_TEXT_PART},
+    {MOST_WORDS + 1, MOST_WORDS + 1, 65537, MOST_SYMBOLS + 1, {012, 012}, V7_TOO_LONG, V7_TEXT_PART},
+    {0, MOST_WORDS + 1, 0, 0, {0, 0}, V7_TOO_LONG, V7_DATA_PART},
+    {MOST_WORDS, MOST_WORDS + 1, 65537, MOST_SYMBOLS + 1, {012, 012}, V7_TOO_LONG, V7_DATA_PART},
+    {0, 0, 65536, 0, {0, 0}, V7_TOO_LONG, V7_BSS_PART},
+    {0, 0, 0xffffffff, MOST_SYMBOLS + 1, {0, 0}, V7_TOO_LONG, V7_BSS_PART},
+    {0, 0, 0, MOST_SYMBOLS + 1, {0, 0}, V7_TOO_LONG, V7_SYMBOLS_PART},
+    {0, 0, 65535, MOST_SYMBOLS + 1, {0, 0}, V7_TOO_LONG, V7_SYMBOLS_PART},
+    {1, 1, 65537, 1, {012, 012}, V7_TOO_LONG, V7_BSS_PART},
     {1, 1, 1, 1, {012, 012}, V7_ODD_SIZE, 0},
     {0, 0, 65535, 0, {0, 0}, V7_ODD_SIZE, 0},
     {1, 1, 2, 1, {012, 010}, V7_BAD_RELOCATION, 0},
@@ -364,18 +437,27 @@ static void check_null(void)
 {
     static unsigned char bytes[16];
     const struct span empty = {bytes, sizeof bytes};
-    const struct wanted header = {0, {0, 0, 0, 16, 0}, {0}, {empty}};
-    const struct wanted session_header = {0, {0, 0, 0, 16, 0}, {0}, {{NULL, 0}, empty}};
+    const struct wanted header = {0, {0, 0, 0, 16, 0}, {0}, {empty}, {0}};
+    const struct wanted session_header = {0, {0, 0, 0, 16, 0}, {0}, {{NULL, 0}, empty}, {0}};
     const struct space room = {good[LINK].room[0].at, 16};
     struct request link = {LINK, 0, {{NULL, 0}, {NULL, 0}, {NULL, 0}}, {room, {NULL, 0}}};
     const struct request session = {SESSION, 0, {{NULL, 0}, {NULL, 0}, {NULL, 0}, {NULL, 0}}, {{NULL, 0}, room, {NULL, 0}}};
     const struct request make = {MAKE, 0, {{NULL, 0}, {NULL, 0}, {NULL, 0}}, {room}};
+    const struct v7_slice none[] = {{NULL, 0}};
+    struct request list = {LINK_LIST, 0, {{NULL, 0}, {NULL, 0}, {NULL, 0}}, {room, {NULL, 0}}};
     const struct request check = {CHECK, 0, {{NULL, 0}}, {{0}}};
 
     put_word(bytes, 0407);
     expect("null parts", &make, &header);
     put_word(bytes + 14, 1);
     expect("null pointers", &link, &header);
+    expect("null pointers", &list, &header);
+    list.in[2] = (struct span){none, 1};
+    expect_fault("a null slice", &list, V7_SHORT_HEADER, 0, 0);
+    list.call = LINK_FINDINGS;
+    expect_fault("a null slice", &list, V7_SHORT_HEADER, 0, 0);
+    list.in[2] = (struct span){NULL, 0};
+    expect("null pointers", &list, &header);
     expect("null pointers", &session, &session_header);
     expect_fault("null bytes", &check, V7_SHORT_HEADER, 0, 0);
     link.room[0] = (struct space){NULL, 0};
@@ -390,10 +472,15 @@ int main(void)
 
     check_good();
     check_null();
+    if (v7_version() != V7_VERSION_NUMBER) {
+        printf("the version of the library is another: %x\n", (unsigned)v7_version());
+        failures++;
+    }
     check_all_asked();
     check_damages();
     for (n = 0; n < sizeof limits / sizeof *limits; n++)
         check_limit(&limits[n]);
+    check_findings();
     for (n = 0; n < sizeof parts / sizeof *parts; n++)
         check_parts(&parts[n]);
     check_most_parts();

@@ -34,7 +34,7 @@ def constants_of(header):
     """The constants of options, kinds and segments in v7.h, by the names that they have in Python."""
     with open(header, encoding="utf-8") as file:
         text = file.read()
-    enums = re.findall(r"^enum v7_(?:link_option|nm_option|relocation|segment) \{(.*?)\};", text, re.M | re.S)
+    enums = re.findall(r"^enum v7_(?:link_option|nm_option|part|relocation|segment) \{(.*?)\};", text, re.M | re.S)
     return {name: int(number) for part in enums for name, number in re.findall(r"V7_(\w+) = (\d+)", part)}
 
 
@@ -76,6 +76,18 @@ def blames():
     yield blamed([full, whole, whole[:-1]]) == (31, 1)
     yield blamed([whole + b"more", whole]) is None
     yield v7.link([whole + b"more", whole]).file == v7.link([whole, whole]).file
+    yield v7.link_findings([whole + b"more", whole])[:2] == v7.link([whole, whole])[:2]
+
+
+def parts():
+    """Which part is too long, one after another."""
+    most, few = [(0, v7.NUMBER)] * 32768, [("_f", 0, 0)] * 5462
+    for number, words in enumerate(((most, most), ((), most, 65536), ((), (), 65536, few), ((), (), 65535, few)), 1):
+        try:
+            v7.make(*words)
+            yield False
+        except v7.Fault as fault:
+            yield (fault.fault, fault.word) == (6, number)
 
 
 def replies():
@@ -105,10 +117,12 @@ def main(header):
     checks = {
         "the texts of faults": [v7.FAULTS == {number: text for number, text in texts.items() if number}],
         "the constants": [getattr(v7, name) == number for name, number in constants_of(header).items()],
+        "the version": [f'#define V7_VERSION "{v7.version()}"' in open(header, encoding="utf-8").read().split("\n")],
         "numbers": [*numbers()],
         "blame": [*blames()],
+        "parts": [*parts()],
         "replies": [*replies()],
-        "type hints": [typing.get_type_hints(getattr(v7, name)) != {} for name in ("link", "make", "take_apart", "nm", "check")],
+        "type hints": [typing.get_type_hints(getattr(v7, name)) != {} for name in ("link", "link_findings", "make", "read", "take_apart", "nm", "check")],
     }
     for name, outcomes in checks.items():
         if not outcomes or not all(outcomes):

@@ -7,8 +7,8 @@
 # is installed into a fresh environment.
 # What is missing of the compilers, Python and these two is skipped, and named.
 #
-# usage: CC=cc CXX=c++ CASES='500 100' tests/library.sh        with so many links and sessions for the comparison with
-#                                                              tests/model.py
+# usage: CC=cc CXX=c++ CALLS=20000 CASES='500 100' tests/library.sh        with so many random calls, and links and sessions for the
+#                                                                          comparison with tests/model.py
 set -u
 cd "$(dirname "$0")/.."
 top=$PWD
@@ -144,6 +144,9 @@ faulty() {
 
 faults faults -O2
 faulty C ./faults
+$CC -std=c99 -O2 -Wall -Wextra -Werror -o random_calls $compiles "$top/tests/random_calls.c" \
+    -Wl,--wrap=malloc -Wl,--wrap=realloc -Wl,--wrap=free "$archive" || exit 1
+./random_calls "${CALLS:-20000}" || fail "a random call differs"
 $CC -std=c99 -O2 -Wall -Wextra -Werror -pthread -o stack $compiles "$top/tests/stack.c" "$archive" || exit 1
 ./stack >stack.txt && echo "32,768 bytes of stack: $(cat stack.txt)" || fail "a call needs more than 32,768 bytes of stack: $(cat stack.txt)"
 # the program of v7(3) lists what v7 nm lists, and refuses what is not a file

@@ -32,7 +32,7 @@ LIMITS = [
     ("link_out/src/kept_symbols.rt", "MOST_ROWS", {
         "docs/LINK.md": "| symbols of a table | {}, which are 65,532 bytes |",
         "man/v7-ld.1": "The table would have more than {} symbols,",
-        "man/v7.3": "bss, or {} symbols.",
+        "man/v7.3": "bss, or {} symbols;",
         "include/v7.h": "/* its table would have more than {} symbols */",
     }),
     ("link_out/src/relocs.rt", "MOST_NUMBER", {

@@ -11,6 +11,8 @@ enum { STACK = 32768, WORDS = 32767, SYMBOLS = 5461, COUNT = 200, ROOM = 1 << 23
 
 static struct v7_word text[WORDS], data[WORDS];
 static struct v7_symbol symbols[SYMBOLS];
+static struct v7_slice slices[COUNT];
+static struct v7_finding findings[SYMBOLS];
 static unsigned char *objects, *room, *more, *replies, edits[COUNT];
 static size_t objects_size, count;
 static unsigned calls, results;
@@ -28,6 +30,7 @@ static void *call_all(void *unused)
 {
     struct v7_answer answer;
     struct v7_counts counts;
+    struct v7_header header;
     uint32_t option;
 
     called(v7_check(objects, objects_size, &answer), &answer);
@@ -36,10 +39,13 @@ static void *call_all(void *unused)
     called(v7_size(objects, objects_size, room, ROOM, &answer), &answer);
     for (option = 0; option < 128; option = 2 * option + (option == 0)) {
         called(v7_link(option, none, 0, none, 0, objects, objects_size, room, ROOM, more, ROOM, &answer), &answer);
+        called(v7_link_list(option, none, 0, none, 0, slices, count, room, ROOM, more, ROOM, &answer), &answer);
+        called(v7_link_findings(option, none, 0, none, 0, slices, count, room, ROOM, findings, SYMBOLS, &answer), &answer);
         called(v7_session(option, none, 0, none, 0, edits, count, objects, objects_size, replies, COUNT, room, ROOM, more, ROOM, &answer), &answer);
     }
     called(v7_state(V7_LINES, none, 0, edits, count, objects, objects_size, replies, COUNT, room, ROOM, &answer), &answer);
     called(v7_state(V7_JSON, none, 0, edits, count, objects, objects_size, replies, COUNT, room, ROOM, &answer), &answer);
+    called(v7_read(objects, objects_size, &header, text, WORDS, data, WORDS, symbols, SYMBOLS, &counts, &answer), &answer);
     called(v7_take_apart(objects, objects_size, text, WORDS, data, WORDS, symbols, SYMBOLS, &counts, &answer), &answer);
     called(v7_make(text, counts.text, data, counts.data, counts.bss, symbols, counts.symbols, room, ROOM, &answer), &answer);
     return unused;
@@ -72,6 +78,7 @@ static void append(size_t words, size_t names, unsigned number)
     }
     if (v7_make(text, words, data, 0, 0, symbols, names, objects + objects_size, ROOM - objects_size, &answer) != 0)
         exit(2);
+    slices[number] = (struct v7_slice){objects + objects_size, answer.size};
     objects_size += answer.size;
 }
 
@@ -93,5 +100,5 @@ int main(void)
     edits[COUNT - 1] = V7_WITHDRAW;
     call_in_thread();
     printf("%u calls, %u with a result\n", calls, results);
-    return calls != 48 || results < 40;
+    return calls != 82 || results < 70;
 }

@@ -29,7 +29,7 @@ from __future__ import annotations
 import ctypes
 import json
 import os
-from typing import Any, Dict, Iterable, List, NamedTuple, Sequence, Tuple
+from typing import Any, Dict, Iterable, List, NamedTuple, Optional, Sequence, Tuple
 
 _BESIDE = os.path.join(os.path.dirname(os.path.abspath(__file__)), "libv7.so.0")
 _LIBRARY = ctypes.CDLL(os.environ.get("LIBV7") or (_BESIDE if os.path.exists(_BESIDE) else "libv7.so.0"))
@@ -49,6 +49,9 @@ EXTERNAL = 0o40
 NUMBER, IN_TEXT, IN_DATA, IN_BSS = 0, 2, 4, 6
 FROM_PC = 1
 
+# the parts of an object: the word of a fault if one is too long
+TEXT_PART, DATA_PART, BSS_PART, SYMBOLS_PART = 1, 2, 3, 4
+
 Word = Tuple[int, int]
 Symbol = Tuple[str, int, int]
 
@@ -61,6 +64,25 @@ class Program(NamedTuple):
     report: str
 
 
+class Findings(NamedTuple):
+    """What is reported of a link: names that are multiply defined, one for each definition that differs from the first; those of
+    `_etext`, `_edata` and `_end` that an object defines or makes a common; the entry point if it is not in text, and else
+    None; and undefined names."""
+
+    multiples: List[str]
+    reserved: List[str]
+    entry: Optional[str]
+    undefined: List[str]
+
+
+class Found(NamedTuple):
+    """What a link gives, with its report as `Findings`."""
+
+    status: int
+    file: bytes
+    findings: Findings
+
+
 class Parts(NamedTuple):
     """An object in parts: pairs of a word and its relocation word, the size of bss in bytes, and triples of a name, a type word
     and a value."""
@@ -69,6 +91,19 @@ class Parts(NamedTuple):
     data: List[Word]
     bss: int
     symbols: List[Symbol]
+
+
+class Header(NamedTuple):
+    """The eight words that a file begins with. Sizes are in bytes; relocation words are there if the flag is 0."""
+
+    magic: int
+    text_size: int
+    data_size: int
+    bss_size: int
+    symbol_size: int
+    entry_point: int
+    unused: int
+    flag: int
 
 
 # what the faults of v7.h mean, by their numbers
@@ -108,6 +143,18 @@ class _Symbol(ctypes.Structure):
     _fields_ = [("name", ctypes.c_ubyte * 8), ("type", ctypes.c_uint16), ("value", ctypes.c_uint16)]
 
 
+class _Slice(ctypes.Structure):
+    _fields_ = [("bytes", ctypes.c_char_p), ("size", ctypes.c_size_t)]
+
+
+class _Finding(ctypes.Structure):
+    _fields_ = [("name", ctypes.c_ubyte * 8), ("kind", ctypes.c_uint32)]
+
+
+class _Header(ctypes.Structure):
+    _fields_ = [(name, ctypes.c_uint16) for name in Header._fields]
+
+
 class _Counts(ctypes.Structure):
     _fields_ = [("text", ctypes.c_size_t), ("data", ctypes.c_size_t), ("symbols", ctypes.c_size_t), ("bss", ctypes.c_uint32)]
 
@@ -123,7 +170,8 @@ class _Answer(ctypes.Structure):
 
 
 class Fault(Exception):
-    """Why a call gives nothing: `fault` is its number, `place` that of the object or name, and `word` the index of the word.
+    """Why a call gives nothing: `fault` is its number, `place` that of the object or name, and `word` the index of the word, or the part
+    of an object that is too long.
 
     >>> try:
     ...     check(b"")
@@ -134,7 +182,7 @@ class Fault(Exception):
 
     def __init__(self, answer: _Answer) -> None:
         text = FAULTS.get(answer.fault, f"fault {answer.fault}")
-        where = f" at word {answer.word}" if answer.fault in (23, 24) else ""
+        where = f" at word {answer.word}" if answer.fault in (23, 24) else f" in part {answer.word}" if answer.fault == 6 else ""
         super().__init__(f"{text}{where}, object {answer.place}" if 10 < answer.fault < 40 else text + where)
         self.fault: int = answer.fault
         self.place: int = answer.place
@@ -183,6 +231,16 @@ def _given(name: str, *words: Any, guess: int = 0) -> bytes:
     if answer.fault:
         raise Fault(answer)
     return room.raw[: answer.size]
+
+
+def version() -> str:
+    """The version of the library.
+
+    >>> [part.isdigit() for part in version().split(".")]
+    [True, True, True]
+    """
+    number = _LIBRARY.v7_version()
+    return f"{number >> 16}.{number >> 8 & 255}.{number & 255}"
 
 
 def check(data: bytes) -> int:
@@ -239,34 +297,33 @@ def _wanted(options: int, entry: str, forced: Iterable[str]) -> List[Any]:
     return [_number("the options", options), *_slice(entry.encode("latin-1")), *_forced(forced)]
 
 
-def _linked(call: Any, words: Sequence[Any], replies: Sequence[Any] = ()) -> Program:
-    """Calls twice: for the sizes of the rooms for file and report, and for these."""
-    answer, sizes = _Answer(), [0, 0]
+def _linked(call: Any, words: Sequence[Any], kind: Any = ctypes.c_char) -> Tuple[int, bytes, Any]:
+    """Calls twice: for the sizes of the rooms for the file and for a report of this kind, and for these."""
+    answer, size, count = _Answer(), 0, 0
     for _ in range(2):
-        rooms = [_room(n) for n in sizes]
-        given = [part for room, n in zip(rooms, sizes) for part in (room, ctypes.c_size_t(n))]
-        status = call(*words, *replies, *given, ctypes.byref(answer))
+        file, report = _room(size), (kind * max(count, 1))()
+        status = call(*words, file, ctypes.c_size_t(size), report, ctypes.c_size_t(count), ctypes.byref(answer))
         if answer.fault != _NO_ROOM:
             break
-        sizes = [answer.size, answer.report_size]
+        size, count = answer.size, answer.report_size
     if answer.fault:
         raise Fault(answer)
-    file, report = (room.raw[:n] for room, n in zip(rooms, sizes))
+    return status, file.raw[:size], report[:count]
+
+
+def _program(call: Any, words: Sequence[Any]) -> Program:
+    status, file, report = _linked(call, words)
     return Program(status, file, report.decode("latin-1"))
 
 
-def _whole(objects: Iterable[bytes]) -> bytes:
-    """The objects one after another, up to the first that is none. What comes after that one would be taken for its end."""
-    parts: List[bytes] = []
-    for data in objects:
-        try:
-            parts.append(data[: check(data)])
-        except Fault as fault:
-            if fault.fault == 50:
-                raise
-            parts.append(bytes(data) or b"\0")
-            break
-    return b"".join(parts)
+def _array(kind: Any, items: Sequence[Any]) -> List[Any]:
+    return [(kind * max(len(items), 1))(*items), ctypes.c_size_t(len(items))]
+
+
+def _apart(objects: Iterable[bytes]) -> List[Any]:
+    """The objects as slices."""
+    parts = [bytes(data) for data in objects]
+    return _array(_Slice, [_Slice(data, len(data)) for data in parts])
 
 
 def link(objects: Iterable[bytes], options: int = 0, entry: str = "", forced: Iterable[str] = ()) -> Program:
@@ -279,11 +336,24 @@ def link(objects: Iterable[bytes], options: int = 0, entry: str = "", forced: It
     ...     print(fault)
     truncated, object 1
     """
-    return _linked(_LIBRARY.v7_link, [*_wanted(options, entry, forced), *_slice(_whole(objects))])
+    return _program(_LIBRARY.v7_link_list, [*_wanted(options, entry, forced), *_apart(objects)])
 
 
-def _array(kind: Any, items: Sequence[Any]) -> List[Any]:
-    return [(kind * max(len(items), 1))(*items), ctypes.c_size_t(len(items))]
+def _name(row: Any) -> str:
+    return bytes(row.name).rstrip(b"\0").decode("latin-1")
+
+
+def link_findings(objects: Iterable[bytes], options: int = 0, entry: str = "", forced: Iterable[str] = ()) -> Found:
+    """The same, with the report as lists of names.
+
+    >>> refers = make(symbols=[("_f", UNDEFINED | EXTERNAL, 0), ("_end", ABSOLUTE | EXTERNAL, 0)])
+    >>> link_findings([refers], entry="_go").findings
+    Findings(multiples=[], reserved=['_end'], entry='_go', undefined=['_f'])
+    """
+    words = [*_wanted(options, entry, forced), *_apart(objects)]
+    status, file, rows = _linked(_LIBRARY.v7_link_findings, words, _Finding)
+    multiples, reserved, entries, undefined = ([_name(row) for row in rows if row.kind == kind] for kind in range(1, 5))
+    return Found(status, file, Findings(multiples, reserved, entries[0] if entries else None, undefined))
 
 
 def _word(pair: Word) -> _Word:
@@ -309,25 +379,42 @@ def make(text: Iterable[Word] = (), data: Iterable[Word] = (), bss: int = 0, sym
     return _given("v7_make", *words, _number("the size of bss", bss), *_array(_Symbol, [*map(_symbol, symbols)]))
 
 
+def _parts(call: Any, *words: Any) -> Parts:
+    """Calls twice: for the numbers of words and symbols, and for these."""
+    counts, answer = _Counts(), _Answer()
+    for _ in range(2):
+        rooms = [_array(kind, [kind()] * n) for kind, n in ((_Word, counts.text), (_Word, counts.data), (_Symbol, counts.symbols))]
+        call(*words, *(part for room in rooms for part in room), ctypes.byref(counts), ctypes.byref(answer))
+        if answer.fault != _NO_ROOM:
+            break
+    if answer.fault:
+        raise Fault(answer)
+    text, data, rows = (list(room[0])[: room[1].value] for room in rooms)
+    pairs = [[(word.value, word.reloc) for word in segment] for segment in (text, data)]
+    names = [(_name(row), row.type, row.value) for row in rows]
+    return Parts(pairs[0], pairs[1], counts.bss, names)
+
+
 def take_apart(data: bytes) -> Parts:
     """The parts of the object that the bytes begin with.
 
     >>> take_apart(make(text=[(0, refers_to(0))], symbols=[("_f", UNDEFINED | EXTERNAL, 0)]))
     Parts(text=[(0, 8)], data=[], bss=0, symbols=[('_f', 32, 0)])
     """
-    counts, answer = _Counts(), _Answer()
-    for _ in range(2):
-        rooms = [_array(kind, [kind()] * n) for kind, n in ((_Word, counts.text), (_Word, counts.data), (_Symbol, counts.symbols))]
-        words = [part for room in rooms for part in room]
-        _LIBRARY.v7_take_apart(*_slice(data), *words, ctypes.byref(counts), ctypes.byref(answer))
-        if answer.fault != _NO_ROOM:
-            break
-    if answer.fault:
-        raise Fault(answer)
-    text, words, rows = (list(room[0])[: room[1].value] for room in rooms)
-    pairs = [[(word.value, word.reloc) for word in segment] for segment in (text, words)]
-    names = [(bytes(row.name).rstrip(b"\0").decode("latin-1"), row.type, row.value) for row in rows]
-    return Parts(pairs[0], pairs[1], counts.bss, names)
+    return _parts(_LIBRARY.v7_take_apart, *_slice(data))
+
+
+def read(data: bytes) -> Tuple[Header, Parts]:
+    """The header and the parts of the file that the bytes begin with, an object or another. A word without a relocation word has
+    NUMBER.
+
+    >>> header, parts = read(link([make(text=[(7, NUMBER)])]).file)
+    >>> header.magic == 0o407, header.flag, parts.text
+    (True, 1, [(7, 0)])
+    """
+    header = _Header()
+    parts = _parts(_LIBRARY.v7_read, *_slice(data), ctypes.byref(header))
+    return Header(*(getattr(header, name) for name in Header._fields)), parts
 
 
 class Session:
@@ -379,7 +466,7 @@ class Session:
         """The link of what is there. The status is 1 also if an addition or a withdrawal was not made."""
         room = _room(len(self._kept))
         words = [*_wanted(options, self.entry, self.forced), *self._edits()]
-        program = _linked(_LIBRARY.v7_session, words, [room, ctypes.c_size_t(len(self._kept))])
+        program = _program(_LIBRARY.v7_session, [*words, room, ctypes.c_size_t(len(self._kept))])
         self._learn(room)
         return program._replace(status=max(program.status, int(any(self._replies))))
 

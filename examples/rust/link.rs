@@ -14,15 +14,19 @@ struct Answer {
     report_size: usize,
 }
 
+/// `struct v7_slice`: the bytes of an object.
+#[repr(C)]
+struct Slice(*const u8, usize);
+
 extern "C" {
-    fn v7_link(
+    fn v7_link_list(
         options: u32,
         entry: *const u8,
         entry_size: usize,
         forced: *const u8,
         forced_size: usize,
-        objects: *const u8,
-        objects_size: usize,
+        objects: *const Slice,
+        object_count: usize,
         room: *mut u8,
         room_size: usize,
         report: *mut u8,
@@ -34,19 +38,20 @@ extern "C" {
 const NO_ROOM: u32 = 60;
 
 /// Links into rooms of these sizes.
-fn link_into(objects: &[u8], size: usize, report_size: usize) -> (u32, Vec<u8>, Vec<u8>, Answer) {
+fn link_into(objects: &[Vec<u8>], size: usize, report_size: usize) -> (u32, Vec<u8>, Vec<u8>, Answer) {
     let (mut room, mut report) = (vec![0; size], vec![0; report_size]);
+    let slices: Vec<Slice> = objects.iter().map(|object| Slice(object.as_ptr(), object.len())).collect();
     let mut answer = Answer::default();
-    // the slices live until the call returns, and none of their pointers is null
+    // what the pointers point to lives until the call returns; a null pointer has size 0
     let status = unsafe {
-        v7_link(
+        v7_link_list(
             0,
-            [].as_ptr(),
+            std::ptr::null(),
             0,
-            [].as_ptr(),
+            std::ptr::null(),
             0,
-            objects.as_ptr(),
-            objects.len(),
+            slices.as_ptr(),
+            slices.len(),
             room.as_mut_ptr(),
             size,
             report.as_mut_ptr(),
@@ -59,10 +64,7 @@ fn link_into(objects: &[u8], size: usize, report_size: usize) -> (u32, Vec<u8>, 
 
 fn main() {
     let words: Vec<String> = env::args().skip(1).collect();
-    let mut objects = Vec::new();
-    for path in &words[1..] {
-        objects.extend(fs::read(path).expect("an object"));
-    }
+    let objects: Vec<Vec<u8>> = words[1..].iter().map(|path| fs::read(path).expect("an object")).collect();
     let (mut status, mut room, mut report, mut answer) = link_into(&objects, 0, 0);
     if answer.fault == NO_ROOM {
         (status, room, report, answer) = link_into(&objects, answer.size, answer.report_size);

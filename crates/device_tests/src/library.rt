@@ -3,8 +3,9 @@ use aout_core::samples::{A_O, B_O, C_O, D_O, G_O};
 use aout_core::{ObjectFault, ReadFault};
 use fixtures::{TWO_OBJECTS, UNDEFINED, sized};
 use library_calls::{
-    Cause, ObjectParts, Refusal, Shown, Wanted, check, link, list_symbols, make, run_session,
-    show_session, show_sizes, strip, take_apart,
+    Cause, Finding, LongPart, ObjectBytes, ObjectParts, ObjectWord, Refusal, Shown, Wanted, check,
+    link, link_each, link_findings, list_symbols, make, read_apart, run_session, show_session,
+    show_sizes, strip, take_apart,
 };
 use std::alloc::{AllocError, Global};
 use std::test::Fail;
@@ -60,7 +61,8 @@ fn is_made_again(alloc: Global, object: &[u8]) -> bool {
         bss: 65_536,
         ..again
     };
-    gives(make(alloc, &again), object) && make(alloc, &longer).err() == Some(Cause::TooLong)
+    gives(make(alloc, &again), object)
+        && make(alloc, &longer).err() == Some(Cause::TooLong(LongPart::Bss))
 }
 
 #[test]
@@ -68,6 +70,34 @@ fn parts_of_objects(rt: HostRuntime) {
     assert!(rt; is_made_again(rt.alloc(), &C_O));
     let cause = Cause::BadFile(ReadFault::Truncated);
     assert!(rt; take_apart(rt.alloc(), &A_O[..27]).err() == Some(cause));
+}
+
+fn word(value: u16, reloc: u16) -> ObjectWord {
+    ObjectWord { value, reloc }
+}
+
+/// Whether a file has this flag and this text.
+fn reads(alloc: Global, file: &[u8], flag: u16, text: &[ObjectWord]) -> bool {
+    match read_apart(alloc, file) {
+        Ok(read) => read.header.flag == flag && read.parts.text.as_slice() == text,
+        Err(_) => false,
+    }
+}
+
+#[test]
+fn files_read(rt: HostRuntime) {
+    let alloc = rt.alloc();
+    assert!(rt; reads(alloc, &C_O, 0, &[word(0o4767, 0), word(0o177774, 0o11)]));
+    assert!(rt;
+        reads(
+            alloc,
+            &TWO_OBJECTS,
+            1,
+            &[word(0o12700, 0), word(6, 0), word(0o207, 0)]
+        )
+    );
+    let cause = Cause::BadFile(ReadFault::Truncated);
+    assert!(rt; read_apart(alloc, &TWO_OBJECTS[..23]).err() == Some(cause));
 }
 
 /// Whether the link of two objects with these options is this file with this report.
@@ -120,6 +150,51 @@ fn wishes_refused(rt: HostRuntime) {
     assert!(rt; refusal(alloc, &cut, &A_O, &B_O) == Some(Refusal { cause, place: 0 }));
     let cause = Cause::BadFile(ReadFault::Truncated);
     assert!(rt; refusal(alloc, &STRIPPED, &A_O, &C_O[..47]) == Some(Refusal { cause, place: 1 }));
+}
+
+#[test]
+fn objects_apart_linked(rt: HostRuntime) {
+    let alloc = rt.alloc();
+    let whole = [ObjectBytes { bytes: &A_O }, ObjectBytes { bytes: &B_O }];
+    let given = link_each(alloc, &STRIPPED, &whole);
+    assert!(rt; given.is_ok_and(|given| given.file.as_slice() == TWO_OBJECTS.as_slice()));
+    // the bytes of the second object are not taken for the end of the first
+    let cut = [
+        ObjectBytes { bytes: &C_O[..47] },
+        ObjectBytes { bytes: &G_O },
+    ];
+    let cause = Cause::BadFile(ReadFault::Truncated);
+    assert!(rt; link_each(alloc, &STRIPPED, &cut).err() == Some(Refusal { cause, place: 0 }));
+}
+
+#[test]
+fn findings_listed(rt: HostRuntime) {
+    let objects = [ObjectBytes { bytes: &C_O }, ObjectBytes { bytes: &G_O }];
+    let wanted = Wanted {
+        options: 0,
+        entry: b"_start_x",
+        ..STRIPPED
+    };
+    let found = [
+        Finding {
+            name: *b"_start_x",
+            kind: 3,
+        },
+        Finding {
+            name: *b"_f\0\0\0\0\0\0",
+            kind: 4,
+        },
+        Finding {
+            name: *b"_g\0\0\0\0\0\0",
+            kind: 4,
+        },
+    ];
+    let given = link_findings(rt.alloc(), &wanted, &objects);
+    assert!(rt;
+        given.is_ok_and(|given| given.status == 1
+            && given.file.as_slice() == UNDEFINED.as_slice()
+            && given.findings.as_slice() == found.as_slice())
+    );
 }
 
 /// What the edits with two objects give: the replies, the status and the file.

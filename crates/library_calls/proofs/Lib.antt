@@ -1,4 +1,5 @@
 pub mod TakingLemmas
+pub mod EachLemmas
 pub mod PartLemmas
 pub mod EditLemmas
 pub mod StateLemmas

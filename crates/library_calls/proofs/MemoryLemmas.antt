@@ -12,9 +12,9 @@ use Rattle.link_out.specs.Results.{Outcome}
 use Rattle.library_calls.specs.declared.cause.Cause.{Cause}
 use Rattle.library_calls.specs.declared.cause.Refusal.{Refusal}
 use Rattle.library_calls.specs.Causes.{at, and_then}
-use Rattle.library_calls.specs.LinkAnswers.{linked_or, with_objects}
+use Rattle.library_calls.specs.LinkAnswers.{linked_or, with_each, with_objects}
 use Rattle.library_calls.specs.LinkWanted.{choices_in, forced_in}
-use Rattle.library_calls.specs.MemoryWanted.{MayRunOutInLink, MayRunOutInRun, MayRunOutInSession, SessionMayRunOut}
+use Rattle.library_calls.specs.MemoryWanted.{MayRunOutInLink, MayRunOutInLinkOfEach, MayRunOutInRun, MayRunOutInSession, SessionMayRunOut}
 use Rattle.library_calls.specs.SessionAnswers.{changes_in}
 
 is_linked : (r : Result Outcome LinkFault) → IsOk r → IsOk (at 0 (linked_or r))
@@ -26,6 +26,18 @@ pub link_without_memory : (forced : List (List ℕ)) (o : Choices) (bytes : List
     k.forced ≡ begun.forced → IsOk (link k.forced (objects k.entries) o) → MayRunOutInLink forced o bytes 0
 link_without_memory forced o bytes begun k is all same linked =
     let taken : with_objects forced [] bytes ≡ Ok (objects k.entries) = ap (λ (x : Kept). with_objects x.forced (objects x.entries) bytes) (sym is) ∙ all in
+    let first : k.forced ≡ forced = same ∙ ap (λ (x : Kept). x.forced) is in
+    inl (
+      refl,
+      inr (subst (λ (r : Result (List _) _). IsOk (and_then r (λ os. at 0 (linked_or (link forced os o))))) (sym taken)
+          (is_linked (link forced (objects k.entries) o) (subst (λ (f : List (List ℕ)). IsOk (link f (objects k.entries) o)) first linked))),
+    )
+
+-- the same of objects whose bytes are apart
+pub each_without_memory : (forced : List (List ℕ)) (o : Choices) (parts : List (List ℕ)) (begun k : Kept) → begun ≡ nothing_kept forced → with_each begun.forced (objects begun.entries) parts ≡ Ok (objects k.entries) →
+    k.forced ≡ begun.forced → IsOk (link k.forced (objects k.entries) o) → MayRunOutInLinkOfEach forced o parts 0
+each_without_memory forced o parts begun k is all same linked =
+    let taken : with_each forced [] parts ≡ Ok (objects k.entries) = ap (λ (x : Kept). with_each x.forced (objects x.entries) parts) (sym is) ∙ all in
     let first : k.forced ≡ forced = same ∙ ap (λ (x : Kept). x.forced) is in
     inl (
       refl,

@@ -11,6 +11,7 @@ use Rattle.aout_core.specs.Encoding.{encoding, file_length}
 use Rattle.aout_core.specs.WellFormed.{first_object_fault}
 use Rattle.library_calls.specs.declared.cause.Cause.{Cause}
 use Rattle.library_calls.specs.declared.cause.Cause.TheVariants.{NoOption, LongName, CutNames, ManyNames, TooLong, NoEdit, BadFile}
+use Rattle.library_calls.specs.declared.cause.LongPart.TheVariants as long
 use Rattle.library_calls.specs.declared.cause.Refusal.{Refusal}
 use Rattle.library_calls.specs.Causes.{at, and_then, number_of}
 use Rattle.link_session.specs.declared.entry.AddFault.TheVariants as adds
@@ -35,9 +36,9 @@ use Rattle.aout_core.specs.Strip.{stripped}
 use Rattle.symtools.specs.NmLists.{nm_text}
 use Rattle.symtools.specs.SizeLines.{size_text}
 use Rattle.library_calls.specs.FileAnswers.{behind_file, checked_in, file_in, file_of, has_bit, names_in, nm_options_in, nm_options_of, object_in, object_of, object_unless, sizes_in, stripped_in}
-use Rattle.library_calls.specs.LinkAnswers.{added_unless, linked_in, linked_or, objects_in, output_in, output_of, with_first, with_most, with_object}
+use Rattle.library_calls.specs.LinkAnswers.{added_unless, found_each, found_of, linked_each, linked_in, linked_or, objects_in, outcome_each, output_each, output_in, output_of, with_each, with_first, with_most, with_object}
 use Rattle.library_calls.specs.LinkWanted.{choices_by, choices_in, choices_with, forced_in, keep_of, layout_by, name_of, short_entry, unless, with_names}
-use Rattle.library_calls.specs.ObjectParts.{Pieces, contents_for, file_for, header_for, header_of, made_of, parts_in, pieces_of, too_long}
+use Rattle.library_calls.specs.ObjectParts.{Pieces, contents_for, file_for, header_for, header_of, made_of, parts_in, pieces_of, whole_in}
 use Rattle.library_calls.specs.SessionAnswers.{behind_edit, change_in, changes_in, output_with, reply_number, run_of, session_in, with_edit, with_edits}
 use Rattle.library_calls.specs.declared.state_call.Form.{Form}
 use Rattle.library_calls.specs.StateAnswers.{Asked, asked_in, form_in}
@@ -103,6 +104,9 @@ told_sizes bytes = told_then (file_in bytes) (λ c. Ok (size_text (([], c) ∷ [
 pub told_apart : (bytes : List ℕ) → Told (parts_in bytes)
 told_apart bytes = told_then (object_in bytes) (λ c. Ok (pieces_of c)) (told_object bytes) (λ c. tt)
 
+pub told_whole : (bytes : List ℕ) → Told (whole_in bytes)
+told_whole bytes = told_then (file_in bytes) (λ c. Ok (record { header = c.header; parts = pieces_of c })) (told_file bytes) (λ c. tt)
+
 told_nm_options_by : (b : Bool) (bits : ℕ) → Told (if b then Err NoOption else Ok (nm_options_of bits))
 told_nm_options_by true bits = other 1 refl
 told_nm_options_by false bits = tt
@@ -112,13 +116,22 @@ told_names bits bytes =
     told_then (nm_options_in bits) (λ o. and_then (file_in bytes) (λ c. Ok (nm_text o (([], c) ∷ [])))) (told_nm_options_by (nat_lt 31 bits) bits)
     (λ o. told_then (file_in bytes) (λ c. Ok (nm_text o (([], c) ∷ []))) (told_file bytes) (λ c. tt))
 
-told_header_by : (long even : Bool) (h : Header) → Told (if long then Err TooLong else (if even then Ok h else Err (BadFile reads.OddSize)))
-told_header_by true even h = other 6 refl
-told_header_by false true h = tt
-told_header_by false false h = other 13 refl
+told_header_by : (text words bss symbols even : Bool) (h : Header) →
+    Told (if text then Err (TooLong long.Text)
+    else (if words then Err (TooLong long.Data)
+    else (if bss then Err (TooLong long.Bss)
+    else (if symbols then Err (TooLong long.Symbols)
+    else (if even then Ok h
+    else Err (BadFile reads.OddSize))))))
+told_header_by true words bss symbols even h = other 6 refl
+told_header_by false true bss symbols even h = other 6 refl
+told_header_by false false true symbols even h = other 6 refl
+told_header_by false false false true even h = other 6 refl
+told_header_by false false false false true h = tt
+told_header_by false false false false false h = other 13 refl
 
 told_parts : (p : Pieces) → Told (file_for p)
-told_parts p = told_then (header_for p) (λ h. Ok (contents_for p h)) (told_header_by (too_long p) (eqb (p.bss % 2) 0) (header_of p)) (λ h. tt)
+told_parts p = told_then (header_for p) (λ h. Ok (contents_for p h)) (told_header_by (nat_lt 32767 (length p.text)) (nat_lt 32767 (length p.«data»)) (nat_lt 65535 p.bss) (nat_lt 5461 (length p.symbols)) (eqb (p.bss % 2) 0) (header_of p)) (λ h. tt)
 
 pub told_made : (p : Pieces) → Told (made_of p)
 told_made p =
@@ -224,6 +237,30 @@ told_output bits entry forced bytes =
     (is_told_at 0 (choices_in bits entry) (told_choices bits entry))
     (λ o. is_told_then (forced_in forced) (λ names. and_then (linked_in names o bytes) (λ x. Ok (output_of x))) (told_forced forced)
     (λ names. is_told_then (linked_in names o bytes) (λ x. Ok (output_of x)) (told_linked names o bytes) (λ x. tt)))
+
+told_each : (forced : List (List ℕ)) (os : List Contents) (parts : List (List ℕ)) → IsTold (with_each forced os parts)
+told_each forced os [] = tt
+told_each forced os (bytes ∷ rest) =
+    is_told_then (at (length os) (with_first forced os bytes)) (λ more. with_each forced more rest)
+    (is_told_at (length os) (with_first forced os bytes) (told_first forced os bytes)) (λ more. told_each forced more rest)
+
+told_linked_each : (forced : List (List ℕ)) (o : Choices) (parts : List (List ℕ)) → IsTold (linked_each forced o parts)
+told_linked_each forced o parts =
+    is_told_then (with_each forced [] parts) (λ os. at 0 (linked_or (link forced os o))) (told_each forced [] parts)
+    (λ os. is_told_at 0 (linked_or (link forced os o)) (told_link forced os o))
+
+told_outcome_each : (bits : ℕ) (entry forced : List ℕ) (parts : List (List ℕ)) → IsTold (outcome_each bits entry forced parts)
+told_outcome_each bits entry forced parts =
+    is_told_then (at 0 (choices_in bits entry)) (λ o. and_then (forced_in forced) (λ names. linked_each names o parts)) (is_told_at 0 (choices_in bits entry) (told_choices bits entry))
+    (λ o. is_told_then (forced_in forced) (λ names. linked_each names o parts) (told_forced forced) (λ names. told_linked_each names o parts))
+
+pub told_output_each : (bits : ℕ) (entry forced : List ℕ) (parts : List (List ℕ)) → IsTold (output_each bits entry forced parts)
+told_output_each bits entry forced parts =
+    is_told_then (outcome_each bits entry forced parts) (λ x. Ok (output_of x)) (told_outcome_each bits entry forced parts) (λ x. tt)
+
+pub told_found_each : (bits : ℕ) (entry forced : List ℕ) (parts : List (List ℕ)) → IsTold (found_each bits entry forced parts)
+told_found_each bits entry forced parts =
+    is_told_then (outcome_each bits entry forced parts) (λ x. Ok (found_of x)) (told_outcome_each bits entry forced parts) (λ x. tt)
 
 -- ---- sessions
 

@@ -11,6 +11,7 @@ use Rattle.link_out.specs.declared.linked.LinkFault.{LinkFault}
 use Rattle.link_out.specs.declared.linked.LinkFault.TheVariants as links
 use Rattle.library_calls.specs.declared.cause.Cause.{Cause}
 use Rattle.library_calls.specs.declared.cause.Cause.TheVariants.{NoOption, Excluded, LongName, CutNames, ManyNames, TooLong, NoEdit, BadFile, BadObject, NotAdded, NotLinked, Memory}
+use Rattle.library_calls.specs.declared.cause.LongPart.TheVariants as parts
 use Rattle.library_calls.specs.declared.cause.Refusal.{Refusal}
 
 abbrev pub cause_of_read : ReadFault → Cause
@@ -32,7 +33,7 @@ number_of Excluded = 2
 number_of LongName = 3
 number_of CutNames = 4
 number_of ManyNames = 5
-number_of TooLong = 6
+number_of (TooLong part) = 6
 number_of NoEdit = 7
 number_of (BadFile reads.ShortHeader) = 11
 number_of (BadFile reads.BadMagic) = 12
@@ -55,8 +56,12 @@ number_of (NotLinked links.SymbolNumber) = 43
 number_of (NotLinked links.Memory) = 50
 number_of Memory = 50
 
--- the index of the bad word, where it is one
+-- the index of the bad word, or the number of the part that is too long
 abbrev pub word_of : Cause → ℕ
+word_of (TooLong parts.Text) = 1
+word_of (TooLong parts.Data) = 2
+word_of (TooLong parts.Bss) = 3
+word_of (TooLong parts.Symbols) = 4
 word_of (BadObject (objects.BadRelocation index)) = index
 word_of (BadObject (objects.BadSymbolNumber index)) = index
 word_of _ = 0

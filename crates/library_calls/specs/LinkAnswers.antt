@@ -2,19 +2,24 @@
 --
 -- Each object in order is read from the bytes after the one before it, has to be an object, and is added after those before it.
 -- The first that is not taken is the refusal. Then all are linked.
-use Rattle.std.specs.Prelude.{ℕ, zero, suc, List, [], ◌∷◌, ◌++◌, length, Option, Some, None, Result, Ok, Err}
+use Rattle.std.specs.Prelude.{ℕ, zero, suc, List, [], ◌∷◌, ◌++◌, length, map, Option, Some, None, Result, Ok, Err}
 use Rattle.aout_core.specs.Contents.{Contents}
 use Rattle.aout_core.specs.Encoding.{encoding}
+use Rattle.aout_core.specs.Names.{padded}
 use Rattle.link_session.specs.declared.entry.AddFault.{AddFault}
 use Rattle.link_session.specs.Limits.{refusal}
 use Rattle.link_out.specs.declared.linked.LinkFault.{LinkFault}
 use Rattle.link_options.specs.Choices.{Choices}
 use Rattle.link_out.specs.function.Link.{Outcome, link}
+use Rattle.link_out.specs.Results.{Findings}
 use Rattle.link_out.specs.function.Reports.{report_text, status_of}
 use Rattle.library_calls.specs.declared.cause.Cause.{Cause}
 use Rattle.library_calls.specs.declared.cause.Cause.TheVariants.{NotAdded, NotLinked}
 use Rattle.library_calls.specs.declared.cause.Refusal.{Refusal}
+use Rattle.library_calls.specs.declared.findings_call.Finding.{Finding}
+use Rattle.library_calls.specs.declared.findings_call.Found.{Found}
 use Rattle.library_calls.specs.declared.link_call.Program.{Program}
+use Rattle.library_calls.specs.declared.parts.ObjectBytes.{ObjectBytes}
 use Rattle.library_calls.specs.Causes.{at, and_then}
 use Rattle.library_calls.specs.FileAnswers.{behind_file, object_in}
 use Rattle.library_calls.specs.LinkWanted.{choices_in, forced_in}
@@ -43,6 +48,15 @@ with_objects forced os bytes = with_most (length bytes) forced os bytes
 abbrev pub objects_in : List (List ℕ) → List ℕ → Result (List Contents) Refusal
 objects_in forced bytes = with_objects forced [] bytes
 
+-- the bytes of each object, where they are apart
+abbrev pub each_of : List ObjectBytes → List (List ℕ)
+each_of parts = map (λ (part : ObjectBytes). part.bytes.now) parts
+
+-- the objects with the one that each of these begins with; the bytes after it are not looked at, as in ld
+abbrev pub with_each : List (List ℕ) → List Contents → List (List ℕ) → Result (List Contents) Refusal
+with_each forced os [] = Ok os
+with_each forced os (bytes ∷ rest) = and_then (at (length os) (with_first forced os bytes)) (λ more. with_each forced more rest)
+
 abbrev pub linked_or : Result Outcome LinkFault → Result Outcome Cause
 linked_or (Ok x) = Ok x
 linked_or (Err fault) = Err (NotLinked fault)
@@ -50,19 +64,52 @@ linked_or (Err fault) = Err (NotLinked fault)
 abbrev pub linked_in : List (List ℕ) → Choices → List ℕ → Result Outcome Refusal
 linked_in forced o bytes = and_then (objects_in forced bytes) (λ os. at 0 (linked_or (link forced os o)))
 
--- the bytes of a linked file and of its report, and the status
-pub record Output : Type 0 where
+abbrev pub linked_each : List (List ℕ) → Choices → List (List ℕ) → Result Outcome Refusal
+linked_each forced o parts = and_then (with_each forced [] parts) (λ os. at 0 (linked_or (link forced os o)))
+
+-- the status, the bytes of a linked file, and its report: the bytes of its lines, or a list of findings
+pub record Output (A : Type 0) : Type 0 where
   pub status : ℕ
   pub file : List ℕ
-  pub report : List ℕ
+  pub report : List A
 
-abbrev pub output_of : Outcome → Output
+abbrev pub output_of : Outcome → Output ℕ
 output_of x = record { status = status_of x.report; file = encoding x.file; report = report_text x.report }
 
-abbrev pub outputs_of : Program → Output
+abbrev pub outputs_of : Program → Output ℕ
 outputs_of p = record { status = p.status; file = p.file.items; report = p.report.items }
 
 -- the options, then the forced names, then the objects, then the link: the first refusal, or the output
-abbrev pub output_in : ℕ → List ℕ → List ℕ → List ℕ → Result Output Refusal
+abbrev pub output_in : ℕ → List ℕ → List ℕ → List ℕ → Result (Output ℕ) Refusal
 output_in bits entry forced bytes =
     and_then (at 0 (choices_in bits entry)) (λ o. and_then (forced_in forced) (λ names. and_then (linked_in names o bytes) (λ x. Ok (output_of x))))
+
+-- the same of objects whose bytes are apart
+abbrev pub outcome_each : ℕ → List ℕ → List ℕ → List (List ℕ) → Result Outcome Refusal
+outcome_each bits entry forced parts = and_then (at 0 (choices_in bits entry)) (λ o. and_then (forced_in forced) (λ names. linked_each names o parts))
+
+abbrev pub output_each : ℕ → List ℕ → List ℕ → List (List ℕ) → Result (Output ℕ) Refusal
+output_each bits entry forced parts = and_then (outcome_each bits entry forced parts) (λ x. Ok (output_of x))
+
+-- ---- the report as a list
+
+-- 1: multiply defined, 2: a reserved name that is defined or a common, 3: an entry point that is not in text, 4: undefined
+abbrev pub finding_of : ℕ → List ℕ → Finding
+finding_of kind name = record { name = padded name; kind = kind }
+
+abbrev pub entry_findings : Option (List ℕ) → List Finding
+entry_findings None = []
+entry_findings (Some name) = finding_of 3 name ∷ []
+
+-- in the order of the lines
+abbrev pub all_findings : Findings → List Finding
+all_findings f = ((map (finding_of 1) f.multiples ++ map (finding_of 2) f.reserved) ++ entry_findings f.entry_bad) ++ map (finding_of 4) f.undefined
+
+abbrev pub found_of : Outcome → Output Finding
+found_of x = record { status = status_of x.report; file = encoding x.file; report = all_findings x.report }
+
+abbrev pub founds_of : Found → Output Finding
+founds_of f = record { status = f.status; file = f.file.items; report = f.findings.items }
+
+abbrev pub found_each : ℕ → List ℕ → List ℕ → List (List ℕ) → Result (Output Finding) Refusal
+found_each bits entry forced parts = and_then (outcome_each bits entry forced parts) (λ x. Ok (found_of x))

@@ -10,7 +10,7 @@ use Rattle.link_session.specs.Edits.{Change}
 use Rattle.link_options.specs.Choices.{Choices}
 use Rattle.link_out.specs.Runs.{link_after}
 use Rattle.library_calls.specs.FileAnswers.{behind_file, file_in}
-use Rattle.library_calls.specs.LinkAnswers.{linked_in, with_first}
+use Rattle.library_calls.specs.LinkAnswers.{linked_each, linked_in, with_first}
 use Rattle.library_calls.specs.LinkWanted.{choices_in, forced_in}
 use Rattle.library_calls.specs.SessionAnswers.{behind_edit, change_in, changes_in}
 use Rattle.library_calls.specs.StateAnswers.{form_in}
@@ -47,6 +47,20 @@ MayRunOutInLink forced o bytes place =
 abbrev pub LinkMayRunOut : ℕ → List ℕ → List ℕ → List ℕ → ℕ → Type 0
 LinkMayRunOut bits entry forced bytes place =
     IsOkAnd (choices_in bits entry) (λ o. IsOkAnd (forced_in forced) (λ names. MayRunOutInLink names o bytes place))
+
+-- the same of objects whose bytes are apart
+abbrev pub MayRunOutInEach : List (List ℕ) → List Contents → List (List ℕ) → ℕ → Type 0
+MayRunOutInEach forced os [] place = ⊥
+MayRunOutInEach forced os (bytes ∷ rest) place =
+    ((place ≡ length os) × MayRunOutForObject forced os bytes) ⊎ IsOkAnd (with_first forced os bytes) (λ more. MayRunOutInEach forced more rest place)
+
+abbrev pub MayRunOutInLinkOfEach : List (List ℕ) → Choices → List (List ℕ) → ℕ → Type 0
+MayRunOutInLinkOfEach forced o parts place =
+    ((place ≡ 0) × ((forced ≢ []) ⊎ IsOk (linked_each forced o parts))) ⊎ MayRunOutInEach forced [] parts place
+
+abbrev pub LinkOfEachMayRunOut : ℕ → List ℕ → List ℕ → List (List ℕ) → ℕ → Type 0
+LinkOfEachMayRunOut bits entry forced parts place =
+    IsOkAnd (choices_in bits entry) (λ o. IsOkAnd (forced_in forced) (λ names. MayRunOutInLinkOfEach names o parts place))
 
 -- ---- edits of a session
 

@@ -2,7 +2,7 @@
 --
 -- What is made of parts has magic 0407, its relocation, and 0 for the entry point and the word without a meaning, at neither of which
 -- a link looks. A name is eight bytes, filled up with NULs, as in a file.
-use Rattle.std.specs.Prelude.{ℕ, ◌*◌, ◌%◌, Bool, ◌||◌, eqb, nat_lt, if◌then◌else◌, List, map, length, Result, Ok, Err}
+use Rattle.std.specs.Prelude.{ℕ, ◌*◌, ◌%◌, eqb, nat_lt, if◌then◌else◌, List, map, length, Result, Ok, Err}
 use Rattle.std.specs.List.{zip}
 use Rattle.aout_core.specs.declared.header.Header.{Header}
 use Rattle.aout_core.specs.declared.reloc.Reloc.{Reloc}
@@ -11,13 +11,15 @@ use Rattle.aout_core.specs.declared.file.ReadFault.TheVariants.{OddSize}
 use Rattle.aout_core.specs.Names.{padded}
 use Rattle.aout_core.specs.Contents.{Contents}
 use Rattle.aout_core.specs.Encoding.{encoding}
+use Rattle.library_calls.specs.declared.parts.FileLists.{FileLists}
 use Rattle.library_calls.specs.declared.parts.ObjectWord.{ObjectWord}
 use Rattle.library_calls.specs.declared.parts.SymbolRow.{SymbolRow}
 use Rattle.library_calls.specs.declared.parts.PartLists.{PartLists}
 use Rattle.library_calls.specs.declared.cause.Cause.{Cause}
 use Rattle.library_calls.specs.declared.cause.Cause.TheVariants.{TooLong, BadFile}
+use Rattle.library_calls.specs.declared.cause.LongPart.TheVariants.{Text, Data, Bss, Symbols}
 use Rattle.library_calls.specs.Causes.{and_then}
-use Rattle.library_calls.specs.FileAnswers.{object_in, object_of}
+use Rattle.library_calls.specs.FileAnswers.{file_in, object_in, object_of}
 use Rattle.library_calls.specs.LinkWanted.{name_of}
 
 pub record Pieces : Type 0 where
@@ -31,10 +33,6 @@ pieces text datas bss symbols = record { text = text; «data» = datas; bss = bs
 
 -- ---- parts made into an object
 
--- a header has no number for the size of a part
-abbrev pub too_long : Pieces → Bool
-too_long p = nat_lt 32767 (length p.text) || (nat_lt 32767 (length p.«data») || (nat_lt 65535 p.bss || nat_lt 5461 (length p.symbols)))
-
 abbrev pub header_of : Pieces → Header
 header_of p = record {
   magic = 0o407;
@@ -47,11 +45,15 @@ header_of p = record {
   flag = 0;
 }
 
+-- the first part for whose size a header has no number is refused
 abbrev pub header_for : Pieces → Result Header Cause
 header_for p =
-    if too_long p then Err TooLong
+    if nat_lt 32767 (length p.text) then Err (TooLong Text)
+    else (if nat_lt 32767 (length p.«data») then Err (TooLong Data)
+    else (if nat_lt 65535 p.bss then Err (TooLong Bss)
+    else (if nat_lt 5461 (length p.symbols) then Err (TooLong Symbols)
     else (if eqb (p.bss % 2) 0 then Ok (header_of p)
-    else Err (BadFile OddSize))
+    else Err (BadFile OddSize)))))
 
 abbrev pub reloc_of : ObjectWord → Reloc
 reloc_of w = record { 0 = w.reloc }
@@ -76,21 +78,42 @@ file_for p = and_then (header_for p) (λ h. Ok (contents_for p h))
 abbrev pub made_of : Pieces → Result (List ℕ) Cause
 made_of p = and_then (file_for p) (λ c. and_then (object_of c) (λ o. Ok (encoding o)))
 
--- ---- an object taken apart
+-- ---- a file taken apart
 
 -- each word with its relocation word
 abbrev pub words_with : List ℕ → List Reloc → List ObjectWord
 words_with ws rs = map (λ p. record { value = p.0; reloc = p.1.0 }) (zip ws rs)
 
+-- each word with a relocation word of 0
+abbrev pub words_alone : List ℕ → List ObjectWord
+words_alone ws = map (λ w. record { value = w; reloc = 0 }) ws
+
+-- relocation words are there if the flag is 0
+abbrev pub words_of : Header → List ℕ → List Reloc → List ObjectWord
+words_of h ws rs = if eqb h.flag 0 then words_with ws rs else words_alone ws
+
 abbrev pub row_of : Symbol → SymbolRow
 row_of s = record { name = padded s.name; type_bits = s.type_bits; value = s.value }
 
 abbrev pub pieces_of : Contents → Pieces
-pieces_of c = pieces (words_with c.text_words c.text_reloc) (words_with c.data_words c.data_reloc) c.header.bss_size (map row_of c.symbols)
+pieces_of c =
+    pieces (words_of c.header c.text_words c.text_reloc) (words_of c.header c.data_words c.data_reloc) c.header.bss_size (map row_of c.symbols)
 
 -- the parts of the object that the bytes begin with
 abbrev pub parts_in : List ℕ → Result Pieces Cause
 parts_in bytes = and_then (object_in bytes) (λ c. Ok (pieces_of c))
 
+-- a header and parts
+pub record Whole : Type 0 where
+  pub header : Header
+  pub parts : Pieces
+
+-- the header and the parts of the file that the bytes begin with
+abbrev pub whole_in : List ℕ → Result Whole Cause
+whole_in bytes = and_then (file_in bytes) (λ c. Ok (record { header = c.header; parts = pieces_of c }))
+
 abbrev pub pieces_in : PartLists → Pieces
 pieces_in p = pieces p.text.items p.«data».items p.bss p.symbols.items
+
+abbrev pub whole_of : FileLists → Whole
+whole_of f = record { header = f.header; parts = pieces_in f.parts }

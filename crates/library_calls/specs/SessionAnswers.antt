@@ -54,14 +54,14 @@ reply_number nothing = 35
 -- what is linked, and the replies to the edits
 pub record SessionOutput : Type 0 where
   pub replies : List ℕ
-  pub output : Output
+  pub output : Output ℕ
 
 -- 1 where an edit was not made
 abbrev pub session_status : List ℕ → ℕ → ℕ
 session_status [] status = status
 session_status (n ∷ ns) status = if eqb n 0 then session_status ns status else 1
 
-abbrev pub output_with : List ℕ → Output → SessionOutput
+abbrev pub output_with : List ℕ → Output ℕ → SessionOutput
 output_with replies x = record { replies = replies; output = record { status = session_status replies x.status; file = x.file; report = x.report } }
 
 abbrev pub run_of : List (List ℕ) → Choices → List Change → Result SessionOutput Cause

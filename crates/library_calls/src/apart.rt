@@ -1,13 +1,13 @@
-//! Objects taken apart.
+//! Objects and other files taken apart.
 ghost use Rattle.std.specs.Prelude.{◌≡◌, ◌≢◌, ◌⊎◌, map, length, Ok, Err, IsOk, IfOk, IfErr};
 ghost use Rattle.library_calls.specs.MemoryWanted.{HasBody};
-ghost use Rattle.library_calls.specs.ObjectParts.{parts_in, pieces_in, pieces_of, row_of, words_with};
+ghost use Rattle.library_calls.specs.ObjectParts.{parts_in, pieces_in, pieces_of, row_of, whole_in, whole_of, words_alone, words_of, words_with};
 ghost use Rattle.library_calls.specs.declared.cause.Cause.TheVariants.{Memory};
 
 use crate::cause::Cause;
-use crate::first::first_object;
-use crate::parts::{ObjectWord, PartLists, SymbolRow};
-use aout_core::{File, Reloc, Symbol};
+use crate::first::{first_file, first_object};
+use crate::parts::{FileLists, ObjectWord, PartLists, SymbolRow, padded};
+use aout_core::{File, Header, Reloc, Symbol};
 use std::alloc::{AllocError, Global};
 
 /// Each word with its relocation word.
@@ -28,14 +28,40 @@ fn words_with(
         .collect(alloc)
 }
 
+/// Each word with a relocation word of 0.
+fn words_alone(alloc: Global, values: &[u16]) -> Result<Vec<ObjectWord>, AllocError>
+    ensures { IfOk result (λ words. words.items ≡ words_alone values.now) }
+{
+    values
+        .iter()
+        .map(|value| ObjectWord {
+            value: *value,
+            reloc: 0,
+        })
+        .collect(alloc)
+}
+
+/// Each word with its relocation word, or with 0 where relocation was stripped.
+fn words_of(
+    alloc: Global,
+    header: &Header,
+    values: &[u16],
+    relocs: &[Reloc],
+) -> Result<Vec<ObjectWord>, AllocError>
+    ensures { IfOk result (λ words. words.items ≡ words_of header.now values.now relocs.now) }
+{
+    if header.flag == 0 {
+        words_with(alloc, values, relocs)
+    } else {
+        words_alone(alloc, values)
+    }
+}
+
 fn row_of(symbol: &Symbol) -> SymbolRow
     ensures { result ≡ row_of symbol.now }
 {
-    let text = symbol.name.as_bytes();
-    let mut name = [0; 8];
-    name[..text.len()].copy_from_slice(text);
     SymbolRow {
-        name,
+        name: padded(&symbol.name),
         type_bits: symbol.type_bits,
         value: symbol.value,
     }
@@ -51,9 +77,10 @@ fn rows_of(alloc: Global, symbols: &[Symbol]) -> Result<Vec<SymbolRow>, AllocErr
 fn parts_of(alloc: Global, file: &File) -> Result<PartLists, AllocError>
     ensures { IfOk result (λ parts. pieces_in parts ≡ pieces_of file.now) }
 {
-    let text = words_with(alloc, file.text_words(), file.text_reloc())?;
-    let data = words_with(alloc, file.data_words(), file.data_reloc())?;
-    let bss = file.header().bss_size;
+    let header = file.header();
+    let text = words_of(alloc, header, file.text_words(), file.text_reloc())?;
+    let data = words_of(alloc, header, file.data_words(), file.data_reloc())?;
+    let bss = header.bss_size;
     let symbols = rows_of(alloc, file.symbols())?;
     Ok(PartLists {
         text,
@@ -75,4 +102,20 @@ pub fn take_apart(alloc: Global, bytes: &[u8]) -> Result<PartLists, Cause>
 {
     let (object, _) = first_object(alloc, bytes)?;
     Ok(parts_of(alloc, object.file())?)
+}
+
+/// The header and the parts of the file that the bytes begin with, an object or another. If its relocation was stripped, each
+/// relocation word is 0. What is after it is not looked at. (a.out(5))
+///
+/// Errors: `BadFile`, 11 to 14, if the bytes do not begin with a file; else `Memory`, 50, if memory runs out.
+pub fn read_apart(alloc: Global, bytes: &[u8]) -> Result<FileLists, Cause>
+    ensures ok { IfOk result (λ file. whole_in bytes.now ≡ Ok (whole_of file)) }
+    ensures err { IfErr result (λ cause. cause ≢ Memory → whole_in bytes.now ≡ Err cause) }
+    ensures memory { IfErr result (λ cause. cause ≡ Memory → IsOk (whole_in bytes.now)) }
+{
+    let (file, _) = first_file(alloc, bytes)?;
+    Ok(FileLists {
+        header: *file.header(),
+        parts: parts_of(alloc, &file)?,
+    })
 }

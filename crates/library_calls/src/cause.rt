@@ -9,6 +9,19 @@ use link_session::AddFault;
 use std::alloc::AllocError;
 use symtools::ToolFault;
 
+/// A part of an object. (a.out(5))
+#[derive(Clone, Copy, Debug, PartialEq, Eq)]
+pub enum LongPart {
+    /// 1: the words of the text.
+    Text,
+    /// 2: the words of the data.
+    Data,
+    /// 3: bss.
+    Bss,
+    /// 4: the symbols.
+    Symbols,
+}
+
 /// Why a call has no answer. Where memory runs out it is `Memory`, whatever was being done. (own choice)
 #[derive(Clone, Copy, Debug, PartialEq, Eq)]
 pub enum Cause {
@@ -22,8 +35,8 @@ pub enum Cause {
     CutNames,
     /// 5: more than 64 different names are forced.
     ManyNames,
-    /// 6: a part of an object is longer than a header can say.
-    TooLong,
+    /// 6: this part of an object is longer than a header can say.
+    TooLong(LongPart),
     /// 7: a letter is not an edit.
     NoEdit,
     /// 11 to 14: the bytes do not begin with an a.out file.
@@ -187,6 +200,17 @@ fn link_number(fault: LinkFault) -> u32
     }
 }
 
+fn part_number(part: LongPart) -> u32
+    ensures { result ≡ word_of (Cause.TooLong part) }
+{
+    match part {
+        LongPart::Text => 1,
+        LongPart::Data => 2,
+        LongPart::Bss => 3,
+        LongPart::Symbols => 4,
+    }
+}
+
 impl Cause {
     /// The number by which other languages know the cause. (own choice)
     pub fn number(&self) -> u32
@@ -198,7 +222,7 @@ impl Cause {
             Cause::LongName => 3,
             Cause::CutNames => 4,
             Cause::ManyNames => 5,
-            Cause::TooLong => 6,
+            Cause::TooLong(_) => 6,
             Cause::NoEdit => 7,
             Cause::BadFile(fault) => read_number(fault),
             Cause::BadObject(fault) => object_number(fault),
@@ -208,11 +232,13 @@ impl Cause {
         }
     }
 
-    /// The index of the word that is at fault, text before data, from 0; and 0 for other causes. (own choice)
+    /// The index of the word that is at fault, text before data, from 0, or the number of the part that is too long. 0 for
+    /// other causes. (own choice)
     pub fn word(&self) -> u32
         ensures { result ≡ word_of self.now }
     {
         match *self {
+            Cause::TooLong(part) => part_number(part),
             Cause::BadObject(ObjectFault::BadRelocation(index)) => u32::from(index),
             Cause::BadObject(ObjectFault::BadSymbolNumber(index)) => u32::from(index),
             _ => 0,

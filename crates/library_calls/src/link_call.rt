@@ -4,12 +4,13 @@ ghost use Rattle.aout_core.specs.WellFormed.{IsWellFormed};
 ghost use Rattle.link_session.specs.Labelled.{objects};
 ghost use Rattle.link_out.specs.function.Link.{link};
 ghost use Rattle.link_out.specs.Outcomes.{outcome_of};
-ghost use Rattle.library_calls.specs.LinkAnswers.{linked_in, linked_or, output_in, output_of, outputs_of};
-ghost use Rattle.library_calls.specs.MemoryWanted.{LinkMayRunOut, MayRunOutInLink};
+ghost use Rattle.library_calls.specs.LinkAnswers.{each_of, linked_each, linked_in, linked_or, outcome_each, output_each, output_in, output_of, outputs_of};
+ghost use Rattle.library_calls.specs.MemoryWanted.{LinkMayRunOut, LinkOfEachMayRunOut, MayRunOutInLink, MayRunOutInLinkOfEach};
 ghost use Rattle.library_calls.specs.declared.cause.Cause.TheVariants.{Memory};
 
 use crate::cause::{Cause, Refusal};
-use crate::taking::take_objects;
+use crate::parts::ObjectBytes;
+use crate::taking::{take_each, take_objects};
 use crate::wanted::{forced_names, link_options};
 use aout_core::{Wire, write_file};
 use link_out::{Linked, Options, finish};
@@ -70,6 +71,23 @@ fn link_objects(
     Ok(link_kept(alloc, &session, options)?)
 }
 
+/// The link of the objects that the parts begin with.
+#[tactic(auto, using(crate::proofs::MemoryLemmas::each_without_memory))]
+fn link_parts(
+    alloc: Global,
+    parts: &[ObjectBytes<'_>],
+    forced: &Forced,
+    options: &Options,
+) -> Result<Linked, Refusal>
+    ensures ok { IfOk result (λ linked. linked_each forced.now options.now (each_of parts.now) ≡ Ok (outcome_of linked)) }
+    ensures err { IfErr result (λ r. r.cause ≢ Memory → linked_each forced.now options.now (each_of parts.now) ≡ Err r) }
+    ensures memory { IfErr result (λ r. r.cause ≡ Memory → MayRunOutInLinkOfEach forced.now options.now (each_of parts.now) r.place) }
+{
+    let mut session = Session::with_forced(alloc, forced)?;
+    take_each(alloc, &mut session, parts)?;
+    Ok(link_kept(alloc, &session, options)?)
+}
+
 /// The bytes of a link.
 pub(crate) fn program_of(alloc: Global, linked: &Linked) -> Result<Program, Cause>
     ensures ok { IfOk result (λ program. outputs_of program ≡ output_of (outcome_of linked.now)) }
@@ -107,5 +125,40 @@ pub fn link(alloc: Global, wanted: &Wanted<'_>, objects: &[u8]) -> Result<Progra
     let options = link_options(wanted.options, wanted.entry)?;
     let forced = forced_names(wanted.forced)?;
     let linked = link_objects(alloc, objects, &forced, &options)?;
+    Ok(program_of(alloc, &linked)?)
+}
+
+/// The link of the object that each of the parts begins with, as it is wanted.
+pub(crate) fn link_wanted(
+    alloc: Global,
+    wanted: &Wanted<'_>,
+    parts: &[ObjectBytes<'_>],
+) -> Result<Linked, Refusal>
+    ensures ok { IfOk result (λ linked. outcome_each wanted.now.options wanted.now.entry.now wanted.now.forced.now (each_of parts.now) ≡ Ok (outcome_of linked)) }
+    ensures err { IfErr result (λ r. r.cause ≢ Memory → outcome_each wanted.now.options wanted.now.entry.now wanted.now.forced.now (each_of parts.now) ≡ Err r) }
+    ensures memory { IfErr result (λ r. r.cause ≡ Memory
+        → LinkOfEachMayRunOut wanted.now.options wanted.now.entry.now wanted.now.forced.now (each_of parts.now) r.place) }
+    ensures more { IsOk result → LinkOfEachMayRunOut wanted.now.options wanted.now.entry.now wanted.now.forced.now (each_of parts.now) 0 }
+{
+    let choices = link_options(wanted.options, wanted.entry)?;
+    let forced = forced_names(wanted.forced)?;
+    link_parts(alloc, parts, &forced, &choices)
+}
+
+/// Links the object that each of the parts begins with, in their order. The bytes after it in its part are not looked at, so
+/// an object that is cut short is refused itself, as in ld. Without parts there are no objects. (ld(1))
+///
+/// Errors: those of `link`, with the number of the part in place of that of the object.
+pub fn link_each(
+    alloc: Global,
+    wanted: &Wanted<'_>,
+    parts: &[ObjectBytes<'_>],
+) -> Result<Program, Refusal>
+    ensures ok { IfOk result (λ program. output_each wanted.now.options wanted.now.entry.now wanted.now.forced.now (each_of parts.now) ≡ Ok (outputs_of program)) }
+    ensures err { IfErr result (λ r. r.cause ≢ Memory → output_each wanted.now.options wanted.now.entry.now wanted.now.forced.now (each_of parts.now) ≡ Err r) }
+    ensures memory { IfErr result (λ r. r.cause ≡ Memory
+        → LinkOfEachMayRunOut wanted.now.options wanted.now.entry.now wanted.now.forced.now (each_of parts.now) r.place) }
+{
+    let linked = link_wanted(alloc, wanted, parts)?;
     Ok(program_of(alloc, &linked)?)
 }

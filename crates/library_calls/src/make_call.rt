@@ -1,11 +1,11 @@
 //! Objects made of their parts.
-ghost use Rattle.std.specs.Prelude.{◌≡◌, ◌≢◌, map, Ok, Err, IsOk, IfOk, IfErr};
+ghost use Rattle.std.specs.Prelude.{◌≡◌, ◌≢◌, ◌%◌, map, Ok, Err, IsOk, IfOk, IfErr};
 ghost use Rattle.aout_core.specs.Contents.{Fits};
 ghost use Rattle.aout_core.specs.Parts.{contents_of};
-ghost use Rattle.library_calls.specs.ObjectParts.{contents_for, file_for, header_for, made_of, pieces, reloc_of, symbol_of};
+ghost use Rattle.library_calls.specs.ObjectParts.{contents_for, file_for, header_for, header_of, made_of, pieces, reloc_of, symbol_of};
 ghost use Rattle.library_calls.specs.declared.cause.Cause.TheVariants.{Memory};
 
-use crate::cause::Cause;
+use crate::cause::{Cause, LongPart};
 use crate::file_calls::bytes_of;
 use crate::first::object_of;
 use crate::parts::{ObjectParts, ObjectWord, SymbolRow};
@@ -14,14 +14,21 @@ use std::alloc::{AllocError, Global};
 
 /// The header of an object of these parts.
 fn header_for(parts: &ObjectParts<'_>) -> Result<Header, Cause>
-    ensures { result ≡ header_for (pieces parts.now.text.now parts.now.data.now parts.now.bss parts.now.symbols.now) }
+    ensures value { result ≡ header_for (pieces parts.now.text.now parts.now.data.now parts.now.bss parts.now.symbols.now) }
+    ensures header { IfOk result (λ header. header ≡ header_of (pieces parts.now.text.now parts.now.data.now parts.now.bss parts.now.symbols.now)) }
+    ensures even { IfOk result (λ _. parts.now.bss % 2 ≡ 0) }
 {
-    if parts.text.len() > 32_767
-        || parts.data.len() > 32_767
-        || parts.bss > 65_535
-        || parts.symbols.len() > 5_461
-    {
-        return Err(Cause::TooLong);
+    if parts.text.len() > 32_767 {
+        return Err(Cause::TooLong(LongPart::Text));
+    }
+    if parts.data.len() > 32_767 {
+        return Err(Cause::TooLong(LongPart::Data));
+    }
+    if parts.bss > 65_535 {
+        return Err(Cause::TooLong(LongPart::Bss));
+    }
+    if parts.symbols.len() > 5_461 {
+        return Err(Cause::TooLong(LongPart::Symbols));
     }
     if parts.bss % 2 != 0 {
         return Err(Cause::BadFile(ReadFault::OddSize));
@@ -103,8 +110,8 @@ fn file_for(alloc: Global, parts: &ObjectParts<'_>) -> Result<File, Cause>
 ///
 /// Errors, the first that applies:
 ///
-/// - `TooLong`, 6, if text or data have more than 32,767 words, bss more than 65,535 bytes, or there are more than 5,461
-///   symbols;
+/// - `TooLong`, 6, for the first of these: text or data have more than 32,767 words, bss more than 65,535 bytes, or there are
+///   more than 5,461 symbols;
 /// - `BadFile`, 13, if the size of bss is odd;
 /// - `BadObject`, 23 and 24, if a relocation word has none of the kinds, or not the number of an undefined external.
 ///

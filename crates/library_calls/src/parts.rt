@@ -1,4 +1,8 @@
 //! An object by its parts.
+ghost use Rattle.std.specs.Prelude.{◌≡◌};
+ghost use Rattle.aout_core.specs.Names.{padded};
+
+use aout_core::{Header, Name};
 
 /// A word of text or data, and its relocation word. (a.out(5))
 #[repr(C)]
@@ -21,6 +25,13 @@ pub struct SymbolRow {
     pub value: u16,
 }
 
+/// The bytes of a file that begin with an object. (own choice)
+#[repr(C)]
+#[derive(Clone, Copy)]
+pub struct ObjectBytes<'a> {
+    pub bytes: &'a [u8],
+}
+
 /// What an object is made of. (a.out(5))
 #[derive(Clone, Copy)]
 pub struct ObjectParts<'a> {
@@ -39,4 +50,21 @@ pub struct PartLists {
     /// The size of bss in bytes.
     pub bss: u16,
     pub symbols: Vec<SymbolRow>,
+}
+
+/// What a file holds. (a.out(5))
+#[derive(Debug, Drop)]
+pub struct FileLists {
+    pub header: Header,
+    pub parts: PartLists,
+}
+
+/// A name in eight bytes, filled up with NULs.
+pub(crate) fn padded(name: &Name) -> [u8; 8]
+    ensures { result ≡ padded name.now }
+{
+    let text = name.as_bytes();
+    let mut bytes = [0; 8];
+    bytes[..text.len()].copy_from_slice(text);
+    bytes
 }

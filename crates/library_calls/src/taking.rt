@@ -3,12 +3,13 @@ ghost use Rattle.std.specs.Prelude.{◌≡◌, ◌≢◌, None, Ok, Err, IfOk, I
 ghost use Rattle.link_session.specs.Labelled.{objects};
 ghost use Rattle.link_session.specs.Limits.{refusal};
 ghost use Rattle.library_calls.specs.FileAnswers.{behind_file};
-ghost use Rattle.library_calls.specs.LinkAnswers.{with_first, with_object, with_objects};
-ghost use Rattle.library_calls.specs.MemoryWanted.{MayRunOutForObject, MayRunOutInObjects};
+ghost use Rattle.library_calls.specs.LinkAnswers.{each_of, with_each, with_first, with_object, with_objects};
+ghost use Rattle.library_calls.specs.MemoryWanted.{MayRunOutForObject, MayRunOutInEach, MayRunOutInObjects};
 ghost use Rattle.library_calls.specs.declared.cause.Cause.TheVariants.{Memory};
 
 use crate::cause::{Cause, Refusal};
 use crate::first::first_object;
+use crate::parts::ObjectBytes;
 use aout_core::Object;
 use link_session::Session;
 use std::alloc::Global;
@@ -59,6 +60,29 @@ pub(crate) fn take_objects(
         }
         match take_first(alloc, session, rest) {
             Ok(after) => rest = after,
+            Err(cause) => {
+                let place = session.entries().len();
+                return Err(Refusal { cause, place });
+            }
+        }
+    }
+    Ok(())
+}
+
+/// Adds the object that each of the parts begins with, in their order, up to the first that is not taken.
+pub(crate) fn take_each(
+    alloc: Global,
+    session: &mut Session,
+    parts: &[ObjectBytes<'_>],
+) -> Result<(), Refusal>
+    ensures forced { session.new.forced ≡ session.old.forced }
+    ensures ok { IfOk result (λ _. with_each session.old.forced (objects session.old.entries) (each_of parts.now) ≡ Ok (objects session.new.entries)) }
+    ensures err { IfErr result (λ r. r.cause ≢ Memory → with_each session.old.forced (objects session.old.entries) (each_of parts.now) ≡ Err r) }
+    ensures memory { IfErr result (λ r. r.cause ≡ Memory → MayRunOutInEach session.old.forced (objects session.old.entries) (each_of parts.now) r.place) }
+{
+    for part in parts {
+        match take_first(alloc, session, part.bytes) {
+            Ok(_) => {}
             Err(cause) => {
                 let place = session.entries().len();
                 return Err(Refusal { cause, place });

@@ -6,20 +6,24 @@ use Rattle.aout_core.specs.declared.object.ObjectFault.TheVariants as objects
 use Rattle.library_calls.specs.declared.cause.Cause.{Cause}
 use Rattle.library_calls.specs.declared.cause.Cause.TheVariants.{NoOption, Excluded, LongName, CutNames, ManyNames, TooLong, NoEdit, BadFile, BadObject, NotAdded, NotLinked, Memory}
 use Rattle.library_calls.specs.declared.cause.Refusal.{Refusal}
+use Rattle.library_calls.specs.declared.findings_call.Finding.{Finding}
+use Rattle.library_calls.specs.declared.findings_call.Found.{Found}
 use Rattle.library_calls.specs.declared.link_call.Program.{Program}
 use Rattle.library_calls.proofs.NumberLemmas.{IsTold, Told, told_made}
+use Rattle.library_calls.specs.declared.parts.FileLists.{FileLists}
 use Rattle.library_calls.specs.declared.parts.ObjectWord.{ObjectWord}
 use Rattle.library_calls.specs.declared.parts.PartLists.{PartLists}
 use Rattle.library_calls.specs.declared.parts.SymbolRow.{SymbolRow}
 use Rattle.library_calls.specs.declared.session_call.Ran.{Ran}
 use Rattle.library_calls.specs.declared.state_call.Shown.{Shown}
 use Rattle.library_calls.specs.Causes.{number_of, word_of}
-use Rattle.library_calls.specs.LinkAnswers.{Output, outputs_of}
+use Rattle.library_calls.specs.LinkAnswers.{Output, founds_of, outputs_of}
 use Rattle.library_calls.specs.ObjectParts.{Pieces, file_for, made_of, pieces_in}
 use Rattle.library_calls.specs.StateAnswers.{Asked, IsShown, told_of}
 use Rattle.v7_c.specs.declared.answer.Answer.{Answer}
 use Rattle.v7_c.specs.declared.answer.Counts.{Counts}
-use Rattle.v7_c.specs.Left.{LeavesState, Left, LinkLeft, PartsLeft, counted_by, items_of, left, left_by, output_told, outputs_or, SessionLeft, apart_left, counts_of, no_counts, of_none, parts_left, pieces_or, put_in, refused, given, link_left, output_left, no_output, no_session, ran_left, session_left, sessions_or, told_left, told_or}
+use Rattle.v7_c.specs.declared.answer.FileHeader.{FileHeader}
+use Rattle.v7_c.specs.Left.{FileLeft, LeavesState, Left, LinkLeft, PartsLeft, file_left, no_header, read_left, wholes_or, counted_by, items_of, left, left_by, output_told, outputs_or, founds_or, SessionLeft, apart_left, counts_of, no_counts, of_none, parts_left, pieces_or, put_in, refused, given, link_left, output_left, no_output, no_session, ran_left, session_left, sessions_or, told_left, told_or}
 
 -- a cause of the number of no memory lies in no word
 no_word : (cause : Cause) → number_of cause ≡ 50 → word_of cause ≡ 0
@@ -28,7 +32,7 @@ no_word Excluded h = refl
 no_word LongName h = refl
 no_word CutNames h = refl
 no_word ManyNames h = refl
-no_word TooLong h = refl
+no_word (TooLong part) h = let e : 6 ≡ 50 = h in absurd (omega (arith, e))
 no_word NoEdit h = refl
 no_word (BadFile fault) h = refl
 no_word (BadObject objects.NotAnObject) h = refl
@@ -47,30 +51,31 @@ no_memory : (r : Refusal) → number_of r.cause ≡ 50 → refused r ≡ answer_
 no_memory r h = ap (λ (n : ℕ). answer_with n r.place (word_of r.cause)) h ∙ ap (answer_with 50 r.place) (no_word r.cause h)
 
 -- a call that gives bytes, or has no room for them, is not answered as one without memory
-not_memory : (b : Bool) (x y : LinkLeft) → x.answer.fault ≡ 60 → y.answer.fault ≡ 0 → (cond b x y).answer.fault ≡ 50 → ⊥
+not_memory : {A : Type 0} (b : Bool) (x y : LinkLeft A) → x.answer.fault ≡ 60 → y.answer.fault ≡ 0 → (cond b x y).answer.fault ≡ 50 → ⊥
 not_memory true x y hx hy h = absurd (omega (arith, sym hx ∙ h))
 not_memory false x y hx hy h = absurd (omega (arith, sym hy ∙ h))
 
-module _ (status : ℕ) (answer : Answer) (old new report_old report_new : List ℕ) where
-  pub output_memory : (r : Result Output Refusal) → link_left status answer new report_new ≡ output_left r old report_old → answer.fault ≡ 50 →
+module _ {A : Type 0} (status : ℕ) (answer : Answer) (old new : List ℕ) (report_old report_new : List A) where
+  pub output_memory : (r : Result (Output A) Refusal) → link_left status answer new report_new ≡ output_left r old report_old → answer.fault ≡ 50 →
       link_left status answer new report_new ≡ no_output answer.place old report_old
   output_memory (Ok x) is h =
       absurd (not_memory (nat_lt (length old) (length x.file) || nat_lt (length report_old) (length x.report))
       (link_left 2 (given 60 (length x.file) (length x.report)) old report_old)
       (link_left x.status (given 0 (length x.file) (length x.report)) (put_in old x.file) (put_in report_old x.report))
-      refl refl (sym (ap (λ (l : LinkLeft). l.answer.fault) is) ∙ h))
+      refl refl (sym (ap (λ (l : LinkLeft A). l.answer.fault) is) ∙ h))
   output_memory (Err refusal) is h =
       is
-      ∙ ap (λ (a : Answer). link_left 2 a old report_old) (no_memory refusal (sym (ap (λ (l : LinkLeft). l.answer.fault) is) ∙ h))
-      ∙ ap (λ place. no_output place old report_old) (sym (ap (λ (l : LinkLeft). l.answer.place) is))
+      ∙ ap (λ (a : Answer). link_left 2 a old report_old) (no_memory refusal (sym (ap (λ (l : LinkLeft A). l.answer.fault) is) ∙ h))
+      ∙ ap (λ place. no_output place old report_old) (sym (ap (λ (l : LinkLeft A). l.answer.place) is))
 
+module _ (status : ℕ) (answer : Answer) (old new report_old report_new : List ℕ) where
   -- what is left of a session that the library shows
   pub leaves_state : (asked : Result Asked Refusal) (r : Result Shown Refusal) → IfOk r (λ shown. IsShown asked (Ok (told_of shown))) →
       IfErr r (λ refusal. (refusal.cause ≡ Memory → ⊥) → asked ≡ Err refusal) → link_left status answer new report_new ≡ told_left (told_or r) old report_old → (answer.fault ≡ 50 → ⊥) →
       LeavesState asked old report_old (link_left status answer new report_new)
   leaves_state asked (Ok shown) ok err is other = record { told = Ok (told_of shown); shown = ok; is = is }
   leaves_state asked (Err refusal) ok err is other =
-      let same = err (λ memory. other (ap (λ (l : LinkLeft). l.answer.fault) is ∙ ap number_of memory)) in
+      let same = err (λ memory. other (ap (λ (l : LinkLeft ℕ). l.answer.fault) is ∙ ap number_of memory)) in
       record { told = Err refusal; shown = subst (λ (a : Result Asked Refusal). IsShown a (Err refusal)) (sym same) refl; is = is }
 
 no_session_memory : (b : Bool) (x y : SessionLeft) → x.link.answer.fault ≡ 60 → y.link.answer.fault ≡ 0 → (cond b x y).link.answer.fault ≡ 50 → ⊥
@@ -95,17 +100,29 @@ no_parts_memory true x y hx hy h = absurd (omega (arith, sym hx ∙ h))
 no_parts_memory false x y hx hy h = absurd (omega (arith, sym hy ∙ h))
 
 module _ (status : ℕ) (answer : Answer) (counts : Counts) (text_old text_new data_old data_new : List ObjectWord) (symbols_old symbols_new : List SymbolRow) where
+  -- what gives parts, or has no room for them, is not answered as a call without memory is
+  pub parts_given : (p : Pieces) → parts_left status answer counts text_new data_new symbols_new ≡ apart_left (Ok p) text_old data_old symbols_old → answer.fault ≡ 50 → ⊥
+  parts_given p is h =
+      no_parts_memory
+      (nat_lt (length text_old) (length p.text) || (nat_lt (length data_old) (length p.«data») || nat_lt (length symbols_old) (length p.symbols)))
+      (parts_left 2 (given 60 0 0) (counts_of p) text_old data_old symbols_old)
+      (parts_left 0 (given 0 0 0) (counts_of p) (put_in text_old p.text) (put_in data_old p.«data») (put_in symbols_old p.symbols))
+      refl refl (sym (ap (λ (l : PartsLeft). l.answer.fault) is) ∙ h)
+
   pub apart_memory : (r : Result PartLists Cause) → parts_left status answer counts text_new data_new symbols_new ≡ apart_left (pieces_or r) text_old data_old symbols_old → answer.fault ≡ 50 →
       parts_left status answer counts text_new data_new symbols_new ≡ apart_left (Err Memory) text_old data_old symbols_old
-  apart_memory (Ok p) is h =
-      absurd (no_parts_memory
-      (nat_lt (length text_old) (length p.text.items) || (nat_lt (length data_old) (length p.«data».items) || nat_lt (length symbols_old) (length p.symbols.items)))
-      (parts_left 2 (given 60 0 0) (counts_of (pieces_in p)) text_old data_old symbols_old)
-      (parts_left 0 (given 0 0 0) (counts_of (pieces_in p)) (put_in text_old p.text.items) (put_in data_old p.«data».items) (put_in symbols_old p.symbols.items))
-      refl refl (sym (ap (λ (l : PartsLeft). l.answer.fault) is) ∙ h))
+  apart_memory (Ok p) is h = absurd (parts_given (pieces_in p) is h)
   apart_memory (Err cause) is h =
       is
       ∙ ap (λ (a : Answer). parts_left 2 a no_counts text_old data_old symbols_old) (no_memory (of_none cause) (sym (ap (λ (l : PartsLeft). l.answer.fault) is) ∙ h))
+
+  pub read_memory : (header : FileHeader) (r : Result FileLists Cause) → file_left header (parts_left status answer counts text_new data_new symbols_new) ≡ read_left (wholes_or r) text_old data_old symbols_old → answer.fault ≡ 50 →
+      file_left header (parts_left status answer counts text_new data_new symbols_new) ≡ read_left (Err Memory) text_old data_old symbols_old
+  read_memory header (Ok f) is h = absurd (parts_given (pieces_in f.parts) (ap (λ (l : FileLeft). l.parts) is) h)
+  read_memory header (Err cause) is h =
+      is
+      ∙ ap (λ (a : Answer). file_left no_header (parts_left 2 a no_counts text_old data_old symbols_old))
+      (no_memory (of_none cause) (sym (ap (λ (l : FileLeft). l.parts.answer.fault) is) ∙ h))
 
 -- ---- a fault of the number of no memory
 
@@ -115,7 +132,7 @@ is_memory_or Excluded = inr (λ e. absurd (cc))
 is_memory_or LongName = inr (λ e. absurd (cc))
 is_memory_or CutNames = inr (λ e. absurd (cc))
 is_memory_or ManyNames = inr (λ e. absurd (cc))
-is_memory_or TooLong = inr (λ e. absurd (cc))
+is_memory_or (TooLong part) = inr (λ e. absurd (cc))
 is_memory_or NoEdit = inr (λ e. absurd (cc))
 is_memory_or (BadFile fault) = inr (λ e. absurd (cc))
 is_memory_or (BadObject fault) = inr (λ e. absurd (cc))
@@ -159,30 +176,36 @@ count_fault status answer (Ok x) is h =
     let e : 0 ≡ 50 = sym (ap (λ (l : Left). l.answer.fault) is) ∙ h in absurd (omega (arith, e))
 count_fault status answer (Err cause) is h = sym (ap (λ (l : Left). l.answer.fault) is) ∙ h
 
-module _ (status : ℕ) (answer : Answer) (old new report_old report_new : List ℕ) where
-  output_fault : {B : Type 0} (view : B → Output) (r : Result B Refusal) (given_ : Result Output Refusal) → MatchResult r (λ x. given_ ≡ Ok (view x)) (λ refusal. given_ ≡ Err refusal) →
+module _ {A : Type 0} (status : ℕ) (answer : Answer) (old new : List ℕ) (report_old report_new : List A) where
+  output_fault : {B : Type 0} (view : B → Output A) (r : Result B Refusal) (given_ : Result (Output A) Refusal) → MatchResult r (λ x. given_ ≡ Ok (view x)) (λ refusal. given_ ≡ Err refusal) →
       link_left status answer new report_new ≡ output_left given_ old report_old → answer.fault ≡ 50 → IsErrAnd r (λ refusal. (number_of refusal.cause ≡ 50) × (answer.place ≡ refusal.place))
   output_fault view (Ok x) given_ same is h =
-      let whole = is ∙ ap (λ (g : Result Output Refusal). output_left g old report_old) same in
+      let whole = is ∙ ap (λ (g : Result (Output A) Refusal). output_left g old report_old) same in
       absurd (not_memory (nat_lt (length old) (length (view x).file) || nat_lt (length report_old) (length (view x).report))
       (link_left 2 (given 60 (length (view x).file) (length (view x).report)) old report_old)
       (link_left (view x).status (given 0 (length (view x).file) (length (view x).report)) (put_in old (view x).file) (put_in report_old (view x).report))
-      refl refl (sym (ap (λ (l : LinkLeft). l.answer.fault) whole) ∙ h))
+      refl refl (sym (ap (λ (l : LinkLeft A). l.answer.fault) whole) ∙ h))
   output_fault view (Err refusal) given_ same is h =
-      let whole = is ∙ ap (λ (g : Result Output Refusal). output_left g old report_old) same in
-      (sym (ap (λ (l : LinkLeft). l.answer.fault) whole) ∙ h, ap (λ (l : LinkLeft). l.answer.place) whole)
+      let whole = is ∙ ap (λ (g : Result (Output A) Refusal). output_left g old report_old) same in
+      (sym (ap (λ (l : LinkLeft A). l.answer.fault) whole) ∙ h, ap (λ (l : LinkLeft A). l.answer.place) whole)
 
+module _ (status : ℕ) (answer : Answer) (old new report_old report_new : List ℕ) where
   pub program_fault : (r : Result Program Refusal) → link_left status answer new report_new ≡ output_left (outputs_or r) old report_old → answer.fault ≡ 50 →
       IsErrAnd r (λ refusal. (number_of refusal.cause ≡ 50) × (answer.place ≡ refusal.place))
-  program_fault (Ok x) is h = output_fault outputs_of (Ok x) (Ok (outputs_of x)) refl is h
-  program_fault (Err refusal) is h = output_fault outputs_of (Err refusal) (Err refusal) refl is h
+  program_fault (Ok x) is h = output_fault status answer old new report_old report_new outputs_of (Ok x) (Ok (outputs_of x)) refl is h
+  program_fault (Err refusal) is h = output_fault status answer old new report_old report_new outputs_of (Err refusal) (Err refusal) refl is h
 
   pub shown_fault : (r : Result Shown Refusal) → link_left status answer new report_new ≡ told_left (told_or r) old report_old → answer.fault ≡ 50 →
       IsErrAnd r (λ refusal. (number_of refusal.cause ≡ 50) × (answer.place ≡ refusal.place))
   shown_fault (Ok x) is h =
-      output_fault (λ (s : Shown). record { status = s.status; file = s.state.items; report = s.replies.items }) (Ok x) (output_told (Ok (told_of x))) refl is h
+      output_fault status answer old new report_old report_new (λ (s : Shown). record { status = s.status; file = s.state.items; report = s.replies.items }) (Ok x) (output_told (Ok (told_of x))) refl is h
   shown_fault (Err refusal) is h =
-      output_fault (λ (s : Shown). record { status = s.status; file = s.state.items; report = s.replies.items }) (Err refusal) (Err refusal) refl is h
+      output_fault status answer old new report_old report_new (λ (s : Shown). record { status = s.status; file = s.state.items; report = s.replies.items }) (Err refusal) (Err refusal) refl is h
+
+pub found_fault : (status : ℕ) (answer : Answer) (old new : List ℕ) (report_old report_new : List Finding) (r : Result Found Refusal) → link_left status answer new report_new ≡ output_left (founds_or r) old report_old → answer.fault ≡ 50 →
+    IsErrAnd r (λ refusal. (number_of refusal.cause ≡ 50) × (answer.place ≡ refusal.place))
+found_fault status answer old new report_old report_new (Ok x) is h = output_fault status answer old new report_old report_new founds_of (Ok x) (Ok (founds_of x)) refl is h
+found_fault status answer old new report_old report_new (Err refusal) is h = output_fault status answer old new report_old report_new founds_of (Err refusal) (Err refusal) refl is h
 
 module _ (status : ℕ) (answer : Answer) (old new report_old report_new replies_old replies_new : List ℕ) where
   pub ran_fault : (r : Result Ran Refusal) → session_left (link_left status answer new report_new) replies_new ≡ ran_left (sessions_or r) replies_old old report_old → answer.fault ≡ 50 →
@@ -197,13 +220,14 @@ module _ (status : ℕ) (answer : Answer) (old new report_old report_new replies
 module _ (status : ℕ) (answer : Answer) (counts : Counts) (text_old text_new data_old data_new : List ObjectWord) (symbols_old symbols_new : List SymbolRow) where
   pub parts_fault : (r : Result PartLists Cause) → parts_left status answer counts text_new data_new symbols_new ≡ apart_left (pieces_or r) text_old data_old symbols_old → answer.fault ≡ 50 →
       IsErrAnd r (λ cause. number_of cause ≡ 50)
-  parts_fault (Ok p) is h =
-      absurd (no_parts_memory
-      (nat_lt (length text_old) (length p.text.items) || (nat_lt (length data_old) (length p.«data».items) || nat_lt (length symbols_old) (length p.symbols.items)))
-      (parts_left 2 (given 60 0 0) (counts_of (pieces_in p)) text_old data_old symbols_old)
-      (parts_left 0 (given 0 0 0) (counts_of (pieces_in p)) (put_in text_old p.text.items) (put_in data_old p.«data».items) (put_in symbols_old p.symbols.items))
-      refl refl (sym (ap (λ (l : PartsLeft). l.answer.fault) is) ∙ h))
+  parts_fault (Ok p) is h = absurd (parts_given status answer counts text_old text_new data_old data_new symbols_old symbols_new (pieces_in p) is h)
   parts_fault (Err cause) is h = sym (ap (λ (l : PartsLeft). l.answer.fault) is) ∙ h
+
+  pub read_fault : (header : FileHeader) (r : Result FileLists Cause) → file_left header (parts_left status answer counts text_new data_new symbols_new) ≡ read_left (wholes_or r) text_old data_old symbols_old → answer.fault ≡ 50 →
+      IsErrAnd r (λ cause. number_of cause ≡ 50)
+  read_fault header (Ok f) is h =
+      absurd (parts_given status answer counts text_old text_new data_old data_new symbols_old symbols_new (pieces_in f.parts) (ap (λ (l : FileLeft). l.parts) is) h)
+  read_fault header (Err cause) is h = sym (ap (λ (l : FileLeft). l.parts.answer.fault) is) ∙ h
 
 -- memory ran out for an object that is made of parts
 pub made_memory : (p : Pieces) (status : ℕ) (answer : Answer) (old new : List ℕ) (r : Result (Vec ℕ Global) Cause) → left status answer new ≡ left_by (items_of r) old →

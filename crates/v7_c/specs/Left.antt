@@ -4,22 +4,27 @@
 -- there are. A refusal is a number, with the place of what is refused.
 use Rattle.std.specs.declared.alloc.Global.{Global}
 use Rattle.std.specs.Prelude.{◌≡◌, ℕ, ◌||◌, nat_lt, if◌then◌else◌, List, [], ◌++◌, drop, length, Vec, Result, Ok, Err}
+use Rattle.aout_core.specs.declared.header.Header.{Header}
 use Rattle.library_calls.specs.declared.cause.Cause.{Cause}
 use Rattle.library_calls.specs.declared.cause.Cause.TheVariants.{Memory}
 use Rattle.library_calls.specs.declared.cause.Refusal.{Refusal}
+use Rattle.library_calls.specs.declared.findings_call.Finding.{Finding}
+use Rattle.library_calls.specs.declared.findings_call.Found.{Found}
 use Rattle.library_calls.specs.declared.link_call.Program.{Program}
+use Rattle.library_calls.specs.declared.parts.FileLists.{FileLists}
 use Rattle.library_calls.specs.declared.parts.ObjectWord.{ObjectWord}
 use Rattle.library_calls.specs.declared.parts.PartLists.{PartLists}
 use Rattle.library_calls.specs.declared.parts.SymbolRow.{SymbolRow}
 use Rattle.library_calls.specs.declared.session_call.Ran.{Ran}
 use Rattle.library_calls.specs.declared.state_call.Shown.{Shown}
 use Rattle.library_calls.specs.Causes.{number_of, word_of}
-use Rattle.library_calls.specs.LinkAnswers.{Output, outputs_of}
-use Rattle.library_calls.specs.ObjectParts.{Pieces, pieces_in}
+use Rattle.library_calls.specs.LinkAnswers.{Output, founds_of, outputs_of}
+use Rattle.library_calls.specs.ObjectParts.{Pieces, Whole, pieces_in, whole_of}
 use Rattle.library_calls.specs.SessionAnswers.{SessionOutput, sessions_of}
 use Rattle.library_calls.specs.StateAnswers.{Asked, IsShown, Told, told_of}
 use Rattle.v7_c.specs.declared.answer.Answer.{Answer}
 use Rattle.v7_c.specs.declared.answer.Counts.{Counts}
+use Rattle.v7_c.specs.declared.answer.FileHeader.{FileHeader}
 
 -- these at the beginning of a buffer
 abbrev pub put_in : {A : Type 0} → List A → List A → List A
@@ -63,17 +68,17 @@ abbrev pub no_bytes : List ℕ → Left
 no_bytes room = left_by (Err Memory) room
 
 -- the same with a second room, for a report
-pub record LinkLeft : Type 0 where
+pub record LinkLeft (A : Type 0) : Type 0 where
   pub status : ℕ
   pub answer : Answer
   pub room : List ℕ
-  pub report : List ℕ
+  pub report : List A
 
-abbrev pub link_left : ℕ → Answer → List ℕ → List ℕ → LinkLeft
+abbrev pub link_left : {A : Type 0} → ℕ → Answer → List ℕ → List A → LinkLeft A
 link_left status answer room report = record { status = status; answer = answer; room = room; report = report }
 
 -- what a link leaves: both parts, or neither
-abbrev pub output_left : Result Output Refusal → List ℕ → List ℕ → LinkLeft
+abbrev pub output_left : {A : Type 0} → Result (Output A) Refusal → List ℕ → List A → LinkLeft A
 output_left (Err r) room report = link_left 2 (refused r) room report
 output_left (Ok x) room report =
     if nat_lt (length room) (length x.file) || nat_lt (length report) (length x.report)
@@ -81,15 +86,15 @@ output_left (Ok x) room report =
     else link_left x.status (given 0 (length x.file) (length x.report)) (put_in room x.file) (put_in report x.report)
 
 -- what a link leaves for which memory ran out, at the object of this number
-abbrev pub no_output : ℕ → List ℕ → List ℕ → LinkLeft
+abbrev pub no_output : {A : Type 0} → ℕ → List ℕ → List A → LinkLeft A
 no_output place room report = output_left (Err (record { cause = Memory; place = place })) room report
 
 -- the same with a third room, for the replies to the edits of a session
 pub record SessionLeft : Type 0 where
-  pub link : LinkLeft
+  pub link : LinkLeft ℕ
   pub replies : List ℕ
 
-abbrev pub session_left : LinkLeft → List ℕ → SessionLeft
+abbrev pub session_left : LinkLeft ℕ → List ℕ → SessionLeft
 session_left link replies = record { link = link; replies = replies }
 
 -- what a session leaves: all three parts, or none
@@ -106,15 +111,15 @@ abbrev pub no_session : ℕ → List ℕ → List ℕ → List ℕ → SessionLe
 no_session place replies room report = ran_left (Err (record { cause = Memory; place = place })) replies room report
 
 -- what a call leaves that shows a session: the state and the replies, or neither
-abbrev pub output_told : Result Told Refusal → Result Output Refusal
+abbrev pub output_told : Result Told Refusal → Result (Output ℕ) Refusal
 output_told (Ok x) = Ok (record { status = x.status; file = x.state; report = x.replies })
 output_told (Err r) = Err r
 
-abbrev pub told_left : Result Told Refusal → List ℕ → List ℕ → LinkLeft
+abbrev pub told_left : Result Told Refusal → List ℕ → List ℕ → LinkLeft ℕ
 told_left r room replies = output_left (output_told r) room replies
 
 -- it is one that the session may show which is asked for
-pub record LeavesState (asked : Result Asked Refusal) (room replies : List ℕ) (left : LinkLeft) : Type 0 where
+pub record LeavesState (asked : Result Asked Refusal) (room replies : List ℕ) (left : LinkLeft ℕ) : Type 0 where
   pub told : Result Told Refusal
   pub shown : IsShown asked told
   pub is : left ≡ told_left told room replies
@@ -145,14 +150,46 @@ apart_left (Ok p) text datas symbols =
     then parts_left 2 (given 60 0 0) (counts_of p) text datas symbols
     else parts_left 0 (given 0 0 0) (counts_of p) (put_in text p.text) (put_in datas p.«data») (put_in symbols p.symbols)
 
+-- the words of a header
+abbrev pub header_of : Header → FileHeader
+header_of h = record {
+  magic = h.magic;
+  text_size = h.text_size;
+  data_size = h.data_size;
+  bss_size = h.bss_size;
+  symbol_size = h.symbol_size;
+  entry_point = h.entry_point;
+  unused = h.unused;
+  flag = h.flag;
+}
+
+abbrev pub no_header : FileHeader
+no_header = record { magic = 0; text_size = 0; data_size = 0; bss_size = 0; symbol_size = 0; entry_point = 0; unused = 0; flag = 0 }
+
+-- what reading a file leaves: the same with its header
+pub record FileLeft : Type 0 where
+  pub header : FileHeader
+  pub parts : PartsLeft
+
+abbrev pub file_left : FileHeader → PartsLeft → FileLeft
+file_left header parts = record { header = header; parts = parts }
+
+abbrev pub read_left : Result Whole Cause → List ObjectWord → List ObjectWord → List SymbolRow → FileLeft
+read_left (Err cause) text datas symbols = file_left no_header (apart_left (Err cause) text datas symbols)
+read_left (Ok f) text datas symbols = file_left (header_of f.header) (apart_left (Ok f.parts) text datas symbols)
+
 -- the results of the code as those of the definitions
 abbrev pub items_of : Result (Vec ℕ Global) Cause → Result (List ℕ) Cause
 items_of (Ok bytes) = Ok bytes.items
 items_of (Err cause) = Err cause
 
-abbrev pub outputs_or : Result Program Refusal → Result Output Refusal
+abbrev pub outputs_or : Result Program Refusal → Result (Output ℕ) Refusal
 outputs_or (Ok program) = Ok (outputs_of program)
 outputs_or (Err r) = Err r
+
+abbrev pub founds_or : Result Found Refusal → Result (Output Finding) Refusal
+founds_or (Ok found) = Ok (founds_of found)
+founds_or (Err r) = Err r
 
 abbrev pub sessions_or : Result Ran Refusal → Result SessionOutput Refusal
 sessions_or (Ok ran) = Ok (sessions_of ran)
@@ -165,3 +202,7 @@ told_or (Err r) = Err r
 abbrev pub pieces_or : Result PartLists Cause → Result Pieces Cause
 pieces_or (Ok p) = Ok (pieces_in p)
 pieces_or (Err cause) = Err cause
+
+abbrev pub wholes_or : Result FileLists Cause → Result Whole Cause
+wholes_or (Ok f) = Ok (whole_of f)
+wholes_or (Err cause) = Err cause

@@ -1,7 +1,8 @@
 //! What a call says besides the bytes that it gives.
 ghost use Rattle.std.specs.Prelude.{◌≡◌};
-ghost use Rattle.v7_c.specs.Left.{given, refused};
+ghost use Rattle.v7_c.specs.Left.{given, header_of, no_header, refused};
 
+use aout_core::Header;
 use library_calls::Refusal;
 
 /// What a call says besides the bytes that it gives. `v7.h` has the numbers of the faults.
@@ -31,6 +32,54 @@ pub struct Counts {
     pub symbols: usize,
     /// The size of bss in bytes.
     pub bss: u32,
+}
+
+/// The eight words that a file begins with, as `aout_core` has them. (a.out(5))
+#[repr(C)]
+#[derive(Clone, Copy)]
+pub struct FileHeader {
+    pub magic: u16,
+    pub text_size: u16,
+    pub data_size: u16,
+    pub bss_size: u16,
+    pub symbol_size: u16,
+    pub entry_point: u16,
+    pub unused: u16,
+    pub flag: u16,
+}
+
+impl FileHeader {
+    /// The words of a header.
+    pub(crate) fn of(header: &Header) -> FileHeader
+        ensures { result ≡ header_of header.now }
+    {
+        FileHeader {
+            magic: header.magic,
+            text_size: header.text_size,
+            data_size: header.data_size,
+            bss_size: header.bss_size,
+            symbol_size: header.symbol_size,
+            entry_point: header.entry_point,
+            unused: header.unused,
+            flag: header.flag,
+        }
+    }
+
+    /// Eight words of 0.
+    pub(crate) fn none() -> FileHeader
+        ensures { result ≡ no_header }
+    {
+        FileHeader {
+            magic: 0,
+            text_size: 0,
+            data_size: 0,
+            bss_size: 0,
+            symbol_size: 0,
+            entry_point: 0,
+            unused: 0,
+            flag: 0,
+        }
+    }
 }
 
 impl Answer {

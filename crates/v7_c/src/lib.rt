@@ -9,19 +9,28 @@ mod rooms;
 ghost use Rattle.std.specs.Prelude.{◌≡◌, ◌≢◌, ◌⊎◌, [], Err, IsOk};
 ghost use Rattle.library_calls.specs.declared.cause.Cause.TheVariants.{Memory};
 ghost use Rattle.library_calls.specs.FileAnswers.{checked_in, names_in, sizes_in, stripped_in};
-ghost use Rattle.library_calls.specs.LinkAnswers.{output_in};
-ghost use Rattle.library_calls.specs.MemoryWanted.{HasBody, LinkMayRunOut, SessionMayRunOut, StateMayRunOut};
-ghost use Rattle.library_calls.specs.ObjectParts.{file_for, made_of, parts_in, pieces};
+ghost use Rattle.library_calls.specs.LinkAnswers.{each_of, found_each, output_each, output_in};
+ghost use Rattle.library_calls.specs.MemoryWanted.{HasBody, LinkMayRunOut, LinkOfEachMayRunOut, SessionMayRunOut, StateMayRunOut};
+ghost use Rattle.library_calls.specs.ObjectParts.{file_for, made_of, parts_in, pieces, whole_in};
 ghost use Rattle.library_calls.specs.SessionAnswers.{session_in};
 ghost use Rattle.library_calls.specs.StateAnswers.{asked_in};
-ghost use Rattle.v7_c.specs.Left.{LeavesState, apart_left, counted_by, left, left_by, link_left, no_bytes, no_output, no_session, output_left, parts_left, ran_left, session_left};
+ghost use Rattle.v7_c.specs.Left.{LeavesState, apart_left, counted_by, file_left, left, left_by, link_left, no_bytes, no_output, no_session, output_left, parts_left, ran_left, read_left, session_left};
 
-use crate::answer::{Answer, Counts};
+use crate::answer::{Answer, Counts, FileHeader};
 use crate::rooms::{
-    leave_bytes, leave_count, leave_output, leave_parts, leave_session, leave_state,
+    leave_bytes, leave_count, leave_file, leave_findings, leave_output, leave_parts, leave_session,
+    leave_state,
 };
-use library_calls::{ObjectParts, ObjectWord, SymbolRow, Wanted};
+use library_calls::{Finding, ObjectBytes, ObjectParts, ObjectWord, SymbolRow, Wanted};
 use std::alloc::Global;
+
+/// The version of the library, 0.4.0: 65,536 for each major version, 256 for each minor version, and the patch.
+#[unsafe(no_mangle)]
+pub extern "C" fn v7_version() -> u32
+    ensures { result ≡ 1024 }
+{
+    0x0000_0400
+}
 
 /// Checks an object, and gives how many bytes it takes.
 #[unsafe(no_mangle)]
@@ -104,6 +113,64 @@ pub extern "C" fn v7_link(
     )
 }
 
+/// Links objects whose bytes are apart.
+#[unsafe(no_mangle)]
+pub extern "C" fn v7_link_list(
+    alloc: Global,
+    options: u32,
+    entry: &[u8],
+    forced: &[u8],
+    objects: &[ObjectBytes<'_>],
+    room: &mut [u8],
+    report: &mut [u8],
+    answer: &mut Answer,
+) -> u32
+    ensures value { answer.new.fault ≢ 50 → link_left result answer.new room.new report.new
+        ≡ output_left (output_each options entry.now forced.now (each_of objects.now)) room.old report.old }
+    ensures memory { answer.new.fault ≡ 50 → link_left result answer.new room.new report.new
+        ≡ no_output answer.new.place room.old report.old }
+    ensures ran_out { answer.new.fault ≡ 50 → LinkOfEachMayRunOut options entry.now forced.now (each_of objects.now) answer.new.place }
+{
+    let wanted = Wanted {
+        options,
+        entry,
+        forced,
+    };
+    leave_output(
+        library_calls::link_each(alloc, &wanted, objects),
+        room,
+        report,
+        answer,
+    )
+}
+
+/// Links objects whose bytes are apart, and gives the report as a list.
+#[unsafe(no_mangle)]
+pub extern "C" fn v7_link_findings(
+    alloc: Global,
+    options: u32,
+    entry: &[u8],
+    forced: &[u8],
+    objects: &[ObjectBytes<'_>],
+    room: &mut [u8],
+    findings: &mut [Finding],
+    answer: &mut Answer,
+) -> u32
+    ensures value { answer.new.fault ≢ 50 → link_left result answer.new room.new findings.new
+        ≡ output_left (found_each options entry.now forced.now (each_of objects.now)) room.old findings.old }
+    ensures memory { answer.new.fault ≡ 50 → link_left result answer.new room.new findings.new
+        ≡ no_output answer.new.place room.old findings.old }
+    ensures ran_out { answer.new.fault ≡ 50 → LinkOfEachMayRunOut options entry.now forced.now (each_of objects.now) answer.new.place }
+{
+    let wanted = Wanted {
+        options,
+        entry,
+        forced,
+    };
+    let found = library_calls::link_findings(alloc, &wanted, objects);
+    leave_findings(found, room, findings, answer)
+}
+
 /// Makes an object of its parts.
 #[tactic(auto, using(crate::proofs::LeftLemmas::made_memory))]
 #[unsafe(no_mangle)]
@@ -149,6 +216,30 @@ pub extern "C" fn v7_take_apart(
 {
     let parts = library_calls::take_apart(alloc, bytes);
     let (status, there) = leave_parts(parts, text, data_words, symbols, answer);
+    *counts = there;
+    status
+}
+
+/// Reads a file, an object or another.
+#[unsafe(no_mangle)]
+pub extern "C" fn v7_read(
+    alloc: Global,
+    bytes: &[u8],
+    header: &mut FileHeader,
+    text: &mut [ObjectWord],
+    data_words: &mut [ObjectWord],
+    symbols: &mut [SymbolRow],
+    counts: &mut Counts,
+    answer: &mut Answer,
+) -> u32
+    ensures value { answer.new.fault ≢ 50 → file_left header.new (parts_left result answer.new counts.new text.new data_words.new symbols.new)
+        ≡ read_left (whole_in bytes.now) text.old data_words.old symbols.old }
+    ensures memory { answer.new.fault ≡ 50 → file_left header.new (parts_left result answer.new counts.new text.new data_words.new symbols.new)
+        ≡ read_left (Err Memory) text.old data_words.old symbols.old }
+    ensures ran_out { answer.new.fault ≡ 50 → IsOk (whole_in bytes.now) }
+{
+    let file = library_calls::read_apart(alloc, bytes);
+    let (status, there) = leave_file(file, header, text, data_words, symbols, answer);
     *counts = there;
     status
 }

@@ -1,13 +1,16 @@
 //! What a call gives, written into the buffers of its caller.
 ghost use Rattle.std.specs.Prelude.{◌≡◌, ◌≤◌, [], length, Ok};
-ghost use Rattle.library_calls.specs.LinkAnswers.{outputs_of};
+ghost use Rattle.library_calls.specs.LinkAnswers.{founds_of, outputs_of};
 ghost use Rattle.library_calls.specs.ObjectParts.{pieces_in};
 ghost use Rattle.library_calls.specs.SessionAnswers.{sessions_of};
 ghost use Rattle.library_calls.specs.StateAnswers.{told_of};
-ghost use Rattle.v7_c.specs.Left.{apart_left, counted_by, counts_of, items_of, left, left_by, link_left, output_left, outputs_or, parts_left, pieces_or, put_in, ran_left, session_left, sessions_or, told_left, told_or};
+ghost use Rattle.v7_c.specs.Left.{apart_left, counted_by, counts_of, file_left, founds_or, items_of, left, left_by, link_left, output_left, outputs_or, parts_left, pieces_or, put_in, ran_left, read_left, session_left, sessions_or, told_left, told_or, wholes_or};
 
-use crate::answer::{Answer, Counts};
-use library_calls::{Cause, ObjectWord, PartLists, Program, Ran, Refusal, Shown, SymbolRow};
+use crate::answer::{Answer, Counts, FileHeader};
+use library_calls::{
+    Cause, FileLists, Finding, Found, ObjectWord, PartLists, Program, Ran, Refusal, Shown,
+    SymbolRow,
+};
 
 /// The fault if a buffer is too short.
 const NO_ROOM: u32 = 60;
@@ -63,14 +66,19 @@ pub(crate) fn leave_bytes(
 
 /// Two results and a status.
 #[derive(Clone, Copy)]
-struct Both<'a> {
+struct Both<'a, T> {
     status: u8,
     bytes: &'a [u8],
-    more: &'a [u8],
+    more: &'a [T],
 }
 
 /// Writes two results into their buffers, if both fit.
-fn leave_both(both: &Both<'_>, room: &mut [u8], report: &mut [u8], answer: &mut Answer) -> u32
+fn leave_both<T: Copy>(
+    both: &Both<'_, T>,
+    room: &mut [u8],
+    report: &mut [T],
+    answer: &mut Answer,
+) -> u32
     ensures { link_left result answer.new room.new report.new
         ≡ output_left (Ok (record { status = both.now.status; file = both.now.bytes.now; report = both.now.more.now })) room.old report.old }
 {
@@ -109,6 +117,36 @@ pub(crate) fn leave_output(
 {
     match program {
         Ok(program) => leave_program(&program, room, report, answer),
+        Err(refusal) => {
+            *answer = Answer::refused(refusal);
+            2
+        }
+    }
+}
+
+/// Writes the file of a link and its findings into the buffers, if both fit.
+fn leave_found(found: &Found, room: &mut [u8], findings: &mut [Finding], answer: &mut Answer) -> u32
+    ensures { link_left result answer.new room.new findings.new ≡ output_left (Ok (founds_of found.now)) room.old findings.old }
+{
+    let both = Both {
+        status: found.status,
+        bytes: &found.file,
+        more: &found.findings,
+    };
+    leave_both(&both, room, findings, answer)
+}
+
+/// Writes a link and its findings into the buffers, if there is one.
+pub(crate) fn leave_findings(
+    found: Result<Found, Refusal>,
+    room: &mut [u8],
+    findings: &mut [Finding],
+    answer: &mut Answer,
+) -> u32
+    ensures { link_left result answer.new room.new findings.new ≡ output_left (founds_or found) room.old findings.old }
+{
+    match found {
+        Ok(found) => leave_found(&found, room, findings, answer),
         Err(refusal) => {
             *answer = Answer::refused(refusal);
             2
@@ -249,6 +287,30 @@ pub(crate) fn leave_parts(
                 bss: 0,
             };
             (2, none)
+        }
+    }
+}
+
+/// Writes the header and the parts of a file, if there is one and all fit, and returns the status and their numbers.
+pub(crate) fn leave_file(
+    file: Result<FileLists, Cause>,
+    header: &mut FileHeader,
+    text: &mut [ObjectWord],
+    data_words: &mut [ObjectWord],
+    symbols: &mut [SymbolRow],
+    answer: &mut Answer,
+) -> (u32, Counts)
+    ensures { file_left header.new (parts_left result.0 answer.new result.1 text.new data_words.new symbols.new)
+        ≡ read_left (wholes_or file) text.old data_words.old symbols.old }
+{
+    match file {
+        Ok(file) => {
+            *header = FileHeader::of(&file.header);
+            leave_parts(Ok(file.parts), text, data_words, symbols, answer)
+        }
+        Err(cause) => {
+            *header = FileHeader::none();
+            leave_parts(Err(cause), text, data_words, symbols, answer)
         }
     }
 }
