@@ -143,6 +143,7 @@ gate:
 	python3 tests/index.py
 	python3 tests/quotes.py
 	python3 tests/layers.py
+	python3 tests/limits.py
 	rt ci
 
 # one claim proved again, and a broken line refused: docs/TRUST.md
