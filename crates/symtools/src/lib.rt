@@ -36,4 +36,4 @@ pub use fault::ToolFault;
 pub use listing::nm;
 pub use options::NmOptions;
 pub use sizes::size;
-pub use symbol_line::{letter, line, value_column};
+pub use symbol_line::{letter, line, octal_word, value_column};
