@@ -8,10 +8,11 @@ ghost use Rattle.session_text.specs.Items.{each};
 ghost use Rattle.session_text.specs.StateLines.{bss_line, cell_line, cell_text, external_line, image_lines, mark_line, mark_text, multiple_line, nothing_line, pc_text, place_text, segment_text, state_lines, state_text, target_text, wanted_text};
 
 use crate::names::{name_at, push_shown_name};
-use crate::numbers::{octal_word, push_decimal};
+use crate::numbers::push_decimal;
 use aout_core::{Name, Segment};
 use link_session::{Cell, Entry, Mark, Place, Session, State, Target};
 use std::alloc::{AllocError, Global};
+use symtools::octal_word;
 
 /// Appends what a word refers to, or waits for.
 fn push_target(text: &mut Vec<u8>, session: &Session, target: Target) -> Result<(), AllocError>

@@ -3,10 +3,10 @@ ghost use Rattle.std.specs.Prelude.{◌≡◌, ◌++◌, OnOk};
 ghost use Rattle.link_session.specs.Undo.{image_of};
 ghost use Rattle.session_text.specs.Items.{name_at, shown_byte, shown_name};
 
-use crate::numbers::octal_word;
 use aout_core::Name;
 use link_session::Session;
 use std::alloc::AllocError;
+use symtools::octal_word;
 
 /// Appends a byte of a name.
 fn push_shown_byte(text: &mut Vec<u8>, byte: u8) -> Result<(), AllocError>

@@ -18,6 +18,7 @@
 //! - `nm`: the symbols of files
 //! - `size`: the sizes of files
 //! - `line`: the line of one symbol
+//! - `octal_word`: the six octal digits of a word
 //! - `value_column`, `letter`: its value and its letter, as nm shows them
 #![tactic(auto)]
 
@@ -33,4 +34,4 @@ pub use fault::ToolFault;
 pub use listing::nm;
 pub use options::NmOptions;
 pub use sizes::size;
-pub use symbol_line::{letter, line, value_column};
+pub use symbol_line::{letter, line, octal_word, value_column};

@@ -38,12 +38,12 @@ pub fn value_column(symbol: &Symbol) -> [u8; 6]
     if is_shown_undefined(symbol) {
         *b"      "
     } else {
-        octal_word(symbol.value)
+        octal_word(u32::from(symbol.value))
     }
 }
 
-/// Six octal digits.
-fn octal_word(word: u16) -> [u8; 6]
+/// A number in six octal digits. Of a larger one the last six are given. (nm(1))
+pub fn octal_word(word: u32) -> [u8; 6]
     ensures { result ≡ octal_word word }
 {
     [
@@ -56,7 +56,7 @@ fn octal_word(word: u16) -> [u8; 6]
     ]
 }
 
-fn octal_digit(word: u16, place: u16) -> u8
+fn octal_digit(word: u32, place: u32) -> u8
     requires { 1 ≤ place }
     ensures { result ≡ 48 + word / place % 8 }
 {
