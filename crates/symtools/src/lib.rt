@@ -18,8 +18,8 @@
 //! - `nm`: the symbols of files
 //! - `size`: the sizes of files
 //! - `line`: the line of one symbol
-//! - `octal_word`: the six octal digits of a word
 //! - `value_column`, `letter`: its value and its letter, as nm shows them
+//! - `octal_word`: the six octal digits of a word
 #![tactic(auto)]
 
 mod buffer;
