@@ -16,7 +16,7 @@ endif
 
 all: build/v7 build/v7-from-gnu build/v7-object build/v7-explain build/v7-lesson
 
-SOURCES := crates.txt $(shell find crates \( -name out -o -path crates/cases \) -prune -o -type f -print)
+SOURCES := crates.txt $(shell find crates \( -name out -o -path crates/cases -o -path crates/case_format \) -prune -o -type f -print)
 
 build/v7: crates/v7/out/v7
 	mkdir -p build

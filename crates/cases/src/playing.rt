@@ -1,19 +1,20 @@
 //! The parts of a case are played.
-use crate::case::{Part, Step};
-use crate::expecting::{check_came, check_left};
-use crate::files::make;
-use crate::folder::Folder;
+use crate::expecting::check_step;
+use crate::files::{Folder, make};
 use crate::machine::Machine;
-use crate::problem::Problem;
-use crate::running::{Came, run};
+use crate::running::run;
 use crate::states::check_state;
-use crate::texts::is;
-use std::alloc::{AllocError, Global};
+use case_format::{Part, Problem, Step};
+use std::alloc::Global;
+use std::collections::BTreeMap;
+use thiserror::Error;
 
 /// Why a part is not played in memory.
-#[derive(Clone, Copy, PartialEq, Eq)]
+#[derive(Clone, Copy, Debug, PartialEq, Eq, Error)]
 pub(crate) enum Reason {
+    #[error("only disk")]
     OnlyDisk,
+    #[error("another program")]
     OtherProgram,
 }
 
@@ -23,52 +24,12 @@ pub(crate) fn reason_of(part: &Part) -> Option<Reason> {
         return Some(Reason::OnlyDisk);
     }
     for step in &part.steps {
-        if step
-            .words
-            .first()
-            .is_some_and(|word| !is(word.as_slice(), "v7"))
-        {
+        let program = step.words.first();
+        if program.is_none_or(|word| word.as_slice() != b"v7".as_slice()) {
             return Some(Reason::OtherProgram);
         }
     }
     None
-}
-
-/// What came of a command, and what it asked for.
-#[derive(Drop)]
-struct Ran {
-    came: Came,
-    requests: Vec<u8>,
-}
-
-/// Runs a command of a part, before which so many came.
-fn run_step(
-    alloc: Global,
-    part: &Part,
-    place: usize,
-    folder: &mut Folder,
-    step: &Step,
-) -> Result<Ran, AllocError> {
-    let machine = Machine::new(alloc, &part.plans, place);
-    let came = run(&machine, folder, step)?;
-    Ok(Ran {
-        came,
-        requests: machine.into_requests(),
-    })
-}
-
-/// Plays a command of a part.
-fn play_step(
-    rt: &HostRuntime,
-    part: &Part,
-    place: usize,
-    folder: &mut Folder,
-    step: &Step,
-) -> Result<(), Problem> {
-    let old = folder.without(rt.alloc(), b"")?;
-    let ran = run_step(rt.alloc(), part, place, folder, step)?;
-    check_came(rt.alloc(), step, &ran.came)?;
-    check_left(rt, step, &old, folder, &ran.requests)
 }
 
 /// Plays the states before which so many commands come.
@@ -81,9 +42,24 @@ fn play_states(alloc: Global, part: &Part, place: usize, folder: &Folder) -> Res
     Ok(())
 }
 
+/// Plays a command of a part, before which so many came.
+fn play_step(
+    rt: &HostRuntime,
+    part: &Part,
+    place: usize,
+    folder: &mut Folder,
+    step: &Step,
+) -> Result<(), Problem> {
+    let old = folder.clone()?;
+    let machine = Machine::new(rt.alloc(), &part.plans, place);
+    let came = run(&machine, folder, step)?;
+    let requests = machine.into_requests()?;
+    check_step(rt, step, &old, folder, &came, &requests)
+}
+
 /// Plays a part.
 pub(crate) fn play_part(rt: &HostRuntime, part: &Part) -> Result<(), Problem> {
-    let mut folder = Folder::new(rt.alloc());
+    let mut folder = BTreeMap::new(rt.alloc());
     for item in &part.made {
         make(rt, &mut folder, item)?;
     }

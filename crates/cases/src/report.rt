@@ -1,17 +1,13 @@
 //! All cases of a run, and what came of them.
-use crate::case::Case;
-use crate::lines::{Line, lines_of, name_in, starts_of};
 use crate::playing::{Reason, play_part, reason_of};
-use crate::problem::{Mistake, Problem, wrong};
-use crate::reading::read_case;
-use crate::samples::read_all;
+use case_format::{Case, Line, Problem, lines_of, name_in, read_case, starts_of, wrong};
+use programs::read_all;
 use std::alloc::{AllocError, Global};
-use std::fmt::Write;
 
 /// A case that was read: its name, and where it is.
 #[derive(Drop)]
 struct Known {
-    name: Vec<u8>,
+    name: String,
     place: String,
 }
 
@@ -25,62 +21,7 @@ pub(crate) struct Run {
     other_program: usize,
     bad: usize,
     /// Whether only the errors of bad cases are printed, which then are not counted.
-    is_listing_errors: bool,
-}
-
-/// How many parts of a case are not played, and why the first is not.
-#[derive(Clone, Copy)]
-struct Left {
-    count: usize,
-    reason: Option<Reason>,
-}
-
-/// Why parts are not played.
-fn reason_text(reason: Reason) -> &'static str {
-    match reason {
-        Reason::OnlyDisk => "only disk",
-        Reason::OtherProgram => "another program",
-    }
-}
-
-/// Which parts of a case are not played.
-fn left_of(case: &Case<'_>) -> Left {
-    let mut left = Left {
-        count: 0,
-        reason: None,
-    };
-    for part in &case.parts {
-        if let Some(reason) = reason_of(part) {
-            left.count = left.count.saturating_add(1);
-            left.reason = left.reason.or(Some(reason));
-        }
-    }
-    left
-}
-
-/// Plays the parts of a case that can be played.
-fn play_parts(rt: &HostRuntime, case: &Case<'_>) -> Result<(), Problem> {
-    for part in &case.parts {
-        if reason_of(part).is_none() {
-            play_part(rt, part)?;
-        }
-    }
-    Ok(())
-}
-
-/// The line of a case that was not played, or not all of it.
-fn line_of(alloc: Global, name: &str, left: Left, is_skipped: bool) -> Result<String, AllocError> {
-    match left.reason {
-        None => format!(in alloc; "ok {name}\n"),
-        Some(reason) => {
-            let reason = reason_text(reason);
-            if is_skipped {
-                format!(in alloc; "skipped {name}: {reason}\n")
-            } else {
-                format!(in alloc; "ok {name}, but not all: {reason}\n")
-            }
-        }
-    }
+    lists_errors: bool,
 }
 
 /// Prints a text, or nothing if there was no memory for it.
@@ -88,19 +29,6 @@ fn print(rt: &HostRuntime, text: Result<String, AllocError>) {
     if let Ok(text) = text {
         let _ = rt.print(text.as_str());
     }
-}
-
-/// The line of a mistake in a case.
-fn mistake_line(
-    alloc: Global,
-    path: &str,
-    case: &[u8],
-    mistake: &Mistake,
-) -> Result<String, AllocError> {
-    let case = String::from_utf8_lossy(alloc, case)?;
-    let line = mistake.line;
-    let text = mistake.text.as_str();
-    format!(in alloc; "{path}:{line}: {case}: {text}\n")
 }
 
 impl Run {
@@ -112,103 +40,118 @@ impl Run {
             only_disk: 0,
             other_program: 0,
             bad: 0,
-            is_listing_errors: false,
+            lists_errors: false,
         }
-    }
-
-    /// From now on only the errors of bad cases are printed.
-    pub(crate) fn list_errors(&mut self) {
-        self.is_listing_errors = true;
     }
 
     /// Whether cases were played, and all of them well.
     pub(crate) fn is_good(&self) -> bool {
-        self.bad == 0 && (self.is_listing_errors || self.played > 0)
+        self.bad == 0 && (self.lists_errors || self.played > 0)
     }
 
-    /// A case is bad.
-    fn fail(&mut self) {
-        if !self.is_listing_errors {
-            self.bad = self.bad.saturating_add(1);
+    /// From now on only the errors of bad cases are printed. If cases were played before, their summary comes first.
+    pub(crate) fn list_errors(&mut self, rt: &HostRuntime) {
+        if !self.known.is_empty() || self.bad > 0 {
+            self.end(rt);
         }
+        self.lists_errors = true;
     }
 
-    /// Counts a case of which these parts are not played.
-    fn count(&mut self, left: Left, is_skipped: bool) {
-        if !is_skipped {
-            self.played = self.played.saturating_add(1);
-            self.in_part = self.in_part.saturating_add(left.count.min(1));
+    /// Prints how many cases were played, and how many not, and why.
+    pub(crate) fn end(&self, rt: &HostRuntime) {
+        if self.lists_errors {
             return;
         }
-        match left.reason {
-            Some(Reason::OtherProgram) => {
-                self.other_program = self.other_program.saturating_add(1);
-            }
-            _ => self.only_disk = self.only_disk.saturating_add(1),
-        }
-    }
-
-    /// Where the case of this name is, if there was one.
-    fn place_of(&self, name: &[u8]) -> Option<&str> {
-        for known in &self.known {
-            if known.name.as_slice() == name {
-                return Some(known.place.as_str());
-            }
-        }
-        None
+        let (played, in_part, bad) = (self.played, self.in_part, self.bad);
+        let (disk, program) = (self.only_disk, self.other_program);
+        let skipped = disk.saturating_add(program);
+        let alloc = rt.alloc();
+        print(
+            rt,
+            format!(in alloc; "{played} cases played in memory, {in_part} of them in part; "),
+        );
+        print(
+            rt,
+            format!(in alloc;
+                "{skipped} skipped, {disk} for only disk, {program} for another program; {bad} failed\n"
+            ),
+        );
     }
 
     /// Notes the name of a case, which no other may have.
     fn note(&mut self, alloc: Global, path: &str, case: &Case<'_>) -> Result<(), Problem> {
-        let line = case.line;
-        if let Some(first) = self.place_of(case.name) {
-            let name = String::from_utf8_lossy(alloc, case.name)?;
+        let (name, line) = (case.name, case.line);
+        let mut known = self.known.iter();
+        if let Some(first) = known.find(|known| known.name.as_str() == name) {
+            let first = first.place.as_str();
             let text = format!(in alloc; "a second case {name}; the first: {first}");
             return Err(wrong(line, text));
         }
         let place = format!(in alloc; "{path}:{line}")?;
-        let name = case.name.to_vec(alloc)?;
+        let name = String::from_str(alloc, name)?;
         self.known.push(Known { name, place })?;
         Ok(())
     }
 
-    /// A case was played: counts it, and prints its line.
-    fn tell(&mut self, rt: &HostRuntime, case: &Case<'_>) -> Result<(), Problem> {
-        if !self.is_listing_errors {
-            let left = left_of(case);
-            let is_skipped = left.count == case.parts.len();
-            self.count(left, is_skipped);
-            let name = String::from_utf8_lossy(rt.alloc(), case.name)?;
-            print(rt, line_of(rt.alloc(), name.as_str(), left, is_skipped));
+    /// Counts a case with so many parts that were not played, the first of them for this reason, and prints its line.
+    fn tell(&mut self, rt: &HostRuntime, case: &Case<'_>, count: usize, reason: Option<Reason>) {
+        let (alloc, name) = (rt.alloc(), case.name);
+        let is_skipped = count == case.parts.len();
+        let line = match reason {
+            None => format!(in alloc; "ok {name}\n"),
+            Some(reason) if is_skipped => format!(in alloc; "skipped {name}: {reason}\n"),
+            Some(reason) => format!(in alloc; "ok {name}, but not all: {reason}\n"),
+        };
+        let counted = match reason {
+            Some(Reason::OnlyDisk) if is_skipped => &mut self.only_disk,
+            Some(Reason::OtherProgram) if is_skipped => &mut self.other_program,
+            _ => &mut self.played,
+        };
+        *counted = counted.saturating_add(1);
+        if reason.is_some() && !is_skipped {
+            self.in_part = self.in_part.saturating_add(1);
+        }
+        print(rt, line);
+    }
+
+    /// Reads a case and plays its parts, except those for another engine.
+    fn take_case(
+        &mut self,
+        rt: &HostRuntime,
+        path: &str,
+        lines: &[Line<'_>],
+    ) -> Result<(), Problem> {
+        let case = read_case(rt.alloc(), lines)?;
+        self.note(rt.alloc(), path, &case)?;
+        let mut count = 0usize;
+        let mut first = None;
+        for part in &case.parts {
+            match reason_of(part) {
+                None => play_part(rt, part)?,
+                Some(reason) => {
+                    count = count.saturating_add(1);
+                    first = first.or(Some(reason));
+                }
+            }
+        }
+        if !self.lists_errors {
+            self.tell(rt, &case, count, first);
         }
         Ok(())
     }
 
-    /// Reads a case and plays it.
-    fn take(&mut self, rt: &HostRuntime, path: &str, lines: &[Line<'_>]) -> Result<(), Problem> {
-        let case = read_case(rt.alloc(), lines)?;
-        self.note(rt.alloc(), path, &case)?;
-        play_parts(rt, &case)?;
-        self.tell(rt, &case)
-    }
-
-    /// Reads a case and plays it, or prints its first error.
-    fn take_or_tell(&mut self, rt: &HostRuntime, path: &str, lines: &[Line<'_>]) {
-        let alloc = rt.alloc();
-        match self.take(rt, path, lines) {
-            Ok(()) => {}
-            Err(Problem::Wrong(mistake)) => {
-                self.fail();
-                print(rt, mistake_line(alloc, path, name_in(lines), &mistake));
-            }
-            Err(Problem::Memory) => {
-                self.fail();
-                let _ = rt.print("no memory\n");
-            }
+    /// A case is bad, or a file: counts it, and prints the error.
+    fn fail(&mut self, rt: &HostRuntime, path: &str, text: Result<String, AllocError>) {
+        if !self.lists_errors {
+            self.bad = self.bad.saturating_add(1);
+        }
+        match text {
+            Ok(text) => print(rt, Ok(text)),
+            Err(AllocError) => print(rt, format!(in rt.alloc(); "{path}: no memory\n")),
         }
     }
 
-    /// Takes the cases of these lines of a file.
+    /// Plays the cases of these lines of a file.
     fn take_lines(
         &mut self,
         rt: &HostRuntime,
@@ -217,68 +160,45 @@ impl Run {
     ) -> Result<(), AllocError> {
         let starts = starts_of(rt.alloc(), lines)?;
         for ends in starts.windows(2) {
-            if let [start, end] = ends {
-                self.take_or_tell(rt, path, lines.get(*start..*end).unwrap_or(&[]));
+            let [start, end] = ends else {
+                continue;
+            };
+            let lines = lines.get(*start..*end).unwrap_or(&[]);
+            match self.take_case(rt, path, lines) {
+                Ok(()) => {}
+                Err(Problem::Wrong(mistake)) => {
+                    let (case, line) = (name_in(lines), mistake.line);
+                    let text = mistake.text.as_str();
+                    let text = format!(in rt.alloc(); "{path}:{line}: {case}: {text}\n");
+                    self.fail(rt, path, text);
+                }
+                Err(Problem::Memory) => self.fail(rt, path, Err(AllocError)),
             }
         }
         Ok(())
     }
 
-    /// A file has no case, or can't be read.
-    fn take_nothing(&mut self, rt: &HostRuntime, path: &str, text: &str) {
-        self.fail();
-        print(rt, format!(in rt.alloc(); "{path}:1: {text}\n"));
-    }
-
-    /// Takes the cases in the bytes of a file.
-    fn take_bytes(&mut self, rt: &HostRuntime, path: &str, bytes: &[u8]) {
-        match lines_of(rt.alloc(), bytes) {
+    /// Plays the cases of a file.
+    pub(crate) fn take_file(&mut self, rt: &HostRuntime, path: &str) {
+        let alloc = rt.alloc();
+        let bytes = match read_all(rt, path) {
+            Ok(bytes) => bytes,
+            Err(fault) => return self.fail(rt, path, format!(in alloc; "{path}:1: {fault}\n")),
+        };
+        match lines_of(alloc, &bytes) {
             Ok(lines) if lines.is_empty() => {
-                self.take_nothing(rt, path, "no case in this file");
+                self.fail(
+                    rt,
+                    path,
+                    format!(in alloc; "{path}:1: no case in this file\n"),
+                );
             }
             Ok(lines) => {
                 if self.take_lines(rt, path, &lines).is_err() {
-                    self.take_nothing(rt, path, "no memory");
+                    self.fail(rt, path, Err(AllocError));
                 }
             }
-            Err(_) => self.take_nothing(rt, path, "no memory"),
+            Err(AllocError) => self.fail(rt, path, Err(AllocError)),
         }
-    }
-
-    /// Takes the cases of a file.
-    pub(crate) fn take_file(&mut self, rt: &HostRuntime, path: &str) {
-        match read_all(rt, path) {
-            Some(bytes) => self.take_bytes(rt, path, &bytes),
-            None => self.take_nothing(rt, path, "cannot be read"),
-        }
-    }
-
-    /// How many cases were played, and how many not, and why.
-    fn summary(&self, alloc: Global) -> Result<String, AllocError> {
-        let (played, in_part) = (self.played, self.in_part);
-        let (disk, program) = (self.only_disk, self.other_program);
-        let skipped = disk.saturating_add(program);
-        let bad = self.bad;
-        let mut text = format!(in alloc;
-            "{played} cases played in memory, {in_part} of them in part; "
-        )?;
-        write!(text, "{skipped} skipped, {disk} for only disk, ")?;
-        write!(text, "{program} for another program; {bad} failed\n")?;
-        Ok(text)
-    }
-
-    /// Whether any case was read.
-    pub(crate) fn is_begun(&self) -> bool {
-        !self.known.is_empty() || self.bad > 0
-    }
-
-    /// Whether only the errors of bad cases are printed.
-    pub(crate) fn lists_errors(&self) -> bool {
-        self.is_listing_errors
-    }
-
-    /// Prints how many cases were played.
-    pub(crate) fn tell_summary(&self, rt: &HostRuntime) {
-        print(rt, self.summary(rt.alloc()));
     }
 }

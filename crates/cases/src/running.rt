@@ -1,9 +1,9 @@
 //! A command is run.
-use crate::case::Step;
-use crate::folder::Folder;
+use crate::files::Folder;
 use crate::machine::Machine;
 use crate::office::{Desk, Sink, Source};
 use aout_core::Wire;
+use case_format::{Step, Word};
 use std::alloc::{AllocError, Global};
 use v7tools::{BlockWriter, Outputs, perform};
 
@@ -24,26 +24,9 @@ fn arguments(alloc: Global, step: &Step) -> Result<Vec<String>, AllocError> {
     Ok(words)
 }
 
-/// The standard streams that a command writes.
-#[derive(Drop)]
-struct Streams<'a> {
-    output: Sink<'a>,
-    error: Sink<'a>,
-}
-
-/// The status of a command.
-fn status_of<'a>(
-    machine: &'a Machine<'a>,
-    desk: &mut Desk<'a>,
-    script: Source<'a>,
-    streams: &mut Streams<'a>,
-    words: Vec<String>,
-) -> u8 {
-    let mut outputs = Outputs {
-        output: Wire::new(BlockWriter::new(&mut streams.output)),
-        error: Wire::new(&mut streams.error),
-    };
-    perform(machine.alloc(), desk, script, &mut outputs, words)
+/// A standard stream that a command writes.
+fn stream<'a>(machine: &'a Machine<'a>, name: &'a [u8]) -> Sink<'a> {
+    Sink::new(machine, name, machine.limit(Word::FailWrite, name), true)
 }
 
 /// Runs a command on the files of a folder.
@@ -52,17 +35,22 @@ pub(crate) fn run<'a>(
     folder: &'a mut Folder,
     step: &Step,
 ) -> Result<Came, AllocError> {
-    let words = arguments(machine.alloc(), step)?;
-    let script = Source::input(machine, &step.given)?;
-    let mut streams = Streams {
-        output: Sink::stream(machine, b"stdout"),
-        error: Sink::stream(machine, b"stderr"),
+    let words = arguments(machine.alloc, step)?;
+    let limit = machine.limit(Word::FailRead, b"stdin");
+    let script = Source::new(machine, b"stdin", &step.given, limit)?;
+    let mut output = stream(machine, b"stdout");
+    let mut error = stream(machine, b"stderr");
+    let mut desk = Desk { machine, folder };
+    let status = {
+        let mut outputs = Outputs {
+            output: Wire::new(BlockWriter::new(&mut output)),
+            error: Wire::new(&mut error),
+        };
+        perform(machine.alloc, &mut desk, script, &mut outputs, words)
     };
-    let mut desk = Desk::new(machine, folder);
-    let status = status_of(machine, &mut desk, script, &mut streams, words);
     Ok(Came {
         status,
-        output: streams.output.into_taken(),
-        error: streams.error.into_taken(),
+        output: output.taken,
+        error: error.taken,
     })
 }

@@ -1,79 +1,47 @@
 //! What a session shows after edits.
-use crate::case::Item;
-use crate::folder::Folder;
+use crate::files::Folder;
 use crate::output::check_output;
-use crate::problem::{Problem, mistake_in};
-use crate::texts::is;
 use aout_core::{Name, Object, Wire, read_file};
+use case_format::{Item, Problem, Shown, wrong};
 use link_session::{Forced, Session};
 use session_text::state_lines;
 use std::alloc::{AllocError, Global};
 
-/// The names that the edits force.
-fn forced_of(item: &Item) -> Forced {
+/// The names that the edits force, each after `-u`, and how many words of the edits that is.
+fn forced_of(edits: &[Vec<u8>]) -> (Forced, usize) {
     let mut forced = Forced::none();
-    let mut is_forced = false;
-    for word in &item.names {
-        if is_forced {
-            let _ = forced.push(Name::from_bytes(word));
+    let mut count = 0usize;
+    for pair in edits.chunks(2) {
+        match pair {
+            [option, name] if option.as_slice() == b"-u".as_slice() => {
+                let _ = forced.push(Name::from_bytes(name));
+                count = count.saturating_add(2);
+            }
+            _ => break,
         }
-        is_forced = !is_forced && is(word.as_slice(), "-u");
     }
-    forced
+    (forced, count)
 }
 
-/// The object of these bytes, if it is one.
-fn object_in(alloc: Global, bytes: &[u8]) -> Option<Object> {
-    let file = read_file(alloc, &mut Wire::new(bytes)).ok()?;
-    Object::from_file(file).ok()
-}
-
-/// Adds the object of these bytes to a session: whether it is there now.
-fn add(alloc: Global, session: &mut Session, name: &[u8], bytes: &[u8]) -> bool {
-    let Ok(label) = String::from_utf8_lossy(alloc, name) else {
-        return false;
-    };
-    match object_in(alloc, bytes) {
-        Some(object) => session.add(label, object).is_ok(),
-        None => false,
-    }
-}
-
-/// Adds a file of the folder to a session: whether it is there now.
-fn add_file(alloc: Global, session: &mut Session, folder: &Folder, name: &[u8]) -> bool {
-    match folder.find(name) {
-        Some(bytes) => add(alloc, session, name, bytes),
-        None => false,
-    }
-}
-
-/// Takes the last object away, if there is one.
-fn withdraw(session: &mut Session) {
-    let _ = session.withdraw();
+/// Adds a file of the folder to a session, if it is an object that the session takes.
+fn add(alloc: Global, session: &mut Session, folder: &Folder, name: &[u8]) -> Option<()> {
+    let label = String::from_utf8_lossy(alloc, name).ok()?;
+    let bytes = folder.get(name)?;
+    let file = read_file(alloc, &mut Wire::new(bytes.as_slice())).ok()?;
+    session.add(label, Object::from_file(file).ok()?).ok()
 }
 
 /// Makes an edit: whether that could be done.
 fn edit(alloc: Global, session: &mut Session, folder: &Folder, word: &[u8]) -> bool {
-    match word.strip_prefix(b"+") {
-        Some(name) => add_file(alloc, session, folder, name),
-        None => {
-            withdraw(session);
-            is(word, "-")
-        }
+    if let Some(name) = word.strip_prefix(b"+") {
+        return add(alloc, session, folder, name).is_some();
     }
-}
-
-/// Makes the edits of a state. It returns the place of the first that could not be made, or of none.
-fn edit_all(alloc: Global, session: &mut Session, folder: &Folder, item: &Item) -> Option<usize> {
-    let mut is_forced = false;
-    for (place, word) in item.names.iter().enumerate() {
-        let is_option = !is_forced && is(word.as_slice(), "-u");
-        if !is_option && !is_forced && !edit(alloc, session, folder, word) {
-            return Some(place);
-        }
-        is_forced = is_option;
+    if word != b"-".as_slice() {
+        return false;
     }
-    None
+    // a session of no objects stays as it is
+    let _ = session.withdraw();
+    true
 }
 
 /// The lines of a text without the blanks at their front.
@@ -85,31 +53,19 @@ fn unindented(alloc: Global, text: &[u8]) -> Result<Vec<u8>, AllocError> {
     Ok(lines)
 }
 
-/// What a session shows.
-fn shown_by(alloc: Global, session: &Session) -> Result<Vec<u8>, AllocError> {
-    let text = state_lines(alloc, session)?;
-    unindented(alloc, &text)
-}
-
-/// Makes the edits of a state in a session, and compares what it shows.
-fn check_in(
-    alloc: Global,
-    session: &mut Session,
-    folder: &Folder,
-    item: &Item,
-) -> Result<(), Problem> {
-    if let Some(place) = edit_all(alloc, session, folder, item) {
-        let text = "this edit cannot be made";
-        return Err(mistake_in(alloc, item.line, text, item.name(place)));
-    }
-    let came = shown_by(alloc, session)?;
-    check_output(alloc, item.line, "state", &item.block, &came)
-}
-
 /// Compares what a session shows after the edits of a state.
 pub(crate) fn check_state(alloc: Global, folder: &Folder, item: &Item) -> Result<(), Problem> {
-    match Session::with_forced(alloc, &forced_of(item)) {
-        Ok(mut session) => check_in(alloc, &mut session, folder, item),
-        Err(_) => Err(Problem::Memory),
+    let (forced, count) = forced_of(&item.names);
+    let Ok(mut session) = Session::with_forced(alloc, &forced) else {
+        return Err(Problem::Memory);
+    };
+    for word in item.names.get(count..).unwrap_or(&[]) {
+        if !edit(alloc, &mut session, folder, word) {
+            let word = Shown(word);
+            let text = format!(in alloc; "this edit cannot be made: {word}");
+            return Err(wrong(item.line, text));
+        }
     }
+    let came = unindented(alloc, &state_lines(alloc, &session)?)?;
+    check_output(alloc, item.line, "state", &item.block, &came)
 }
