@@ -1,5 +1,5 @@
 //! What a session knows, as lines.
-use crate::instructions::instructions_of;
+use crate::decoded::instructions_of;
 use anyhow::Result;
 use link_session::Session;
 use session_text::state_lines;

@@ -4,7 +4,7 @@
 mod files;
 mod fronts;
 mod given;
-mod instructions;
+mod decoded;
 mod json;
 mod lines;
 mod links;
