@@ -1,10 +1,10 @@
 //! The program `v7-lesson`, for a class: what a linker knows after each addition and withdrawal, as text or as a page.
 #![tactic(auto)]
 
+mod decoded;
 mod files;
 mod fronts;
 mod given;
-mod decoded;
 mod json;
 mod lines;
 mod links;
