@@ -124,10 +124,8 @@ fn is_loaded(alloc: Global, path: String) -> bool {
 
 /// Whether the load of the first bytes of `a.o` is refused with its line.
 fn is_cut(alloc: Global, path: String) -> bool {
-    match load(alloc, path, &mut Wire::new(TestReader::whole(&A_O[..17]))).err() {
-        Some(fault) => has_line(alloc, fault, "v7: a.o: truncated\n"),
-        None => false,
-    }
+    let fault = load(alloc, path, &mut Wire::new(TestReader::whole(&A_O[..17]))).err();
+    fault.is_some_and(|fault| has_line(alloc, fault, "v7: a.o: truncated\n"))
 }
 
 #[test]

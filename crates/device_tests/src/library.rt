@@ -26,10 +26,7 @@ fn both(alloc: Global, first: &[u8], second: &[u8]) -> Result<Vec<u8>, AllocErro
 
 /// Whether these bytes were given.
 fn gives(given: Result<Vec<u8>, Cause>, bytes: &[u8]) -> bool {
-    match given {
-        Ok(given) => given.as_slice() == bytes,
-        Err(_) => false,
-    }
+    given.is_ok_and(|given| given.as_slice() == bytes)
 }
 
 /// What `v7 ld -s a.o` writes.
@@ -78,24 +75,16 @@ fn word(value: u16, reloc: u16) -> ObjectWord {
 
 /// Whether a file has this flag and this text.
 fn reads(alloc: Global, file: &[u8], flag: u16, text: &[ObjectWord]) -> bool {
-    match read_apart(alloc, file) {
-        Ok(read) => read.header.flag == flag && read.parts.text.as_slice() == text,
-        Err(_) => false,
-    }
+    read_apart(alloc, file).is_ok_and(|read| read.header.flag == flag
+        && read.parts.text.as_slice() == text)
 }
 
 #[test]
 fn files_read(rt: HostRuntime) {
     let alloc = rt.alloc();
     assert!(rt; reads(alloc, &C_O, 0, &[word(0o4767, 0), word(0o177774, 0o11)]));
-    assert!(rt;
-        reads(
-            alloc,
-            &TWO_OBJECTS,
-            1,
-            &[word(0o12700, 0), word(6, 0), word(0o207, 0)]
-        )
-    );
+    let program = [word(0o12700, 0), word(6, 0), word(0o207, 0)];
+    assert!(rt; reads(alloc, &TWO_OBJECTS, 1, &program));
     let cause = Cause::BadFile(ReadFault::Truncated);
     assert!(rt; read_apart(alloc, &TWO_OBJECTS[..23]).err() == Some(cause));
 }
@@ -109,14 +98,11 @@ fn links(alloc: Global, options: u32, two: (&[u8], &[u8]), file: &[u8], report: 
         options,
         ..STRIPPED
     };
-    match link(alloc, &wanted, &objects) {
-        Ok(given) => {
-            given.status == u8::from(!report.is_empty())
-                && given.file.as_slice() == file
-                && given.report.as_slice() == report.as_bytes()
-        }
-        Err(_) => false,
-    }
+    link(alloc, &wanted, &objects).is_ok_and(|given| {
+        given.status == u8::from(!report.is_empty())
+            && given.file.as_slice() == file
+            && given.report.as_slice() == report.as_bytes()
+    })
 }
 
 #[test]
@@ -167,6 +153,10 @@ fn objects_apart_linked(rt: HostRuntime) {
     assert!(rt; link_each(alloc, &STRIPPED, &cut).err() == Some(Refusal { cause, place: 0 }));
 }
 
+fn finding(name: &[u8; 8], kind: u32) -> Finding {
+    Finding { name: *name, kind }
+}
+
 #[test]
 fn findings_listed(rt: HostRuntime) {
     let objects = [ObjectBytes { bytes: &C_O }, ObjectBytes { bytes: &G_O }];
@@ -176,18 +166,9 @@ fn findings_listed(rt: HostRuntime) {
         ..STRIPPED
     };
     let found = [
-        Finding {
-            name: *b"_start_x",
-            kind: 3,
-        },
-        Finding {
-            name: *b"_f\0\0\0\0\0\0",
-            kind: 4,
-        },
-        Finding {
-            name: *b"_g\0\0\0\0\0\0",
-            kind: 4,
-        },
+        finding(b"_start_x", 3),
+        finding(b"_f\0\0\0\0\0\0", 4),
+        finding(b"_g\0\0\0\0\0\0", 4),
     ];
     let given = link_findings(rt.alloc(), &wanted, &objects);
     assert!(rt;
@@ -202,14 +183,11 @@ fn runs(alloc: Global, edits: &[u8], two: (&[u8], &[u8]), want: (&[u8], u8, &[u8
     let Ok(objects) = both(alloc, two.0, two.1) else {
         return false;
     };
-    match run_session(alloc, &STRIPPED, edits, &objects) {
-        Ok(ran) => {
-            ran.replies.as_slice() == want.0
-                && ran.program.status == want.1
-                && ran.program.file.as_slice() == want.2
-        }
-        Err(_) => false,
-    }
+    run_session(alloc, &STRIPPED, edits, &objects).is_ok_and(|ran| {
+        ran.replies.as_slice() == want.0
+            && ran.program.status == want.1
+            && ran.program.file.as_slice() == want.2
+    })
 }
 
 #[test]
@@ -251,14 +229,11 @@ fn shown(alloc: Global, form: u32, forced: &[u8], edits: &[u8]) -> Result<Shown,
 
 /// Whether the edits have these replies, and this state as JSON.
 fn shows(alloc: Global, forced: &[u8], edits: &[u8], replies: &[u8], state: &str) -> bool {
-    match shown(alloc, JSON, forced, edits) {
-        Ok(shown) => {
-            shown.status == u8::from(replies.contains(&35))
-                && shown.replies.as_slice() == replies
-                && shown.state.as_slice() == state.as_bytes()
-        }
-        Err(_) => false,
-    }
+    shown(alloc, JSON, forced, edits).is_ok_and(|shown| {
+        shown.status == u8::from(replies.contains(&35))
+            && shown.replies.as_slice() == replies
+            && shown.state.as_slice() == state.as_bytes()
+    })
 }
 
 #[test]
@@ -284,10 +259,9 @@ fn states_refused(rt: HostRuntime) {
 /// Whether the state of 65,534 bytes of text has this size, and ends with this.
 fn ends(alloc: Global, form: u32, size: usize, end: &str) -> Result<bool, Fail> {
     let large = sized(alloc, 65_534)?;
-    Ok(match show_session(alloc, form, b"", b"a", &large) {
-        Ok(shown) => shown.state.len() == size && shown.state.as_slice().ends_with(end.as_bytes()),
-        Err(_) => false,
-    })
+    Ok(show_session(alloc, form, b"", b"a", &large).is_ok_and(|shown| {
+        shown.state.len() == size && shown.state.as_slice().ends_with(end.as_bytes())
+    }))
 }
 
 #[test]

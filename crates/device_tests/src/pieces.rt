@@ -11,10 +11,8 @@ use std::test::Fail;
 
 /// Whether the next file of a wire, written again, has these bytes.
 fn is_rewritten(alloc: Global, wire: &mut Wire<TestReader<'_>>, bytes: &[u8]) -> bool {
-    match read_file(alloc, wire) {
-        Ok(file) => written(alloc, &file).is_ok_and(|found| found.as_slice() == bytes),
-        Err(_) => false,
-    }
+    read_file(alloc, wire).is_ok_and(|file| written(alloc, &file).is_ok_and(|found| found.as_slice()
+        == bytes))
 }
 
 /// Whether a reader that gives at most `most` bytes a call gives the file of these bytes, then `a.o`, and then nothing.

@@ -52,8 +52,9 @@ pub fn links(alloc: Global, count: u16) -> bool {
     let Some(inputs) = inputs(alloc, count) else {
         return false;
     };
-    match ld(alloc, inputs, &Forced::none(), &plain(Keep::All)) {
-        Ok(linked) => linked.file.text_words().len() == usize::from(count),
-        Err(_) => false,
-    }
+    ld(alloc, inputs, &Forced::none(), &plain(Keep::All)).is_ok_and(|linked| linked
+        .file
+        .text_words()
+        .len()
+        == usize::from(count))
 }

@@ -22,8 +22,5 @@ fn file_of_names(alloc: Global, count: u16) -> Option<(String, File)> {
 
 /// Whether a file of so many names is listed.
 pub fn lists(alloc: Global, count: u16) -> bool {
-    match file_of_names(alloc, count) {
-        Some(file) => is_listed(alloc, &[file], count),
-        None => false,
-    }
+    file_of_names(alloc, count).is_some_and(|file| is_listed(alloc, &[file], count))
 }

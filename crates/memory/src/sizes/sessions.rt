@@ -16,10 +16,8 @@ fn forced(count: u16) -> Forced {
 
 /// Whether a session has so many forced names.
 pub fn forces(alloc: Global, count: u16) -> bool {
-    match Session::with_forced(alloc, &forced(count)) {
-        Ok(session) => session.forced_count() == count && session.external_count() == count,
-        Err(_) => false,
-    }
+    Session::with_forced(alloc, &forced(count)).is_ok_and(|it| it.forced_count() == count
+        && it.external_count() == count)
 }
 
 /// Whether what was written has a symbol and a line for each of so many undefined names of four bytes.
@@ -39,18 +37,14 @@ fn is_linked(alloc: Global, session: &Session, count: u16) -> bool {
     let Ok(linked) = finish(alloc, session, &plain(Keep::All)) else {
         return false;
     };
-    match output_of(alloc, &linked) {
-        Ok(output) => lists_all(&output, count),
-        Err(_) => false,
-    }
+    output_of(alloc, &linked).is_ok_and(|output| lists_all(&output, count))
 }
 
 /// Whether the object that was added last is the one with this label; it is withdrawn.
 fn is_withdrawn(session: &mut Session, label: &str) -> bool {
-    match session.withdraw() {
-        Some((back, _)) => back.as_str() == label,
-        None => false,
-    }
+    session
+        .withdraw()
+        .is_some_and(|(back, _)| back.as_str() == label)
 }
 
 /// Whether an object of so many names is added, linked and withdrawn.

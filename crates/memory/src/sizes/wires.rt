@@ -12,10 +12,7 @@ fn goes_out(alloc: Global, bytes: &[u8]) -> bool {
 
 /// The same of so many bytes.
 pub fn puts(alloc: Global, count: u16) -> bool {
-    match vec![in alloc; b'x'; usize::from(count)] {
-        Ok(bytes) => goes_out(alloc, &bytes),
-        Err(_) => false,
-    }
+    vec![in alloc; b'x'; usize::from(count)].is_ok_and(|bytes| goes_out(alloc, &bytes))
 }
 
 /// Whether these bytes come in, into room for as many, and the latch stays off.
