@@ -1,6 +1,6 @@
 //! The objects that a page is made of.
-use crate::files::{bytes_at, object_in};
 use crate::decoded::put_instructions;
+use crate::files::{bytes_at, object_in};
 use crate::json::{begin, put_key, put_numbers, put_text, put_word, put_words};
 use crate::parts::{place_meant, put_name_meant, put_segment_meant};
 use crate::sources::put_sources;
