@@ -385,7 +385,7 @@ def random_file(dice):
     return File(words, relocation, symbols, magic, data, [0] * len(data), bss)
 
 
-def assembled(text, words, folder):
+def assembled(text, assembler, folder):
     """Whether GNU's assembler makes these words of a text, the floating instructions aside: these are given to it as words."""
     file, lines, place = File(text), [], 0
     while place < len(text):
@@ -396,15 +396,13 @@ def assembled(text, words, folder):
         else:
             lines.append(for_gnu(line, 2 * place))
         place += length
-    source, output, binary = (os.path.join(folder, name) for name in ("source.s", "source.o", "source.bin"))
+    source, output = (os.path.join(folder, name) for name in ("source.s", "source.o"))
     with open(source, "w", encoding="ascii") as out:
         out.write("\n".join(lines) + "\n")
-    prefix = words[: -len("as")]
-    subprocess.run([words, "-o", output, source], check=True)
-    subprocess.run([prefix + "objcopy", "-O", "binary", "-j", ".text", output, binary], check=True)
-    with open(binary, "rb") as read:
-        got = read.read()
-    return got[: 2 * len(text)] == struct.pack("<%dH" % len(text), *text)
+    subprocess.run([assembler, "-o", output, source], check=True)
+    with open(output, "rb") as read:
+        # the text follows a header of 16 bytes
+        return read.read()[16 : 16 + 2 * len(text)] == struct.pack("<%dH" % len(text), *text)
 
 
 def for_gnu(line, address):
@@ -416,8 +414,10 @@ def for_gnu(line, address):
         star, rest = ("*", operand[1:]) if operand.startswith("*") else ("", operand)
         if rest.startswith("$"):
             rest = "$0" + rest[1:]
-        elif rest[0] in "-0123456789" and "(" in rest and rest[1] != "(":
-            rest = rest.replace("-", "-0", 1) if rest[0] == "-" else "0" + rest
+        elif rest[0] in "0123456789" and "(" in rest:
+            rest = "0" + rest
+        elif rest[0] == "-" and rest[1] != "(":
+            rest = "-0" + rest[1:]
         elif rest[0] in "0123456789":
             number = int(rest, 8)
             is_address = name not in ("trap", "emt", "mark", "spl")
