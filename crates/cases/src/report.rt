@@ -78,12 +78,20 @@ impl Run {
         );
     }
 
+    /// Where the case of this name is, if there was one.
+    fn place_of(&self, name: &str) -> Option<&str> {
+        for known in &self.known {
+            if known.name.as_str() == name {
+                return Some(known.place.as_str());
+            }
+        }
+        None
+    }
+
     /// Notes the name of a case, which no other may have.
     fn note(&mut self, alloc: Global, path: &str, case: &Case<'_>) -> Result<(), Problem> {
         let (name, line) = (case.name, case.line);
-        let mut known = self.known.iter();
-        if let Some(first) = known.find(|known| known.name.as_str() == name) {
-            let first = first.place.as_str();
+        if let Some(first) = self.place_of(name) {
             let text = format!(in alloc; "a second case {name}; the first: {first}");
             return Err(wrong(line, text));
         }
