@@ -51,13 +51,13 @@ if ! grep -q '^nm, second list: refused$' "$work/log"; then
     echo "no run refused the second list memory"
     exit 1
 fi
-# the request behind the last one that adds objects is the one behind their withdrawals, which make none
+# the request after the last one that adds objects is the one after their withdrawals, which make none
 if ! awk '
-    /^request behind withdrawals: / {
-        if (before == "unready") { behind = $NF }
+    /^request after withdrawals: / {
+        if (before == "unready") { next_one = $NF }
         before = $NF
     }
-    END { exit behind != "refused" }
+    END { exit next_one != "refused" }
 ' "$work/log"; then
     echo "a withdrawal asked for memory"
     exit 1

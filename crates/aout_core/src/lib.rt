@@ -29,7 +29,7 @@
 //!
 //! Modules:
 //!
-//! - `laws`: what is proved of reading and writing
+//! - `laws`: theorems about reading and writing
 //! - `samples`: objects, readers and writers for tests
 //!
 //! Words have 16 bits, low byte first; docs/FORMAT.md has the format. "(own choice)" marks what a.out(5) leaves open.

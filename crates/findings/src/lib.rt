@@ -1,4 +1,4 @@
-//! What a file is, and what is wrong and odd of it: remarks of `v7-explain`.
+//! What kind of file some bytes are, and what is wrong or odd in it, for `v7-explain`.
 //!
 //! A finding has the byte of the file where it is, counted from 0. `wrong_bytes` and `wrong_words` find what is damaged, and why; `odd_of`
 //! finds what is not refused, but unusual. docs/OBJECTS.md shows both.

@@ -26,7 +26,7 @@
 //!
 //! Modules:
 //!
-//! - `laws`: what is proved of conversions
+//! - `laws`: a theorem about conversions
 //!
 //! Header, text, data and relocation words are the same in both. A symbol of GNU's form has 8 bytes, of which a word is the place
 //! of its name in a table of strings after the symbols. docs/OBJECTS.md explains how such objects are made.

@@ -29,7 +29,7 @@
 //! Tables and modules:
 //!
 //! - `ROWS`: the table of instructions
-//! - `laws`: what is proved of all lists of words
+//! - `laws`: theorems about all lists of words
 //!
 //! Addresses are in bytes and modulo 65,536, and each number in a text is octal.
 #![tactic(auto)]

@@ -1,6 +1,8 @@
-//! Laws over the definitions alone, beside those of `link_out`. Of links: what is at which address when a program is loaded, what
-//! its instructions find there, and how lists, sizes and orders of objects agree with links. Of several commands, one after the
-//! other: what the files hold that one of them stored and another one opens.
+//! Theorems about links and commands; `link_out` has others in its own `laws`. They name definitions, and no code.
+//!
+//! - `links`: which byte is at which address when a program is loaded, what its instructions find there, and how lists, sizes and
+//!   the order of the objects agree with a link
+//! - `commands`: what a file holds that one command stored and a later one opens
 #![tactic(auto)]
 
 pub mod commands;

@@ -29,7 +29,7 @@
 //!
 //! Modules:
 //!
-//! - `laws`: what is proved of links
+//! - `laws`: theorems about links
 #![tactic(auto)]
 
 mod edit;

@@ -25,7 +25,7 @@
 //!
 //! Modules:
 //!
-//! - `laws`: what is proved of withdrawals, marks and starts
+//! - `laws`: theorems about withdrawals, marks and starts
 #![tactic(auto)]
 
 mod bind;

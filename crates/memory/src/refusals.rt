@@ -27,7 +27,7 @@ fn call_files_and_sessions(rt: &HostRuntime) -> io::Result<()> {
     report(rt, "add, a name and forced", outcome)?;
     report(rt, "withdraw", sessions::withdrawing(alloc))?;
     let outcome = sessions::asking_behind_withdrawals(alloc);
-    report(rt, "request behind withdrawals", outcome)?;
+    report(rt, "request after withdrawals", outcome)?;
     report(rt, "views", sessions::looking(alloc))
 }
 
@@ -56,7 +56,7 @@ fn call_scripts(rt: &HostRuntime) -> io::Result<()> {
     report(rt, "next_line", script_steps::reading_lines(alloc))?;
     report(rt, "step, add", script_steps::adding_by_a_step(alloc))?;
     let outcome = script_steps::adding_behind_by_a_step(alloc);
-    report(rt, "step, add behind another", outcome)?;
+    report(rt, "step, add after another", outcome)?;
     report(rt, "step, link", script_steps::linking_by_a_step(alloc))?;
     report(rt, "steps otherwise", script_steps::other_steps(alloc))
 }
