@@ -2,7 +2,7 @@
 PREFIX ?= /usr/local
 
 # the kits that the gate has passed with; any: another one too
-KITS ?= rattle-kit-13f
+KITS ?= rattle-kit-13b rattle-kit-13f
 ifneq ($(filter-out clean install install-lib,$(or $(MAKECMDGOALS),all)),)
 ifneq ($(shell sh tests/kit.sh $(KITS) && echo yes),yes)
 $(error stopped)

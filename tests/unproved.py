@@ -1,16 +1,20 @@
 #!/usr/bin/env python3
 """Plays the cases and runs the tests that are code, each crate compiled without any proof: `make test`.
 
-First the checks of texts, then four crates side by side, and then the cases on disk, if `make` has built the programs of these
-sources. Fails, with what was printed, if any of them fails. A crate with tests is one that has a function with `#[test]`.
+Four things run side by side: the checks of texts, the tests of a crate, and groups of cases. Then come the cases on disk, if `make`
+has built the programs of these sources. Fails, with what was printed, if any of them fails. A crate with tests is one that has a
+function with `#[test]`.
 """
 import difflib
 import glob
 import os
 import re
+import shutil
 import subprocess
 import sys
 import tempfile
+import threading
+import time
 from concurrent.futures import ThreadPoolExecutor, as_completed
 
 TOP = os.path.normpath(os.path.join(os.path.dirname(os.path.abspath(__file__)), ".."))
@@ -20,7 +24,7 @@ PROGRAMS = ["v7", "v7-from-gnu", "v7-object", "v7-explain"]
 SECONDS = "1800"
 SIDE_BY_SIDE = 4
 # the cases take most of the time, so they are played in so many groups
-GROUPS = 3
+GROUPS = 4
 
 
 class Failed(Exception):
@@ -32,10 +36,10 @@ def read(path):
         return file.read()
 
 
-def run(*words, cwd="."):
+def run(*words, cwd=".", env=None):
     """The exit status of a command, its standard output, and both outputs."""
     with tempfile.TemporaryFile() as errors:
-        ran = subprocess.run(words, cwd=cwd, stdin=subprocess.DEVNULL, stdout=subprocess.PIPE, stderr=errors, check=False)
+        ran = subprocess.run(words, cwd=cwd, env=env, stdin=subprocess.DEVNULL, stdout=subprocess.PIPE, stderr=errors, check=False)
         errors.seek(0)
         output = ran.stdout.decode("utf-8", "replace")
         return ran.returncode, output, output + errors.read().decode("utf-8", "replace")
@@ -121,28 +125,77 @@ def check_names():
     return f"{len(names)} names of cases compared with crates/cases/stdout"
 
 
-def try_cases(runs):
-    """Runs the program `cases` once for each of these lists of arguments. The status and the output of each."""
-    data = {os.path.basename(path): os.path.abspath(path) for path in glob.glob("crates/cases/data/*")}
-    words = [word for name, path in sorted(data.items()) for word in ("--data", f"{name}={path}")]
-    with tempfile.TemporaryDirectory() as folder:
+class Player:
+    """The program `cases`, which is compiled once, by `rt try`. While that plays the first group of cases, a copy of the program is
+    taken from where it runs, for the other groups. If there is none to be found, each group is compiled and played by itself."""
+
+    def __init__(self, folder):
+        self.folder = folder
+        self.command = None
+        self.is_known = threading.Event()
+
+    def copy_program(self, arguments):
+        """Waits for the program to run with these arguments, and copies it. Sets the words of its command, the last of which is the
+        copy."""
+        while not self.is_known.is_set():
+            for path in glob.glob("/proc/[0-9]*/cmdline"):
+                try:
+                    words = read(path).split("\0")[:-1]
+                except (OSError, UnicodeDecodeError):
+                    continue
+                at = len(words) - len(arguments) - 1
+                if words[at + 1:] == arguments and at >= 0 and words[at].startswith(self.folder):
+                    shutil.copy(words[at], f"{self.folder}/cases")
+                    self.command = [*words[:at], f"{self.folder}/cases"]
+                    self.is_known.set()
+                    return
+            time.sleep(0.1)
+
+    def compiled(self, runs):
+        """Compiles the program, and runs it once for each of these lists of arguments. The status and the output of each."""
+        data = {os.path.basename(path): os.path.abspath(path) for path in glob.glob("crates/cases/data/*")}
+        words = [word for name, path in sorted(data.items()) for word in ("--data", f"{name}={path}")]
+        with tempfile.TemporaryDirectory(dir=self.folder) as folder:
+            for name, arguments in runs.items():
+                for path, text in (name, ""), (name + ".args", "".join(f"{it}\n" for it in arguments)):
+                    with open(os.path.join(folder, path), "w", encoding="utf-8") as file:
+                        file.write(text)
+            words += ["--seconds", SECONDS, "--cases", folder]
+            _, output, said = run("rt", "try", *words, cwd="crates/cases", env={**os.environ, "TMPDIR": self.folder})
+        pieces = re.split(r"^== (\w+)\n", output, flags=re.M)
+        statuses, outputs = dict(ENDED.findall(said)), dict(zip(pieces[1::2], pieces[2::2]))
+        if set(statuses) != set(runs) or set(outputs) != set(runs):
+            raise Failed(said)
+        return {name: (statuses[name], outputs[name]) for name in runs}
+
+    def first(self, runs):
+        """As `compiled`, and takes a copy of the program."""
+        threading.Thread(target=self.copy_program, args=(runs["good"],), daemon=True).start()
+        try:
+            return self.compiled(runs)
+        finally:
+            self.is_known.set()
+
+    def copied(self, runs):
+        """As `compiled`, by the copy of the program."""
+        self.is_known.wait()
+        if self.command is None:
+            return self.compiled(runs)
+        came = {}
         for name, arguments in runs.items():
-            for path, text in (name, ""), (name + ".args", "".join(f"{it}\n" for it in arguments)):
-                with open(os.path.join(folder, path), "w", encoding="utf-8") as file:
-                    file.write(text)
-        words += ["--seconds", SECONDS, "--cases", folder]
-        _, output, said = run("rt", "try", *words, cwd="crates/cases")
-    pieces = re.split(r"^== (\w+)\n", output, flags=re.M)
-    statuses, outputs = dict(ENDED.findall(said)), dict(zip(pieces[1::2], pieces[2::2]))
-    if set(statuses) != set(runs) or set(outputs) != set(runs):
-        raise Failed(said)
-    return {name: (statuses[name], outputs[name]) for name in runs}
+            with tempfile.TemporaryDirectory(dir=self.folder) as folder:
+                for path in glob.glob("crates/cases/data/*"):
+                    shutil.copy(path, folder)
+                status, output, _ = run(*self.command, *arguments, cwd=folder, env={})
+            came[name] = (str(status), output)
+        return came
 
 
-def play_in_memory(files, is_first):
+def play_in_memory(player, files, is_first):
     """Plays the cases of these files, and in the first group the bad cases too, which have to fail the run."""
     lines, errors = stored()
-    came = try_cases({"good": files, **({"bad": ["bad.cases"]} if is_first else {})})
+    play = player.first if is_first else player.copied
+    came = play({"good": files, **({"bad": ["bad.cases"]} if is_first else {})})
     expected = [lines[name] for file in files for name in names_in(f"crates/cases/data/{file}")]
     compare("cases in memory", "".join(expected), SUMMARY.sub("", came["good"][1]))
     statuses = [came["good"][0]]
@@ -192,16 +245,16 @@ def main():
     os.chdir(TOP)
     print("What follows is compiled without proof, so it proves nothing: make gate proves all of it.", flush=True)
     tally = Tally()
-    for name in TEXTS:
-        tally.take(f"tests/{name}.py", lambda: passes(sys.executable, f"tests/{name}.py"))
-    tally.take("samples", lambda: passes(sys.executable, "tests/cases.py", "-s"))
-    tally.take("names of cases", check_names)
-    with ThreadPoolExecutor(min(SIDE_BY_SIDE, len(os.sched_getaffinity(0)))) as pool:
-        jobs = {}
-        for number, files in enumerate(shares()):
-            jobs[pool.submit(play_in_memory, files, number == 0)] = f"cases of {' '.join(files)}"
-        for name, count in sorted(crates_with_tests().items(), key=lambda it: -it[1]):
-            jobs[pool.submit(run_tests, name, count)] = f"tests of {name}"
+    with tempfile.TemporaryDirectory() as folder, ThreadPoolExecutor(min(SIDE_BY_SIDE, len(os.sched_getaffinity(0)))) as pool:
+        player, groups = Player(folder), shares()
+        # the first group compiles the program that the other groups wait for
+        work = [(f"cases of {' '.join(groups[0])}", play_in_memory, player, groups[0], True)]
+        tests = sorted(crates_with_tests().items(), key=lambda it: -it[1])
+        work += [(f"tests of {name}", run_tests, name, count) for name, count in tests]
+        work += [(f"tests/{name}.py", passes, sys.executable, f"tests/{name}.py") for name in TEXTS]
+        work += [("samples", passes, sys.executable, "tests/cases.py", "-s"), ("names of cases", check_names)]
+        work += [(f"cases of {' '.join(files)}", play_in_memory, player, files, False) for files in groups[1:]]
+        jobs = {pool.submit(*rest): name for name, *rest in work}
         for job in as_completed(jobs):
             tally.take(jobs[job], job.result)
     tally.take("cases on disk", play_on_disk)
