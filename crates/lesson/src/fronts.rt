@@ -54,7 +54,7 @@ pub(crate) fn fronts_of(room: Vec<Fronts>, session: &Session) -> Result<Vec<Fron
     for entry in session.entries() {
         let header = entry.object().file().header();
         all.push(Fronts::of(header, &starts.shifts(header)))?;
-        starts = starts.behind(header);
+        starts = starts.after(header);
     }
     Ok(all)
 }

@@ -163,7 +163,7 @@ const HEADER: Header = Header {
 
 /// Prints where the second of two such objects starts, and what its addresses move by.
 fn show_second(rt: &HostRuntime) -> io::Result<()> {
-    let starts = Starts::first().behind(&HEADER);
+    let starts = Starts::first().after(&HEADER);
     println!(rt; "{starts:?}")?;
     println!(rt; "{:?}", starts.shifts(&HEADER))
 }

@@ -18,7 +18,7 @@ use Rattle.link_options.specs.declared.options.Keep.TheVariants.{Nothing}
 use Rattle.link_options.specs.Choices.{Choices}
 use Rattle.link_out.specs.function.Link.{Outcome, link, linked_file}
 use Rattle.link_out.specs.laws.PartialLinks.{KeepsNoMore, IsPartialLink, without_multiples}
-use Rattle.link_out.specs.laws.PartialLinksAmongOthers.{IsPart, behind, DefinitionsStand}
+use Rattle.link_out.specs.laws.PartialLinksAmongOthers.{IsPart, offset_after, DefinitionsStand}
 use Rattle.link_out.specs.declared.linked.LinkFault.{LinkFault}
 use Rattle.link_out.specs.function.Plans.{plan}
 use Rattle.link_out.proofs.PartialLemmas.{partial_file, IsProper, state_is_proper, partly}
@@ -92,7 +92,7 @@ module _ (own forced : List (List ℕ)) (part : IsPart own forced) (bs os cs : L
     pub link_alike : (o : Choices) → KeepsNoMore o.keep keep → link forced (bs ++ m ∷ cs) o ≡ with_multiples (multiple_names (mentions forced (bs ++ m ∷ cs))) (link forced (bs ++ (os ++ cs)) o)
     link_alike o less = same_link forced (bs ++ m ∷ cs) (bs ++ (os ++ cs)) links_alike o (λ ms ns at. same_rows own bs os cs keep entry has at o.keep less)
 
-pub start_behind : (bs : List Contents) (segment : Segment) (offset : ℕ) → behind bs segment offset ≡ plus (start bs segment) offset
+pub start_behind : (bs : List Contents) (segment : Segment) (offset : ℕ) → offset_after bs segment offset ≡ plus (start bs segment) offset
 start_behind bs Undefined offset = refl
 start_behind bs Absolute offset = refl
 start_behind bs Other offset = refl

@@ -13,7 +13,7 @@ use Rattle.link_session.specs.declared.state.State.{State}
 use Rattle.link_session.specs.Earlier.{with_earlier}
 use Rattle.link_session.specs.Labelled.{Labelled, objects}
 use Rattle.link_session.specs.declared.relocate.Starts.{Starts}
-use Rattle.link_session.specs.Starts.{total, no_starts, starts_behind, next_starts, shifts_at}
+use Rattle.link_session.specs.Starts.{total, no_starts, starts_after, next_starts, shifts_at}
 use Rattle.link_session.specs.Mentions.{names_by_first_mention}
 use Rattle.link_session.specs.States.{state}
 use Rattle.link_session.specs.Image.{Named, named_states}
@@ -26,7 +26,7 @@ use Rattle.link_out.specs.internal.FromCells.{finals}
 use Rattle.link_out.specs.function.Plans.{Plan}
 use Rattle.link_out.specs.function.Tables.{is_kept_local, moved_value, moved_local, local_rows, external_row, external_rows, rows_kept, table}
 use Rattle.link_out.specs.internal.Rows.{moves_by, value_moved, symbol_moved, rows_in, rows_from, row_with, rows_with, kept_count}
-use Rattle.link_session.proofs.StartLemmas.{next_starts-behind}
+use Rattle.link_session.proofs.StartLemmas.{next_starts-after}
 use Rattle.link_out.proofs.InOrderLemmas.{drop_next}
 
 -- a start modulo 65,536 moves as the start does
@@ -35,7 +35,7 @@ moved_from v b t own = omega arith
 
 module _ (b : Bases) (earlier : List Contents) (o : Contents) where
   abbrev moves : Moves
-  moves = moves_by b (shifts_at (starts_behind earlier) o.header)
+  moves = moves_by b (shifts_at (starts_after earlier) o.header)
 
   value_moved-local : (segment : Segment) (v : ℕ) → value_moved moves segment v ≡ moved_value b earlier o segment v
   value_moved-local segments.TextSeg v = moved_from v 0 (total segments.TextSeg earlier) 0
@@ -53,11 +53,11 @@ module _ (b : Bases) (earlier : List Contents) (o : Contents) where
 pub rows_from-local_rows : (p : Plan) (os : List Contents) → rows_from p.at p.choices.keep no_starts os ≡ local_rows p os
 rows_from-local_rows p os = from [] os
   where
-    from : (earlier os : List Contents) → rows_from p.at p.choices.keep (starts_behind earlier) os
+    from : (earlier os : List Contents) → rows_from p.at p.choices.keep (starts_after earlier) os
         ≡ flat_map (λ q. map (moved_local p.at q.0 q.1) (filter (is_kept_local p.choices.keep) q.1.symbols)) (with_earlier earlier os)
     from earlier [] = refl
     from earlier (o ∷ os) =
-        (λ i. symbols_moved p.at earlier o (filter (is_kept_local p.choices.keep) o.symbols) i ++ rows_from p.at p.choices.keep (next_starts-behind earlier o i) os)
+        (λ i. symbols_moved p.at earlier o (filter (is_kept_local p.choices.keep) o.symbols) i ++ rows_from p.at p.choices.keep (next_starts-after earlier o i) os)
         ∙ ap (λ (l : List Symbol). map (moved_local p.at earlier o) (filter (is_kept_local p.choices.keep) o.symbols) ++ l) (from (earlier ++ o ∷ []) os)
 
 length-rows_from : (b : Bases) (keep : Keep) (s : Starts) (os : List Contents) → length (rows_from b keep s os) ≡ kept_count keep os

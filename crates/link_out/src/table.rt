@@ -94,7 +94,7 @@ fn kept_locals(
         let file = entry.object().file();
         let moves = Moves::by(bases, &starts.shifts(file.header()));
         put_locals_of(&mut rows, keep, &moves, file.symbols())?;
-        starts = starts.behind(file.header());
+        starts = starts.after(file.header());
     }
     Ok(rows)
 }

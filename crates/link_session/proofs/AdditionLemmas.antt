@@ -108,20 +108,20 @@ pub cells_settled : (ms ns : List Mention) (segment : Segment) (os : List Conten
 cells_settled ms ns segment os h = all_settled ms ns (cells ms segment os) (cells_wait ms segment os h) ∙ sym (cells_more ms ns segment os h)
 
 -- what is added to the addresses of an object behind these
-abbrev shifts_behind : List Contents → Contents → Shifts
-shifts_behind os o = record { text = shift os o segments.TextSeg; «data» = shift os o segments.DataSeg; bss = shift os o segments.BssSeg }
+abbrev shifts_after : List Contents → Contents → Shifts
+shifts_after os o = record { text = shift os o segments.TextSeg; «data» = shift os o segments.DataSeg; bss = shift os o segments.BssSeg }
 
-pub next_shifts-behind : (forced : List (List ℕ)) (os : List Contents) (o : Contents) → AllByRecursion IsObject os → next_shifts (image forced os) o ≡ shifts_behind os o
-next_shifts-behind forced os o h = λ i. record {
+pub next_shifts-after : (forced : List (List ℕ)) (os : List Contents) (o : Contents) → AllByRecursion IsObject os → next_shifts (image forced os) o ≡ shifts_after os o
+next_shifts-after forced os o h = λ i. record {
   text = minus (text_total (mentions forced os) os h i) 0;
   «data» = minus (data_total (mentions forced os) os h i) o.header.text_size;
   bss = shift os o segments.BssSeg;
 }
 
 pub next_mentions-in : (forced : List (List ℕ)) (os : List Contents) (o : Contents) → AllByRecursion IsObject os → next_mentions (image forced os) o ≡ mentions_in os o
-next_mentions-in forced os o h = ap (λ (s : Shifts). mentions_by s o.symbols) (next_shifts-behind forced os o h) ∙ each (externals_in o)
+next_mentions-in forced os o h = ap (λ (s : Shifts). mentions_by s o.symbols) (next_shifts-after forced os o h) ∙ each (externals_in o)
   where
-    says : (segment : Segment) (value : ℕ) → statement_by (shift_by (shifts_behind os o)) segment value ≡ statement os o segment value
+    says : (segment : Segment) (value : ℕ) → statement_by (shift_by (shifts_after os o)) segment value ≡ statement os o segment value
     says segments.Undefined value = refl
     says segments.Absolute value = refl
     says segments.TextSeg value = refl
@@ -129,7 +129,7 @@ next_mentions-in forced os o h = ap (λ (s : Shifts). mentions_by s o.symbols) (
     says segments.BssSeg value = refl
     says segments.Other value = refl
 
-    each : (ss : List Symbol) → map (mention_by (shifts_behind os o)) ss ≡ map (mention os o) ss
+    each : (ss : List Symbol) → map (mention_by (shifts_after os o)) ss ≡ map (mention os o) ss
     each [] = refl
     each (s ∷ ss) = λ i. record { name = s.name; says = says (segment_of s) s.value i } ∷ each ss i
 
@@ -138,7 +138,7 @@ next_named-states forced os o h = ap (λ (ms : List Mention). with_mentions (nam
 
 -- an object's own cell is the cell of the word
 own_cell-is : (ms : List Mention) (os : List Contents) (o : Contents) (segment : Segment) (w : ℕ) (r : Reloc) →
-    own_cell (named_states ms) o.symbols (shifts_behind os o) (shift os o segment) w r ≡ cell ms os o segment w r
+    own_cell (named_states ms) o.symbols (shifts_after os o) (shift os o segment) w r ≡ cell ms os o segment w r
 own_cell-is ms os o segment w r = λ i. record {
   value = minus (plus w (by_kind (kind_of r) i).0) (if_pc r (shift os o segment));
   target = (by_kind (kind_of r) i).1;
@@ -149,7 +149,7 @@ own_cell-is ms os o segment w r = λ i. record {
         ≡ (target_shift ms os o (to_name name), target_of ms (to_name name))
     of_name name = λ i. (offset_in (state_for-named_states ms name i), name_target (state_for-named_states ms name i) (place_of name (keys-named_states ms i)))
 
-    by_kind : (kind : Option Kind) → reference (named_states ms) o.symbols (shifts_behind os o) (symbol_number r) kind ≡ (target_shift ms os o (referent_by o (symbol_number r) kind), target_of ms (referent_by o (symbol_number r) kind))
+    by_kind : (kind : Option Kind) → reference (named_states ms) o.symbols (shifts_after os o) (symbol_number r) kind ≡ (target_shift ms os o (referent_by o (symbol_number r) kind), target_of ms (referent_by o (symbol_number r) kind))
     by_kind None = refl
     by_kind (Some kinds.Absolute) = refl
     by_kind (Some kinds.TextSeg) = refl
@@ -158,7 +158,7 @@ own_cell-is ms os o segment w r = λ i. record {
     by_kind (Some kinds.External) = of_name (name_in (slice_get o.symbols (symbol_number r)))
 
 own_cells-are : (ms : List Mention) (os : List Contents) (o : Contents) (segment : Segment) (words : List (ℕ × Reloc)) →
-    map (λ (wr : ℕ × Reloc). own_cell (named_states ms) o.symbols (shifts_behind os o) (shift os o segment) wr.0 wr.1) words ≡ map (λ wr. cell ms os o segment wr.0 wr.1) words
+    map (λ (wr : ℕ × Reloc). own_cell (named_states ms) o.symbols (shifts_after os o) (shift os o segment) wr.0 wr.1) words ≡ map (λ wr. cell ms os o segment wr.0 wr.1) words
 own_cells-are ms os o segment [] = refl
 own_cells-are ms os o segment (wr ∷ words) = λ i. own_cell-is ms os o segment wr.0 wr.1 i ∷ own_cells-are ms os o segment words i
 
@@ -190,8 +190,8 @@ joined_image-is forced os o h =
     named : next_named (image forced os) o ≡ named_states (mentions forced os ++ mentions_in os o)
     named = next_named-states forced os o h
 
-    shifts : next_shifts (image forced os) o ≡ shifts_behind os o
-    shifts = next_shifts-behind forced os o h
+    shifts : next_shifts (image forced os) o ≡ shifts_after os o
+    shifts = next_shifts-after forced os o h
 
     clashes : (image forced os).multiples ++ all_clashes (image forced os).externals (next_mentions (image forced os) o) ≡ multiple_names (mentions forced os ++ mentions_in os o)
     clashes =

@@ -16,7 +16,7 @@ use Rattle.link_session.specs.Image.{Image, image, named_states}
 use Rattle.link_session.specs.Limits.{limit_passed, refusal}
 use Rattle.link_session.specs.Undo.{undo, AreMarksOf, AreMarksOfLast, IsJournal}
 use Rattle.link_session.specs.Sessions.{newest, Adds, IsObject}
-use Rattle.link_session.specs.internal.Fields.{sizes_of, sizes_in, sizes_before, threads_by, with_heads_back, IsBehind, IsSmall, IsSession}
+use Rattle.link_session.specs.internal.Fields.{sizes_of, sizes_in, sizes_before, threads_by, with_heads_back, HasAtLeast, IsSmall, IsSession}
 use Rattle.link_session.specs.Undo.{marks_in}
 use Rattle.link_session.specs.internal.Additions.{with_mentions, settled_cell, next_limit, next_named, joined_image}
 use Rattle.link_session.specs.internal.Settled.{IsCovered}
@@ -126,9 +126,9 @@ module _ (forced : List (List ℕ)) (es : List Labelled) (undo_records : List Un
   now : m ≡ image forced (objects es ++ e.object ∷ [])
   now = s.image ∙ ap (λ (xs : List Contents). image forced xs) one_less
 
-  -- the cells of the last object stand behind the sizes that were kept
-  pub behind : IsBehind undo_record.sizes m t
-  behind = record {
+  -- the cells of the last object come after the sizes that were kept
+  pub at_least : HasAtLeast undo_record.sizes m t
+  at_least = record {
     text = subst (λ (n : ℕ). n ≤ length m.text_cells) (ap (λ (z : Sizes). z.text_cells) (sym kept_sizes.1)) (subst (λ (n : Image). length old.text_cells ≤ length n.text_cells) (sym joined)
         (omega (arith, length-append (map (settled_cell (next_named old e.object)) old.text_cells) (next_texts old e.object), length-map old.text_cells (settled_cell (next_named old e.object)))));
     «data» = subst (λ (n : ℕ). n ≤ length m.data_cells) (ap (λ (z : Sizes). z.data_cells) (sym kept_sizes.1)) (subst (λ (n : Image). length old.data_cells ≤ length n.data_cells) (sym joined)

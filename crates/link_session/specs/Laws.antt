@@ -14,7 +14,7 @@ use Rattle.link_session.specs.States.{state}
 use Rattle.link_session.specs.Marks.{IsDifference, states_marked}
 use Rattle.link_session.specs.Undo.{Kept}
 use Rattle.link_session.specs.Sessions.{Adds, Withdraws}
-use Rattle.link_session.specs.Starts.{shift, no_starts, starts_behind, next_starts, shifts_at, shift_by}
+use Rattle.link_session.specs.Starts.{shift, no_starts, starts_after, next_starts, shifts_at, shift_by}
 
 -- what is taken away right after an addition is the object that was added, and the session is what it was
 abbrev pub WithdrawLaw : Type 0
@@ -34,7 +34,7 @@ MarksLaw = (forced : List (List ℕ)) (os : List Contents) (o : Contents) (marks
 
 -- starts and shifts, object by object, are those that the list of the objects before gives
 pub record StartsLaw : Type 0 where
-  pub first : no_starts ≡ starts_behind []
-  pub next : (earlier : List Contents) (o : Contents) → next_starts (starts_behind earlier) o.header ≡ starts_behind (earlier ++ o ∷ [])
+  pub first : no_starts ≡ starts_after []
+  pub next : (earlier : List Contents) (o : Contents) → next_starts (starts_after earlier) o.header ≡ starts_after (earlier ++ o ∷ [])
   pub shifts : (earlier : List Contents) (o : Contents) (segment : Segment) →
-      shift_by (shifts_at (starts_behind earlier) o.header) segment ≡ shift earlier o segment
+      shift_by (shifts_at (starts_after earlier) o.header) segment ≡ shift earlier o segment

@@ -77,7 +77,7 @@ impl Starts {
     }
 
     /// Those of the object after one with this header that starts here. (own choice)
-    pub fn behind(&self, header: &Header) -> Starts
+    pub fn after(&self, header: &Header) -> Starts
         ensures { result ≡ next_starts self.now header.now }
     {
         Starts {

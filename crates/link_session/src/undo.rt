@@ -1,7 +1,7 @@
 //! How an addition is taken back.
 ghost use Rattle.std.specs.Prelude.{◌≡◌, ◌*◌, ◌+◌, ◌-◌, ◌<◌, ◌≤◌, ◌∷◌, ◌++◌, [], length, slice_set};
 ghost use Rattle.link_session.specs.Image.{Image};
-ghost use Rattle.link_session.specs.internal.Fields.{image_in, threads_in, sizes_of, IsBehind, unthreaded_behind, threads_by, with_heads_back};
+ghost use Rattle.link_session.specs.internal.Fields.{image_in, threads_in, sizes_of, HasAtLeast, unthreaded_after, threads_by, with_heads_back};
 ghost use Rattle.link_session.specs.Undo.{put_back, with_state, cut_to, undo};
 
 use crate::cell::Cell;
@@ -11,10 +11,10 @@ use crate::merged::{Externals, Merged, Sizes};
 use crate::state::State;
 
 /// Takes the cells after these sizes out of their chains, the last first.
-fn unthread_behind(image: &mut Merged, sizes: &Sizes)
-    requires within { IsBehind sizes.now (image_in image.old) (threads_in image.old) }
+fn unthread_after(image: &mut Merged, sizes: &Sizes)
+    requires within { HasAtLeast sizes.now (image_in image.old) (threads_in image.old) }
     ensures image { image_in image.new ≡ image_in image.old }
-    ensures threads { threads_in image.new ≡ unthreaded_behind sizes.now (image_in image.old) (threads_in image.old) }
+    ensures threads { threads_in image.new ≡ unthreaded_after sizes.now (image_in image.old) (threads_in image.old) }
 {
     unthread(
         &image.data_cells[sizes.data_cells..],
@@ -30,11 +30,11 @@ fn unthread_behind(image: &mut Merged, sizes: &Sizes)
 
 /// Cuts the image to its earlier sizes. What is cut leaves its chains.
 fn cut(image: &mut Merged, sizes: &Sizes)
-    requires within { IsBehind sizes.now (image_in image.old) (threads_in image.old) }
+    requires within { HasAtLeast sizes.now (image_in image.old) (threads_in image.old) }
     ensures image { (before : Image) → sizes.now ≡ sizes_of before → image_in image.new ≡ cut_to before (image_in image.old) }
     ensures threads { threads_in image.new ≡ threads_by sizes.now (image_in image.old) (threads_in image.old) }
 {
-    unthread_behind(image, sizes);
+    unthread_after(image, sizes);
     image.text_cells.truncate(sizes.text_cells);
     image.data_cells.truncate(sizes.data_cells);
     image.bss_total = sizes.bss_total;
@@ -83,7 +83,7 @@ fn put_state(externals: &mut Externals, index: u16, state: State)
 /// Takes an addition back: the image is cut to its earlier sizes, and what the marks remember is put back, the last
 /// mark first. It is handed no object, and takes no memory.
 pub(crate) fn undo(image: &mut Merged, marks: &[Mark], sizes: &Sizes)
-    requires within { IsBehind sizes.now (image_in image.old) (threads_in image.old) }
+    requires within { HasAtLeast sizes.now (image_in image.old) (threads_in image.old) }
     ensures image { (before : Image) → sizes.now ≡ sizes_of before → image_in image.new ≡ undo marks.now (image_in image.old) before }
     ensures threads { threads_in image.new ≡ with_heads_back marks.now (threads_by sizes.now (image_in image.old) (threads_in image.old)) }
 {

@@ -23,16 +23,16 @@ abbrev pub IsPart : List (List ℕ) → List (List ℕ) → Type 0
 IsPart own forced = (name : List ℕ) → is_among own name ≡ true → is_among forced name ≡ true
 
 -- an offset after the same segment of these objects
-abbrev pub behind : List Contents → Segment → ℕ → ℕ
-behind before TextSeg offset = plus (total TextSeg before) offset
-behind before DataSeg offset = plus (total DataSeg before) offset
-behind before BssSeg offset = plus (total BssSeg before) offset
-behind before _ offset = plus 0 offset
+abbrev pub offset_after : List Contents → Segment → ℕ → ℕ
+offset_after before TextSeg offset = plus (total TextSeg before) offset
+offset_after before DataSeg offset = plus (total DataSeg before) offset
+offset_after before BssSeg offset = plus (total BssSeg before) offset
+offset_after before _ offset = plus 0 offset
 
 -- each definition of these objects is that of its name among all objects too, moved after those before them
 abbrev pub DefinitionsStand : List (List ℕ) → List Contents → List Contents → List Contents → Type 0
 DefinitionsStand forced before os after =
-    (name : List ℕ) (segment : Segment) (offset : ℕ) → state (mentions [] os) name ≡ Defined segment offset → state (mentions forced (before ++ (os ++ after))) name ≡ Defined segment (behind before segment offset)
+    (name : List ℕ) (segment : Segment) (offset : ℕ) → state (mentions [] os) name ≡ Defined segment offset → state (mentions forced (before ++ (os ++ after))) name ≡ Defined segment (offset_after before segment offset)
 
 -- a partial link whose forced names are forced later too stands for its objects wherever their definitions stand: the same file or refusal, and reports that differ at most in the multiples
 abbrev pub PartialStandsFor : Type 0

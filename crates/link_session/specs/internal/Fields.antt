@@ -58,15 +58,15 @@ sizes_of m = record {
 }
 
 -- so many cells are there at least, and one link for each cell
-pub record IsBehind (s : Sizes) (m : Image) (t : Threads) : Type 0 where
+pub record HasAtLeast (s : Sizes) (m : Image) (t : Threads) : Type 0 where
   pub text : s.text_cells ≤ length m.text_cells
   pub «data» : s.data_cells ≤ length m.data_cells
   pub text_links : length t.text_links ≡ length m.text_cells
   pub data_links : length t.data_links ≡ length m.data_cells
 
 -- the threads once the cells after these sizes leave their chains, the last first
-abbrev pub unthreaded_behind : Sizes → Image → Threads → Threads
-unthreaded_behind s m t = record t {
+abbrev pub unthreaded_after : Sizes → Image → Threads → Threads
+unthreaded_after s m t = record t {
   heads = unthreaded (drop s.text_cells m.text_cells) (drop s.text_cells t.text_links) (unthreaded (drop s.data_cells m.data_cells) (drop s.data_cells t.data_links) t.heads);
 }
 

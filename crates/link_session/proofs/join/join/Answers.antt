@@ -8,7 +8,7 @@ use Rattle.link_session.specs.Undo.{undo}
 use Rattle.link_session.specs.Image.{Image}
 use Rattle.link_session.specs.internal.Threads.{Threads, cut_heads}
 use Rattle.link_session.specs.internal.Chains.{AreChained}
-use Rattle.link_session.specs.internal.Fields.{image_in, threads_in, sizes_of, threads_by, with_heads_back, IsBehind}
+use Rattle.link_session.specs.internal.Fields.{image_in, threads_in, sizes_of, threads_by, with_heads_back, HasAtLeast}
 use Rattle.link_session.specs.internal.Additions.{next_mentions, state_marks, with_mentions, mentions_by, all_places}
 use Rattle.link_session.specs.internal.Settled.{settled_over}
 use Rattle.link_session.proofs.JoinLemmas.{entered-is, few_named, few_new, bound-is, heads-are, marks-are, undone, joined-is, joined_threads}
@@ -40,7 +40,7 @@ undo-requires c =
     let datas : length b.data_cells ≡ length (image_in c.args.image.now).data_cells = search rules in
     let sizes : c.sizes-sizes.result ≡ sizes_of (image_in c.args.image.now) = c.sizes-sizes.ensures in
     record {
-      within = subst (λ (s : Sizes). IsBehind s b v) (sym sizes) (record { text = omega (arith, texts); «data» = omega (arith, datas); text_links = c.bind_waiting.ensures.chained.text; data_links = c.bind_waiting.ensures.chained.data });
+      within = subst (λ (s : Sizes). HasAtLeast s b v) (sym sizes) (record { text = omega (arith, texts); «data» = omega (arith, datas); text_links = c.bind_waiting.ensures.chained.text; data_links = c.bind_waiting.ensures.chained.data });
     }
 
 pub returns-in-Err-clause-err : goal.returns-in-Err-clause-err

@@ -4,7 +4,7 @@ use Rattle.link_session.specs.Labelled.{objects}
 use Rattle.link_session.specs.Image.{image}
 use Rattle.link_session.specs.Undo.{undo}
 use Rattle.link_session.specs.internal.Fields.{image_in, threads_in, threads_by, with_heads_back, IsSession}
-use Rattle.link_session.proofs.SessionLemmas.{behind, kept_sizes, withdrawn_session}
+use Rattle.link_session.proofs.SessionLemmas.{at_least, kept_sizes, withdrawn_session}
 use Rattle.link_session.proofs.session.Session.withdraw.Goals as goal
 
 pub undo-requires : goal.undo-requires
@@ -13,7 +13,7 @@ undo-requires c =
     let undo_records : c.self.inside.undo_records.items ≡ c.pop-2.new.self.items ++ c.unwrap-undo_record.result ∷ [] = search rules in
     record {
       within =
-          behind c.self.inside.forced c.pop.new.self.items c.pop-2.new.self.items (image_in c.self.inside.image) (threads_in c.self.inside.image) c.in_ok-entry.entry c.unwrap-undo_record.result
+          at_least c.self.inside.forced c.pop.new.self.items c.pop-2.new.self.items (image_in c.self.inside.image) (threads_in c.self.inside.image) c.in_ok-entry.entry c.unwrap-undo_record.result
           (subst (λ (P : Type 0). P) (λ i. IsSession c.self.inside.forced (entries i) (undo_records i) (image_in c.self.inside.image) (threads_in c.self.inside.image)) c.self.invariant);
     }
 

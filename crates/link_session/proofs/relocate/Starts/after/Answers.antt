@@ -1,5 +1,5 @@
 use Rattle.std.proofs.Common.{refl}
-use Rattle.link_session.proofs.relocate.Starts.behind.Goals as goal
+use Rattle.link_session.proofs.relocate.Starts.after.Goals as goal
 
 pub returns : goal.returns
 returns c = refl
