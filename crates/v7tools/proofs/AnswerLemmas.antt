@@ -13,13 +13,14 @@ use Rattle.link_out.specs.declared.linked.Linked.{Linked}
 use Rattle.link_out.specs.declared.linked.LinkFault.{LinkFault}
 use Rattle.link_out.specs.declared.linked.LinkFault.TheVariants as links
 use Rattle.link_options.specs.Choices.{Choices}
+use Rattle.link_out.specs.Steps.{and_then, refused_as}
 use Rattle.link_out.specs.function.Link.{Outcome, link}
 use Rattle.link_out.specs.Outcomes.{outcome_of}
 use Rattle.link_out.specs.Outcomes as outcomes
 use Rattle.v7tools.specs.declared.fault.CliFault.{CliFault}
 use Rattle.v7tools.specs.declared.fault.CliFault.TheVariants as faults
 use Rattle.v7tools.specs.FaultTexts.{fault_at, fault_of_link}
-use Rattle.v7tools.specs.Inputs.{Cause, cannot_open, bad_file, bad_object, not_added, Refusal, of_input, not_linked, object_in, kept_with, with_input, with_inputs, at_path, and_then, link_or_refusal, linked}
+use Rattle.v7tools.specs.Inputs.{Cause, cannot_open, bad_file, bad_object, not_added, Refusal, of_input, not_linked, object_in, kept_with, with_input, with_inputs, at_path, linked}
 use Rattle.v7tools.specs.LinkAnswers.{Input, Said, said_by, refuses, breaks, runs_out, never, Takes, Rejects, WantsMemory, StopsAt, TakesAll, StopsIn, HasNoLink, MayLackMemory, IsNotLinked, IsLinkOver, told, IsTrueOf, IsLinkOfBytes, IsLinkOf}
 use Rattle.v7tools.specs.internal.InputParts.{AreTaken, IsFinalLink, IsPossible, StopsWith}
 use Rattle.v7tools.specs.internal.StepParts.{IsAccepted, IsAddition, IsFound}
@@ -152,14 +153,14 @@ module _ (forced : List (List ℕ)) where
 
   module _ (o : Choices) (is : List Input) (all : List (List ℕ × List ℕ)) (e : told is ≡ Some all) where
     abbrev link_kept : List Labelled → Result Outcome Refusal
-    link_kept kept = link_or_refusal (link forced (objects kept) o)
+    link_kept kept = refused_as not_linked (link forced (objects kept) o)
 
     linked_of : (kept : List Labelled) → TakesAll forced [] is kept → linked forced all o ≡ link_kept kept
     linked_of kept h = ap (λ (x : Result (List Labelled) Refusal). and_then x link_kept) (takes_bytes is [] kept all e h)
 
-    no_link_of : (x : Result Outcome LinkFault) (said : Said) → HasNoLink x said → IsTrueOf said (link_or_refusal x)
+    no_link_of : (x : Result Outcome LinkFault) (said : Said) → HasNoLink x said → IsTrueOf said (refused_as not_linked x)
     no_link_of x (refuses (of_input path cause)) h = absurd h
-    no_link_of x (refuses (not_linked fault)) h = ap link_or_refusal h
+    no_link_of x (refuses (not_linked fault)) h = ap (refused_as not_linked) h
     no_link_of x (breaks path) h = absurd h
     no_link_of x runs_out h = absurd h
     no_link_of x never h = absurd h
@@ -173,7 +174,7 @@ module _ (forced : List (List ℕ)) where
     not_linked_of never (inr h) = absurd h.none
 
     of_bytes : (answer : Result Linked CliFault) → IsLinkOver forced o is answer → IsLinkOfBytes forced o all answer
-    of_bytes (Ok l) h = linked_of h.kept h.taken ∙ ap link_or_refusal h.link
+    of_bytes (Ok l) h = linked_of h.kept h.taken ∙ ap (refused_as not_linked) h.link
     of_bytes (Err fault) h = not_linked_of (said_by fault) h
 
 -- what is said of the inputs is said of their bytes
