@@ -37,13 +37,13 @@ def modules(crate):
     """The modules of a crate, each with the prefix of its names if it is public, and what the root gives out of it and as types."""
     root = read(f"crates/{crate}/src/lib.rt")
     given = {}
-    for module, group, one in re.findall(r"^pub use (?:crate::)?(\w+)::(?:\{([^}]*)\}|(\w+));", root, re.M):
-        given.setdefault(module, set()).update(name.strip() for name in (group or one).split(",") if name.strip())
+    for module, group, one in re.findall(r"^pub use (?:crate::)?([\w:]+)::(?:\{([^}]*)\}|(\w+));", root, re.M):
+        given.setdefault(module.replace("::", "/"), set()).update(name.strip() for name in (group or one).split(",") if name.strip())
     types = {name for names in given.values() for name in names if name[0].isupper()}
     for is_public, module in re.findall(r"^(pub )?mod (\w+);", root, re.M):
         yield module, (f"{module}::" if is_public else ""), (None if is_public else given.pop(module, set()) | types)
     for module, names in given.items():
-        yield module, "", names
+        yield module, "", (names | types if "/" in module else names)
 
 
 def items(text):
@@ -236,7 +236,7 @@ def page_for(crate, text, uses):
 
 def words_of(crate):
     """The names that the paragraph of a page may have: those of the contracts, of definitions, and of the sources."""
-    files = glob.glob(f"crates/{crate}/specs/**/*.antt", recursive=True) + glob.glob(f"crates/{crate}/src/*.rt")
+    files = glob.glob(f"crates/{crate}/specs/**/*.antt", recursive=True) + glob.glob(f"crates/{crate}/src/**/*.rt", recursive=True)
     return set(re.findall(r"\w+", " ".join(read(path) for path in files))) | set(LIBRARIES)
 
 

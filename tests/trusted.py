@@ -54,8 +54,8 @@ def exported(crate):
     text = read(f"crates/{crate}/src/lib.rt")
     modules = set(re.findall(r"^pub mod (\w+);", text, re.M))
     names = {}
-    for module, group, one in re.findall(r"^pub use (\w+)::(?:\{([^}]*)\}|(\w+));", text, re.M):
-        names.setdefault(module, set()).update(name.strip() for name in (group or one).split(","))
+    for module, group, one in re.findall(r"^pub use ([\w:]+)::(?:\{([^}]*)\}|(\w+));", text, re.M):
+        names.setdefault(module.replace("::", "/"), set()).update(name.strip() for name in (group or one).split(","))
     return modules, names
 
 
@@ -85,8 +85,8 @@ def clauses(item, wanted):
 def promises(crate):
     """The names that the promises of a crate cite, each with where it is from and which file cites it."""
     modules, names = exported(crate)
-    for path in sorted(glob.glob(f"crates/{crate}/src/*.rt")):
-        module = os.path.basename(path)[:-3]
+    for path in sorted(glob.glob(f"crates/{crate}/src/**/*.rt", recursive=True)):
+        module = path.split("/src/")[1][:-3]
         is_open = module == "lib" or module in modules
         given = names.get(module, set())
         text = read(path)

@@ -8,7 +8,7 @@ use Rattle.command_words.specs.declared.lines.Line.{Line}
 use Rattle.command_words.specs.declared.line_reader.Stop.{Stop}
 use Rattle.command_words.specs.declared.line_reader.Stop.TheVariants as stops
 use Rattle.command_words.specs.Scripts.{asked, lines_in, on_first, long_line, many_lines, and_given, ends_with_fault, given_behind}
-use Rattle.command_words.specs.ScriptAnswers.{Answer, asked_by, HasLine, HasNone, NamesPath, behind_line, IfTold, IsNextOf}
+use Rattle.command_words.specs.ScriptAnswers.{Answer, asked_by, HasLine, HasNone, NamesPath, behind_line, WhereKnown, IsNextOf}
 use Rattle.command_words.specs.internal.LineParts.{IsStopOf, IsTakenOf}
 
 pub has_none_push : (line : List ℕ) (b : ℕ) → HasNone line → b ≢ 10 → HasNone (line ++ b ∷ [])
@@ -82,7 +82,7 @@ given_long n l ls few long =
 
 -- ---- the same of a reader that tells its bytes
 
-pub told_map : (old new : Option (List ℕ)) (P Q : List ℕ → List ℕ → Type 0) → ((bytes left : List ℕ) → P bytes left → Q bytes left) → IfTold old new P → IfTold old new Q
+pub told_map : (old new : Option (List ℕ)) (P Q : List ℕ → List ℕ → Type 0) → ((bytes left : List ℕ) → P bytes left → Q bytes left) → WhereKnown old new P → WhereKnown old new Q
 told_map None new P Q f h = tt
 told_map (Some bytes) None P Q f h = absurd h
 told_map (Some bytes) (Some left) P Q f h = f bytes left h
@@ -94,7 +94,7 @@ long_lines n (x ∷ front) rest few long h =
     ap (given_behind n) same ∙ given_long n (x ∷ (front ++ more)) others few (omega (arith, length-append front more))
 
 pub long_told : (n : ℕ) (old new : Option (List ℕ)) (line : List ℕ) (b : ℕ) → n < 1000000 → length line ≡ 4096 → HasNone (line ++ b ∷ []) → Consumes old new (line ++ b ∷ []) →
-    IfTold old new (λ bytes left. IsStopOf n bytes left stops.LongLine)
+    WhereKnown old new (λ bytes left. IsStopOf n bytes left stops.LongLine)
 long_told n None new line b few long none taken = tt
 long_told n (Some bytes) None line b few long none taken = absurd taken
 long_told n (Some bytes) (Some left) line b few long none taken =
@@ -104,7 +104,7 @@ long_told n (Some bytes) (Some left) line b few long none taken =
     )
 
 pub line_told : (n : ℕ) (old new : Option (List ℕ)) (line : List ℕ) → n < 1000000 → length line ≤ 4096 → HasNone line → Consumes old new (line ++ 10 ∷ []) →
-    IfTold old new (λ bytes left. IsTakenOf n bytes left line (Ok false))
+    WhereKnown old new (λ bytes left. IsTakenOf n bytes left line (Ok false))
 line_told n None new line few short none taken = tt
 line_told n (Some bytes) None line few short none taken = absurd taken
 line_told n (Some bytes) (Some left) line few short none taken =
@@ -121,7 +121,7 @@ last_lines n [] few short some none = absurd (some refl)
 last_lines n (x ∷ line) few short some none = ap (given_behind n) (lines_of_last x line none) ∙ given_line n (x ∷ line) [] few short
 
 pub last_told : (n : ℕ) (old new : Option (List ℕ)) (line : List ℕ) → n < 1000000 → length line ≤ 4096 → (length line ≡ 0 → ⊥) → HasNone line → Consumes old new line → IsAtEnd new →
-    IfTold old new (λ bytes left. IsTakenOf n bytes left line (Ok true))
+    WhereKnown old new (λ bytes left. IsTakenOf n bytes left line (Ok true))
 last_told n None new line few short some none taken end = tt
 last_told n (Some bytes) None line few short some none taken end = absurd taken
 last_told n (Some bytes) (Some left) line few short some none taken end =
@@ -142,7 +142,7 @@ line_answered n settled line is_last it bytes left same last h =
 
 -- no memory for the line that was taken
 pub lost_told : (n : ℕ) (old new : Option (List ℕ)) (settled : Option Stop) (line : List ℕ) (is_last : Bool) → NamesPath (asked line) →
-    IfTold old new (λ bytes left. IsTakenOf n bytes left line (Ok is_last)) → IfTold old new (λ bytes left. IsNextOf n bytes left settled (Err stops.Memory))
+    WhereKnown old new (λ bytes left. IsTakenOf n bytes left line (Ok is_last)) → WhereKnown old new (λ bytes left. IsNextOf n bytes left settled (Err stops.Memory))
 lost_told n old new settled line is_last named =
     told_map old new (λ bytes left. IsTakenOf n bytes left line (Ok is_last)) (λ bytes left. IsNextOf n bytes left settled (Err stops.Memory)) (λ bytes left h. (asked line, named, h.0))
 
@@ -154,8 +154,8 @@ stops_next n settled stops.ManyLines bytes left h = h
 stops_next n settled stops.ReadFailed bytes left h = h
 stops_next n settled stops.Memory bytes left h = absurd h
 
-pub stop_told : (n : ℕ) (old new : Option (List ℕ)) (settled : Option Stop) (stop : Stop) → IfTold old new (λ bytes left. IsStopOf n bytes left stop) →
-    IfTold old new (λ bytes left. IsNextOf n bytes left settled (Err stop))
+pub stop_told : (n : ℕ) (old new : Option (List ℕ)) (settled : Option Stop) (stop : Stop) → WhereKnown old new (λ bytes left. IsStopOf n bytes left stop) →
+    WhereKnown old new (λ bytes left. IsNextOf n bytes left settled (Err stop))
 stop_told n old new settled stop =
     told_map old new (λ bytes left. IsStopOf n bytes left stop) (λ bytes left. IsNextOf n bytes left settled (Err stop)) (stops_next n settled stop)
 

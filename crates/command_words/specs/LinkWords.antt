@@ -1,16 +1,13 @@
 -- What the options that ld and session share ask for, by the rows that were read of the words. (ld(1))
 --
 -- A row is an option with its values. Where options exclude each other, the words ask for nothing.
-use Rattle.std.specs.Prelude.{◌≡◌, ◌≤◌, ℕ, Bool, true, false, cond, nat_lt, if◌then◌else◌, List, [], ◌∷◌, take, length, Option, Some, None, option_map, unwrap_or, Result, Ok, Err}
+use Rattle.std.specs.Prelude.{◌≡◌, ◌≤◌, ℕ, Bool, cond, nat_lt, List, [], ◌∷◌, take, length, None, ok_or, option_map, unwrap_or, Result, Ok, Err}
 use Rattle.clap.specs.Walk.{Row, all_of, count_of, first_of}
 use Rattle.aout_core.specs.Names.{before_nul}
 use Rattle.link_session.specs.ForcedNames.{AreDifferent, takes, with_name}
-use Rattle.link_options.specs.declared.options.Layout.{Layout}
-use Rattle.link_options.specs.declared.options.Layout.TheVariants.{Plain, Pure, Split}
-use Rattle.link_options.specs.declared.options.Keep.{Keep}
-use Rattle.link_options.specs.declared.options.Keep.TheVariants.{All, NotL, Externals, Nothing}
-use Rattle.link_options.specs.declared.options.OptionFault.{OptionFault}
+use Rattle.link_options.specs.declared.flags.Flags.{Flags}
 use Rattle.link_options.specs.Choices.{Choices, option_fault}
+use Rattle.link_options.specs.Flags.{choices_of}
 use Rattle.command_words.specs.declared.fault.WordsFault.{WordsFault}
 use Rattle.command_words.specs.declared.fault.WordsFault.TheVariants.{Usage}
 use Rattle.command_words.specs.declared.link_words.TheConstants.{RELOCATABLE, STRIP, EXTERNALS, NOT_L, PURE, SPLIT, COMMONS, FORCED, ENTRY}
@@ -27,42 +24,20 @@ values_of rows id = unwrap_or (all_of id rows) []
 abbrev pub name_in : List ℕ → List ℕ
 name_in text = take 8 (before_nul text)
 
-abbrev pub layout_by : Bool → Bool → Result Layout WordsFault
-layout_by false false = Ok Plain
-layout_by true false = Ok Pure
-layout_by false true = Ok Split
-layout_by true true = Err Usage
-
-abbrev pub layout_asked : List Row → Result Layout WordsFault
-layout_asked rows = layout_by (is_given rows PURE.now) (is_given rows SPLIT.now)
-
--- -s wins over -x, and that over -X
-abbrev pub keep_asked : List Row → Keep
-keep_asked rows =
-    if is_given rows STRIP.now then Nothing
-    else if is_given rows EXTERNALS.now then Externals
-    else if is_given rows NOT_L.now then NotL
-    else All
-
-abbrev pub choices_with : List Row → Layout → Choices
-choices_with rows layout = record {
-  layout = layout;
+abbrev pub flags_asked : List Row → Flags
+flags_asked rows = record {
   relocatable = is_given rows RELOCATABLE.now;
-  keep = keep_asked rows;
-  entry = option_map name_in (first_of ENTRY.now rows);
-  force_commons = is_given rows COMMONS.now;
+  strip = is_given rows STRIP.now;
+  externals = is_given rows EXTERNALS.now;
+  not_l = is_given rows NOT_L.now;
+  pure = is_given rows PURE.now;
+  split = is_given rows SPLIT.now;
+  commons = is_given rows COMMONS.now;
 }
 
-abbrev pub unless : Option OptionFault → Choices → Result Choices WordsFault
-unless None options = Ok options
-unless (Some fault) options = Err Usage
-
-abbrev pub options_with : List Row → Result Layout WordsFault → Result Choices WordsFault
-options_with rows (Ok layout) = unless (option_fault layout (is_given rows RELOCATABLE.now) (keep_asked rows)) (choices_with rows layout)
-options_with rows (Err fault) = Err fault
-
+-- what the flags ask for, with the name of the entry point
 abbrev pub options_asked : List Row → Result Choices WordsFault
-options_asked rows = options_with rows (layout_asked rows)
+options_asked rows = ok_or (choices_of (flags_asked rows) (option_map name_in (first_of ENTRY.now rows))) Usage
 
 -- each name appended to the names before it, where it is not there already and there is room
 abbrev pub with_names : List (List ℕ) → List (List ℕ) → Result (List (List ℕ)) WordsFault

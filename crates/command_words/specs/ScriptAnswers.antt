@@ -51,10 +51,10 @@ Settles (Ok line) settled = IfSome settled (λ stop. stop ≡ stops.End)
 Settles (Err stop) settled = settled ≡ Some stop
 
 -- known bytes stay known, and this holds of those before and after
-abbrev pub IfTold : Option (List ℕ) → Option (List ℕ) → (List ℕ → List ℕ → Type 0) → Type 0
-IfTold None new holds = Unit {0}
-IfTold (Some xs) None holds = ⊥
-IfTold (Some xs) (Some ys) holds = holds xs ys
+abbrev pub WhereKnown : Option (List ℕ) → Option (List ℕ) → (List ℕ → List ℕ → Type 0) → Type 0
+WhereKnown None new holds = Unit {0}
+WhereKnown (Some xs) None holds = ⊥
+WhereKnown (Some xs) (Some ys) holds = holds xs ys
 
 -- what comes after the first newline
 abbrev pub behind_line : List ℕ → List ℕ
@@ -106,7 +106,7 @@ IsNextOf n bytes left settled (Err stops.Memory) = (asks : Asked) × NamesPath a
 -- what a call returned, and what it made of the script: once it is settled that there is no further line, nothing
 pub record GivesNext {R : Type 0} (remaining : R → Option (List ℕ)) (old new : Progress R) (answer : Answer) : Type 0 where
   pub stays : IfSome old.settled (λ stop. (answer ≡ Err stop) × (new ≡ old))
-  pub next : old.settled ≡ None → IfTold (unread remaining old.held old.wire) (unread remaining new.held new.wire) (λ bytes left. IsNextOf old.line_count bytes left new.settled answer)
+  pub next : old.settled ≡ None → WhereKnown (unread remaining old.held old.wire) (unread remaining new.held new.wire) (λ bytes left. IsNextOf old.line_count bytes left new.settled answer)
   pub settles : Settles answer new.settled
   pub failed : (answer ≡ Err stops.ReadFailed) ↔ IsTrue new.wire.has_failed
   pub latched : IsTrue old.wire.has_failed → new.wire ≡ old.wire

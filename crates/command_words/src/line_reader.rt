@@ -2,7 +2,7 @@
 ghost use Rattle.std.specs.Prelude.{◌≡◌, ◌↔◌, ◌+◌, ◌<◌, ◌≤◌, [], IfErr, IfOk, IsTrue, None, length, vec_capacity, vec_len};
 ghost use Rattle.aout_core.specs.declared.block.TheConstants.{BLOCK_SIZE};
 ghost use Rattle.command_words.specs.declared.lines.TheConstants.{LINE_LIMIT};
-ghost use Rattle.command_words.specs.ScriptAnswers.{GivesNext, HasLine, IfTold, NeedsNoMore, begun, unread};
+ghost use Rattle.command_words.specs.ScriptAnswers.{GivesNext, HasLine, WhereKnown, NeedsNoMore, begun, unread};
 ghost use Rattle.command_words.specs.internal.LineParts.{EndsLine, IsStopOf, IsTakenOf};
 
 use crate::block_reader::BlockReader;
@@ -74,7 +74,7 @@ fn read_line<R: Read>(reader: &mut BlockReader<R>, line: &mut Vec<u8>) -> Ending
 fn stop_at_limit<R: Read>(reader: &mut BlockReader<R>) -> Stop
     ensures failed { (result ≡ Stop.ReadFailed) ↔ IsTrue reader.new.wire.has_failed }
     ensures latched { IsTrue reader.old.wire.has_failed → (reader.new ≡ reader.old) }
-    ensures value { IfTold (unread R.remaining reader.old.held reader.old.wire) (unread R.remaining reader.new.held reader.new.wire)
+    ensures value { WhereKnown (unread R.remaining reader.old.held reader.old.wire) (unread R.remaining reader.new.held reader.new.wire)
         (λ bytes left. IsStopOf 1000000 bytes left result) }
     ensures unasked { (reader.old.held ≡ [] → ⊥) → reader.new.wire ≡ reader.old.wire }
 {
@@ -98,7 +98,7 @@ fn take_line<R: Read>(
     ensures failed { IfErr result (λ stop. (stop ≡ Stop.ReadFailed) ↔ IsTrue reader.new.wire.has_failed) }
     ensures works { IfOk result (λ _. IsTrue reader.new.wire.has_failed → ⊥) }
     ensures latched { IsTrue reader.old.wire.has_failed → (reader.new ≡ reader.old) }
-    ensures value { IfTold (unread R.remaining reader.old.held reader.old.wire) (unread R.remaining reader.new.held reader.new.wire)
+    ensures value { WhereKnown (unread R.remaining reader.old.held reader.old.wire) (unread R.remaining reader.new.held reader.new.wire)
         (λ bytes left. IsTakenOf line_count bytes left line.new.items result) }
     ensures unasked { NeedsNoMore line_count reader.old.held → reader.new.wire ≡ reader.old.wire }
 {

@@ -6,12 +6,12 @@ ghost use Rattle.clap.specs.Simple.{app_of};
 ghost use Rattle.clap.specs.declared.builder.action.ArgAction.TheVariants.{Count};
 ghost use Rattle.command_words.specs.Tools.{letter_rule, link_rules, with_rules};
 ghost use Rattle.command_words.specs.internal.FlagRules.{flag_rule};
-ghost use Rattle.command_words.specs.LinkWords.{forced_asked, is_given, keep_asked, layout_asked, name_in, options_asked};
+ghost use Rattle.command_words.specs.LinkWords.{flags_asked, forced_asked, is_given, name_in, options_asked};
 
 use crate::fault::WordsFault;
 use aout_core::Name;
 use clap::{Arg, ArgAction, ArgMatches, Command};
-use link_options::{Keep, Layout, Options};
+use link_options::{Flags, Options};
 use link_session::Forced;
 use std::alloc::{AllocError, Global};
 
@@ -94,30 +94,18 @@ pub(crate) fn is_set(given: &ArgMatches<'_>, id: &str) -> bool
     given.get_count(id) > 0
 }
 
-/// Where data lies: `-n` and `-i` exclude each other.
-fn layout(given: &ArgMatches<'_>) -> Result<Layout, WordsFault>
-    ensures { result ≡ layout_asked (rows_of (found_of given.now)) }
+/// The flags of a link that were given.
+fn flags_given(given: &ArgMatches<'_>) -> Flags
+    ensures { result ≡ flags_asked (rows_of (found_of given.now)) }
 {
-    match (is_set(given, PURE), is_set(given, SPLIT)) {
-        (false, false) => Ok(Layout::Plain),
-        (true, false) => Ok(Layout::Pure),
-        (false, true) => Ok(Layout::Split),
-        (true, true) => Err(WordsFault::Usage),
-    }
-}
-
-/// Which symbols are kept: `-s` wins over `-x`, and that over `-X`.
-fn keep(given: &ArgMatches<'_>) -> Keep
-    ensures { result ≡ keep_asked (rows_of (found_of given.now)) }
-{
-    if is_set(given, STRIP) {
-        Keep::Nothing
-    } else if is_set(given, EXTERNALS) {
-        Keep::Externals
-    } else if is_set(given, NOT_L) {
-        Keep::NotL
-    } else {
-        Keep::All
+    Flags {
+        relocatable: is_set(given, RELOCATABLE),
+        strip: is_set(given, STRIP),
+        externals: is_set(given, EXTERNALS),
+        not_l: is_set(given, NOT_L),
+        pure: is_set(given, PURE),
+        split: is_set(given, SPLIT),
+        commons: is_set(given, COMMONS),
     }
 }
 
@@ -135,16 +123,9 @@ fn entry(given: &ArgMatches<'_>) -> Option<Name>
 pub(crate) fn link_options(given: &ArgMatches<'_>) -> Result<Options, WordsFault>
     ensures { result ≡ options_asked (rows_of (found_of given.now)) }
 {
-    let layout = layout(given)?;
-    let relocatable = is_set(given, RELOCATABLE);
-    let Ok(options) = Options::new(layout, relocatable, keep(given), entry(given)) else {
-        return Err(WordsFault::Usage);
-    };
-    if is_set(given, COMMONS) {
-        Ok(options.force_commons())
-    } else {
-        Ok(options)
-    }
+    flags_given(given)
+        .options(entry(given))
+        .ok_or(WordsFault::Usage)
 }
 
 /// The forced names, each once. `Usage`: more than 64 different ones.

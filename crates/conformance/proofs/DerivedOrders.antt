@@ -17,7 +17,8 @@ use Rattle.link_out.specs.Results.{Outcome}
 use Rattle.link_out.specs.function.Link.{link}
 use Rattle.link_out.specs.Runs.{link_after}
 use Rattle.laws.specs.Orders.{additions, AreAdded, OrderAddsAlike, AreAlike, OrderLinksAlike}
-use Rattle.v7tools.specs.Inputs.{Cause, Refusal, object_in, added_unless, kept_with, at_path, and_then, with_inputs, link_or_refusal, linked}
+use Rattle.link_out.specs.Steps.{and_then, refused_as, unless}
+use Rattle.v7tools.specs.Inputs.{Cause, Refusal, not_added, not_linked, object_in, kept_with, at_path, with_inputs, linked}
 use Rattle.conformance.specs.Samples.{e_o}
 
 -- a path and the bytes there
@@ -68,7 +69,7 @@ module _ (forced : List (List ℕ)) where
       Again : Type 0
       Again = (e : Labelled) → with_inputs forced (kept ++ e ∷ []) is ≡ Ok more → AreTaken (kept ++ e ∷ []) is more
 
-      by_refusal : (q : Option AddFault) (e : Labelled) → and_then (at_path i.0 (added_unless q kept e)) (λ m. with_inputs forced m is) ≡ Ok more → Again →
+      by_refusal : (q : Option AddFault) (e : Labelled) → and_then (at_path i.0 (unless not_added q (kept ++ e ∷ []))) (λ m. with_inputs forced m is) ≡ Ok more → Again →
           (0 + bad_in is ≡ 0) × AllAdded (answer_by q ∷ answers_from forced (kept_unless q kept e) (additions later)) × (survivors_from forced (kept_unless q kept e) (additions later) ≡ more)
       by_refusal (Some fault) e g again = absurd (cc)
       by_refusal None e g again = let rest = again e g in (let none = rest.read in omega arith, (refl, rest.told), rest.left)
@@ -90,7 +91,7 @@ module _ (forced : List (List ℕ)) where
       Again = (e : Labelled) → bad_in is ≡ 0 → AllAdded (answers_from forced (kept ++ e ∷ []) (additions later)) → with_inputs forced (kept ++ e ∷ []) is ≡ Ok (survivors_from forced (kept ++ e ∷ []) (additions later))
 
       by_refusal : (q : Option AddFault) (e : Labelled) → bad_in is ≡ 0 → AllAdded (answer_by q ∷ answers_from forced (kept_unless q kept e) (additions later)) → Again →
-          and_then (at_path i.0 (added_unless q kept e)) (λ m. with_inputs forced m is) ≡ Ok (survivors_from forced (kept_unless q kept e) (additions later))
+          and_then (at_path i.0 (unless not_added q (kept ++ e ∷ []))) (λ m. with_inputs forced m is) ≡ Ok (survivors_from forced (kept_unless q kept e) (additions later))
       by_refusal (Some fault) e none g again = absurd (let bad : refused fault ≡ added = g.0 in cc)
       by_refusal None e none g again = again e none g.1
 
@@ -113,15 +114,15 @@ linked_in_any_order adds links forced inputs others o x same plain h = by_inputs
     reordered : IsPermutation es ds
     reordered = IsPermutation-map labelled_in inputs others same
 
-    of_link : (l : Result Outcome LinkFault) → link_or_refusal l ≡ Ok x → l ≡ Ok x
+    of_link : (l : Result Outcome LinkFault) → refused_as not_linked l ≡ Ok x → l ≡ Ok x
     of_link (Ok z) e = let same : z ≡ x = cc in ap (λ (w : Outcome). let r : Result Outcome LinkFault = Ok w in r) same
     of_link (Err fault) e = absurd (cc)
 
     by_link : (l : Result Outcome LinkFault) → link_after forced (additions ds) o ≡ l → AreAlike (Ok x) l → with_inputs forced [] others ≡ Ok (survivors forced (additions ds)) → (y : Outcome) × (linked forced others o ≡ Ok y)
-    by_link (Ok y) e alike whole = (y, ap (λ (r : Result (List Labelled) Refusal). and_then r (λ kept. link_or_refusal (link forced (objects kept) o))) whole ∙ ap link_or_refusal e)
+    by_link (Ok y) e alike whole = (y, ap (λ (r : Result (List Labelled) Refusal). and_then r (λ kept. refused_as not_linked (link forced (objects kept) o))) whole ∙ ap (refused_as not_linked) e)
     by_link (Err fault) e alike whole = absurd alike
 
-    by_inputs : (r : Result (List Labelled) Refusal) → with_inputs forced [] inputs ≡ r → and_then r (λ kept. link_or_refusal (link forced (objects kept) o)) ≡ Ok x → (y : Outcome) × (linked forced others o ≡ Ok y)
+    by_inputs : (r : Result (List Labelled) Refusal) → with_inputs forced [] inputs ≡ r → and_then r (λ kept. refused_as not_linked (link forced (objects kept) o)) ≡ Ok x → (y : Outcome) × (linked forced others o ≡ Ok y)
     by_inputs (Err refusal) e g = absurd (cc)
     by_inputs (Ok kept) e g =
         let t = taken forced [] inputs kept e in

@@ -21,7 +21,7 @@ use Rattle.command_words.specs.declared.words.Call.TheVariants.{Ld}
 use Rattle.v7tools.specs.CommandRuns.{AsksFor}
 use Rattle.v7tools.specs.Events.{Event, Opened, opens, paths_of, stored}
 use Rattle.v7tools.specs.Inputs.{linked}
-use Rattle.v7tools.specs.LinkAnswers.{TakesAll, told}
+use Rattle.v7tools.specs.LinkAnswers.{TakesAll, known_inputs}
 use Rattle.v7tools.specs.LinkRuns.{inputs_opened}
 use Rattle.v7tools.specs.declared.office.Stored.TheVariants.{Kept}
 use Rattle.laws.specs.Disks.{Disk, IsOn, Run}
@@ -78,7 +78,7 @@ module _ (words : List (List ℕ)) (disk : Disk) (found : List Opened) (out : St
   module _ (forced : List (List ℕ)) (o : Choices) (files : Vec (String Global) Global) (asks : AsksFor words (Ld o forced out files)) where
     -- it does what the contract of `perform` says
     pub links : (kept : List Labelled) → paths_of found ≡ map string_bytes files.items → TakesAll forced [] (inputs_opened found) kept → link forced (objects kept) o ≡ Ok (outcome_of made) →
-        IfSome (told (inputs_opened found)) (λ bytes. linked forced bytes o ≡ Ok (outcome_of made)) → IsOn disk asked →
+        IfSome (known_inputs (inputs_opened found)) (λ bytes. linked forced bytes o ≡ Ok (outcome_of made)) → IsOn disk asked →
         Links contents contents forced o (string_bytes out) (map string_bytes files.items) run_of
     links kept all taken is bytes on_disk = record {
       asks = record { output = out; files = files; asks = asks; out_path = refl; file_paths = refl };
@@ -89,7 +89,7 @@ module _ (words : List (List ℕ)) (disk : Disk) (found : List Opened) (out : St
             call = Ld o forced out files;
             asks = asks;
             run = inr (inr (inr (record {
-              made = made;
+              linked = made;
               what = Kept;
               found = found;
               answer = record { all = all; link = record { over = record { kept = kept; taken = taken; link = is }; bytes = bytes } };

@@ -8,7 +8,8 @@ use Rattle.aout_core.specs.Strip.{stripped}
 use Rattle.link_out.specs.function.Link.{link}
 use Rattle.symtools.specs.NmLists.{nm_text}
 use Rattle.symtools.specs.SizeLines.{size_line, size_text}
-use Rattle.v7tools.specs.Inputs.{of_input, bad_file, bad_object, linked, link_or_refusal}
+use Rattle.link_out.specs.Steps.{refused_as}
+use Rattle.v7tools.specs.Inputs.{of_input, bad_file, bad_object, linked, not_linked}
 use Rattle.conformance.specs.Samples.{sym, header, object, L1, a_o, b_o, e_o, s_o, plain_s}
 
 nm_orders : nm_text (record { external = false; by_value = false; each_line = false; table_order = false; reverse = false; undefined = false }) ((codes "s.o", s_o) ∷ []) ≡ 48 ∷ 48 ∷ 48 ∷ 48 ∷ 48 ∷ 50 ∷ 32 ∷ 116 ∷ 32 ∷ 76 ∷ 49 ∷ 10 ∷ 32 ∷ 32 ∷ 32 ∷ 32 ∷ 32 ∷ 32 ∷ 32 ∷ 85 ∷ 32 ∷ 95 ∷ 102 ∷ 10 ∷ 48 ∷ 48 ∷ 48 ∷ 48 ∷ 48 ∷ 48 ∷ 32 ∷ 84 ∷ 32 ∷ 95 ∷ 109 ∷ 10 ∷ 48 ∷ 48 ∷ 48 ∷ 48 ∷ 48 ∷ 52 ∷ 32 ∷ 67 ∷ 32 ∷ 95 ∷ 120 ∷ 10 ∷ []
@@ -84,7 +85,7 @@ size_lines_e : size_text ((codes "e.o", e_o) ∷ []) ≡ 48 ∷ 43 ∷ 48 ∷ 43
 unfolding digits
 size_lines_e = refl
 
-linked_1 : linked [] ((codes "a.o", encoding a_o) ∷ (codes "b.o", encoding b_o) ∷ []) plain_s ≡ link_or_refusal (link [] (a_o ∷ b_o ∷ []) plain_s)
+linked_1 : linked [] ((codes "a.o", encoding a_o) ∷ (codes "b.o", encoding b_o) ∷ []) plain_s ≡ refused_as not_linked (link [] (a_o ∷ b_o ∷ []) plain_s)
 linked_1 = refl
 
 linked_short : linked [] ((codes "b.o", encoding b_o) ∷ (codes "a.o", take 17 (encoding a_o)) ∷ []) plain_s ≡ Err (of_input (codes "a.o") (bad_file Truncated))

@@ -18,7 +18,8 @@ use Rattle.link_session.specs.Limits.{limit_passed, refusal}
 use Rattle.link_session.specs.Labelled.{Labelled, objects}
 use Rattle.link_session.specs.Starts.{total}
 use Rattle.v7tools.specs.Events.{Event, Opened, opens, paths_of}
-use Rattle.v7tools.specs.Inputs.{Cause, added_unless, object_in, object_or}
+use Rattle.link_out.specs.Steps.{unless}
+use Rattle.v7tools.specs.Inputs.{Cause, bad_object, not_added, object_in}
 use Rattle.v7tools.specs.LinkAnswers.{TakesAll}
 use Rattle.v7tools.specs.LinkRuns.{inputs_opened}
 use Rattle.laws.specs.Disks.{Disk, IsOn, disk_after, with_file}
@@ -63,7 +64,7 @@ record IsFound (c o : Contents) : Type 0 where
 found_object : (c o : Contents) → let it : Result Contents Cause = Ok c in it ≡ object_in (Ok o) → IsFound c o
 found_object c o e = by_fault (first_object_fault o) refl e
   where
-    by_fault : (fault : Option ObjectFault) → first_object_fault o ≡ fault → (let it : Result Contents Cause = Ok c in it ≡ object_or fault o) → IsFound c o
+    by_fault : (fault : Option ObjectFault) → first_object_fault o ≡ fault → (let it : Result Contents Cause = Ok c in it ≡ unless bad_object fault o) → IsFound c o
     by_fault None well h = record { same = cc; well = well }
     by_fault (Some fault) well h = absurd (cc)
 
@@ -72,7 +73,7 @@ record IsAdded (fault : Option AddFault) (kept next : List Labelled) (e : Labell
   none : fault ≡ None
   longer : next ≡ kept ++ e ∷ []
 
-added : (fault : Option AddFault) (kept next : List Labelled) (e : Labelled) → (let it : Result (List Labelled) Cause = Ok next in added_unless fault kept e ≡ it) → IsAdded fault kept next e
+added : (fault : Option AddFault) (kept next : List Labelled) (e : Labelled) → (let it : Result (List Labelled) Cause = Ok next in unless not_added fault (kept ++ e ∷ []) ≡ it) → IsAdded fault kept next e
 added None kept next e h = record { none = refl; longer = cc }
 added (Some fault) kept next e h = absurd (cc)
 

@@ -70,7 +70,7 @@ module _ {W E : Type 0} (contents : W → Option (List ℕ)) (r : Run W E) (stat
   by_link forced o output paths (inl h) = absurd (no_fault status _ h.1.refusal)
   by_link forced o output paths (inr (inl h)) = absurd (no_fault status _ h.refuses.refusal)
   by_link forced o output paths (inr (inr (inl h))) = absurd (no_fault status _ h.refuses.refusal)
-  by_link forced o output paths (inr (inr (inr h))) = by_stored forced o output paths h.made h.what h.found h.answer h.asked h.reports
+  by_link forced o output paths (inr (inr (inr h))) = by_stored forced o output paths h.linked h.what h.found h.answer h.asked h.reports
 
   by_call : (forced : List (List ℕ)) (o : Choices) (out : List ℕ) (paths : List (List ℕ)) (call : Call) → IsLink forced o out paths call →
       IsCallRun contents r.script call (Some r.earlier) (Some (r.earlier ++ r.events)) (Ok status) r.output_before r.output_after → Done forced o out paths

@@ -5,10 +5,11 @@ use Rattle.std.specs.Prelude.{IsOkAnd}
 use Rattle.aout_core.specs.Contents.{Contents}
 use Rattle.link_session.specs.Labelled.{Labelled, objects}
 use Rattle.link_session.specs.Undo.{Kept}
+use Rattle.link_out.specs.Steps.{and_then}
 use Rattle.library_calls.specs.declared.cause.Cause.{Cause}
 use Rattle.library_calls.specs.declared.cause.Refusal.{Refusal}
 use Rattle.library_calls.specs.declared.parts.ObjectBytes.{ObjectBytes}
-use Rattle.library_calls.specs.Causes.{at, and_then}
+use Rattle.library_calls.specs.Causes.{at}
 use Rattle.library_calls.specs.LinkAnswers.{each_of, with_each, with_first}
 use Rattle.library_calls.specs.MemoryWanted.{MayRunOutForObject, MayRunOutInEach}
 

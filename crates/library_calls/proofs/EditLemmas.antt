@@ -6,15 +6,16 @@ use Rattle.link_session.specs.Edits.{Change, answers, answers_from, survivors, s
 use Rattle.link_session.specs.Labelled.{Labelled, objects}
 use Rattle.link_session.specs.Sessions.{nothing_kept}
 use Rattle.link_session.specs.Undo.{Kept}
+use Rattle.link_out.specs.Steps.{and_then, refused_as}
 use Rattle.library_calls.specs.declared.cause.Cause.{Cause}
-use Rattle.library_calls.specs.declared.cause.Cause.TheVariants.{Memory}
+use Rattle.library_calls.specs.declared.cause.Cause.TheVariants.{Memory, NotLinked}
 use Rattle.library_calls.specs.declared.cause.Refusal.{Refusal}
-use Rattle.library_calls.specs.Causes.{at, and_then}
+use Rattle.library_calls.specs.Causes.{at}
 use Rattle.link_options.specs.Choices.{Choices}
 use Rattle.link_out.specs.function.Link.{link}
 use Rattle.link_out.specs.Runs.{link_after}
 use Rattle.library_calls.specs.declared.session_call.Ran.{Ran}
-use Rattle.library_calls.specs.LinkAnswers.{linked_or, output_of}
+use Rattle.library_calls.specs.LinkAnswers.{output_of}
 use Rattle.library_calls.specs.MemoryWanted.{MayRunOutForEdit, MayRunOutInEdits, MayRunOutInRun}
 use Rattle.library_calls.specs.SessionAnswers.{behind_edit, change_in, output_with, reply_number, run_of, session_status, sessions_of, with_edit, with_edits}
 use Rattle.library_calls.specs.internal.Edited.{AreEdited, edited_link}
@@ -92,9 +93,9 @@ module _ (forced : List (List ℕ)) (o : Choices) (cs : List Change) (begun k : 
       let first : k.forced ≡ forced = edited.forced ∙ ap (λ (x : Kept). x.forced) is in
       let kept : k.entries ≡ survivors forced cs = edited.kept ∙ ap (λ (x : Kept). survivors_from x.forced x.entries cs) is in
       let replies : numbers ≡ map reply_number (answers forced cs) = edited.replies ∙ ap (λ (x : Kept). map reply_number (answers_from x.forced x.entries cs)) is in
-      sym (ap (λ f. and_then (linked_or (link f (objects k.entries) o)) (λ x. Ok (output_with numbers (output_of x)))) first
-      ∙ ap (λ es. and_then (linked_or (link forced (objects es) o)) (λ x. Ok (output_with numbers (output_of x)))) kept
-      ∙ ap (λ ns. and_then (linked_or (link_after forced cs o)) (λ x. Ok (output_with ns (output_of x)))) replies)
+      sym (ap (λ f. and_then (refused_as NotLinked (link f (objects k.entries) o)) (λ x. Ok (output_with numbers (output_of x)))) first
+      ∙ ap (λ es. and_then (refused_as NotLinked (link forced (objects es) o)) (λ x. Ok (output_with numbers (output_of x)))) kept
+      ∙ ap (λ ns. and_then (refused_as NotLinked (link_after forced cs o)) (λ x. Ok (output_with ns (output_of x)))) replies)
 
   pub run_ok : (r : Result Ran Cause) → begun ≡ nothing_kept forced → AreEdited begun k cs numbers → IfOk r (λ ran. edited_link k o numbers ≡ Ok (sessions_of ran)) →
       IfOk r (λ ran. run_of forced o cs ≡ Ok (sessions_of ran))

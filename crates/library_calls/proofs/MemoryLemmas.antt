@@ -9,15 +9,17 @@ use Rattle.link_options.specs.Choices.{Choices}
 use Rattle.link_out.specs.declared.linked.LinkFault.{LinkFault}
 use Rattle.link_out.specs.function.Link.{link}
 use Rattle.link_out.specs.Results.{Outcome}
+use Rattle.link_out.specs.Steps.{and_then, refused_as}
 use Rattle.library_calls.specs.declared.cause.Cause.{Cause}
+use Rattle.library_calls.specs.declared.cause.Cause.TheVariants.{NotLinked}
 use Rattle.library_calls.specs.declared.cause.Refusal.{Refusal}
-use Rattle.library_calls.specs.Causes.{at, and_then}
-use Rattle.library_calls.specs.LinkAnswers.{linked_or, with_each, with_objects}
+use Rattle.library_calls.specs.Causes.{at}
+use Rattle.library_calls.specs.LinkAnswers.{with_each, with_objects}
 use Rattle.library_calls.specs.LinkWanted.{choices_in, forced_in}
 use Rattle.library_calls.specs.MemoryWanted.{MayRunOutInLink, MayRunOutInLinkOfEach, MayRunOutInRun, MayRunOutInSession, SessionMayRunOut}
 use Rattle.library_calls.specs.SessionAnswers.{changes_in}
 
-is_linked : (r : Result Outcome LinkFault) → IsOk r → IsOk (at 0 (linked_or r))
+is_linked : (r : Result Outcome LinkFault) → IsOk r → IsOk (at 0 (refused_as NotLinked r))
 is_linked (Ok x) h = refl
 is_linked (Err fault) h = absurd (cc)
 
@@ -29,7 +31,7 @@ link_without_memory forced o bytes begun k is all same linked =
     let first : k.forced ≡ forced = same ∙ ap (λ (x : Kept). x.forced) is in
     inl (
       refl,
-      inr (subst (λ (r : Result (List _) _). IsOk (and_then r (λ os. at 0 (linked_or (link forced os o))))) (sym taken)
+      inr (subst (λ (r : Result (List _) _). IsOk (and_then r (λ os. at 0 (refused_as NotLinked (link forced os o))))) (sym taken)
           (is_linked (link forced (objects k.entries) o) (subst (λ (f : List (List ℕ)). IsOk (link f (objects k.entries) o)) first linked))),
     )
 
@@ -41,7 +43,7 @@ each_without_memory forced o parts begun k is all same linked =
     let first : k.forced ≡ forced = same ∙ ap (λ (x : Kept). x.forced) is in
     inl (
       refl,
-      inr (subst (λ (r : Result (List _) _). IsOk (and_then r (λ os. at 0 (linked_or (link forced os o))))) (sym taken)
+      inr (subst (λ (r : Result (List _) _). IsOk (and_then r (λ os. at 0 (refused_as NotLinked (link forced os o))))) (sym taken)
           (is_linked (link forced (objects k.entries) o) (subst (λ (f : List (List ℕ)). IsOk (link f (objects k.entries) o)) first linked))),
     )
 

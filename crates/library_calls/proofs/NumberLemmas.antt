@@ -1,6 +1,6 @@
 -- No refusal of the definitions has the number of no memory.
 use Rattle.std.proofs.Common.{◌≡◌, ℕ, zero, suc, ◌+◌, Bool, true, false, cond, if◌then◌else◌, nat_lt, eqb, not, ◌&&◌, List, [], ◌∷◌, ◌++◌, map, length, take, drop, ◌/◌, ◌%◌, Option, Some, None, Result, Ok, Err, refl, ap}
-use Rattle.std.specs.Prelude.{IfErr}
+use Rattle.std.specs.Prelude.{IfErr, ok_or}
 use Rattle.aout_core.specs.declared.header.Header.{Header}
 use Rattle.aout_core.specs.declared.object.ObjectFault.{ObjectFault}
 use Rattle.aout_core.specs.declared.object.ObjectFault.TheVariants as faults
@@ -9,11 +9,12 @@ use Rattle.aout_core.specs.Contents.{Contents, is_magic, has_whole_sizes}
 use Rattle.aout_core.specs.Decoding.{contents_in, header_in}
 use Rattle.aout_core.specs.Encoding.{encoding, file_length}
 use Rattle.aout_core.specs.WellFormed.{first_object_fault}
+use Rattle.link_out.specs.Steps.{and_then, refused_as, unless}
 use Rattle.library_calls.specs.declared.cause.Cause.{Cause}
-use Rattle.library_calls.specs.declared.cause.Cause.TheVariants.{NoOption, LongName, CutNames, ManyNames, TooLong, NoEdit, BadFile}
+use Rattle.library_calls.specs.declared.cause.Cause.TheVariants.{NoOption, Excluded, LongName, CutNames, ManyNames, TooLong, NoEdit, BadFile, BadObject, NotAdded, NotLinked}
 use Rattle.library_calls.specs.declared.cause.LongPart.TheVariants as long
 use Rattle.library_calls.specs.declared.cause.Refusal.{Refusal}
-use Rattle.library_calls.specs.Causes.{at, and_then, number_of}
+use Rattle.library_calls.specs.Causes.{at, number_of}
 use Rattle.link_session.specs.declared.entry.AddFault.TheVariants as adds
 use Rattle.link_session.specs.ForcedNames.{takes, with_name}
 use Rattle.link_session.specs.Edits.{Change, addition, answers, survivors, withdrawal}
@@ -23,9 +24,8 @@ use Rattle.link_session.specs.Limits.{refusal}
 use Rattle.link_session.specs.Mentions.{externals}
 use Rattle.link_session.specs.Starts.{total}
 use Rattle.aout_core.specs.declared.symbol.Segment.TheVariants.{TextSeg, DataSeg, BssSeg}
-use Rattle.link_options.specs.Choices.{Choices, option_fault}
-use Rattle.link_options.specs.declared.options.Layout.{Layout}
-use Rattle.link_options.specs.declared.options.OptionFault.{OptionFault}
+use Rattle.link_options.specs.Choices.{Choices}
+use Rattle.link_options.specs.Flags.{choices_of}
 use Rattle.link_out.specs.declared.linked.LinkFault.TheVariants as links
 use Rattle.link_out.specs.function.Link.{link, linked_file}
 use Rattle.link_out.specs.function.Plans.{plan}
@@ -35,9 +35,9 @@ use Rattle.link_out.specs.Results.{Outcome}
 use Rattle.aout_core.specs.Strip.{stripped}
 use Rattle.symtools.specs.NmLists.{nm_text}
 use Rattle.symtools.specs.SizeLines.{size_text}
-use Rattle.library_calls.specs.FileAnswers.{behind_file, checked_in, file_in, file_of, has_bit, names_in, nm_options_in, nm_options_of, object_in, object_of, object_unless, sizes_in, stripped_in}
-use Rattle.library_calls.specs.LinkAnswers.{added_unless, found_each, found_of, linked_each, linked_in, linked_or, objects_in, outcome_each, output_each, output_in, output_of, with_each, with_first, with_most, with_object}
-use Rattle.library_calls.specs.LinkWanted.{choices_by, choices_in, choices_with, forced_in, keep_of, layout_by, name_of, short_entry, unless, with_names}
+use Rattle.library_calls.specs.FileAnswers.{behind_file, checked_in, file_in, has_bit, names_in, nm_options_in, nm_options_of, object_in, object_of, sizes_in, stripped_in}
+use Rattle.library_calls.specs.LinkAnswers.{found_each, found_of, linked_each, linked_in, objects_in, outcome_each, output_each, output_in, output_of, with_each, with_first, with_most, with_object}
+use Rattle.library_calls.specs.LinkWanted.{choices_in, entry_of, flags_in, forced_in, name_of, unless_long, with_names}
 use Rattle.library_calls.specs.ObjectParts.{Pieces, contents_for, file_for, header_for, header_of, made_of, parts_in, pieces_of, whole_in}
 use Rattle.library_calls.specs.SessionAnswers.{behind_edit, change_in, changes_in, output_with, reply_number, run_of, session_in, with_edit, with_edits}
 use Rattle.library_calls.specs.declared.state_call.Form.{Form}
@@ -66,7 +66,7 @@ is_told_at place (Ok x) h = tt
 is_told_at place (Err cause) h = h
 
 told_file_by : (short bad odd cut : Bool) (c : Contents) →
-    Told (file_of (if short then Err reads.ShortHeader else (if bad then Err reads.BadMagic else (if odd then Err reads.OddSize else (if cut then Err reads.Truncated else Ok c)))))
+    Told (refused_as BadFile (if short then Err reads.ShortHeader else (if bad then Err reads.BadMagic else (if odd then Err reads.OddSize else (if cut then Err reads.Truncated else Ok c)))))
 told_file_by true bad odd cut c = other 11 refl
 told_file_by false true odd cut c = other 12 refl
 told_file_by false false true cut c = other 13 refl
@@ -77,7 +77,7 @@ told_file : (bytes : List ℕ) → Told (file_in bytes)
 told_file bytes =
     told_file_by (nat_lt (length bytes) 16) (not (is_magic (header_in bytes).magic)) (not (has_whole_sizes (header_in bytes))) (nat_lt (length bytes) (file_length (header_in bytes))) (contents_in (header_in bytes) bytes)
 
-told_object_unless : (fault : Option ObjectFault) (c : Contents) → Told (object_unless fault c)
+told_object_unless : (fault : Option ObjectFault) (c : Contents) → Told (unless BadObject fault c)
 told_object_unless None c = tt
 told_object_unless (Some faults.NotAnObject) c = other 21 refl
 told_object_unless (Some faults.NoRelocation) c = other 22 refl
@@ -140,25 +140,15 @@ told_made p =
 
 -- ---- what is asked for
 
-told_layout : (first second : Bool) → Told (layout_by first second)
-told_layout false false = tt
-told_layout true false = tt
-told_layout false true = tt
-told_layout true true = other 2 refl
-
-told_unless : (fault : Option OptionFault) (o : Choices) → Told (unless fault o)
-told_unless None o = tt
-told_unless (Some fault) o = other 2 refl
-
-told_choices_by : (bits : ℕ) (entry : List ℕ) (r : Result Layout Cause) → Told r → Told (choices_by bits entry r)
-told_choices_by bits entry (Ok layout) h = told_unless (option_fault layout (has_bit bits 1) (keep_of bits)) (choices_with bits entry layout)
-told_choices_by bits entry (Err cause) h = h
+told_options : (asked : Option Choices) → Told (ok_or asked Excluded)
+told_options None = other 2 refl
+told_options (Some o) = tt
 
 told_long : (b : Bool) (o : Choices) → Told (if b then Err LongName else Ok o)
 told_long true o = other 3 refl
 told_long false o = tt
 
-told_short : (entry : List ℕ) (r : Result Choices Cause) → Told r → Told (short_entry entry r)
+told_short : (entry : List ℕ) (r : Result Choices Cause) → Told r → Told (unless_long entry r)
 told_short entry (Ok o) h = told_long (nat_lt 8 (length entry)) o
 told_short entry (Err cause) h = h
 
@@ -168,9 +158,8 @@ told_choices_if false r h = h
 
 told_choices : (bits : ℕ) (entry : List ℕ) → Told (choices_in bits entry)
 told_choices bits entry =
-    let layout = layout_by (has_bit bits 16) (has_bit bits 32) in
-    told_choices_if (nat_lt 127 bits) (short_entry entry (choices_by bits entry layout))
-    (told_short entry (choices_by bits entry layout) (told_choices_by bits entry layout (told_layout (has_bit bits 16) (has_bit bits 32))))
+    let asked = choices_of (flags_in bits) (entry_of entry) in
+    told_choices_if (nat_lt 127 bits) (unless_long entry (ok_or asked Excluded)) (told_short entry (ok_or asked Excluded) (told_options asked))
 
 told_name : (b : Bool) (number : ℕ) (r : Result (List (List ℕ)) Refusal) → IsTold r → IsTold (cond b r (Err (record { cause = ManyNames; place = number })))
 told_name true number r h = h
@@ -192,7 +181,7 @@ told_forced bytes = told_forced_by (eqb (length bytes % 8) 0) (with_names (lengt
 -- ---- links
 
 told_added_by : (texts datas bss names : Bool) (os : List Contents) (o : Contents) →
-    Told (added_unless (if texts then Some adds.TextFull else (if datas then Some adds.DataFull else (if bss then Some adds.BssFull else (if names then Some adds.NamesFull else None)))) os o)
+    Told (unless NotAdded (if texts then Some adds.TextFull else (if datas then Some adds.DataFull else (if bss then Some adds.BssFull else (if names then Some adds.NamesFull else None)))) (os ++ o ∷ []))
 told_added_by true datas bss names os o = other 31 refl
 told_added_by false true bss names os o = other 32 refl
 told_added_by false false true names os o = other 33 refl
@@ -215,21 +204,21 @@ told_most (suc n) forced os (b ∷ bs) =
     (is_told_at (length os) (with_first forced os (b ∷ bs)) (told_first forced os (b ∷ bs))) (λ more. told_most n forced more (behind_file (b ∷ bs)))
 
 told_link_by : (long many far : Bool) (x : Outcome) →
-    Told (linked_or (if long then Err links.DoesNotFit else (if many then Err links.TooManySymbols else (if far then Err links.SymbolNumber else Ok x))))
+    Told (refused_as NotLinked (if long then Err links.DoesNotFit else (if many then Err links.TooManySymbols else (if far then Err links.SymbolNumber else Ok x))))
 told_link_by true many far x = other 41 refl
 told_link_by false true far x = other 42 refl
 told_link_by false false true x = other 43 refl
 told_link_by false false false x = tt
 
-told_link : (forced : List (List ℕ)) (os : List Contents) (o : Choices) → Told (linked_or (link forced os o))
+told_link : (forced : List (List ℕ)) (os : List Contents) (o : Choices) → Told (refused_as NotLinked (link forced os o))
 told_link forced os o =
     let p = plan forced os o in
     told_link_by (nat_lt 65535 p.at.bss_end) (nat_lt 5461 (length (table p os))) (p.choices.relocatable && has_far_word p os) (record { file = linked_file p os; report = findings p })
 
 told_linked : (forced : List (List ℕ)) (o : Choices) (bytes : List ℕ) → IsTold (linked_in forced o bytes)
 told_linked forced o bytes =
-    is_told_then (objects_in forced bytes) (λ os. at 0 (linked_or (link forced os o))) (told_most (length bytes) forced [] bytes)
-    (λ os. is_told_at 0 (linked_or (link forced os o)) (told_link forced os o))
+    is_told_then (objects_in forced bytes) (λ os. at 0 (refused_as NotLinked (link forced os o))) (told_most (length bytes) forced [] bytes)
+    (λ os. is_told_at 0 (refused_as NotLinked (link forced os o)) (told_link forced os o))
 
 pub told_output : (bits : ℕ) (entry forced bytes : List ℕ) → IsTold (output_in bits entry forced bytes)
 told_output bits entry forced bytes =
@@ -246,8 +235,8 @@ told_each forced os (bytes ∷ rest) =
 
 told_linked_each : (forced : List (List ℕ)) (o : Choices) (parts : List (List ℕ)) → IsTold (linked_each forced o parts)
 told_linked_each forced o parts =
-    is_told_then (with_each forced [] parts) (λ os. at 0 (linked_or (link forced os o))) (told_each forced [] parts)
-    (λ os. is_told_at 0 (linked_or (link forced os o)) (told_link forced os o))
+    is_told_then (with_each forced [] parts) (λ os. at 0 (refused_as NotLinked (link forced os o))) (told_each forced [] parts)
+    (λ os. is_told_at 0 (refused_as NotLinked (link forced os o)) (told_link forced os o))
 
 told_outcome_each : (bits : ℕ) (entry forced : List ℕ) (parts : List (List ℕ)) → IsTold (outcome_each bits entry forced parts)
 told_outcome_each bits entry forced parts =
@@ -282,7 +271,7 @@ told_edits number before (letter ∷ letters) bytes =
 
 told_run : (forced : List (List ℕ)) (o : Choices) (cs : List Change) → Told (run_of forced o cs)
 told_run forced o cs =
-    told_then (linked_or (link_after forced cs o)) (λ x. Ok (output_with (map reply_number (answers forced cs)) (output_of x))) (told_link forced (objects (survivors forced cs)) o) (λ x. tt)
+    told_then (refused_as NotLinked (link_after forced cs o)) (λ x. Ok (output_with (map reply_number (answers forced cs)) (output_of x))) (told_link forced (objects (survivors forced cs)) o) (λ x. tt)
 
 pub told_session : (bits : ℕ) (entry forced letters bytes : List ℕ) → IsTold (session_in bits entry forced letters bytes)
 told_session bits entry forced letters bytes =

@@ -1,49 +1,23 @@
 -- Edits that are made one by one, and what a session shows behind them.
 use Rattle.std.proofs.Common.{◌≡◌, ◌≢◌, ℕ, Result, Ok, None, List, [], ◌∷◌, ◌++◌, map, length, append_assoc, append-nil, arith, sym, ap, ◌∙◌, subst, String}
-use Rattle.std.specs.declared.alloc.Global.{Global}
-use Rattle.aout_core.specs.Contents.{Contents}
-use Rattle.link_session.specs.declared.entry.AddFault.{AddFault}
-use Rattle.link_session.specs.declared.entry.AddFault.TheVariants.{Memory}
-use Rattle.link_session.specs.Limits.{refusal}
-use Rattle.link_session.specs.Edits.{Change, addition, withdrawal, answers_from, survivors_from}
+use Rattle.link_session.specs.Edits.{Change, answers_from, survivors_from}
 use Rattle.link_session.specs.Labelled.{Labelled, objects}
-use Rattle.link_session.specs.Sessions.{Adds, Withdraws, IsCause, labelled}
 use Rattle.link_session.specs.Undo.{Kept, IsJournal}
 use Rattle.link_out.specs.declared.edit.Edit.{Edit}
-use Rattle.link_out.specs.Runs.{change_of}
-use Rattle.link_out.proofs.RunLemmas.{added_done, nothing_done, refused_done, withdrew_done}
-use Rattle.library_calls.specs.declared.cause.Cause.TheVariants.{NotAdded}
+use Rattle.link_out.specs.declared.edit.Reply.{Reply}
+use Rattle.link_out.specs.Runs.{IsDone, answer_of, change_of}
+use Rattle.link_out.specs.Steps.{and_then}
 use Rattle.library_calls.specs.declared.state_call.Form.{Form}
 use Rattle.library_calls.specs.declared.cause.Refusal.{Refusal}
-use Rattle.library_calls.specs.Causes.{and_then, at, number_of}
+use Rattle.library_calls.specs.Causes.{at}
 use Rattle.library_calls.specs.LinkWanted.{forced_in}
 use Rattle.library_calls.specs.SessionAnswers.{changes_in, reply_number, session_status}
 use Rattle.library_calls.specs.StateAnswers.{Asked, IsShown, Shows, Told, asked_in, form_in, encoded_in}
 use Rattle.library_calls.specs.internal.Edited.{AreEdited, IsEdited, ShowsFrom}
 
-module _ (old new : Kept) where
-  pub added_edit : (e : Labelled) → refusal old.forced (objects old.entries) e.object ≡ None → Adds old new e → IsEdited old new (addition e) 0
-  added_edit e fits h =
-      let done = added_done old new e fits h in
-      record { forced = done.forced; kept = done.kept; reply = ap reply_number done.answer }
-
-  pub refused_edit : (e : Labelled) (cause : AddFault) (n : ℕ) → IsCause (refusal old.forced (objects old.entries) e.object) cause → (cause ≡ Memory → ⊥) → new ≡ old →
-      n ≡ number_of (NotAdded cause) → IsEdited old new (addition e) n
-  refused_edit e cause n h other same is =
-      let done = refused_done old new e cause h other same in
-      record { forced = done.forced; kept = done.kept; reply = is ∙ ap reply_number done.answer }
-
-  pub withdrew_edit : (label : String Global) (object : Contents) → Withdraws old new (labelled label object) → IsEdited old new withdrawal 0
-  withdrew_edit label object h =
-      let done = withdrew_done old new label object h in
-      record { forced = done.forced; kept = done.kept; reply = ap reply_number done.answer }
-
-  pub nothing_edit : old.entries ≡ [] → new ≡ old → IsEdited old new withdrawal 35
-  nothing_edit none same =
-      let done = nothing_done old new none same in
-      record { forced = done.forced; kept = done.kept; reply = ap reply_number done.answer }
-
-pub ruleset by_edit = (added_edit, refused_edit, withdrew_edit, nothing_edit)
+-- an edit that has a reply, with the number of that reply
+pub numbered : (old new : Kept) (change : Change) (reply : Reply) (n : ℕ) → IsDone old new change reply → n ≡ reply_number (answer_of reply) → IsEdited old new change n
+numbered old new change reply n done is = record { forced = done.forced; kept = done.kept; reply = is ∙ ap reply_number done.answer }
 
 -- edits were made, with those that are left; the numbers reply to those that were made
 pub record AreBegun (old now : Kept) (all left : List Change) (numbers : List ℕ) : Type 0 where

@@ -6,10 +6,11 @@ use Rattle.aout_core.specs.Contents.{Contents}
 use Rattle.link_session.specs.ForcedNames.{takes, with_name}
 use Rattle.link_session.specs.Labelled.{Labelled, objects}
 use Rattle.link_session.specs.Undo.{Kept}
+use Rattle.link_out.specs.Steps.{and_then}
 use Rattle.library_calls.specs.declared.cause.Cause.{Cause}
 use Rattle.library_calls.specs.declared.cause.Cause.TheVariants.{ManyNames}
 use Rattle.library_calls.specs.declared.cause.Refusal.{Refusal}
-use Rattle.library_calls.specs.Causes.{at, and_then}
+use Rattle.library_calls.specs.Causes.{at}
 use Rattle.library_calls.specs.FileAnswers.{behind_file}
 use Rattle.library_calls.specs.LinkAnswers.{with_first, with_most}
 use Rattle.library_calls.specs.LinkWanted.{name_of, with_names}

@@ -1,7 +1,7 @@
 -- Why a call has no answer, by the faults of the libraries below, and its number. (own choice)
 --
 -- That memory ran out is one cause. A reader of bytes in memory, and a writer to a list, fail for no other reason.
-use Rattle.std.specs.Prelude.{ℕ, Result, Ok, Err}
+use Rattle.std.specs.Prelude.{ℕ, Result}
 use Rattle.aout_core.specs.declared.file.ReadFault.{ReadFault}
 use Rattle.aout_core.specs.declared.file.ReadFault.TheVariants as reads
 use Rattle.aout_core.specs.declared.object.ObjectFault.TheVariants as objects
@@ -9,6 +9,7 @@ use Rattle.link_session.specs.declared.entry.AddFault.{AddFault}
 use Rattle.link_session.specs.declared.entry.AddFault.TheVariants as adds
 use Rattle.link_out.specs.declared.linked.LinkFault.{LinkFault}
 use Rattle.link_out.specs.declared.linked.LinkFault.TheVariants as links
+use Rattle.link_out.specs.Steps.{refused_as}
 use Rattle.library_calls.specs.declared.cause.Cause.{Cause}
 use Rattle.library_calls.specs.declared.cause.Cause.TheVariants.{NoOption, Excluded, LongName, CutNames, ManyNames, TooLong, NoEdit, BadFile, BadObject, NotAdded, NotLinked, Memory}
 use Rattle.library_calls.specs.declared.cause.LongPart.TheVariants as parts
@@ -68,9 +69,4 @@ word_of _ = 0
 
 -- a cause that is in the object, or the name, of this number
 abbrev pub at : {A : Type 0} → ℕ → Result A Cause → Result A Refusal
-at place (Ok x) = Ok x
-at place (Err cause) = Err (record { cause = cause; place = place })
-
-abbrev pub and_then : {A B E : Type 0} → Result A E → (A → Result B E) → Result B E
-and_then (Ok x) f = f x
-and_then (Err e) f = Err e
+at place r = refused_as (λ cause. record { cause = cause; place = place }) r

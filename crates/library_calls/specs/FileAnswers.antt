@@ -1,39 +1,29 @@
 -- What a call says of one file, from its bytes. (strip(1), nm(1), size(1); the refusals: own choice)
 --
 -- The file is the one that the bytes begin with; what is after it is not looked at.
-use Rattle.std.specs.Prelude.{ℕ, ◌%◌, ◌/◌, Bool, false, eqb, nat_lt, if◌then◌else◌, List, [], ◌∷◌, drop, Option, Some, None, Result, Ok, Err}
-use Rattle.aout_core.specs.declared.file.ReadFault.{ReadFault}
-use Rattle.aout_core.specs.declared.object.ObjectFault.{ObjectFault}
+use Rattle.std.specs.Prelude.{ℕ, ◌%◌, ◌/◌, Bool, false, eqb, nat_lt, if◌then◌else◌, List, [], ◌∷◌, drop, Result, Ok, Err}
 use Rattle.aout_core.specs.Contents.{Contents}
 use Rattle.aout_core.specs.Decoding.{header_in, decode}
 use Rattle.aout_core.specs.Encoding.{file_length, encoding}
 use Rattle.aout_core.specs.Strip.{stripped}
 use Rattle.aout_core.specs.WellFormed.{first_object_fault}
+use Rattle.link_out.specs.Steps.{and_then, refused_as, unless}
 use Rattle.symtools.specs.declared.options.NmOptions.{NmOptions}
 use Rattle.symtools.specs.NmLists.{nm_text}
 use Rattle.symtools.specs.SizeLines.{size_text}
 use Rattle.library_calls.specs.declared.cause.Cause.{Cause}
 use Rattle.library_calls.specs.declared.cause.Cause.TheVariants.{NoOption, BadFile, BadObject}
-use Rattle.library_calls.specs.Causes.{and_then}
-
-abbrev pub file_of : Result Contents ReadFault → Result Contents Cause
-file_of (Ok c) = Ok c
-file_of (Err fault) = Err (BadFile fault)
 
 -- the file that the bytes begin with
 abbrev pub file_in : List ℕ → Result Contents Cause
-file_in bytes = file_of (decode bytes)
+file_in bytes = refused_as BadFile (decode bytes)
 
 -- the bytes after the file that they begin with
 abbrev pub behind_file : List ℕ → List ℕ
 behind_file bytes = drop (file_length (header_in bytes)) bytes
 
-abbrev pub object_unless : Option ObjectFault → Contents → Result Contents Cause
-object_unless None c = Ok c
-object_unless (Some fault) c = Err (BadObject fault)
-
 abbrev pub object_of : Contents → Result Contents Cause
-object_of c = object_unless (first_object_fault c) c
+object_of c = unless BadObject (first_object_fault c) c
 
 -- the object that the bytes begin with
 abbrev pub object_in : List ℕ → Result Contents Cause

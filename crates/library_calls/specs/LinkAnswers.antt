@@ -6,11 +6,10 @@ use Rattle.std.specs.Prelude.{ℕ, zero, suc, List, [], ◌∷◌, ◌++◌, len
 use Rattle.aout_core.specs.Contents.{Contents}
 use Rattle.aout_core.specs.Encoding.{encoding}
 use Rattle.aout_core.specs.Names.{padded}
-use Rattle.link_session.specs.declared.entry.AddFault.{AddFault}
 use Rattle.link_session.specs.Limits.{refusal}
-use Rattle.link_out.specs.declared.linked.LinkFault.{LinkFault}
 use Rattle.link_options.specs.Choices.{Choices}
 use Rattle.link_out.specs.function.Link.{Outcome, link}
+use Rattle.link_out.specs.Steps.{and_then, refused_as, unless}
 use Rattle.link_out.specs.Results.{Findings}
 use Rattle.link_out.specs.function.Reports.{report_text, status_of}
 use Rattle.library_calls.specs.declared.cause.Cause.{Cause}
@@ -20,16 +19,12 @@ use Rattle.library_calls.specs.declared.findings_call.Finding.{Finding}
 use Rattle.library_calls.specs.declared.findings_call.Found.{Found}
 use Rattle.library_calls.specs.declared.link_call.Program.{Program}
 use Rattle.library_calls.specs.declared.parts.ObjectBytes.{ObjectBytes}
-use Rattle.library_calls.specs.Causes.{at, and_then}
+use Rattle.library_calls.specs.Causes.{at}
 use Rattle.library_calls.specs.FileAnswers.{behind_file, object_in}
 use Rattle.library_calls.specs.LinkWanted.{choices_in, forced_in}
 
-abbrev pub added_unless : Option AddFault → List Contents → Contents → Result (List Contents) Cause
-added_unless None os o = Ok (os ++ o ∷ [])
-added_unless (Some fault) os o = Err (NotAdded fault)
-
 abbrev pub with_object : List (List ℕ) → List Contents → Contents → Result (List Contents) Cause
-with_object forced os o = added_unless (refusal forced os o) os o
+with_object forced os o = unless NotAdded (refusal forced os o) (os ++ o ∷ [])
 
 -- the objects with the one that the bytes begin with
 abbrev pub with_first : List (List ℕ) → List Contents → List ℕ → Result (List Contents) Cause
@@ -57,15 +52,11 @@ abbrev pub with_each : List (List ℕ) → List Contents → List (List ℕ) →
 with_each forced os [] = Ok os
 with_each forced os (bytes ∷ rest) = and_then (at (length os) (with_first forced os bytes)) (λ more. with_each forced more rest)
 
-abbrev pub linked_or : Result Outcome LinkFault → Result Outcome Cause
-linked_or (Ok x) = Ok x
-linked_or (Err fault) = Err (NotLinked fault)
-
 abbrev pub linked_in : List (List ℕ) → Choices → List ℕ → Result Outcome Refusal
-linked_in forced o bytes = and_then (objects_in forced bytes) (λ os. at 0 (linked_or (link forced os o)))
+linked_in forced o bytes = and_then (objects_in forced bytes) (λ os. at 0 (refused_as NotLinked (link forced os o)))
 
 abbrev pub linked_each : List (List ℕ) → Choices → List (List ℕ) → Result Outcome Refusal
-linked_each forced o parts = and_then (with_each forced [] parts) (λ os. at 0 (linked_or (link forced os o)))
+linked_each forced o parts = and_then (with_each forced [] parts) (λ os. at 0 (refused_as NotLinked (link forced os o)))
 
 -- the status, the bytes of a linked file, and its report: the bytes of its lines, or a list of findings
 pub record Output (A : Type 0) : Type 0 where

@@ -2,30 +2,28 @@
 --
 -- A forced name is eight bytes, filled up with NULs, as in a file. The entry point is a name of at most eight bytes; no bytes ask
 -- for none.
-use Rattle.std.specs.Prelude.{ℕ, zero, suc, ◌+◌, ◌%◌, ◌/◌, Bool, true, false, cond, eqb, nat_lt, if◌then◌else◌, List, [], ◌∷◌, take, drop, length, Option, Some, None, Result, Ok, Err}
+use Rattle.std.specs.Prelude.{ℕ, zero, suc, ◌+◌, ◌%◌, ◌/◌, cond, eqb, nat_lt, if◌then◌else◌, List, [], ◌∷◌, take, drop, length, Option, Some, None, ok_or, Result, Ok, Err}
 use Rattle.aout_core.specs.Names.{before_nul}
 use Rattle.link_session.specs.ForcedNames.{takes, with_name}
-use Rattle.link_options.specs.declared.options.Layout.{Layout}
-use Rattle.link_options.specs.declared.options.Layout.TheVariants.{Plain, Pure, Split}
-use Rattle.link_options.specs.declared.options.Keep.{Keep}
-use Rattle.link_options.specs.declared.options.Keep.TheVariants.{All, NotL, Externals, Nothing}
-use Rattle.link_options.specs.declared.options.OptionFault.{OptionFault}
-use Rattle.link_options.specs.Choices.{Choices, option_fault}
+use Rattle.link_options.specs.declared.flags.Flags.{Flags}
+use Rattle.link_options.specs.Choices.{Choices}
+use Rattle.link_options.specs.Flags.{choices_of}
 use Rattle.library_calls.specs.declared.cause.Cause.{Cause}
 use Rattle.library_calls.specs.declared.cause.Cause.TheVariants.{NoOption, Excluded, LongName, CutNames, ManyNames}
 use Rattle.library_calls.specs.declared.cause.Refusal.{Refusal}
 use Rattle.library_calls.specs.FileAnswers.{has_bit}
 
 -- 1: -r, 2: -s, 4: -x, 8: -X, 16: -n, 32: -i, 64: -d
-abbrev pub layout_by : Bool → Bool → Result Layout Cause
-layout_by false false = Ok Plain
-layout_by true false = Ok Pure
-layout_by false true = Ok Split
-layout_by true true = Err Excluded
-
--- -s wins over -x, and that over -X
-abbrev pub keep_of : ℕ → Keep
-keep_of bits = if has_bit bits 2 then Nothing else (if has_bit bits 4 then Externals else (if has_bit bits 8 then NotL else All))
+abbrev pub flags_in : ℕ → Flags
+flags_in bits = record {
+  relocatable = has_bit bits 1;
+  strip = has_bit bits 2;
+  externals = has_bit bits 4;
+  not_l = has_bit bits 8;
+  pure = has_bit bits 16;
+  split = has_bit bits 32;
+  commons = has_bit bits 64;
+}
 
 -- the first eight bytes, and what is after a NUL left away
 abbrev pub name_of : List ℕ → List ℕ
@@ -35,32 +33,13 @@ abbrev pub entry_of : List ℕ → Option (List ℕ)
 entry_of [] = None
 entry_of (b ∷ bs) = Some (name_of (b ∷ bs))
 
-abbrev pub choices_with : ℕ → List ℕ → Layout → Choices
-choices_with bits entry layout = record {
-  layout = layout;
-  relocatable = has_bit bits 1;
-  keep = keep_of bits;
-  entry = entry_of entry;
-  force_commons = has_bit bits 64;
-}
-
-abbrev pub unless : Option OptionFault → Choices → Result Choices Cause
-unless None o = Ok o
-unless (Some fault) o = Err Excluded
-
-abbrev pub choices_by : ℕ → List ℕ → Result Layout Cause → Result Choices Cause
-choices_by bits entry (Ok layout) = unless (option_fault layout (has_bit bits 1) (keep_of bits)) (choices_with bits entry layout)
-choices_by bits entry (Err cause) = Err cause
-
-abbrev pub short_entry : List ℕ → Result Choices Cause → Result Choices Cause
-short_entry entry (Ok o) = if nat_lt 8 (length entry) then Err LongName else Ok o
-short_entry entry (Err cause) = Err cause
+abbrev pub unless_long : List ℕ → Result Choices Cause → Result Choices Cause
+unless_long entry (Ok o) = if nat_lt 8 (length entry) then Err LongName else Ok o
+unless_long entry (Err cause) = Err cause
 
 -- first the bits, then options that exclude each other, then the name
 abbrev pub choices_in : ℕ → List ℕ → Result Choices Cause
-choices_in bits entry =
-    if nat_lt 127 bits then Err NoOption
-    else short_entry entry (choices_by bits entry (layout_by (has_bit bits 16) (has_bit bits 32)))
+choices_in bits entry = if nat_lt 127 bits then Err NoOption else unless_long entry (ok_or (choices_of (flags_in bits) (entry_of entry)) Excluded)
 
 -- so many names of eight bytes each appended to those before them, where they are not there already; the next one has this number
 abbrev pub with_names : ℕ → ℕ → List (List ℕ) → List ℕ → Result (List (List ℕ)) Refusal

@@ -11,6 +11,7 @@ use Rattle.aout_core.specs.declared.file.ReadFault.TheVariants.{OddSize}
 use Rattle.aout_core.specs.Names.{padded}
 use Rattle.aout_core.specs.Contents.{Contents}
 use Rattle.aout_core.specs.Encoding.{encoding}
+use Rattle.link_out.specs.Steps.{and_then}
 use Rattle.library_calls.specs.declared.parts.FileLists.{FileLists}
 use Rattle.library_calls.specs.declared.parts.ObjectWord.{ObjectWord}
 use Rattle.library_calls.specs.declared.parts.SymbolRow.{SymbolRow}
@@ -18,7 +19,6 @@ use Rattle.library_calls.specs.declared.parts.PartLists.{PartLists}
 use Rattle.library_calls.specs.declared.cause.Cause.{Cause}
 use Rattle.library_calls.specs.declared.cause.Cause.TheVariants.{TooLong, BadFile}
 use Rattle.library_calls.specs.declared.cause.LongPart.TheVariants.{Text, Data, Bss, Symbols}
-use Rattle.library_calls.specs.Causes.{and_then}
 use Rattle.library_calls.specs.FileAnswers.{file_in, object_in, object_of}
 use Rattle.library_calls.specs.LinkWanted.{name_of}
 

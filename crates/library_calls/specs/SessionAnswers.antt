@@ -7,13 +7,14 @@ use Rattle.std.specs.Prelude.{ℕ, ◌+◌, eqb, if◌then◌else◌, List, [], 
 use Rattle.link_session.specs.Edits.{Change, addition, withdrawal, Answer, added, refused, withdrew, nothing, answers}
 use Rattle.link_options.specs.Choices.{Choices}
 use Rattle.link_out.specs.Runs.{link_after}
+use Rattle.link_out.specs.Steps.{and_then, refused_as}
 use Rattle.library_calls.specs.declared.cause.Cause.{Cause}
-use Rattle.library_calls.specs.declared.cause.Cause.TheVariants.{NoEdit, NotAdded}
+use Rattle.library_calls.specs.declared.cause.Cause.TheVariants.{NoEdit, NotAdded, NotLinked}
 use Rattle.library_calls.specs.declared.cause.Refusal.{Refusal}
 use Rattle.library_calls.specs.declared.session_call.Ran.{Ran}
-use Rattle.library_calls.specs.Causes.{at, and_then, number_of}
+use Rattle.library_calls.specs.Causes.{at, number_of}
 use Rattle.library_calls.specs.FileAnswers.{behind_file, object_in}
-use Rattle.library_calls.specs.LinkAnswers.{Output, linked_or, output_of, outputs_of}
+use Rattle.library_calls.specs.LinkAnswers.{Output, output_of, outputs_of}
 use Rattle.library_calls.specs.LinkWanted.{choices_in, forced_in}
 
 -- ---- edits read
@@ -65,7 +66,7 @@ abbrev pub output_with : List ℕ → Output ℕ → SessionOutput
 output_with replies x = record { replies = replies; output = record { status = session_status replies x.status; file = x.file; report = x.report } }
 
 abbrev pub run_of : List (List ℕ) → Choices → List Change → Result SessionOutput Cause
-run_of forced o cs = and_then (linked_or (link_after forced cs o)) (λ x. Ok (output_with (map reply_number (answers forced cs)) (output_of x)))
+run_of forced o cs = and_then (refused_as NotLinked (link_after forced cs o)) (λ x. Ok (output_with (map reply_number (answers forced cs)) (output_of x)))
 
 abbrev pub sessions_of : Ran → SessionOutput
 sessions_of r = record { replies = r.replies.items; output = outputs_of r.program }

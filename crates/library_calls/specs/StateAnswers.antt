@@ -9,13 +9,14 @@ use Rattle.link_session.specs.Labelled.{objects}
 use Rattle.link_session.specs.Undo.{Kept, IsJournal}
 use Rattle.session_text.specs.StateJson.{state_json}
 use Rattle.session_text.specs.StateLines.{state_lines}
+use Rattle.link_out.specs.Steps.{and_then}
 use Rattle.library_calls.specs.declared.cause.Cause.{Cause}
 use Rattle.library_calls.specs.declared.cause.Cause.TheVariants.{NoOption}
 use Rattle.library_calls.specs.declared.cause.Refusal.{Refusal}
 use Rattle.library_calls.specs.declared.state_call.Form.{Form}
 use Rattle.library_calls.specs.declared.state_call.Form.TheVariants.{Lines, Json}
 use Rattle.library_calls.specs.declared.state_call.Shown.{Shown}
-use Rattle.library_calls.specs.Causes.{at, and_then}
+use Rattle.library_calls.specs.Causes.{at}
 use Rattle.library_calls.specs.LinkWanted.{forced_in}
 use Rattle.library_calls.specs.SessionAnswers.{changes_in, reply_number, session_status}
 

@@ -1,20 +1,15 @@
 //! Edits of a session: read from letters and objects, and made one by one.
-ghost use Rattle.std.specs.Prelude.{◌≡◌, ◌≢◌, [], None, map, Ok, Err, IfOk, IfErr, OnErr};
-ghost use Rattle.link_session.specs.Edits.{addition, added, answer_to, withdrawal};
-ghost use Rattle.link_session.specs.Labelled.{objects};
-ghost use Rattle.link_session.specs.Limits.{refusal};
-ghost use Rattle.link_session.specs.Sessions.{labelled};
-ghost use Rattle.link_out.specs.Runs.{change_of};
+ghost use Rattle.std.specs.Prelude.{◌≡◌, ◌≢◌, [], map, Ok, Err, IfOk, IfErr, OnErr};
+ghost use Rattle.link_out.specs.Runs.{answer_of, change_of};
 ghost use Rattle.library_calls.specs.MemoryWanted.{HasBody, MayRunOutForEdit, MayRunOutInEdits};
-ghost use Rattle.library_calls.specs.SessionAnswers.{behind_edit, change_in, changes_in, session_status, with_edit};
+ghost use Rattle.library_calls.specs.SessionAnswers.{behind_edit, change_in, changes_in, reply_number, session_status, with_edit};
 ghost use Rattle.library_calls.specs.internal.Edited.{AreEdited, IsEdited};
 ghost use Rattle.library_calls.specs.declared.cause.Cause.TheVariants.{Memory};
 
 use crate::cause::{Cause, Refusal, addition_number};
 use crate::first::first_object;
-use aout_core::Object;
-use link_out::Edit;
-use link_session::{AddFault, Session};
+use link_out::{Edit, Reply, reply_to};
+use link_session::Session;
 use std::alloc::{AllocError, Global};
 
 /// The edit that a letter asks for, and the bytes after its object.
@@ -70,42 +65,25 @@ pub(crate) fn read_edits(alloc: Global, letters: &[u8], bytes: &[u8]) -> Result<
     Ok(edits)
 }
 
-/// Adds an object, and returns the number of the limit that it passes, or 0. An error: out of memory for an object that
-/// is within all limits.
-#[tactic(auto, using(crate::proofs::StateLemmas::by_edit))]
-fn make_addition(session: &mut Session, label: String, object: Object) -> Result<u8, AllocError>
-    ensures ok { IfOk result (λ number. IsEdited session.old session.new (addition (labelled label object)) number) }
-    ensures within { OnErr result (refusal session.old.forced (objects session.old.entries) object ≡ None) }
+/// The number of a reply: 0 where the edit was made, else that of the limit that the object passes, or 35 where there was
+/// nothing to withdraw.
+fn reply_number(reply: &Reply) -> u8
+    ensures { result ≡ reply_number (answer_of reply.now) }
 {
-    let Err(refused) = session.add(label, object) else {
-        return Ok(0);
-    };
-    match refused.cause {
-        AddFault::Memory => Err(AllocError),
-        limit => Ok(addition_number(limit)),
+    match reply {
+        Reply::Added | Reply::Withdrew(_) => 0,
+        Reply::Refused(limit) => addition_number(*limit),
+        Reply::Nothing => 35,
     }
 }
 
-/// Withdraws the last object, and returns 0, or 35 where there is none.
-#[tactic(auto, using(crate::proofs::StateLemmas::by_edit))]
-fn make_withdrawal(session: &mut Session) -> u8
-    ensures { IsEdited session.old session.new withdrawal result }
-{
-    match session.withdraw() {
-        Some(_) => 0,
-        None => 35,
-    }
-}
-
-/// Makes an edit, and returns its reply. An error: out of memory for an addition that is accepted.
+/// Makes an edit, and returns the number of its reply. An error: out of memory for an addition that is accepted.
+#[tactic(auto, using(crate::proofs::StateLemmas::numbered))]
 fn make_edit(session: &mut Session, edit: Edit) -> Result<u8, AllocError>
     ensures ok { IfOk result (λ number. IsEdited session.old session.new (change_of edit) number) }
-    ensures accepted { OnErr result (answer_to session.old.forced session.old.entries (change_of edit) ≡ added) }
 {
-    match edit {
-        Edit::Add(label, object) => make_addition(session, label, object),
-        Edit::Withdraw => Ok(make_withdrawal(session)),
-    }
+    let reply = reply_to(session, edit)?;
+    Ok(reply_number(&reply))
 }
 
 /// Makes the edits in order, and returns their replies. An error: out of memory for an edit.

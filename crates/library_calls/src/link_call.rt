@@ -4,9 +4,10 @@ ghost use Rattle.aout_core.specs.WellFormed.{IsWellFormed};
 ghost use Rattle.link_session.specs.Labelled.{objects};
 ghost use Rattle.link_out.specs.function.Link.{link};
 ghost use Rattle.link_out.specs.Outcomes.{outcome_of};
-ghost use Rattle.library_calls.specs.LinkAnswers.{each_of, linked_each, linked_in, linked_or, outcome_each, output_each, output_in, output_of, outputs_of};
+ghost use Rattle.link_out.specs.Steps.{refused_as};
+ghost use Rattle.library_calls.specs.LinkAnswers.{each_of, linked_each, linked_in, outcome_each, output_each, output_in, output_of, outputs_of};
 ghost use Rattle.library_calls.specs.MemoryWanted.{LinkMayRunOut, LinkOfEachMayRunOut, MayRunOutInLink, MayRunOutInLinkOfEach};
-ghost use Rattle.library_calls.specs.declared.cause.Cause.TheVariants.{Memory};
+ghost use Rattle.library_calls.specs.declared.cause.Cause.TheVariants.{Memory, NotLinked};
 
 use crate::cause::{Cause, Refusal};
 use crate::parts::ObjectBytes;
@@ -45,8 +46,8 @@ pub(crate) fn link_kept(
     session: &Session,
     options: &Options,
 ) -> Result<Linked, Cause>
-    ensures ok { IfOk result (λ linked. linked_or (link session.now.forced (objects session.now.entries) options.now) ≡ Ok (outcome_of linked)) }
-    ensures err { IfErr result (λ cause. cause ≢ Memory → linked_or (link session.now.forced (objects session.now.entries) options.now) ≡ Err cause) }
+    ensures ok { IfOk result (λ linked. refused_as NotLinked (link session.now.forced (objects session.now.entries) options.now) ≡ Ok (outcome_of linked)) }
+    ensures err { IfErr result (λ cause. cause ≢ Memory → refused_as NotLinked (link session.now.forced (objects session.now.entries) options.now) ≡ Err cause) }
     ensures memory { IfErr result (λ cause. cause ≡ Memory → IsOk (link session.now.forced (objects session.now.entries) options.now)) }
     ensures object { options.now.relocatable ≡ true → IfOk result (λ linked. IsWellFormed linked.file) }
 {

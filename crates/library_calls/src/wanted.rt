@@ -1,12 +1,12 @@
 //! What is asked of a link.
 ghost use Rattle.std.specs.Prelude.{◌≡◌, ◌≢◌, ◌<◌, IfErr};
 ghost use Rattle.library_calls.specs.FileAnswers.{has_bit, nm_options_in};
-ghost use Rattle.library_calls.specs.LinkWanted.{choices_in, entry_of, forced_in, keep_of, layout_by};
+ghost use Rattle.library_calls.specs.LinkWanted.{choices_in, entry_of, flags_in, forced_in};
 ghost use Rattle.library_calls.specs.declared.cause.Cause.TheVariants.{Memory};
 
 use crate::cause::{Cause, Refusal};
 use aout_core::Name;
-use link_out::{Keep, Layout, Options};
+use link_options::{Flags, Options};
 use link_session::Forced;
 use symtools::NmOptions;
 
@@ -18,30 +18,18 @@ fn has_bit(bits: u32, place: u32) -> bool
     bits / place % 2 == 1
 }
 
-/// Where data lies: `-n` and `-i` exclude each other.
-fn layout(bits: u32) -> Result<Layout, Cause>
-    ensures { result ≡ layout_by (has_bit bits 16) (has_bit bits 32) }
+/// The flags of a link, by their bits.
+fn flags_in(bits: u32) -> Flags
+    ensures { result ≡ flags_in bits }
 {
-    match (has_bit(bits, 16), has_bit(bits, 32)) {
-        (false, false) => Ok(Layout::Plain),
-        (true, false) => Ok(Layout::Pure),
-        (false, true) => Ok(Layout::Split),
-        (true, true) => Err(Cause::Excluded),
-    }
-}
-
-/// Which symbols are kept: `-s` wins over `-x`, and that over `-X`.
-fn keep(bits: u32) -> Keep
-    ensures { result ≡ keep_of bits }
-{
-    if has_bit(bits, 2) {
-        Keep::Nothing
-    } else if has_bit(bits, 4) {
-        Keep::Externals
-    } else if has_bit(bits, 8) {
-        Keep::NotL
-    } else {
-        Keep::All
+    Flags {
+        relocatable: has_bit(bits, 1),
+        strip: has_bit(bits, 2),
+        externals: has_bit(bits, 4),
+        not_l: has_bit(bits, 8),
+        pure: has_bit(bits, 16),
+        split: has_bit(bits, 32),
+        commons: has_bit(bits, 64),
     }
 }
 
@@ -63,18 +51,13 @@ pub(crate) fn link_options(bits: u32, entry_name: &[u8]) -> Result<Options, Caus
     if bits > 127 {
         return Err(Cause::NoOption);
     }
-    let layout = layout(bits)?;
-    let Ok(options) = Options::new(layout, has_bit(bits, 1), keep(bits), entry(entry_name)) else {
+    let Some(options) = flags_in(bits).options(entry(entry_name)) else {
         return Err(Cause::Excluded);
     };
     if entry_name.len() > 8 {
         return Err(Cause::LongName);
     }
-    if has_bit(bits, 64) {
-        Ok(options.force_commons())
-    } else {
-        Ok(options)
-    }
+    Ok(options)
 }
 
 /// The forced names, of eight bytes each.

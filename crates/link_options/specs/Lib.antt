@@ -1,2 +1,3 @@
 -- The definitions that the contracts of this crate are written in.
 pub mod Choices
+pub mod Flags

@@ -8,12 +8,15 @@
 //!
 //! Types:
 //!
+//! - `Flags`: which flags of ld are given; `options` makes options of them
 //! - `Options`: options that do not exclude each other
 //! - `Layout`: where data begins, and which magic number the file has
 //! - `Keep`: which symbols the file keeps
 //! - `OptionFault`: which options exclude each other
 #![tactic(auto)]
 
+mod flags;
 mod options;
 
+pub use flags::Flags;
 pub use options::{Keep, Layout, OptionFault, Options};

@@ -24,8 +24,8 @@ use Rattle.link_out.specs.declared.linked.LinkFault.{LinkFault}
 use Rattle.link_out.specs.declared.linked.LinkFault.TheVariants as links
 use Rattle.link_options.specs.Choices.{Choices}
 use Rattle.link_out.specs.function.Link.{Outcome, link}
-use Rattle.link_out.specs.Runs.{change_of, answer_of, IsRunOf}
-use Rattle.link_out.specs.internal.Replies.{IsDone, IsReplied, AreDone, Lists, StopsAmong, IsLinkedWith, IsRunFrom, RunsOut}
+use Rattle.link_out.specs.Runs.{change_of, answer_of, IsDone, IsRunOf}
+use Rattle.link_out.specs.internal.Replies.{IsReplied, AreDone, Lists, StopsAmong, IsLinkedWith, IsRunFrom, RunsOut}
 
 -- an accepted addition
 pub added_done : (old new : Kept) (e : Labelled) → refusal old.forced (objects old.entries) e.object ≡ None → Adds old new e →

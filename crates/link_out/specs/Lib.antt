@@ -5,6 +5,7 @@ pub mod Results
 pub mod Layouts
 pub mod Outcomes
 pub mod Runs
+pub mod Steps
 pub mod relation
 pub mod function
 pub mod laws

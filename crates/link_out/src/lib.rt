@@ -19,6 +19,7 @@
 //!
 //! - `finish`: links the objects of a session
 //! - `run`: makes edits, replies to each, and links what is left
+//! - `reply_to`: makes one edit of a session, and replies to it
 //! - `link_bases`: where the segments of a session's link are
 //! - `link_externals`: the externals of a link with their addresses, also if it is refused
 //! - `is_missing`: whether a link reports a name as undefined
@@ -57,4 +58,4 @@ pub use linked::{LinkFault, Linked, Report};
 pub use linker::{LAST_ADDRESS, finish};
 pub use relocs::MOST_NUMBER;
 pub use reserved_names::is_missing;
-pub use runner::run;
+pub use runner::{reply_to, run};

@@ -7,8 +7,8 @@ ghost use Rattle.link_session.specs.Labelled.{objects};
 ghost use Rattle.link_session.specs.Sessions.{labelled};
 ghost use Rattle.link_out.specs.declared.edit.RunFault.TheVariants as run_faults;
 ghost use Rattle.link_out.specs.function.Link.{link};
-ghost use Rattle.link_out.specs.Runs.{change_of, link_after, IsRunOf};
-ghost use Rattle.link_out.specs.internal.Replies.{IsDone, HasRoom, IsReplied, AreDone, StopsAmong, IsLinkedWith, IsRunFrom, RunsOut};
+ghost use Rattle.link_out.specs.Runs.{change_of, link_after, IsDone, IsRunOf};
+ghost use Rattle.link_out.specs.internal.Replies.{HasRoom, IsReplied, AreDone, StopsAmong, IsLinkedWith, IsRunFrom, RunsOut};
 
 use crate::edit::{Edit, Reply, RunFault};
 use crate::linked::Linked;
@@ -45,8 +45,11 @@ fn withdraw_last(session: &mut Session) -> Reply
     }
 }
 
-/// Does one edit. An error: out of memory for an addition that is accepted.
-fn reply_to(session: &mut Session, edit: Edit) -> Result<Reply, AllocError>
+/// Makes an edit of a session, and replies to it. An addition that is refused changes nothing, nor does a withdrawal where
+/// nothing is kept. (own choice)
+///
+/// Errors: `AllocError` if memory runs out for an addition that is accepted. The session is then as it was.
+pub fn reply_to(session: &mut Session, edit: Edit) -> Result<Reply, AllocError>
     ensures done { IfOk result (λ reply. IsDone session.old session.new (change_of edit) reply) }
     ensures accepted { IfErr result (λ _. answer_to session.old.forced session.old.entries (change_of edit) ≡ added) }
     ensures same { IfErr result (λ _. session.new ≡ session.old) }

@@ -17,7 +17,8 @@ use Rattle.link_session.specs.Undo.{Kept}
 use Rattle.link_out.proofs.RunLemmas.{limit_is, within_limits}
 use Rattle.v7tools.specs.declared.fault.CliFault.{CliFault}
 use Rattle.v7tools.specs.declared.fault.CliFault.TheVariants as faults
-use Rattle.v7tools.specs.Inputs.{Cause, bad_file, bad_object, not_added, object_or, object_in, added_unless, kept_with, with_input}
+use Rattle.link_out.specs.Steps.{unless}
+use Rattle.v7tools.specs.Inputs.{Cause, bad_file, bad_object, not_added, object_in, kept_with, with_input}
 use Rattle.v7tools.specs.FaultTexts.{fault_of_addition}
 use Rattle.v7tools.specs.Loads.{read_of, IsAtPath}
 use Rattle.v7tools.specs.LinkAnswers.{WantsMemory}
@@ -42,7 +43,7 @@ wants_room None forced kept path o h within = tt
 wants_room (Some bytes) forced kept path o (inl e) within = absurd (cc)
 wants_room (Some bytes) forced kept path o (inr e) within =
     let accepted : with_input forced kept path bytes ≡ Ok (kept ++ (record { label = path; object = o }) ∷ []) =
-    ap (kept_with forced kept path) (sym e) ∙ ap (λ (x : Option AddFault). added_unless x kept (record { label = path; object = o })) within in
+    ap (kept_with forced kept path) (sym e) ∙ ap (λ (x : Option AddFault). unless not_added x (kept ++ (record { label = path; object = o }) ∷ [])) within in
     inr (subst IsOk (sym accepted) refl)
 
 -- so may what the header announces
@@ -106,7 +107,7 @@ addition_unchecked known left old path p c fault same read (cause, is, bad) = (
   inr (record {
     found = Err (bad_object cause);
     cause = bad_object cause;
-    is_found = inr (found_at known left (Ok c) (Err (bad_object cause)) (ap (λ (x : Option ObjectFault). object_or x c) bad) (λ bytes encoded. encoded) read);
+    is_found = inr (found_at known left (Ok c) (Err (bad_object cause)) (ap (λ (x : Option ObjectFault). unless bad_object x c) bad) (λ bytes encoded. encoded) read);
     refuses = refl;
     names = is ∙ ap (λ (q : String Global). faults.BadObject q cause) same;
   }),
@@ -115,7 +116,7 @@ addition_unchecked known left old path p c fault same read (cause, is, bad) = (
 -- an object that was read at a path
 pub read_object : (known left : Option (List ℕ)) (p q : String Global) (c o : Contents) → IsReadWhereKnown known left (Ok c) → IsCheckOf p c (Ok (q, o)) → IsFound known (Ok o)
 read_object known left p q c o read checked =
-    inr (found_at known left (Ok c) (Ok o) (ap (λ (x : Option ObjectFault). object_or x c) checked.2 ∙ ap (λ (x : Contents). Ok x) (sym checked.1)) (λ bytes encoded. encoded) read)
+    inr (found_at known left (Ok c) (Ok o) (ap (λ (x : Option ObjectFault). unless bad_object x c) checked.2 ∙ ap (λ (x : Contents). Ok x) (sym checked.1)) (λ bytes encoded. encoded) read)
 
 -- an object that is not added
 not_fit : (known : Option (List ℕ)) (old new : Kept) (path label : String Global) (o : Contents) (cause : AddFault) → IsFound known (Ok o) → label ≡ path → IsCause (refusal old.forced (objects old.entries) o) cause →
@@ -126,7 +127,7 @@ not_fit known old new path label o cause is_found same why real unchanged = (
     found = Ok o;
     cause = not_added cause;
     is_found = is_found;
-    refuses = ap (λ (x : Option AddFault). added_unless x old.entries (record { label = string_bytes path; object = o })) (limit_is (refusal old.forced (objects old.entries) o) cause why real);
+    refuses = ap (λ (x : Option AddFault). unless not_added x (old.entries ++ (record { label = string_bytes path; object = o }) ∷ [])) (limit_is (refusal old.forced (objects old.entries) o) cause why real);
     names = ap (λ (p : String Global). faults.NotAdded p cause) same;
   }),
 )
@@ -149,7 +150,7 @@ addition_of_object known old new path label o (Ok x) found same (within, adds) =
       record {
         adds = added;
         is_found = found;
-        accepts = ap (λ (limit : Option AddFault). added_unless limit old.entries (labelled path o)) within ∙ ap (λ (es : List Labelled). Ok es) (sym added.entries);
+        accepts = ap (λ (limit : Option AddFault). unless not_added limit (old.entries ++ labelled path o ∷ [])) within ∙ ap (λ (es : List Labelled). Ok es) (sym added.entries);
       },
     )
 addition_of_object known old new path label o (Err fault) found same (unchanged, (cause, is, why)) =

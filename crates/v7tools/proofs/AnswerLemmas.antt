@@ -13,14 +13,15 @@ use Rattle.link_out.specs.declared.linked.Linked.{Linked}
 use Rattle.link_out.specs.declared.linked.LinkFault.{LinkFault}
 use Rattle.link_out.specs.declared.linked.LinkFault.TheVariants as links
 use Rattle.link_options.specs.Choices.{Choices}
+use Rattle.link_out.specs.Steps.{and_then, refused_as}
 use Rattle.link_out.specs.function.Link.{Outcome, link}
 use Rattle.link_out.specs.Outcomes.{outcome_of}
 use Rattle.link_out.specs.Outcomes as outcomes
 use Rattle.v7tools.specs.declared.fault.CliFault.{CliFault}
 use Rattle.v7tools.specs.declared.fault.CliFault.TheVariants as faults
 use Rattle.v7tools.specs.FaultTexts.{fault_at, fault_of_link}
-use Rattle.v7tools.specs.Inputs.{Cause, cannot_open, bad_file, bad_object, not_added, Refusal, of_input, not_linked, object_in, kept_with, with_input, with_inputs, at_path, and_then, link_or_refusal, linked}
-use Rattle.v7tools.specs.LinkAnswers.{Input, Said, said_by, refuses, breaks, runs_out, never, Takes, Rejects, WantsMemory, StopsAt, TakesAll, StopsIn, HasNoLink, MayLackMemory, IsNotLinked, IsLinkOver, told, IsTrueOf, IsLinkOfBytes, IsLinkOf}
+use Rattle.v7tools.specs.Inputs.{Cause, cannot_open, bad_file, bad_object, not_added, Refusal, of_input, not_linked, object_in, kept_with, with_input, with_inputs, at_path, linked}
+use Rattle.v7tools.specs.LinkAnswers.{Input, Said, said_by, refuses, breaks, runs_out, never, Takes, Rejects, WantsMemory, StopsAt, TakesAll, StopsIn, HasNoLink, MayLackMemory, IsNotLinked, IsLinkOver, known_inputs, IsTrueOf, IsLinkOfBytes, IsLinkOf}
 use Rattle.v7tools.specs.internal.InputParts.{AreTaken, IsFinalLink, IsPossible, StopsWith}
 use Rattle.v7tools.specs.internal.StepParts.{IsAccepted, IsAddition, IsFound}
 
@@ -85,25 +86,25 @@ module _ (i : Input) (path : String Global) (at : string_bytes path ≡ i.path) 
       subst (λ (f : CliFault). StopsAt old.forced old.entries i (said_by f)) (sym h.names)
       (stops_for h.found h.cause (subst (λ (f : CliFault). IsPossible (said_by f)) h.names possible) (λ other. works (λ e. other (sym h.names ∙ e))) h.is_found h.refuses)
 
--- ---- where all bytes are told
+-- ---- where all bytes are known
 
 -- the first of the inputs tells its bytes, and so do the others
-record FirstTold (i : Input) (is : List Input) (all : List (List ℕ × List ℕ)) : Type 0 where
+record FirstKnown (i : Input) (is : List Input) (all : List (List ℕ × List ℕ)) : Type 0 where
   bytes : List ℕ
   later : List (List ℕ × List ℕ)
   known : i.known ≡ Some bytes
-  others : told is ≡ Some later
+  others : known_inputs is ≡ Some later
   split : all ≡ (i.path, bytes) ∷ later
 
-first_told : (i : Input) (is : List Input) (all : List (List ℕ × List ℕ)) → told (i ∷ is) ≡ Some all → FirstTold i is all
-first_told i is all h = by_parts i.known (told is) refl refl h
+first_known : (i : Input) (is : List Input) (all : List (List ℕ × List ℕ)) → known_inputs (i ∷ is) ≡ Some all → FirstKnown i is all
+first_known i is all h = by_parts i.known (known_inputs is) refl refl h
   where
-    by_parts : (d : Option (List ℕ)) (t : Option (List (List ℕ × List ℕ))) → i.known ≡ d → told is ≡ t → option_and_then (λ bytes. option_map (λ rest. (i.path, bytes) ∷ rest) t) d ≡ Some all → FirstTold i is all
+    by_parts : (d : Option (List ℕ)) (t : Option (List (List ℕ × List ℕ))) → i.known ≡ d → known_inputs is ≡ t → option_and_then (λ bytes. option_map (λ rest. (i.path, bytes) ∷ rest) t) d ≡ Some all → FirstKnown i is all
     by_parts None t e f h = absurd (cc)
     by_parts (Some bytes) None e f h = absurd (cc)
     by_parts (Some bytes) (Some later) e f h = record { bytes = bytes; later = later; known = e; others = f; split = cc }
 
--- what is known of bytes that are told
+-- what is known of bytes that are known
 known_bytes : (known : Option (List ℕ)) (bytes : List ℕ) (P : List ℕ → Type 0) → known ≡ Some bytes → IfSome known P → P bytes
 known_bytes known bytes P e h = subst (λ (k : Option (List ℕ)). IfSome k P) e h
 
@@ -115,14 +116,14 @@ module _ (forced : List (List ℕ)) where
   took : (kept more : List Labelled) (i : Input) (bytes : List ℕ) → i.known ≡ Some bytes → Takes forced kept i more → with_input forced kept i.path bytes ≡ Ok more
   took kept more i bytes known h = ap (kept_with forced kept i.path) (sym (known_bytes i.known bytes (λ bytes. Ok h.object ≡ object_in (decode bytes)) known h.is_found)) ∙ h.accepts
 
-  took_first : (kept more : List Labelled) (i : Input) (is : List Input) (all : List (List ℕ × List ℕ)) (f : FirstTold i is all) → Takes forced kept i more → with_inputs forced kept all ≡ with_inputs forced more f.later
+  took_first : (kept more : List Labelled) (i : Input) (is : List Input) (all : List (List ℕ × List ℕ)) (f : FirstKnown i is all) → Takes forced kept i more → with_inputs forced kept all ≡ with_inputs forced more f.later
   took_first kept more i is all f h =
       ap (with_inputs forced kept) f.split ∙ ap (λ (x : Result (List Labelled) Cause). and_then (at_path i.path x) (behind f.later)) (took kept more i f.bytes f.known h)
 
-  takes_bytes : (is : List Input) (kept more : List Labelled) (all : List (List ℕ × List ℕ)) → told is ≡ Some all → TakesAll forced kept is more → with_inputs forced kept all ≡ Ok more
+  takes_bytes : (is : List Input) (kept more : List Labelled) (all : List (List ℕ × List ℕ)) → known_inputs is ≡ Some all → TakesAll forced kept is more → with_inputs forced kept all ≡ Ok more
   takes_bytes [] kept more all e same = (let none : all ≡ [] = (let f : Some [] ≡ Some all = e in cc) in ap (with_inputs forced kept) none) ∙ ap (λ (x : List Labelled). Ok x) (sym same)
   takes_bytes (i ∷ is) kept more all e (next, takes, rest) =
-      let f = first_told i is all e in
+      let f = first_known i is all e in
       took_first kept next i is all f takes ∙ takes_bytes is next more f.later f.others rest
 
   -- what is said of a part is said of the whole
@@ -140,26 +141,26 @@ module _ (forced : List (List ℕ)) where
   said_at kept i bytes runs_out known h = tt
   said_at kept i bytes never known h = absurd h
 
-  stops_bytes : (is : List Input) (kept : List Labelled) (all : List (List ℕ × List ℕ)) (said : Said) → told is ≡ Some all → StopsIn forced kept is said → IsTrueOf said (with_inputs forced kept all)
+  stops_bytes : (is : List Input) (kept : List Labelled) (all : List (List ℕ × List ℕ)) (said : Said) → known_inputs is ≡ Some all → StopsIn forced kept is said → IsTrueOf said (with_inputs forced kept all)
   stops_bytes [] kept all said e h = absurd h
   stops_bytes (i ∷ is) kept all said e (inl h) =
-      let f = first_told i is all e in
+      let f = first_known i is all e in
       subst (λ (bytes : List (List ℕ × List ℕ)). IsTrueOf said (with_inputs forced kept bytes)) (sym f.split)
       (said_of_whole said (at_path i.path (with_input forced kept i.path f.bytes)) (behind f.later) (said_at kept i f.bytes said f.known h))
   stops_bytes (i ∷ is) kept all said e (inr (next, takes, rest)) =
-      let f = first_told i is all e in
+      let f = first_known i is all e in
       subst (IsTrueOf said) (sym (took_first kept next i is all f takes)) (stops_bytes is next f.later said f.others rest)
 
-  module _ (o : Choices) (is : List Input) (all : List (List ℕ × List ℕ)) (e : told is ≡ Some all) where
+  module _ (o : Choices) (is : List Input) (all : List (List ℕ × List ℕ)) (e : known_inputs is ≡ Some all) where
     abbrev link_kept : List Labelled → Result Outcome Refusal
-    link_kept kept = link_or_refusal (link forced (objects kept) o)
+    link_kept kept = refused_as not_linked (link forced (objects kept) o)
 
     linked_of : (kept : List Labelled) → TakesAll forced [] is kept → linked forced all o ≡ link_kept kept
     linked_of kept h = ap (λ (x : Result (List Labelled) Refusal). and_then x link_kept) (takes_bytes is [] kept all e h)
 
-    no_link_of : (x : Result Outcome LinkFault) (said : Said) → HasNoLink x said → IsTrueOf said (link_or_refusal x)
+    no_link_of : (x : Result Outcome LinkFault) (said : Said) → HasNoLink x said → IsTrueOf said (refused_as not_linked x)
     no_link_of x (refuses (of_input path cause)) h = absurd h
-    no_link_of x (refuses (not_linked fault)) h = ap link_or_refusal h
+    no_link_of x (refuses (not_linked fault)) h = ap (refused_as not_linked) h
     no_link_of x (breaks path) h = absurd h
     no_link_of x runs_out h = absurd h
     no_link_of x never h = absurd h
@@ -173,16 +174,16 @@ module _ (forced : List (List ℕ)) where
     not_linked_of never (inr h) = absurd h.none
 
     of_bytes : (answer : Result Linked CliFault) → IsLinkOver forced o is answer → IsLinkOfBytes forced o all answer
-    of_bytes (Ok l) h = linked_of h.kept h.taken ∙ ap link_or_refusal h.link
+    of_bytes (Ok l) h = linked_of h.kept h.taken ∙ ap (refused_as not_linked) h.link
     of_bytes (Err fault) h = not_linked_of (said_by fault) h
 
 -- what is said of the inputs is said of their bytes
 pub is_link_of : (forced : List (List ℕ)) (o : Choices) (is : List Input) (answer : Result Linked CliFault) → IsLinkOver forced o is answer → IsLinkOf forced o is answer
-is_link_of forced o is answer h = record { over = h; bytes = by_told (told is) refl }
+is_link_of forced o is answer h = record { over = h; bytes = by_inputs (known_inputs is) refl }
   where
-    by_told : (t : Option (List (List ℕ × List ℕ))) → told is ≡ t → IfSome t (λ bytes. IsLinkOfBytes forced o bytes answer)
-    by_told None e = tt
-    by_told (Some all) e = of_bytes forced o is all e answer h
+    by_inputs : (t : Option (List (List ℕ × List ℕ))) → known_inputs is ≡ t → IfSome t (λ bytes. IsLinkOfBytes forced o bytes answer)
+    by_inputs None e = tt
+    by_inputs (Some all) e = of_bytes forced o is all e answer h
 
 -- ---- where memory may run out
 

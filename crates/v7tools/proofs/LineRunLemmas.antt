@@ -21,9 +21,9 @@ use Rattle.v7tools.specs.LineRuns.{DoesStep, IsAddOf, IsLineOf, LineRun, OnlyTel
 use Rattle.v7tools.specs.internal.StepParts.{RefusesLink}
 use Rattle.v7tools.specs.internal.SessionParts.{AnswersLine, IsNoLink, IsOpenedAt, TakesPlainStep, TellsStep}
 use Rattle.v7tools.specs.SessionSteps.{AddsIf, Does, GoesOut, IsAddBy, IsAddOn, IsStepOn, verdict_of}
-use Rattle.v7tools.specs.declared.commands.Command.{Command}
-use Rattle.v7tools.specs.declared.commands.Step.{Step}
-use Rattle.v7tools.specs.declared.commands.Command.TheVariants.{Add, Withdraw, Externals, Undefined, Link, Bad}
+use Rattle.v7tools.specs.declared.session.commands.Command.{Command}
+use Rattle.v7tools.specs.declared.session.commands.Step.{Step}
+use Rattle.v7tools.specs.declared.session.commands.Command.TheVariants.{Add, Withdraw, Externals, Undefined, Link, Bad}
 use Rattle.v7tools.specs.declared.fault.CliFault.{CliFault}
 use Rattle.v7tools.specs.declared.fault.CliFault.TheVariants as faults
 use Rattle.v7tools.specs.declared.office.Stored.{Stored}
@@ -189,7 +189,7 @@ module _ {W : Type 0} (contents : W → Option (List ℕ)) where
       run = record { line = to_link path; events = stored path made.file what ∷ []; answer = link_answer_text (findings_of made.report) path what; status = link_status (findings_of made.report) what; kept = kept };
       line = refl;
       leaves = refl;
-      is_run = inr (record { made = outcome_of made; is_link = is; what = what; events = refl; answer = refl; status = refl; same = refl });
+      is_run = inr (record { outcome = outcome_of made; is_link = is; what = what; events = refl; answer = refl; status = refl; same = refl });
       asked = asked;
       status = status;
       write_failed = write_failed;

@@ -61,7 +61,7 @@ module _ {R : Type 0} (remaining : R → Option (List ℕ)) where
         IsLinkOf forced o (inputs_of remaining inputs) (Ok made) → Extends mid new (stored (string_bytes out) made.file what ∷ []) → ReportsIf contents what out (findings_of made.report) result before after →
         IsLinkRun contents forced o out (map string_bytes files) old new result before after
     stores_link mid new inputs made what h link asked reports = inr (inr (inr (record {
-      made = made;
+      linked = made;
       what = what;
       found = sources remaining inputs;
       answer = link_of_files forced o files inputs (Ok made) h.1 h.2 link;

@@ -11,7 +11,7 @@ use Rattle.link_session.specs.Undo.{Kept}
 use Rattle.link_options.specs.Choices.{Choices}
 use Rattle.v7tools.specs.Events.{History, Extends}
 use Rattle.command_words.specs.Scripts.{Asked, lines_in, Given, ScriptFault, long_line, many_lines, and_given, given_behind}
-use Rattle.command_words.specs.ScriptAnswers.{Answer, IfTold, IsNextOf, NamesPath, Progress, Settles, asked_by, lines_of}
+use Rattle.command_words.specs.ScriptAnswers.{Answer, WhereKnown, IsNextOf, NamesPath, Progress, Settles, asked_by, lines_of}
 use Rattle.v7tools.specs.SessionRuns.{AreFirst, AreLines, Chains, EndsBehind, IsSessionRun, Ran, StopsBehind, answers_of, events_of, given, lines_asked, worst}
 use Rattle.v7tools.specs.LineRuns.{IsLineOf, LineRun}
 use Rattle.v7tools.specs.internal.SessionParts.{AnswersLine}
@@ -54,25 +54,25 @@ IsEmpty bytes left = left ≡ []
 
 -- a script gave these lines, and goes on or is at its end
 pub record Reading (first now : Option (List ℕ)) (n : ℕ) (settled : Option Stop) (lines : List Asked) : Type 0 where
-  pub told : IfTold first now (GivesFirst lines n)
-  pub goes : (settled ≡ None) ⊎ ((settled ≡ Some stops.End) × IfTold first now IsEmpty)
+  pub told : WhereKnown first now (GivesFirst lines n)
+  pub goes : (settled ≡ None) ⊎ ((settled ≡ Some stops.End) × WhereKnown first now IsEmpty)
 
 pub reads_first : (first : Option (List ℕ)) (settled : Option Stop) → settled ≡ None → Reading first first 0 settled []
 reads_first None settled e = record { told = tt; goes = inl e }
 reads_first (Some bytes) settled e = record { told = refl; goes = inl e }
 
-told_on : (first mid now : Option (List ℕ)) (P Q S : List ℕ → List ℕ → Type 0) → ((a b c : List ℕ) → P a b → Q b c → S a c) → IfTold first mid P → IfTold mid now Q → IfTold first now S
+told_on : (first mid now : Option (List ℕ)) (P Q S : List ℕ → List ℕ → Type 0) → ((a b c : List ℕ) → P a b → Q b c → S a c) → WhereKnown first mid P → WhereKnown mid now Q → WhereKnown first now S
 told_on None mid now P Q S f h k = tt
 told_on (Some a) None now P Q S f h k = absurd h
 told_on (Some a) (Some b) None P Q S f h k = absurd k
 told_on (Some a) (Some b) (Some c) P Q S f h k = f a b c h k
 
-told_alone : (first now : Option (List ℕ)) (P : List ℕ → List ℕ → Type 0) (Q : List ℕ → Type 0) → ((a b : List ℕ) → P a b → Q a) → IfTold first now P → IfSome first Q
+told_alone : (first now : Option (List ℕ)) (P : List ℕ → List ℕ → Type 0) (Q : List ℕ → Type 0) → ((a b : List ℕ) → P a b → Q a) → WhereKnown first now P → IfSome first Q
 told_alone None now P Q f h = tt
 told_alone (Some a) None P Q f h = absurd h
 told_alone (Some a) (Some b) P Q f h = f a b h
 
-told_both : (first now : Option (List ℕ)) (P Q S : List ℕ → List ℕ → Type 0) → ((a b : List ℕ) → P a b → Q a b → S a b) → IfTold first now P → IfTold first now Q → IfTold first now S
+told_both : (first now : Option (List ℕ)) (P Q S : List ℕ → List ℕ → Type 0) → ((a b : List ℕ) → P a b → Q a b → S a b) → WhereKnown first now P → WhereKnown first now Q → WhereKnown first now S
 told_both None now P Q S f h k = tt
 told_both (Some a) None P Q S f h k = absurd h
 told_both (Some a) (Some b) P Q S f h k = f a b h k
@@ -86,7 +86,7 @@ before_end lines fault = ap (λ (l : List Asked). let r : Given = record { lines
 
 -- what a call gives of a script that is not settled
 abbrev pub Next : Option (List ℕ) → Option (List ℕ) → ℕ → Option Stop → Option Stop → Answer → Type 0
-Next mid now n settled later answer = settled ≡ None → IfTold mid now (λ bytes left. IsNextOf n bytes left later answer)
+Next mid now n settled later answer = settled ≡ None → WhereKnown mid now (λ bytes left. IsNextOf n bytes left later answer)
 
 -- of one that is settled
 abbrev pub Stays : Option Stop → Answer → Type 0
@@ -108,7 +108,7 @@ module _ (first mid now : Option (List ℕ)) (n : ℕ) (settled later : Option S
   open_script : (answer : Answer) → Stays settled answer → (answer ≡ Err stops.End → ⊥) → settled ≡ None
   open_script answer stays other = by h.goes
     where
-      by : (settled ≡ None) ⊎ ((settled ≡ Some stops.End) × IfTold first mid IsEmpty) → settled ≡ None
+      by : (settled ≡ None) ⊎ ((settled ≡ Some stops.End) × WhereKnown first mid IsEmpty) → settled ≡ None
       by (inl e) = e
       by (inr (e, ended)) = absurd (other (subst (λ (s : Option Stop). Stays s answer) e stays))
 
@@ -116,10 +116,10 @@ module _ (first mid now : Option (List ℕ)) (n : ℕ) (settled later : Option S
   pub reads_line : (it : Line) (m : ℕ) → Stays settled (Ok it) → Settles (Ok it) later → Next mid now n settled later (Ok it) → m ≡ n + 1 → Reading first now m later (lines ++ asked_by it ∷ [])
   reads_line it m stays settles next count = record { told = told; goes = goes later refl settles }
     where
-      next_told : IfTold mid now (λ bytes left. IsNextOf n bytes left later (Ok it))
+      next_told : WhereKnown mid now (λ bytes left. IsNextOf n bytes left later (Ok it))
       next_told = next (open_script (Ok it) stays (λ e. cc))
 
-      told : IfTold first now (GivesFirst (lines ++ asked_by it ∷ []) m)
+      told : WhereKnown first now (GivesFirst (lines ++ asked_by it ∷ []) m)
       told =
           told_on first mid now (GivesFirst lines n) (λ bytes left. IsNextOf n bytes left later (Ok it)) (GivesFirst (lines ++ asked_by it ∷ []) m)
           (λ a b c first_given is.
@@ -127,7 +127,7 @@ module _ (first mid now : Option (List ℕ)) (n : ℕ) (settled later : Option S
           first_given ∙ ap (before_given lines) (is.0.1 ∙ ap (λ (k : ℕ). and_given (asked_by it) (given_behind k (lines_in c))) (sym count)) ∙ before_and_given lines (asked_by it) g)
           h.told next_told
 
-      goes : (s : Option Stop) → later ≡ s → IfSome s (λ stop. stop ≡ stops.End) → (later ≡ None) ⊎ ((later ≡ Some stops.End) × IfTold first now IsEmpty)
+      goes : (s : Option Stop) → later ≡ s → IfSome s (λ stop. stop ≡ stops.End) → (later ≡ None) ⊎ ((later ≡ Some stops.End) × WhereKnown first now IsEmpty)
       goes None e settled_so = inl e
       goes (Some stop) e settled_so =
           inr (
@@ -147,7 +147,7 @@ module _ (first mid now : Option (List ℕ)) (n : ℕ) (settled later : Option S
   pub reads_end : Stays settled (Err stops.End) → Next mid now n settled later (Err stops.End) → AreLines first lines None
   reads_end stays next = by h.goes
     where
-      by : (settled ≡ None) ⊎ ((settled ≡ Some stops.End) × IfTold first mid IsEmpty) → AreLines first lines None
+      by : (settled ≡ None) ⊎ ((settled ≡ Some stops.End) × WhereKnown first mid IsEmpty) → AreLines first lines None
       by (inl e) =
           told_alone first now (λ a c. given a ≡ record { lines = lines; fault = None }) (λ a. given a ≡ record { lines = lines; fault = None }) (λ a c k. k)
           (told_on first mid now (GivesFirst lines n) (λ bytes left. IsNextOf n bytes left later (Err stops.End)) (λ a c. given a ≡ record { lines = lines; fault = None })
@@ -161,7 +161,7 @@ module _ (first mid now : Option (List ℕ)) (n : ℕ) (settled later : Option S
   reads_ended answer is stays next = reads_end (subst (Stays settled) is stays) (subst (Next mid now n settled later) is next)
 
   -- a fault behind the lines
-  stops_with : (stop : Stop) (fault : CliFault) → Err fault ≡ returned (Err stop) → IfTold mid now (λ bytes left. IsNextOf n bytes left later (Err stop)) → StopsBehind first lines fault
+  stops_with : (stop : Stop) (fault : CliFault) → Err fault ≡ returned (Err stop) → WhereKnown mid now (λ bytes left. IsNextOf n bytes left later (Err stop)) → StopsBehind first lines fault
   stops_with stops.End fault e next = absurd (cc)
   stops_with stops.LongLine fault e next =
       let is : fault ≡ faults.LongLine = cc in

@@ -21,8 +21,8 @@ use Rattle.link_out.specs.function.Reports.{line}
 use Rattle.link_out.proofs.RunLemmas.{last_of-put_last, without_last-put_last}
 use Rattle.v7tools.specs.declared.fault.CliFault.{CliFault}
 use Rattle.v7tools.specs.declared.fault.CliFault.TheVariants as faults
-use Rattle.v7tools.specs.declared.commands.Step.{Step}
-use Rattle.v7tools.specs.declared.commands.Step.TheVariants.{Refused, ToStore}
+use Rattle.v7tools.specs.declared.session.commands.Step.{Step}
+use Rattle.v7tools.specs.declared.session.commands.Step.TheVariants.{Refused, ToStore}
 use Rattle.v7tools.specs.Inputs.{Cause, cannot_open, bad_file, bad_object, not_added, object_in, kept_with}
 use Rattle.v7tools.specs.FaultTexts.{cause_text, cli_text, fault_at, fault_of_link}
 use Rattle.v7tools.specs.Answers.{done, refused, Stepped, add_step, withdraw_step, link_step}

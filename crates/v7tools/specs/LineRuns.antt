@@ -77,12 +77,12 @@ pub record LinksNone (o : Choices) (old : Kept) (r : LineRun) : Type 0 where
 
 -- the file of the link was to be stored at the path that is named, and the answer says what became of it
 pub record LinksInto (o : Choices) (old : Kept) (path : List ℕ) (r : LineRun) : Type 0 where
-  pub made : Outcome
-  pub is_link : link old.forced (objects old.entries) o ≡ Ok made
+  pub outcome : Outcome
+  pub is_link : link old.forced (objects old.entries) o ≡ Ok outcome
   pub what : Stored
-  pub events : r.events ≡ stored path made.file what ∷ []
-  pub answer : r.answer ≡ link_answer_text made.report path what
-  pub status : r.status ≡ link_status made.report what
+  pub events : r.events ≡ stored path outcome.file what ∷ []
+  pub answer : r.answer ≡ link_answer_text outcome.report path what
+  pub status : r.status ≡ link_status outcome.report what
   pub same : r.kept ≡ old
 
 -- a line that asks for this was run on a session

@@ -133,9 +133,9 @@ IsLinkOver forced o inputs (Err fault) = IsNotLinked forced o inputs (said_by fa
 -- ---- where all bytes are known
 
 -- the paths of the inputs with their bytes, where all are known
-abbrev pub told : List Input → Option (List (List ℕ × List ℕ))
-told [] = Some []
-told (i ∷ is) = option_and_then (λ bytes. option_map (λ rest. (i.path, bytes) ∷ rest) (told is)) i.known
+abbrev pub known_inputs : List Input → Option (List (List ℕ × List ℕ))
+known_inputs [] = Some []
+known_inputs (i ∷ is) = option_and_then (λ bytes. option_map (λ rest. (i.path, bytes) ∷ rest) (known_inputs is)) i.known
 
 -- what is said is true where the bytes give this
 abbrev pub IsTrueOf : {A : Type 0} → Said → Result A Refusal → Type 0
@@ -152,4 +152,4 @@ IsLinkOfBytes forced o inputs (Err fault) = IsTrueOf (said_by fault) (linked for
 -- the link of the inputs, or why there is none
 pub record IsLinkOf (forced : List (List ℕ)) (o : Choices) (inputs : List Input) (answer : Result Linked CliFault) : Type 0 where
   pub over : IsLinkOver forced o inputs answer
-  pub bytes : IfSome (told inputs) (λ bytes. IsLinkOfBytes forced o bytes answer)
+  pub bytes : IfSome (known_inputs inputs) (λ bytes. IsLinkOfBytes forced o bytes answer)

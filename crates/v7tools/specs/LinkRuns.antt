@@ -64,12 +64,12 @@ pub record MakesNoLink {W : Type 0} (forced : List (List ℕ)) (o : Choices) (fi
 
 -- there is a link: after all files were opened its file is to be stored, and if that is done the link is reported
 pub record StoresLink {W : Type 0} (contents : W → Option (List ℕ)) (forced : List (List ℕ)) (o : Choices) (out : String Global) (files : List (List ℕ)) (old new : History) (result : Result ℕ CliFault) (before after : Latched W) : Type 0 where
-  pub made : Linked
+  pub linked : Linked
   pub what : Stored
   pub found : List Opened
-  pub answer : IsLinkOfFiles forced o files found (Ok made)
-  pub asked : Extends old new (opens found ++ stored (string_bytes out) made.file what ∷ [])
-  pub reports : ReportsIf contents what out (findings_of made.report) result before after
+  pub answer : IsLinkOfFiles forced o files found (Ok linked)
+  pub asked : Extends old new (opens found ++ stored (string_bytes out) linked.file what ∷ [])
+  pub reports : ReportsIf contents what out (findings_of linked.report) result before after
 
 -- no memory before anything was opened, a file that can't be opened, no link, or a link
 abbrev pub IsLinkRun : {W : Type 0} → (W → Option (List ℕ)) → List (List ℕ) → Choices → String Global → List (List ℕ) → History → History → Result ℕ CliFault → Latched W → Latched W → Type 0

@@ -15,10 +15,10 @@ use Rattle.link_out.specs.function.Link.{Outcome, link}
 use Rattle.link_out.specs.Outcomes.{outcome_of}
 use Rattle.link_out.specs.function.Reports.{line}
 use Rattle.v7tools.specs.declared.fault.CliFault.{CliFault}
-use Rattle.v7tools.specs.declared.commands.Command.{Command}
-use Rattle.v7tools.specs.declared.commands.Command.TheVariants.{Add, Withdraw, Externals, Undefined, Link, Bad}
-use Rattle.v7tools.specs.declared.commands.Step.{Step}
-use Rattle.v7tools.specs.declared.commands.Step.TheVariants.{Done, Refused, ToStore}
+use Rattle.v7tools.specs.declared.session.commands.Command.{Command}
+use Rattle.v7tools.specs.declared.session.commands.Command.TheVariants.{Add, Withdraw, Externals, Undefined, Link, Bad}
+use Rattle.v7tools.specs.declared.session.commands.Step.{Step}
+use Rattle.v7tools.specs.declared.session.commands.Step.TheVariants.{Done, Refused, ToStore}
 use Rattle.v7tools.specs.Inputs.{Cause, kept_with}
 use Rattle.v7tools.specs.FaultTexts.{no_memory}
 use Rattle.v7tools.specs.LinkAnswers.{WantsMemory}

@@ -6,7 +6,9 @@ ghost use Rattle.v7tools.specs.declared.fault.CliFault.TheVariants.{Memory, Writ
 ghost use Rattle.v7tools.specs.FaultTexts.{cli_text, fault_line, fault_of_addition, fault_of_link, fault_of_tool};
 ghost use Rattle.v7tools.specs.internal.FaultParts.{text_of};
 
-use crate::fault_text::{FaultText, add_text, link_text, object_text, read_text, says, says_of};
+pub(crate) mod texts;
+
+use crate::fault::texts::{FaultText, add_text, link_text, object_text, read_text, says, says_of};
 use aout_core::{DeviceFault, ObjectFault, ReadFault, Wire};
 use command_words::WordsFault;
 use link_out::LinkFault;

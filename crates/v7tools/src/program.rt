@@ -5,11 +5,11 @@ ghost use Rattle.v7tools.specs.CommandRuns.{IsCallRun, Performs, RunsWords};
 
 use crate::disk::Disk;
 use crate::fault::CliFault;
-use crate::file_commands::{list_files, size_files, strip_files};
-use crate::link_command::{LinkCall, link_files};
+use crate::files::commands::{list_files, size_files, strip_files};
+use crate::link::command::{LinkCall, link_files};
 use crate::office::Office;
 use crate::parsing::parse;
-use crate::session_command::{Setting, answer_script};
+use crate::session::command::{Setting, answer_script};
 use crate::standard_error::StandardError;
 use aout_core::{BufferedWrite, Wire};
 use command_words::{BlockWriter, Call};

@@ -5,10 +5,11 @@ use Rattle.link_session.specs.Labelled.{objects}
 use Rattle.link_session.specs.Undo.{Kept, IsJournal}
 use Rattle.link_options.specs.Choices.{Choices}
 use Rattle.link_out.specs.function.Link.{link}
+use Rattle.link_out.specs.Steps.{and_then, refused_as}
 use Rattle.library_calls.specs.declared.cause.Cause.{Cause}
+use Rattle.library_calls.specs.declared.cause.Cause.TheVariants.{NotLinked}
 use Rattle.library_calls.specs.declared.state_call.Form.{Form}
-use Rattle.library_calls.specs.Causes.{and_then}
-use Rattle.library_calls.specs.LinkAnswers.{linked_or, output_of}
+use Rattle.library_calls.specs.LinkAnswers.{output_of}
 use Rattle.library_calls.specs.SessionAnswers.{SessionOutput, output_with, reply_number}
 use Rattle.library_calls.specs.StateAnswers.{encoded_in}
 
@@ -31,4 +32,4 @@ pub record ShowsFrom (form : Form) (s : Kept) (state : List ℕ) : Type 0 where
 
 -- the link of what edits left, with the replies to them
 abbrev pub edited_link : Kept → Choices → List ℕ → Result SessionOutput Cause
-edited_link s o numbers = and_then (linked_or (link s.forced (objects s.entries) o)) (λ x. Ok (output_with numbers (output_of x)))
+edited_link s o numbers = and_then (refused_as NotLinked (link s.forced (objects s.entries) o)) (λ x. Ok (output_with numbers (output_of x)))

@@ -1,7 +1,7 @@
 -- Changes that were made, and the replies to them, one after another.
 use Rattle.std.specs.declared.alloc.Global.{Global}
 use Rattle.std.specs.Prelude.{◌≡◌, ◌⊎◌, ℕ, ◌+◌, ◌≤◌, List, [], ◌∷◌, ◌++◌, map, Option, Some, None, Vec, vec_len, vec_capacity, Result, Ok, Err, IsOk}
-use Rattle.link_session.specs.Edits.{Change, added, kept_after, answer_to, survivors_from, answers_from}
+use Rattle.link_session.specs.Edits.{Change, added, answer_to, survivors_from, answers_from}
 use Rattle.link_session.specs.Labelled.{objects}
 use Rattle.link_session.specs.Undo.{Kept}
 use Rattle.link_out.specs.declared.edit.Reply.{Reply}
@@ -13,13 +13,7 @@ use Rattle.link_out.specs.declared.linked.LinkFault.TheVariants as link_faults
 use Rattle.link_options.specs.Choices.{Choices}
 use Rattle.link_out.specs.function.Link.{Outcome, link}
 use Rattle.link_out.specs.Outcomes.{outcome_of}
-use Rattle.link_out.specs.Runs.{answer_of, IsRunOf}
-
--- a change was made, and the reply is the answer to it
-pub record IsDone (old new : Kept) (change : Change) (reply : Reply) : Type 0 where
-  pub forced : new.forced ≡ old.forced
-  pub kept : new.entries ≡ kept_after old.forced old.entries change
-  pub answer : answer_of reply ≡ answer_to old.forced old.entries change
+use Rattle.link_out.specs.Runs.{answer_of, IsDone, IsRunOf}
 
 -- replies, where there was room for them, are these
 abbrev pub Lists : Option (Vec Reply Global) → List Reply → Type 0

@@ -7,8 +7,8 @@ use Rattle.v7tools.specs.Answers.{Stepped}
 use Rattle.v7tools.specs.Events.{History, Extends, opened}
 use Rattle.command_words.specs.Scripts.{Asked}
 use Rattle.v7tools.specs.SessionSteps.{Changes, IsStepOn}
-use Rattle.v7tools.specs.declared.commands.Command.{Command}
-use Rattle.v7tools.specs.declared.commands.Command.TheVariants.{Link}
+use Rattle.v7tools.specs.declared.session.commands.Command.{Command}
+use Rattle.v7tools.specs.declared.session.commands.Command.TheVariants.{Link}
 use Rattle.v7tools.specs.declared.fault.CliFault.{CliFault}
 use Rattle.v7tools.specs.declared.fault.CliFault.TheVariants as faults
 use Rattle.v7tools.specs.LineRuns.{IsLineOf, LineRun, status_after}

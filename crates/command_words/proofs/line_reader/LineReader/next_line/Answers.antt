@@ -2,7 +2,7 @@ use Rattle.std.proofs.Common.{◌≡◌, ◌∙◌, true, Ok, Err, Some, subst, 
 use Rattle.std.specs.Prelude.{IsSome}
 use Rattle.std.specs.Io.KnownBytes.{prepend_known}
 use Rattle.command_words.specs.Scripts.{asked}
-use Rattle.command_words.specs.ScriptAnswers.{asked_by, IfTold, IsNextOf, NamesPath}
+use Rattle.command_words.specs.ScriptAnswers.{asked_by, WhereKnown, IsNextOf, NamesPath}
 use Rattle.command_words.specs.declared.line_reader.Stop.TheVariants.{Memory}
 use Rattle.command_words.specs.internal.LineParts.{IsTakenOf}
 use Rattle.command_words.proofs.ScriptLemmas.{told_map, failed_as, line_answered, lost_told, stop_told}
@@ -19,7 +19,7 @@ returns-clause-next g c =
     record {
       stays = search rules;
       next = λ _. subst (λ (P : Type 0). P)
-          (λ i. IfTold (prepend_known (c.self.view_is i).held (g.R.Read.remaining (c.self.view_is i).wire.device)) (prepend_known (held i) (g.R.Read.remaining (same i).device))
+          (λ i. WhereKnown (prepend_known (c.self.view_is i).held (g.R.Read.remaining (c.self.view_is i).wire.device)) (prepend_known (held i) (g.R.Read.remaining (same i).device))
           (λ bytes left. IsNextOf (c.self.view_is i).line_count bytes left c.if-is_last.self.settled (Ok c.in-Ok-from_bytes.line)))
           (told_map (prepend_known c.self.inside.reader.held (g.R.Read.remaining c.self.inside.reader.wire.device)) (prepend_known c.take_line.new.reader.held (g.R.Read.remaining c.take_line.new.reader.wire.device))
           (λ bytes left. IsTakenOf c.self.inside.line_count bytes left c.take_line.new.line.items (Ok c.in-Ok.is_last))
@@ -37,7 +37,7 @@ returns-clause-next g c =
 pub returns-in_default-from_bytes-clause-next : goal.returns-in_default-from_bytes-clause-next
 returns-in_default-from_bytes-clause-next g c =
     let taken = subst (λ (P : Type 0). P)
-    (λ i. IfTold (prepend_known (c.self.view_is i).held (g.R.Read.remaining (c.self.view_is i).wire.device)) (prepend_known c.take_line.new.reader.held (g.R.Read.remaining c.take_line.new.reader.wire.device))
+    (λ i. WhereKnown (prepend_known (c.self.view_is i).held (g.R.Read.remaining (c.self.view_is i).wire.device)) (prepend_known c.take_line.new.reader.held (g.R.Read.remaining c.take_line.new.reader.wire.device))
     (λ bytes left. IsTakenOf (c.self.view_is i).line_count bytes left c.take_line.new.line.items (Ok c.in-Ok.is_last)))
     c.in-Ok.ensures.value in
     let text : c.deref.result.now ≡ c.take_line.new.line.items = search rules in
@@ -56,7 +56,7 @@ returns-in_default-from_bytes-clause-next g c =
 pub returns-in-Err-clause-next : goal.returns-in-Err-clause-next
 returns-in-Err-clause-next g c =
     let stopped = subst (λ (P : Type 0). P)
-    (λ i. IfTold (prepend_known (c.self.view_is i).held (g.R.Read.remaining (c.self.view_is i).wire.device)) (prepend_known c.take_line.new.reader.held (g.R.Read.remaining c.take_line.new.reader.wire.device))
+    (λ i. WhereKnown (prepend_known (c.self.view_is i).held (g.R.Read.remaining (c.self.view_is i).wire.device)) (prepend_known c.take_line.new.reader.held (g.R.Read.remaining c.take_line.new.reader.wire.device))
     (λ bytes left. IsTakenOf (c.self.view_is i).line_count bytes left c.take_line.new.line.items (Err c.in-Err.stop)))
     c.in-Err.ensures.value in
     record {

@@ -1,9 +1,0 @@
-use Rattle.std.proofs.Common.{[], ◌∷◌}
-use Rattle.aout_core.proofs.PutsLemmas.{writes_both, writes_no_more}
-use Rattle.v7tools.proofs.link_answers.put_linked_line.Goals as goal
-
-pub returns-in_err-put_linked : goal.returns-in_err-put_linked
-returns-in_err-put_linked g c = writes_no_more (10 ∷ []) c.from_residual.ensures.0 c.in_err-put_linked.ensures
-
-pub returns : goal.returns
-returns g c = writes_both c.in_ok-put_linked.ensures c.put.ensures.writes

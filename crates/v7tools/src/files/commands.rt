@@ -1,0 +1,145 @@
+//! The commands nm, size and strip, over any `Office`.
+ghost use Rattle.std.specs.Prelude.{◌≤◌, IfOk};
+ghost use Rattle.aout_core.specs.Wires.{IsPassedOn};
+ghost use Rattle.symtools.specs.Files.{by_bytes};
+ghost use Rattle.symtools.specs.NmLists.{nm_text};
+ghost use Rattle.symtools.specs.SizeLines.{size_text};
+ghost use Rattle.v7tools.specs.FileRuns.{IsStored, IsListRun, IsLoadAt, IsStripping, IsStripRun, Lists, OnlyWriteFailed, OrMemory};
+ghost use Rattle.v7tools.specs.internal.Openings.{IsLoading};
+
+use crate::fault::CliFault;
+use crate::files::loading::load;
+use crate::office::{Office, Stored};
+use aout_core::{BufferedWrite, File, Wire, strip_file};
+use std::alloc::Global;
+use symtools::{NmOptions, nm, size};
+
+/// Opens and reads the file at a path.
+fn load_at<O: Office>(
+    alloc: Global,
+    office: &mut O,
+    path: String,
+) -> Result<(String, File), CliFault>
+    ensures { IsLoadAt (O.history office.old) (O.history office.new) path result }
+{
+    match office.open(path.as_str()) {
+        Some(source) => load(alloc, path, &mut Wire::new(source)),
+        None => Err(CliFault::CannotOpen(path)),
+    }
+}
+
+/// Opens and reads the files in order, each before the next one is opened.
+fn load_all<O: Office>(
+    alloc: Global,
+    office: &mut O,
+    files: Vec<String>,
+) -> Result<Vec<(String, File)>, CliFault>
+    ensures { IsLoading (O.history office.old) (O.history office.new) files.items result }
+{
+    let mut loaded = Vec::with_capacity(alloc, files.len())?;
+    for path in files {
+        let file = load_at(alloc, office, path)?;
+        loaded.push(file).unwrap();
+    }
+    Ok(loaded)
+}
+
+/// Writes the list of the files' symbols. What is listed before memory runs out is written too.
+fn put_names<W: BufferedWrite>(
+    alloc: Global,
+    options: NmOptions,
+    files: &[(String, File)],
+    output: &mut Wire<W>,
+) -> Result<u8, CliFault>
+    ensures small { IfOk result (λ status. status ≤ 1) }
+    ensures run { Lists W.contents (OrMemory options (by_bytes files.now)) (nm_text options (by_bytes files.now)) result output.old output.new }
+    ensures passed { IsPassedOn W.waiting output.new }
+{
+    let listed = nm(alloc, files, options, output);
+    output.pass_on()?;
+    listed?;
+    Ok(0)
+}
+
+/// Writes the sizes of the files.
+fn put_sizes<W: BufferedWrite>(
+    files: &[(String, File)],
+    output: &mut Wire<W>,
+) -> Result<u8, CliFault>
+    ensures small { IfOk result (λ status. status ≤ 1) }
+    ensures run { Lists W.contents (OnlyWriteFailed (by_bytes files.now)) (size_text (by_bytes files.now)) result output.old output.new }
+    ensures passed { IsPassedOn W.waiting output.new }
+{
+    size(files, output)?;
+    output.pass_on()?;
+    Ok(0)
+}
+
+/// Lists the symbols of the files.
+pub(crate) fn list_files<O: Office, W: BufferedWrite>(
+    alloc: Global,
+    office: &mut O,
+    options: NmOptions,
+    files: Vec<String>,
+    output: &mut Wire<W>,
+) -> Result<u8, CliFault>
+    ensures small { IfOk result (λ status. status ≤ 1) }
+    ensures run { IsListRun W.contents (OrMemory options) (nm_text options) files.items
+        (O.history office.old) (O.history office.new) result output.old output.new }
+    ensures passed { IsPassedOn W.waiting output.old → IsPassedOn W.waiting output.new }
+{
+    let loaded = load_all(alloc, office, files)?;
+    put_names(alloc, options, &loaded, output)
+}
+
+/// Lists the sizes of the files.
+pub(crate) fn size_files<O: Office, W: BufferedWrite>(
+    alloc: Global,
+    office: &mut O,
+    files: Vec<String>,
+    output: &mut Wire<W>,
+) -> Result<u8, CliFault>
+    ensures small { IfOk result (λ status. status ≤ 1) }
+    ensures run { IsListRun W.contents OnlyWriteFailed size_text files.items
+        (O.history office.old) (O.history office.new) result output.old output.new }
+    ensures passed { IsPassedOn W.waiting output.old → IsPassedOn W.waiting output.new }
+{
+    let loaded = load_all(alloc, office, files)?;
+    put_sizes(&loaded, output)
+}
+
+/// The fault where a file is not stored.
+fn check_stored(path: String, stored: Stored) -> Result<(), CliFault>
+    ensures { IsStored path stored result }
+{
+    match stored {
+        Stored::Kept => Ok(()),
+        Stored::NotCreated => Err(CliFault::CannotCreate(path)),
+        Stored::Failed => Err(CliFault::WriteFailed),
+    }
+}
+
+/// Stores each file stripped at its own path, in order; a fault leaves those after it as they were.
+fn store_stripped<O: Office>(office: &mut O, loaded: Vec<(String, File)>) -> Result<u8, CliFault>
+    ensures small { IfOk result (λ status. status ≤ 1) }
+    ensures run { IsStripping (O.history office.old) (O.history office.new) loaded.items result }
+{
+    for (path, file) in loaded {
+        let stored = office.store(path.as_str(), &strip_file(file));
+        check_stored(path, stored)?;
+    }
+    Ok(0)
+}
+
+/// Strips the files in their places, once all of them are read.
+pub(crate) fn strip_files<O: Office>(
+    alloc: Global,
+    office: &mut O,
+    files: Vec<String>,
+) -> Result<u8, CliFault>
+    ensures small { IfOk result (λ status. status ≤ 1) }
+    ensures run { IsStripRun (O.history office.old) (O.history office.new) files.items result }
+{
+    let loaded = load_all(alloc, office, files)?;
+    store_stripped(office, loaded)
+}

@@ -1,0 +1,96 @@
+//! The command ld, over any `Office`.
+ghost use Rattle.std.specs.Prelude.{◌≤◌, map, string_bytes, IfOk};
+ghost use Rattle.aout_core.specs.Wires.{IsPassedOn};
+ghost use Rattle.link_out.specs.Outcomes.{findings_of};
+ghost use Rattle.v7tools.specs.LinkRuns.{IsLinkRun, Reports, ReportsIf};
+ghost use Rattle.v7tools.specs.internal.Openings.{IsOpening};
+
+use crate::fault::CliFault;
+use crate::link::linking::ld;
+use crate::office::{Office, Stored};
+use aout_core::{BufferedWrite, Wire};
+use link_out::{Linked, Options, Report};
+use link_session::Forced;
+use std::alloc::Global;
+
+/// Opens the files in order, all before any is read.
+fn open_all<O: Office>(
+    alloc: Global,
+    office: &mut O,
+    files: Vec<String>,
+) -> Result<Vec<(String, Wire<O::Source>)>, CliFault>
+    ensures { IsOpening O.Source.remaining (O.history office.old) (O.history office.new) files.items result }
+{
+    let mut inputs = Vec::with_capacity(alloc, files.len())?;
+    for path in files {
+        let Some(source) = office.open(path.as_str()) else {
+            return Err(CliFault::CannotOpen(path));
+        };
+        inputs.push((path, Wire::new(source))).unwrap();
+    }
+    Ok(inputs)
+}
+
+/// Writes a report and flushes it, and returns its status.
+fn put_report<W: BufferedWrite>(report: &Report, output: &mut Wire<W>) -> Result<u8, CliFault>
+    ensures small { IfOk result (λ status. status ≤ 1) }
+    ensures run { Reports W.contents (findings_of report.now) result output.old output.new }
+    ensures passed { IsPassedOn W.waiting output.new }
+{
+    report.write(output)?;
+    output.pass_on()?;
+    Ok(report.status())
+}
+
+/// Reports a link, once it is known what became of its file.
+fn report_stored<W: BufferedWrite>(
+    report: &Report,
+    out: String,
+    stored: Stored,
+    output: &mut Wire<W>,
+) -> Result<u8, CliFault>
+    ensures small { IfOk result (λ status. status ≤ 1) }
+    ensures run { ReportsIf W.contents stored out (findings_of report.now) result output.old output.new }
+    ensures passed { IsPassedOn W.waiting output.old → IsPassedOn W.waiting output.new }
+{
+    match stored {
+        Stored::Kept => put_report(report, output),
+        Stored::NotCreated => Err(CliFault::CannotCreate(out)),
+        Stored::Failed => Err(CliFault::WriteFailed),
+    }
+}
+
+/// What the words of ld ask for.
+#[derive(Drop)]
+pub(crate) struct LinkCall {
+    pub(crate) options: Options,
+    pub(crate) forced: Forced,
+    /// The path of the file that is made.
+    pub(crate) out: String,
+    /// The paths of the inputs.
+    pub(crate) files: Vec<String>,
+}
+
+/// Links the files of the call into its file `out`, and writes the report to `output`.
+pub(crate) fn link_files<O: Office, W: BufferedWrite>(
+    alloc: Global,
+    office: &mut O,
+    call: LinkCall,
+    output: &mut Wire<W>,
+) -> Result<u8, CliFault>
+    ensures small { IfOk result (λ status. status ≤ 1) }
+    ensures run { IsLinkRun W.contents call.forced call.options call.out (map string_bytes call.files.items)
+        (O.history office.old) (O.history office.new) result output.old output.new }
+    ensures passed { IsPassedOn W.waiting output.old → IsPassedOn W.waiting output.new }
+{
+    let LinkCall {
+        options,
+        forced,
+        out,
+        files,
+    } = call;
+    let inputs = open_all(alloc, office, files)?;
+    let linked = ld(alloc, inputs, &forced, &options)?;
+    let stored = office.store(out.as_str(), &linked.file);
+    report_stored(&linked.report, out, stored, output)
+}
