@@ -1,6 +1,8 @@
 #!/usr/bin/env python3
 """Counts by valgrind how the instructions of the programs grow with what they are given, and prints an exponent for each.
 
+The last line has what it takes to decode 65,534 bytes of text and to list them, the most that a file can have.
+
 A kind of work is done at four sizes, the largest at least 16 times the smallest. What the same command takes without that
 work, its start and the files before it, is subtracted. The exponent is the slope, by least squares, of the logarithm of the
 instructions over that of the size: 1.00 if twice as much takes twice as long, 2.00 if it takes four times as long.
@@ -20,6 +22,13 @@ from concurrent.futures import ThreadPoolExecutor
 MOST_SYMBOLS = 5461
 DEFINED, WANTED = 0o42, 0o40
 PLAIN = [(7, 0)] * 100
+MOST_WORDS = 32767
+# instructions as compilers write them: moves, calls, tests, branches and arithmetic
+CODE = [
+    [0o016500, 4], [0o012746, 0o1000], [0o004767, 0o2000], [0o005726], [0o005700], [0o001403], [0o060401], [0o016567, 6, 0o300],
+    [0o110211], [0o000766], [0o020027, 0o177], [0o103402], [0o005204], [0o072027, 2], [0o000207], [0o010446],
+]
+DECODE = "instructions::line::decode"
 
 
 def names(first, count, kind=DEFINED):
@@ -30,6 +39,15 @@ def names(first, count, kind=DEFINED):
 def reference(number):
     """A word that refers to the symbol with this number."""
     return 0, 0o10 + 16 * number
+
+
+def text(count):
+    """So many words of instructions without relocation, in an order that is the same each time."""
+    words, number = [], 1
+    while len(words) < count:
+        number = (number * 1103515245 + 12345) % 2**31
+        words += CODE[(number >> 8) % len(CODE)]
+    return [(word, 0) for word in words[:count]]
 
 
 class Work:
@@ -103,6 +121,15 @@ class Work:
         words = [reference(number // 2) for number in range(size)]
         return [self.explain, self.object("listed.o", words, names(0, size // 2, WANTED))], ""
 
+    def texts(self, size):
+        """Lists so many words of instructions."""
+        return [self.explain, self.object("text.o", text(size))], ""
+
+    def labels(self, size):
+        """Lists so many labels with six words of instructions each."""
+        symbols = [(name, kind, 12 * number) for number, (name, kind, _) in enumerate(names(0, size))]
+        return [self.explain, self.object("labels.o", text(6 * size), symbols)], ""
+
     def maps(self, size):
         """Maps the link of so many objects of 100 words and 10 names."""
         return [self.explain, "-m", *self.of_words(size)], ""
@@ -117,6 +144,8 @@ KINDS = {
     "refused": [341, 1365, 2730, 5456],
     "nm": [341, 1365, 2730, 5456],
     "listings": [512, 2048, 4096, 8192],
+    "texts": [2047, 8191, 16383, MOST_WORDS],
+    "labels": [341, 1365, 2730, MOST_SYMBOLS],
     "maps": [20, 80, 160, 320],
 }
 # their status is 1 once an addition is refused
@@ -133,6 +162,20 @@ def count(programs, kind, size):
             sys.exit(f"{kind} of size {size} ended with status {run.returncode}: {run.stderr}")
         with open(f"{folder}/counts", encoding="utf-8") as file:
             return int(re.search(r"^summary: (\d+)", file.read(), re.M)[1])
+
+
+def decoding(explain):
+    """How many instructions it takes to decode the longest text once, by what each call of `decode` takes; None without such calls."""
+    with tempfile.TemporaryDirectory() as folder:
+        path = Work("", explain, folder).object("text.o", text(MOST_WORDS))
+        words = ["valgrind", "--tool=callgrind", "--callgrind-out-file=counts", "--compress-strings=no", explain, "-d", path]
+        run = subprocess.run(words, cwd=folder, capture_output=True, text=True, check=True)
+        with open(f"{folder}/counts", encoding="utf-8") as file:
+            calls = re.findall(rf"^cfn={DECODE}\ncalls=(\d+).*\n\S+ (\d+)$", file.read(), re.M)
+    # a line without a slash in front is a line of the text
+    lines = sum(not line.startswith("/") for line in run.stdout.splitlines())
+    made, cost = (sum(int(it[at]) for it in calls) for at in (0, 1))
+    return cost * lines // made if made else None
 
 
 def slope(points):
@@ -158,6 +201,10 @@ def main(v7, explain, *kinds):
     with ThreadPoolExecutor(os.cpu_count()) as pool:
         for row in pool.map(lambda kind: line(programs, kind), kinds or KINDS):
             print(row, flush=True)
+    if not kinds:
+        path = programs[1]
+        listed = count(programs, "texts", MOST_WORDS) - count(programs, "texts", 0)
+        print(f"{2 * MOST_WORDS:,} bytes of text: {decoding(path) or 'unknown'} instructions to decode, {listed:,} to list")
 
 
 if __name__ == "__main__":

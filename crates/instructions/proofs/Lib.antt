@@ -1,4 +1,5 @@
 pub mod FieldLemmas
+pub mod OrderLemmas
 pub mod LineLemmas
 pub mod SplitLemmas
 pub mod PlainTexts

@@ -1,5 +1,5 @@
 -- The text of a list of words is taken apart at its newlines, so that no two lists have one text.
-use Rattle.std.proofs.Common.{◌≡◌, ℕ, zero, suc, ◌+◌, ◌*◌, ◌/◌, ◌%◌, ◌<◌, ◌≤◌, Bool, true, false, ◌||◌, nat_lt, if◌then◌else◌, Option, Some, None, List, [], ◌∷◌, ◌++◌, length, take, drop, slice_index, refl, sym, ap, ◌∙◌, arith}
+use Rattle.std.proofs.Common.{◌≡◌, ℕ, zero, suc, ◌+◌, ◌*◌, ◌/◌, ◌%◌, ◌<◌, ◌≤◌, Bool, true, false, ◌||◌, nat_lt, if◌then◌else◌, Option, Some, None, List, [], ◌∷◌, ◌++◌, length, take, drop, refl, sym, ap, ◌∙◌, arith}
 use Rattle.std.proofs.lemmas.Bool.Decides.{nat_tests}
 use Rattle.std.specs.Prelude.{codes}
 use Rattle.std.proofs.lemmas.List.{length-drop, length-take-le, take-append-drop}
@@ -12,18 +12,18 @@ use Rattle.instructions.specs.Fields.{place, size}
 use Rattle.instructions.specs.Rows.{row_of}
 use Rattle.instructions.specs.Operands.{operand_of, takes_word, is_missing}
 use Rattle.instructions.specs.Instructions.{field_operand, instruction, instruction_in, instruction_of, word_count_of, following_words}
-use Rattle.instructions.specs.Lines.{word_for, line_of, line_at, line_length, words_of, lines}
+use Rattle.instructions.specs.Lines.{word_for, line_of, line_length, words_of, lines}
 use Rattle.instructions.specs.Names.{name_text}
 use Rattle.instructions.specs.Texts.{six_digits, number, is_ldf, name, line_text}
 use Rattle.instructions.specs.Laws.{AreWords, lines_text, UnambiguousTextLaw}
 use Rattle.instructions.proofs.PlainTexts.{operand_text, operand_after}
 use Rattle.instructions.proofs.FieldLemmas.{in_size}
 use Rattle.instructions.proofs.SplitLemmas.{past, free, free_append, until_past, until, digits_free, clean_free}
-use Rattle.instructions.proofs.FieldReadLemmas.{Word, field_clean}
+use Rattle.instructions.proofs.FieldReadLemmas.{field_clean}
 use Rattle.instructions.proofs.TableLemmas.{Sound, row_sound}
 use Rattle.instructions.proofs.LineLemmas.{identity, length_from, line_fits}
 use Rattle.instructions.proofs.AlikeLemmas.{lines_first}
-use Rattle.instructions.proofs.ReadLineLemmas.{word_at, room_first, room_second, words_from, word_in, unambiguous}
+use Rattle.instructions.proofs.ReadLineLemmas.{word_at, room_first, room_second, words_from, unambiguous}
 
 -- no line has a newline
 plain_free : (w : ℕ) → free 10 (six_digits w) ≡ true

@@ -1,5 +1,5 @@
 -- Which words a link changes. (a.out(5))
-use Rattle.std.specs.Prelude.{ℕ, ◌%◌, Bool, false, not, eqb, Option, Some, None}
+use Rattle.std.specs.Prelude.{◌%◌, Bool, false, not, eqb, Option, Some, None}
 use Rattle.aout_core.specs.declared.reloc.Reloc.{Reloc}
 
 -- the word of this relocation word is relocated: its low four bits are not all 0

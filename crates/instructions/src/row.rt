@@ -1,6 +1,5 @@
 //! Which row of the table a word is in.
 ghost use Rattle.std.specs.Prelude.{◌≡◌, ◌*◌, ◌/◌, ◌%◌};
-ghost use Rattle.std.specs.List.{find};
 ghost use Rattle.instructions.specs.Rows.{part, begins, row_of};
 
 use crate::field::Field;
@@ -26,24 +25,19 @@ impl Row {
     }
 }
 
-/// The first of the rows whose instructions begin with a word.
-fn find_row(rows: &[Row], word: u16) -> Option<Row>
-    ensures { result ≡ find (λ o. begins o word) rows.now }
-{
-    let mut left = rows;
-    while let [row, rest @ ..] = left {
-        if row.begins(word) {
-            return Some(*row);
-        }
-        left = rest;
-    }
-    None
-}
-
-/// The row whose instructions begin with a word, if one does. (as(1), the handbook of the PDP-11/70)
+/// The row whose instructions begin with a word, if one does. The rows are in the order of their words, so each step leaves
+/// half of them. (as(1), the handbook of the PDP-11/70)
 #[tactic(auto, unfolding(crate::specs::Rows::row_of))]
 pub fn row_of(word: u16) -> Option<Row>
     ensures { result ≡ row_of word }
 {
-    find_row(&ROWS, word)
+    let mut left: &[Row] = &ROWS;
+    while left.len() > 1 {
+        let (front, back) = left.split_at(left.len() / 2);
+        left = if back[0].base <= word { back } else { front };
+    }
+    match left {
+        [row] if row.begins(word) => Some(*row),
+        _ => None,
+    }
 }

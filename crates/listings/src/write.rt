@@ -78,12 +78,28 @@ pub fn put_short_octal(text: &mut Vec<u8>, word: u16) -> Result<(), AllocError>
     text.extend_from_slice(short(&digits))
 }
 
+/// Appends a blank, and so many more: at once if they are few, as in most lines.
+fn put_gap(text: &mut Vec<u8>, blanks: usize) -> Result<(), AllocError>
+    ensures { OnOk result (text.new.items ≡ text.old.items ++ (32 ∷ replicate blanks 32)) }
+{
+    match blanks {
+        0 => text.extend_from_slice(b" "),
+        1 => text.extend_from_slice(b"  "),
+        2 => text.extend_from_slice(b"   "),
+        3 => text.extend_from_slice(b"    "),
+        4 => text.extend_from_slice(b"     "),
+        _ => {
+            text.extend_from_slice(b" ")?;
+            put_blanks(text, blanks)
+        }
+    }
+}
+
 /// Appends a blank, and so many more, and a column.
 fn put_column(text: &mut Vec<u8>, blanks: usize, column: &[u8]) -> Result<(), AllocError>
     ensures { OnOk result (text.new.items ≡ text.old.items ++ (32 ∷ (replicate blanks 32 ++ column.now))) }
 {
-    text.extend_from_slice(b" ")?;
-    put_blanks(text, blanks)?;
+    put_gap(text, blanks)?;
     text.extend_from_slice(column)
 }
 

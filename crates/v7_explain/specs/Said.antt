@@ -2,7 +2,7 @@
 -- relocation word says, and the letter that nm has for each symbol.
 --
 -- A byte below the blank is shown as a backslash and three octal digits, so a note or a remark never leaves its line.
-use Rattle.std.specs.Prelude.{ℕ, ◌+◌, ◌*◌, ◌/◌, ◌%◌, Bool, false, ◌&&◌, nat_lt, eqb, if◌then◌else◌, List, [], ◌∷◌, ◌++◌, length, map, Option, Some, None, slice_get, slice_index, codes, decimal}
+use Rattle.std.specs.Prelude.{ℕ, ◌+◌, ◌*◌, ◌/◌, ◌%◌, Bool, true, false, ◌&&◌, nat_lt, nat_le, eqb, if◌then◌else◌, List, [], ◌∷◌, ◌++◌, length, map, Option, Some, None, slice_get, slice_index, codes, decimal}
 use Rattle.std.specs.List.{flat_map}
 use Rattle.aout_core.specs.declared.reloc.Reloc.{Reloc}
 use Rattle.aout_core.specs.declared.reloc.Kind.{Kind}
@@ -27,6 +27,11 @@ printed_byte b = if nat_lt b 32 then 92 ∷ digit (b / 64) ∷ digit (b / 8) ∷
 
 abbrev pub printed : List ℕ → List ℕ
 printed bs = flat_map printed_byte bs
+
+-- no byte is below the blank, so they are printed as they are
+abbrev pub is_plain : List ℕ → Bool
+is_plain [] = true
+is_plain (b ∷ bs) = nat_le 32 b && is_plain bs
 
 abbrev pub number_said : ℕ → ℕ → Reloc → List ℕ
 number_said at w r = if is_pc_relative r then codes "the number " ++ octal (meant at w r) else codes "a number"

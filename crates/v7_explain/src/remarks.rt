@@ -4,7 +4,7 @@ ghost use Rattle.listings.specs.Drafts.{data_start};
 ghost use Rattle.listings.specs.Listing.{remarked, note_lines, text_of};
 ghost use Rattle.disassemblies.specs.Lines.{line_text_in};
 ghost use Rattle.disassemblies.specs.Labels.{label_lines};
-ghost use Rattle.v7_explain.specs.Said.{printed_byte, printed, word_said, reloc_said, is_start, text_said, data_said, labels_said};
+ghost use Rattle.v7_explain.specs.Said.{printed_byte, printed, is_plain, word_said, reloc_said, is_start, text_said, data_said, labels_said};
 
 use crate::words_in::put_word_text;
 use aout_core::{File, Reloc, Symbol};
@@ -41,10 +41,26 @@ fn put_printed_byte(text: &mut Vec<u8>, byte: u8) -> Result<(), AllocError>
     ])
 }
 
-/// Appends bytes; those below the blank as `\ooo`.
+/// Whether no byte is below the blank.
+fn is_plain(bytes: &[u8]) -> bool
+    ensures { result ≡ is_plain bytes.now }
+{
+    for byte in bytes {
+        if *byte < b' ' {
+            return false;
+        }
+    }
+    true
+}
+
+/// Appends bytes; those below the blank as `\ooo`. If there are none, all are appended at once.
+#[tactic(auto, using(crate::proofs::PlainLemmas::plain_printed))]
 fn put_printed(text: &mut Vec<u8>, bytes: &[u8]) -> Result<(), AllocError>
     ensures { OnOk result (text.new.items ≡ text.old.items ++ printed bytes.now) }
 {
+    if is_plain(bytes) {
+        return text.extend_from_slice(bytes);
+    }
     for byte in bytes {
         put_printed_byte(text, *byte)?;
     }

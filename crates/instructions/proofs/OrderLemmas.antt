@@ -1,0 +1,138 @@
+-- The rows of the table are in the order of their words, so the row of a word is found by halves.
+use Rattle.std.proofs.Common.{◌≡◌, ℕ, ◌+◌, ◌-◌, ◌*◌, ◌<◌, ◌≤◌, Bool, true, false, ◌&&◌, nat_le, Option, Some, None, List, [], ◌∷◌, ◌++◌, length, slice_index_or, refl, sym, ap, subst, ◌∙◌, cond, arith}
+use Rattle.std.proofs.lemmas.Bool.Decides.{nat_tests}
+use Rattle.std.specs.List.{find}
+use Rattle.instructions.specs.declared.field.Field.{Field}
+use Rattle.instructions.specs.declared.field.Field.TheVariants as fields
+use Rattle.instructions.specs.declared.table.TheConstants.{ROWS}
+use Rattle.instructions.specs.declared.table.Row.{Row}
+use Rattle.instructions.specs.Fields.{place, size}
+use Rattle.instructions.specs.Rows.{part, begins, row_of}
+use Rattle.instructions.proofs.FieldLemmas.{row_sum}
+
+-- what a field adds at most
+abbrev pub most : Option Field → ℕ
+most None = 0
+most (Some f) = (size f - 1) * place f
+
+abbrev pub last : Row → ℕ
+last r = r.base + most r.first + most r.second
+
+-- the words of each row follow those of the rows before it, and none is below a number
+abbrev pub are_in_order : ℕ → List Row → Bool
+are_in_order low [] = true
+are_in_order low (r ∷ rows) = nat_le low r.base && are_in_order (last r + 1) rows
+
+abbrev pub found : ℕ → List Row → Option Row
+found w rows = find (λ o. begins o w) rows
+
+part_most : (f : Option Field) (w : ℕ) → part f w ≤ most f
+part_most None w = omega arith
+part_most (Some fields.Source) w = omega arith
+part_most (Some fields.Destination) w = omega arith
+part_most (Some fields.Floating) w = omega arith
+part_most (Some fields.Register) w = omega arith
+part_most (Some fields.LowRegister) w = omega arith
+part_most (Some fields.Accumulator) w = omega arith
+part_most (Some fields.Forward) w = omega arith
+part_most (Some fields.Backward) w = omega arith
+part_most (Some fields.Byte) w = omega arith
+part_most (Some fields.SixBits) w = omega arith
+part_most (Some fields.ThreeBits) w = omega arith
+
+-- the words of a row are from its base to its last
+words_within : (r : Row) (w : ℕ) → begins r w ≡ true → (r.base ≤ w) × (w ≤ last r)
+words_within r w h =
+    let sum = row_sum r w h in
+    let one = part_most r.first w in
+    let two = part_most r.second w in
+    (omega arith, omega arith)
+
+is_false : (b : Bool) → (b ≡ true → ⊥) → b ≡ false
+is_false true h = absurd (h refl)
+is_false false h = refl
+
+both : (a b : Bool) → (a && b) ≡ true → (a ≡ true) × (b ≡ true)
+both true b h = (refl, h)
+both false b h = absurd cc
+
+-- a row before or after a word is passed over
+passed : (w : ℕ) (r : Row) (rows : List Row) → (begins r w ≡ true → ⊥) → found w (r ∷ rows) ≡ found w rows
+passed w r rows h = ap (λ b. cond b (Some r) (found w rows)) (is_false (begins r w) h)
+
+none_below : (low w : ℕ) (rows : List Row) → are_in_order low rows ≡ true → w < low → found w rows ≡ None
+none_below low w [] h small = refl
+none_below low w (r ∷ rows) h small =
+    let parts = both (nat_le low r.base) (are_in_order (last r + 1) rows) h in
+    let from : low ≤ r.base = grind (arith, nat_tests) in
+    passed w r rows (λ is. let within = words_within r w is in omega arith)
+    ∙ none_below (last r + 1) w rows parts.1 (omega arith)
+
+follows : (low : ℕ) (front : List Row) (row : Row) (back : List Row) → are_in_order low (front ++ row ∷ back) ≡ true → low ≤ row.base
+follows low [] row back h =
+    let parts = both (nat_le low row.base) (are_in_order (last row + 1) back) h in
+    grind (arith, nat_tests)
+follows low (r ∷ front) row back h =
+    let parts = both (nat_le low r.base) (are_in_order (last r + 1) (front ++ row ∷ back)) h in
+    let from : low ≤ r.base = grind (arith, nat_tests) in
+    let rest = follows (last r + 1) front row back parts.1 in
+    omega arith
+
+front_in_order : (low : ℕ) (front : List Row) (row : Row) (back : List Row) → are_in_order low (front ++ row ∷ back) ≡ true → are_in_order low front ≡ true
+front_in_order low [] row back h = refl
+front_in_order low (r ∷ front) row back h =
+    let parts = both (nat_le low r.base) (are_in_order (last r + 1) (front ++ row ∷ back)) h in
+    ap (λ b. b && are_in_order (last r + 1) front) parts.0 ∙ front_in_order (last r + 1) front row back parts.1
+
+back_in_order : (low : ℕ) (front : List Row) (row : Row) (back : List Row) → are_in_order low (front ++ row ∷ back) ≡ true →
+    (lower : ℕ) × (are_in_order lower (row ∷ back) ≡ true)
+back_in_order low [] row back h = (low, h)
+back_in_order low (r ∷ front) row back h =
+    let parts = both (nat_le low r.base) (are_in_order (last r + 1) (front ++ row ∷ back)) h in
+    back_in_order (last r + 1) front row back parts.1
+
+later_found : (low w : ℕ) (front : List Row) (row : Row) (back : List Row) → are_in_order low (front ++ row ∷ back) ≡ true →
+    row.base ≤ w → found w (front ++ row ∷ back) ≡ found w (row ∷ back)
+later_found low w [] row back h large = refl
+later_found low w (r ∷ front) row back h large =
+    let parts = both (nat_le low r.base) (are_in_order (last r + 1) (front ++ row ∷ back)) h in
+    let after = follows (last r + 1) front row back parts.1 in
+    passed w r (front ++ row ∷ back) (λ is. let within = words_within r w is in omega arith)
+    ∙ later_found (last r + 1) w front row back parts.1 large
+
+earlier_found : (low w : ℕ) (front : List Row) (row : Row) (back : List Row) → are_in_order low (front ++ row ∷ back) ≡ true →
+    w < row.base → found w (front ++ row ∷ back) ≡ found w front
+earlier_found low w [] row back h small =
+    let parts = both (nat_le low row.base) (are_in_order (last row + 1) back) h in
+    passed w row back (λ is. let within = words_within row w is in omega arith)
+    ∙ none_below (last row + 1) w back parts.1 (omega arith)
+earlier_found low w (r ∷ front) row back h small =
+    let parts = both (nat_le low r.base) (are_in_order (last r + 1) (front ++ row ∷ back)) h in
+    ap (λ o. cond (begins r w) (Some r) o) (earlier_found (last r + 1) w front row back parts.1 small)
+
+-- what is left of the rows is in order, and has the row of the word if the table does
+abbrev pub Holds : ℕ → List Row → Type 0
+Holds w rows = ((low : ℕ) × (are_in_order low rows ≡ true)) × (found w rows ≡ row_of w)
+
+pub table_holds : (w : ℕ) → Holds w ROWS
+unfolding row_of
+table_holds w = ((0, refl), refl)
+
+back_holds : (w : ℕ) (front : List Row) (row : Row) (back : List Row) → Holds w (front ++ row ∷ back) → row.base ≤ w → Holds w (row ∷ back)
+back_holds w front row back h large =
+    (back_in_order h.0.0 front row back h.0.1, sym (later_found h.0.0 w front row back h.0.1 large) ∙ h.1)
+
+front_holds : (w : ℕ) (front : List Row) (row : Row) (back : List Row) → Holds w (front ++ row ∷ back) → w < row.base → Holds w front
+front_holds w front row back h small =
+    ((h.0.0, front_in_order h.0.0 front row back h.0.1), sym (earlier_found h.0.0 w front row back h.0.1 small) ∙ h.1)
+
+-- the first row of a half says which half has the row of the word
+pub in_back : (w : ℕ) (d : Row) (rows front back : List Row) → rows ≡ front ++ back → 0 < length back → Holds w rows →
+    (slice_index_or back 0 d).base ≤ w → Holds w back
+in_back w d rows front [] e some h large = absurd (omega arith)
+in_back w d rows front (row ∷ back) e some h large = back_holds w front row back (subst (Holds w) e h) large
+
+pub in_front : (w : ℕ) (d : Row) (rows front back : List Row) → rows ≡ front ++ back → 0 < length back → Holds w rows →
+    w < (slice_index_or back 0 d).base → Holds w front
+in_front w d rows front [] e some h small = absurd (omega arith)
+in_front w d rows front (row ∷ back) e some h small = front_holds w front row back (subst (Holds w) e h) small
