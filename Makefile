@@ -207,7 +207,7 @@ build/v7-lesson: crates/lesson/out/lesson
 	mkdir -p build
 	cp crates/lesson/out/lesson build/v7-lesson
 
-LESSON_CRATES := $(addprefix crates/,aout_core link_session link_options link_out symtools session_text listings instructions disassemblies lesson)
+LESSON_CRATES := $(addprefix crates/,aout_core link_session link_options link_out symtools session_text listings instructions disassemblies programs lesson)
 crates/lesson/out/lesson: crates.txt $(shell find $(LESSON_CRATES) -name out -prune -o -type f -print)
 	python3 tests/prove.py lesson $@
 	touch $@

@@ -28,18 +28,12 @@ function targetRow(state, word) {
     return byId(wordKey(segment, offset)) ?? (wordAt(state, segment, offset) ? null : document.querySelector(`#${segment} > h3`));
 }
 
-function wordOfRow(state, row) {
-    const [part, offset] = row.dataset.key.split("-");
-    return wordAt(state, part, Number(offset));
-}
-
 // whether the arrow or the line of a word belongs to what is chosen, or to what the last step changed
 function wish(word, row, target, place) {
     if (!chosen) return ["bound", "put-back", "new"].findIndex((change) => row.classList.contains(change));
     if (chosen === row.id || (target && chosen === target.id)) return 0;
     if (chosen.startsWith("name ")) return chosen === `name ${word.name}` || (target && target.id === place) ? 0 : -1;
-    const other = byId(chosen);
-    return word.kind < 0 && other && other.dataset.name === word.name ? 0 : -1;
+    return word.kind < 0 && shownWords.get(chosen)?.name === word.name ? 0 : -1;
 }
 
 // the id of the row where the chosen name is defined
@@ -53,9 +47,9 @@ function bundles(state) {
     const order = rowOrder();
     const found = { arrows: new Map(), chains: new Map() };
     const place = chosenPlace(state);
-    const words = [...order.keys()].filter((row) => row.dataset.key).map((row) => [row, wordOfRow(state, row)]);
-    for (const [row, word] of words) if (word.kind < 0) row.dataset.name = word.name;
-    for (const [row, word] of words) {
+    for (const row of order.keys()) {
+        const word = shownWords.get(row.id);
+        if (!word) continue;
         const target = targetRow(state, word);
         const isLine = word.kind < 0 && view.layout < 0;
         const rank = target || isLine ? wish(word, row, target, place) : -1;

@@ -18,18 +18,37 @@ function makeButton(id, text, act) {
     return element;
 }
 
-function option(className, key, ...children) {
-    const element = make("div", className, ...children);
-    element.setAttribute("role", "option");
-    element.dataset.key = key;
-    element.setAttribute("aria-selected", String(key === chosen));
-    return element;
+// ---- rows, which are kept: what a step does not change is neither made nor laid out again
+// for each row the texts of its parts
+const partsOf = new WeakMap();
+// an element of a tag, a class, and texts or further such lists
+const build = (part) => (typeof part === "string" ? part : make(part[0], part[1], ...part.slice(2).map(build)));
+const newRow = (id) => Object.assign(make("div"), { id, role: "option", ariaSelected: "false" });
+
+// the row of a list with this id, with a blank between its parts; `change` is what the last step did to it
+function rowOf(id, className, key, parts, change = "") {
+    const row = byId(id) ?? newRow(id);
+    const all = change ? [...parts, ["span", "tag", change]] : parts;
+    const [now, before] = [all.map((part) => JSON.stringify(part)), partsOf.get(row) ?? []];
+    partsOf.set(row, now);
+    const classes = `${className} ${change.replace(" ", "-")}`.trim();
+    if (row.className !== classes) row.className = classes;
+    if (row.dataset.key !== key) row.dataset.key = key;
+    now.forEach((text, i) => {
+        if (i >= before.length) row.append(...(i > 0 ? [" "] : []), build(all[i]));
+        else if (text !== before[i]) row.childNodes[2 * i].replaceWith(build(all[i]));
+    });
+    while (row.childNodes.length > 2 * now.length - 1) row.lastChild.remove();
+    return row;
 }
 
-function tag(element, change) {
-    if (!change) return;
-    element.classList.add(change.replace(" ", "-"));
-    element.append(" ", make("span", "tag", change));
+// gives an element these children; those that it has already stay where they are
+function setChildren(element, children) {
+    const wanted = new Set(children);
+    for (const child of [...element.childNodes]) if (!wanted.has(child)) child.remove();
+    children.forEach((child, i) => {
+        if (element.childNodes[i] !== child) element.insertBefore(child, element.childNodes[i] ?? null);
+    });
 }
 
 // ---- folds
@@ -77,6 +96,9 @@ function unfold(object, part, start, end) {
 }
 
 // ---- the merged image
+// the words that have a row, by their keys
+const shownWords = new Map();
+
 // the names that are defined at a place, as labels
 function labelsOf(state) {
     const labels = new Map();
@@ -95,10 +117,10 @@ function sizeOf(state, segment) {
 // the computation of a word of a link, in a line
 function computation(state, word) {
     const { plus, minus, final } = sumOf(state, word, view.layout);
-    if (word.own.kind === 0 && !word.own.pc) return [make("span", "target", "a number")];
+    if (word.own.kind === 0 && !word.own.pc) return [["span", "target", "a number"]];
     const less = minus ? ` \u2212 ${shown(minus)}` : "";
     const of = word.own.kind < 0 ? word.own.name : word.own.kind > 0 ? SEGMENTS[word.own.kind] : "";
-    return [make("span", "sum", `${shown(word.own.value)} + ${shown(plus)}${less} = ${shown(final)}`), " ", make("span", "of", of)];
+    return [["span", "sum", `${shown(word.own.value)} + ${shown(plus)}${less} = ${shown(final)}`], " ", ["span", "of", of]];
 }
 
 // the instruction of a word, and its source without a label, if it says something else
@@ -111,15 +133,14 @@ function textsOf(object, { part, index }) {
 
 // what a line says besides its numbers; where instructions are known they take the place of numbers, and of sources
 function meaning(state, word, labels) {
-    const element = make("span", "meaning");
-    for (const name of labels.get(wordKey(word.part, word.offset)) ?? []) element.append(make("span", "label", `${name}:`), " ");
+    const parts = (labels.get(wordKey(word.part, word.offset)) ?? []).flatMap((name) => [["span", "label", `${name}:`], " "]);
     const { instruction, source } = textsOf(DATA.objects[state.list[word.place]], word);
-    if (instruction) element.append(make("span", "instruction", instruction), " ");
+    if (instruction) parts.push(["span", "instruction", instruction], " ");
     const isNumber = word.own.kind === 0 && !word.own.pc;
-    if (isLinked(state) && !(instruction && isNumber)) element.append(...computation(state, word));
-    else if (!(instruction && isNumber)) element.append(make("span", "target", targetText(word)), make("span", "place", placeText(word, sizeOf(state, SEGMENTS[word.kind]))));
-    if (source && instruction !== "") element.append(" ", make("span", "source", source));
-    return element;
+    if (isLinked(state) && !(instruction && isNumber)) parts.push(...computation(state, word));
+    else if (!(instruction && isNumber)) parts.push(["span", "target", targetText(word)], ["span", "place", placeText(word, sizeOf(state, SEGMENTS[word.kind]))]);
+    if (source && instruction !== "") parts.push(" ", ["span", "source", source]);
+    return ["span", "meaning", ...parts];
 }
 
 const isLinked = (state) => view.layout >= 0 && !state.links[view.layout].refused;
@@ -129,12 +150,10 @@ function wordRow(state, word, labels, change) {
     const link = isLinked(state) ? state.links[view.layout] : null;
     const base = link && word.part === "data" ? link.bases[1] : 0;
     const final = link ? sumOf(state, word, view.layout).final : word.value;
-    const row = option(word.kind < 0 && !link ? "word waits" : "word", key);
-    row.id = key;
-    row.append(make("span", "offset", column(base + word.offset)), " ", make("span", "value", column(final)), " ");
-    row.append(make("span", "pc", word.pc ? "pc" : "\u00a0\u00a0"), " ", meaning(state, word, labels));
-    tag(row, change);
-    row.setAttribute("aria-label", `${word.part} ${row.textContent.replace(/\s+/g, " ").trim()}`);
+    const numbers = [["span", "offset", column(base + word.offset)], ["span", "value", column(final)], word.pc ? ["span", "pc", "pc"] : "\u00a0\u00a0"];
+    const row = rowOf(key, word.kind < 0 && !link ? "word waits" : "word", key, [...numbers, meaning(state, word, labels)], change);
+    const said = `${word.part} ${row.textContent.replace(/\s+/g, " ").trim()}`;
+    if (row.ariaLabel !== said) row.ariaLabel = said;
     return row;
 }
 
@@ -142,36 +161,38 @@ function foldRow(state, place, part, run) {
     const front = state.fronts[place][PARTS.indexOf(part)];
     const object = state.list[place];
     const text = `${run.end - run.start} more words, ${shown(front + 2 * run.start)} to ${shown(front + 2 * run.end - 2)}`;
-    const row = option("fold", `fold ${object} ${part} ${run.start} ${run.end}`, make("span", "", text), " ", make("span", "open", "show"));
-    row.id = `fold-${object}-${part}-${run.start}`;
-    if (view.gone < 0 && place === state.list.length - 1) tag(row, "new");
-    return row;
+    const change = view.gone < 0 && place === state.list.length - 1 ? "new" : "";
+    const key = `fold ${object} ${part} ${run.start} ${run.end}`;
+    return rowOf(`fold-${object}-${part}-${run.start}`, "fold", key, [text, ["span", "open", "show"]], change);
 }
 
 // a segment's part of the image, with its title: in a link from one address to another
-function groupElement(name, bytes, range) {
-    const title = make("h3", "", name, " ", make("span", "size", `${bytes} bytes`));
-    title.setAttribute("role", "presentation");
-    if (range) title.append(" ", make("span", "size", `${shown(range[0])} to ${shown(range[1])}`));
-    const element = make("div", "segment", title);
-    element.setAttribute("role", "group");
-    element.setAttribute("aria-label", title.textContent);
-    element.id = name;
+function groupElement(name, bytes, range, rows = []) {
+    const sizes = [`${bytes} bytes`, ...(range ? [`${shown(range[0])} to ${shown(range[1])}`] : [])];
+    const title = make("h3", "", name, ...sizes.flatMap((text) => [" ", make("span", "size", text)]));
+    title.role = "presentation";
+    const element = Object.assign(document.querySelector(`#image > #${name}`) ?? make("div", "segment"), { id: name, role: "group", ariaLabel: title.textContent });
+    setChildren(element, [title, ...rows]);
     return element;
 }
 
+// the title of the words that an object brought
+function ownerOf(object, part) {
+    const id = `${part}-of-${object}`;
+    const badge = make("span", "badge", String(object + 1));
+    return byId(id) ?? Object.assign(make("p", "owner", badge, " ", label(object)), { id, role: "presentation" });
+}
+
 function objectRows(state, place, part, context) {
-    const object = state.list[place];
-    const owner = make("p", "owner", make("span", "badge", String(object + 1)), " ", label(object));
-    owner.setAttribute("role", "presentation");
-    const rows = [owner];
+    const rows = [ownerOf(state.list[place], part)];
     const isNew = view.gone < 0 && place === state.list.length - 1;
     for (const run of runsOf(state, place, part, context.must)) {
         if (!run.isShown) rows.push(foldRow(state, place, part, run));
         for (let index = run.start; run.isShown && index < run.end; index++) {
             const word = imageWord(state, place, part, index);
-            const change = context.changed.get(wordKey(part, word.offset)) ?? (isNew ? "new" : "");
-            rows.push(wordRow(state, word, context.labels, change));
+            const key = wordKey(part, word.offset);
+            shownWords.set(key, word);
+            rows.push(wordRow(state, word, context.labels, context.changed.get(key) ?? (isNew ? "new" : "")));
         }
     }
     return rows;
@@ -195,16 +216,14 @@ function showImage(state, changed) {
     const bases = isLinked(state) ? state.links[view.layout].bases : null;
     const context = { changed, must: mustShow(state, changed), labels: labelsOf(state) };
     const groups = [];
+    shownWords.clear();
     for (const part of PARTS.filter((part) => sizeOf(state, part) > 0)) {
-        const element = groupElement(part, sizeOf(state, part), bases && (part === "text" ? [0, bases[0]] : bases.slice(1, 3)));
-        state.list.forEach((object, place) => {
-            if (countOf(object, part) > 0) element.append(...objectRows(state, place, part, context));
-        });
-        groups.push(element);
+        const rows = state.list.flatMap((object, place) => (countOf(object, part) > 0 ? objectRows(state, place, part, context) : []));
+        groups.push(groupElement(part, sizeOf(state, part), bases && (part === "text" ? [0, bases[0]] : bases.slice(1, 3)), rows));
     }
     if (bases && bases[2] < bases[3]) groups.push(groupElement("commons", bases[3] - bases[2], bases.slice(2, 4)));
     if (state.sizes[2] > 0) groups.push(groupElement("bss", state.sizes[2], bases && bases.slice(3, 5)));
-    byId("image").replaceChildren(...groups);
+    setChildren(byId("image"), groups);
     byId("image").hidden = view.list.length === 0;
     byId("image").classList.toggle("linked", bases !== null);
     byId("fold").hidden = opened.size === 0;
@@ -233,8 +252,7 @@ function listing(object) {
 
 function card(object) {
     const { number, path } = object;
-    const title = make("h3", "", make("span", "badge", String(number + 1)), " ", label(number));
-    title.title = path;
+    const title = Object.assign(make("h3", "", make("span", "badge", String(number + 1)), " ", label(number)), { title: path });
     const add = makeButton(`add${number + 1}`, make("span"), () => addObject(number));
     if (number < 9) {
         add.append(" ", make("kbd", "", String(number + 1)));
@@ -243,9 +261,7 @@ function card(object) {
     const summary = make("summary", "", `${counted(object.text.length + object.data.length, "word")}, ${counted(object.symbols.length, "symbol")}`);
     const words = make("details", "given", summary);
     words.addEventListener("toggle", () => showListing(words, object));
-    const element = make("section", "card", make("div", "head", title, add), make("p", "refused"), words);
-    element.setAttribute("aria-label", label(number));
-    return element;
+    return Object.assign(make("section", "card", make("div", "head", title, add), make("p", "refused"), words), { ariaLabel: label(number) });
 }
 
 function showListing(words, object) {
@@ -283,21 +299,15 @@ function showCards() {
 // ---- names and marks
 function showNames(state, changed) {
     const rows = namesOf(state).map(({ name, i, kind, number }) => {
-        const row = option("name", `name ${name}`, make("b", "", name), " ", make("span", "state", stateText(kind, number)));
-        row.id = `name-${i}`;
+        const parts = [["b", "", name], ["span", "state", stateText(kind, number)]];
         if (isLinked(state)) {
             const symbol = symbolOf(state, i, view.layout);
-            row.append(" ", make("span", "address", !"UC".includes(symbol.letter) ? shown(symbol.value) : "no address"));
+            parts.push(["span", "address", !"UC".includes(symbol.letter) ? shown(symbol.value) : "no address"]);
         }
-        tag(row, changed.get(`name ${name}`));
-        return row;
+        return rowOf(`name-${i}`, "name", `name ${name}`, parts, changed.get(`name ${name}`));
     });
-    state.multiples.forEach((name, i) => {
-        const row = option("name multiple", `name ${name}`, make("b", "", name), " ", make("span", "state", "multiply defined"));
-        row.id = `multiple-${i}`;
-        rows.push(row);
-    });
-    byId("names").replaceChildren(...rows);
+    const multiples = state.multiples.map((name, i) => rowOf(`multiple-${i}`, "name multiple", `name ${name}`, [["b", "", name], ["span", "state", "multiply defined"]]));
+    setChildren(byId("names"), [...rows, ...multiples]);
     byId("names").hidden = rows.length === 0;
 }
 
@@ -313,11 +323,9 @@ function markRow(raw, id, isBack) {
     const was = mark.part
         ? `${mark.part} ${shown(mark.offset)} was ${shown(mark.value)} ${mark.pc ? "pc " : ""}${targetText(mark)}`
         : `${mark.name} was ${stateText(mark.kind, mark.number)}`;
-    const row = option("mark", markKey(mark), make("span", "was", was));
-    row.id = id;
     const sum = markSum(mark, isBack);
-    if (sum) row.append(" ", make("span", "sum", sum), " ", make("span", "note", `${mark.name} ${isBack ? "was" : "is"} at ${shown(mark.bound)}`));
-    return row;
+    const sums = sum ? [["span", "sum", sum], ["span", "note", `${mark.name} ${isBack ? "was" : "is"} at ${shown(mark.bound)}`]] : [];
+    return rowOf(id, "mark", markKey(mark), [["span", "was", was], ...sums]);
 }
 
 // what a withdrawal of the last object of a list cuts off
@@ -338,11 +346,8 @@ function markGroup(list, isBack) {
     const what = rows.length === 0 ? "nothing" : isBack ? "these" : "these; a withdrawal puts them back";
     const title = isBack ? `The withdrawal of ${name} put back ${what}` : `${name} overwrote ${what}`;
     const notes = [make("p", "", title), make("p", "note", `${isBack ? "It cut" : "A withdrawal cuts"} off ${cutText(list) || "nothing"}.`)];
-    for (const note of notes) note.setAttribute("role", "presentation");
-    const element = make("div", isBack ? "undone" : "overwrote", notes[0], ...rows, notes[1]);
-    element.setAttribute("role", "group");
-    element.setAttribute("aria-label", title);
-    return element;
+    for (const note of notes) note.role = "presentation";
+    return Object.assign(make("div", isBack ? "undone" : "overwrote", notes[0], ...rows, notes[1]), { role: "group", ariaLabel: title });
 }
 
 function showMarks() {

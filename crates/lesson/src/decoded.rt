@@ -23,13 +23,13 @@ pub(crate) fn instructions_of(alloc: Global, file: &File) -> Result<Vec<String>,
 /// Adds the instructions of a text, by the indices of their first words.
 pub(crate) fn put_instructions(
     alloc: Global,
-    out: &mut String,
+    out: &mut Vec<u8>,
     file: &File,
 ) -> Result<(), AllocError> {
     put_key(out, "instructions")?;
-    begin(out, '{')?;
+    begin(out, b'{')?;
     put_key(out, "text")?;
-    begin(out, '{')?;
+    begin(out, b'{')?;
     for (index, text) in instructions_of(alloc, file)?.iter().enumerate() {
         if !text.is_empty() {
             let key = format!(in alloc; "{index}")?;
@@ -37,5 +37,5 @@ pub(crate) fn put_instructions(
             put_text(out, text.as_str())?;
         }
     }
-    out.push_str("}}")
+    out.extend_from_slice(b"}}")
 }

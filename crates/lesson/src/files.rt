@@ -1,9 +1,8 @@
 //! Files and objects by their paths.
 use anyhow::{Result, anyhow};
 use aout_core::{Object, Wire, read_file};
+use programs::read_all;
 use std::alloc::Global;
-use std::fs;
-use std::io::Read;
 
 /// The object in the bytes of the file at a path.
 pub(crate) fn object_in(alloc: Global, path: &str, bytes: &[u8]) -> Result<Object> {
@@ -19,12 +18,16 @@ pub(crate) fn object_in(alloc: Global, path: &str, bytes: &[u8]) -> Result<Objec
 
 /// All bytes of the file at a path.
 pub(crate) fn bytes_at(rt: &HostRuntime, path: &str) -> Result<Vec<u8>> {
-    let Ok(mut file) = fs::open(rt, path) else {
-        return Err(anyhow!("{path}: cannot open"));
-    };
-    let mut bytes = Vec::new(rt.alloc());
-    match file.read_to_end(&mut bytes) {
-        Ok(_) => Ok(bytes),
-        Err(_) => Err(anyhow!("{path}: read error")),
+    match read_all(rt, path) {
+        Ok(bytes) => Ok(bytes),
+        Err(fault) => Err(anyhow!("{path}: {fault}")),
+    }
+}
+
+/// The text of the file at a path.
+pub(crate) fn text_at(rt: &HostRuntime, path: &str) -> Result<String> {
+    match String::from_utf8(bytes_at(rt, path)?) {
+        Ok(text) => Ok(text),
+        Err(_) => Err(anyhow!("{path}: not a text")),
     }
 }

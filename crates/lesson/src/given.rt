@@ -1,26 +1,25 @@
 //! The objects that a page is made of.
 use crate::decoded::put_instructions;
 use crate::files::{bytes_at, object_in};
-use crate::json::{begin, put_key, put_numbers, put_text, put_word, put_words};
-use crate::parts::{place_meant, put_name_meant, put_segment_meant};
+use crate::fronts::Fronts;
+use crate::json::{begin, put_key, put_number, put_text, put_words};
+use crate::parts::{place_meant, put_name_meant, target_number};
 use crate::sources::put_sources;
 use crate::symbols::put_lines;
 use anyhow::Result;
-use aout_core::{File, Kind, Reloc, Symbol};
+use aout_core::{File, Kind, Reloc, Segment, Symbol};
+use link_session::{AddFault, Session, Starts, Target};
 use std::alloc::{AllocError, Global};
 
-/// A segment that has words.
-#[derive(Clone, Copy, PartialEq, Eq)]
-pub(crate) enum Part {
-    Text,
-    Data,
-}
+/// The segments that have words.
+pub(crate) static SEGMENTS: [Segment; 2] = [Segment::TextSeg, Segment::DataSeg];
 
 /// A word of an object that refers to something.
 #[derive(Clone, Copy)]
 pub(crate) struct Reference {
-    pub(crate) part: Part,
-    pub(crate) index: usize,
+    pub(crate) segment: Segment,
+    /// Its place in the segment, in bytes.
+    pub(crate) offset: u16,
     pub(crate) word: u16,
     pub(crate) reloc: Reloc,
     /// The number of its group: the words of one segment that refer to the same, in the same way.
@@ -32,8 +31,8 @@ pub(crate) struct Reference {
 pub(crate) struct Given {
     pub(crate) path: String,
     pub(crate) bytes: Vec<u8>,
-    /// How many bytes of text the object has.
-    pub(crate) text_size: u16,
+    /// Where its segments would be without other objects.
+    pub(crate) alone: Fronts,
     /// The words that refer to something, those of text first.
     pub(crate) references: Vec<Reference>,
     /// The first word of each group.
@@ -41,12 +40,20 @@ pub(crate) struct Given {
 }
 
 impl Given {
-    /// Where a segment begins in the object.
-    pub(crate) fn start(&self, part: Part) -> u16 {
-        match part {
-            Part::Text => 0,
-            Part::Data => self.text_size,
+    /// Adds the object to a session, and returns why it is refused, if it is.
+    pub(crate) fn add_to(&self, alloc: Global, session: &mut Session) -> Result<Option<AddFault>> {
+        let object = object_in(alloc, self.path.as_str(), &self.bytes)?;
+        match session.add(self.path.clone()?, object) {
+            Ok(()) => Ok(None),
+            Err(refused) => Ok(Some(refused.cause)),
         }
+    }
+
+    /// The place that a word refers to.
+    pub(crate) fn meant(&self, reference: Reference) -> u16 {
+        let start = self.alone.own(reference.segment);
+        let address = reference.offset.wrapping_add(start);
+        place_meant(reference.word, reference.reloc.is_pc(), address)
     }
 }
 
@@ -58,38 +65,36 @@ pub(crate) fn given_at(rt: &HostRuntime, path: String) -> Result<Given> {
     let mut given = Given {
         path,
         bytes,
-        text_size: object.file().header().text_size,
+        alone: Fronts::of(&Starts::first(), object.file().header()),
         references: Vec::new(alloc),
         groups: Vec::new(alloc),
     };
-    gather(&mut given, object.file(), Part::Text)?;
-    gather(&mut given, object.file(), Part::Data)?;
+    for segment in SEGMENTS {
+        gather(&mut given, object.file(), segment)?;
+    }
     Ok(given)
 }
 
 /// The words of a segment.
-pub(crate) fn words_of(file: &File, part: Part) -> &[u16] {
-    match part {
-        Part::Text => file.text_words(),
-        Part::Data => file.data_words(),
-    }
-}
-
-/// The relocation words of a segment.
-fn relocs_of(file: &File, part: Part) -> &[Reloc] {
-    match part {
-        Part::Text => file.text_reloc(),
-        Part::Data => file.data_reloc(),
+pub(crate) fn words_of(file: &File, segment: Segment) -> &[u16] {
+    match segment {
+        Segment::DataSeg => file.data_words(),
+        _ => file.text_words(),
     }
 }
 
 /// Adds the words of a segment that refer to something.
-fn gather(given: &mut Given, file: &File, part: Part) -> Result<(), AllocError> {
-    let words = words_of(file, part).iter().zip(relocs_of(file, part));
-    for (index, (word, reloc)) in words.enumerate() {
+fn gather(given: &mut Given, file: &File, segment: Segment) -> Result<(), AllocError> {
+    let relocs = match segment {
+        Segment::DataSeg => file.data_reloc(),
+        _ => file.text_reloc(),
+    };
+    let mut offset = 0u16;
+    for (word, reloc) in words_of(file, segment).iter().zip(relocs) {
         if reloc.is_pc() || !matches!(reloc.kind(), Some(Kind::Absolute)) {
-            gather_word(given, part, index, *word, *reloc)?;
+            gather_word(given, segment, offset, *word, *reloc)?;
         }
+        offset = offset.wrapping_add(2);
     }
     Ok(())
 }
@@ -97,18 +102,18 @@ fn gather(given: &mut Given, file: &File, part: Part) -> Result<(), AllocError> 
 /// Adds a word that refers to something, and its group where it is the first of it.
 fn gather_word(
     given: &mut Given,
-    part: Part,
-    index: usize,
+    segment: Segment,
+    offset: u16,
     word: u16,
     reloc: Reloc,
 ) -> Result<(), AllocError> {
     let known = given
         .groups
         .iter()
-        .position(|first| first.part == part && first.reloc == reloc);
+        .position(|first| first.segment == segment && first.reloc == reloc);
     let reference = Reference {
-        part,
-        index,
+        segment,
+        offset,
         word,
         reloc,
         group: known.unwrap_or(given.groups.len()),
@@ -120,86 +125,93 @@ fn gather_word(
     Ok(())
 }
 
-/// The offset of the word with this index, in bytes.
-pub(crate) fn offset_of(index: usize) -> u16 {
-    (index % 32_768) as u16 * 2
-}
-
 /// Adds a group: 0 for text and 1 for data, and what its words refer to.
-fn put_group(out: &mut String, symbols: &[Symbol], first: Reference) -> Result<(), AllocError> {
+fn put_group(out: &mut Vec<u8>, symbols: &[Symbol], first: Reference) -> Result<(), AllocError> {
     let pc = first.reloc.is_pc();
-    put_word(out, if first.part == Part::Data { 1 } else { 0 })?;
-    match first.reloc.kind() {
-        Some(Kind::External) => match symbols.get(usize::from(first.reloc.number())) {
-            Some(symbol) => put_name_meant(out, &symbol.name, pc),
-            None => put_segment_meant(out, 0, pc),
-        },
-        Some(Kind::TextSeg) => put_segment_meant(out, 1, pc),
-        Some(Kind::DataSeg) => put_segment_meant(out, 2, pc),
-        Some(Kind::BssSeg) => put_segment_meant(out, 3, pc),
-        Some(Kind::Absolute) | None => put_segment_meant(out, 0, pc),
-    }
+    put_number(out, u64::from(first.segment == Segment::DataSeg))?;
+    let target = match first.reloc.kind() {
+        Some(Kind::External) => {
+            if let Some(symbol) = symbols.get(usize::from(first.reloc.number())) {
+                return put_name_meant(out, &symbol.name, pc);
+            }
+            Target::Absolute
+        }
+        Some(Kind::TextSeg) => Target::TextSeg,
+        Some(Kind::DataSeg) => Target::DataSeg,
+        Some(Kind::BssSeg) => Target::BssSeg,
+        Some(Kind::Absolute) | None => Target::Absolute,
+    };
+    put_number(out, u64::from(target_number(target, pc)))
 }
 
 /// Adds the groups, as a list.
-fn put_groups(out: &mut String, symbols: &[Symbol], given: &Given) -> Result<(), AllocError> {
+fn put_groups(out: &mut Vec<u8>, symbols: &[Symbol], given: &Given) -> Result<(), AllocError> {
     put_key(out, "groups")?;
-    begin(out, '[')?;
+    begin(out, b'[')?;
     for first in &given.groups {
         put_group(out, symbols, *first)?;
     }
-    out.push(']')
+    out.extend_from_slice(b"]")
 }
 
 /// Adds the words of a segment that refer to something, as a list: the index of each, its group, and to which place of
 /// what it refers.
 fn put_references(
-    out: &mut String,
+    out: &mut Vec<u8>,
     key: &str,
     given: &Given,
-    part: Part,
+    segment: Segment,
 ) -> Result<(), AllocError> {
     put_key(out, key)?;
-    begin(out, '[')?;
+    begin(out, b'[')?;
     for reference in &given.references {
-        if reference.part == part {
-            let offset = offset_of(reference.index).wrapping_add(given.start(part));
-            let meant = place_meant(reference.word, reference.reloc.is_pc(), offset);
-            put_word(out, (reference.index % 32_768) as u16)?;
-            put_word(out, (reference.group % 65_536) as u16)?;
-            put_word(out, meant)?;
+        if reference.segment == segment {
+            put_number(out, u64::from(reference.offset / 2))?;
+            put_number(out, reference.group as u64)?;
+            put_number(out, u64::from(given.meant(*reference)))?;
         }
     }
-    out.push(']')
+    out.extend_from_slice(b"]")
 }
 
 /// Adds the words and symbols of an object.
-fn put_file(alloc: Global, out: &mut String, given: &Given, file: &File) -> Result<(), AllocError> {
+fn put_file(
+    alloc: Global,
+    out: &mut Vec<u8>,
+    given: &Given,
+    file: &File,
+) -> Result<(), AllocError> {
     put_key(out, "at")?;
-    put_numbers(out, &[0, usize::from(given.text_size)])?;
+    put_words(
+        out,
+        &[
+            given.alone.own(Segment::TextSeg),
+            given.alone.own(Segment::DataSeg),
+        ],
+    )?;
     put_key(out, "text")?;
     put_words(out, file.text_words())?;
     put_key(out, "data")?;
     put_words(out, file.data_words())?;
     put_key(out, "bss")?;
-    put_word(out, file.header().bss_size)?;
+    put_number(out, u64::from(file.header().bss_size))?;
     put_groups(out, file.symbols(), given)?;
-    put_references(out, "textReferences", given, Part::Text)?;
-    put_references(out, "dataReferences", given, Part::Data)?;
+    put_references(out, "textReferences", given, Segment::TextSeg)?;
+    put_references(out, "dataReferences", given, Segment::DataSeg)?;
     put_instructions(alloc, out, file)?;
     put_key(out, "symbols")?;
     put_lines(alloc, out, file.symbols())
 }
 
 /// Adds an object as it is given.
-pub(crate) fn put_given(rt: &HostRuntime, out: &mut String, given: &Given) -> Result<()> {
+pub(crate) fn put_given(rt: &HostRuntime, out: &mut Vec<u8>, given: &Given) -> Result<()> {
     let alloc = rt.alloc();
     let object = object_in(alloc, given.path.as_str(), &given.bytes)?;
-    begin(out, '{')?;
+    begin(out, b'{')?;
     put_key(out, "path")?;
     put_text(out, given.path.as_str())?;
     put_file(alloc, out, given, object.file())?;
     put_sources(rt, out, given, object.file())?;
-    out.push('}')?;
+    out.extend_from_slice(b"}")?;
     Ok(())
 }

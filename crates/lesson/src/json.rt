@@ -1,94 +1,71 @@
 //! JSON. What is put after another value of a list or object has a comma before it.
+use itoa::Buffer;
+use session_text::{push_json_bytes, push_json_text};
 use std::alloc::AllocError;
-use std::fmt::Write;
 
 /// Adds a comma, except at the beginning of a list or an object and after a key.
-fn put_comma(out: &mut String) -> Result<(), AllocError> {
-    match out.as_bytes().last() {
+fn put_comma(out: &mut Vec<u8>) -> Result<(), AllocError> {
+    match out.last() {
         None | Some(b'[' | b'{' | b':') => Ok(()),
-        Some(_) => out.push(','),
-    }
-}
-
-/// Adds a character of a text. A `<` is escaped too, so that no text ends the page's script.
-fn put_char(out: &mut String, character: char) -> Result<(), AllocError> {
-    match character {
-        '"' | '\\' => {
-            out.push('\\')?;
-            out.push(character)
-        }
-        '<' | '\0'..='\u{1f}' | '\u{7f}'..='\u{9f}' => {
-            let code = u32::from(character);
-            write!(out, "\\u{code:04x}")
-        }
-        _ => out.push(character),
+        Some(_) => out.extend_from_slice(b","),
     }
 }
 
 /// Adds a text.
-pub(crate) fn put_text(out: &mut String, text: &str) -> Result<(), AllocError> {
+pub(crate) fn put_text(out: &mut Vec<u8>, text: &str) -> Result<(), AllocError> {
     put_comma(out)?;
-    out.push('"')?;
-    for character in text.chars() {
-        put_char(out, character)?;
-    }
-    out.push('"')
+    out.extend_from_slice(b"\"")?;
+    push_json_text(out, text)?;
+    out.extend_from_slice(b"\"")
 }
 
-/// Adds bytes as a text, each as the character of its number.
-pub(crate) fn put_bytes(out: &mut String, front: &str, bytes: &[u8]) -> Result<(), AllocError> {
+/// Adds bytes as a text, each as the character of its number, after this front.
+pub(crate) fn put_bytes(out: &mut Vec<u8>, front: &[u8], bytes: &[u8]) -> Result<(), AllocError> {
     put_comma(out)?;
-    out.push('"')?;
-    out.push_str(front)?;
-    for byte in bytes {
-        put_char(out, char::from(*byte))?;
-    }
-    out.push('"')
+    out.extend_from_slice(b"\"")?;
+    push_json_bytes(out, front)?;
+    push_json_bytes(out, bytes)?;
+    out.extend_from_slice(b"\"")
 }
 
 /// Adds a number.
-pub(crate) fn put_number(out: &mut String, number: u64) -> Result<(), AllocError> {
+pub(crate) fn put_number(out: &mut Vec<u8>, number: u64) -> Result<(), AllocError> {
     put_comma(out)?;
-    write!(out, "{number}")
-}
-
-/// Adds a word.
-pub(crate) fn put_word(out: &mut String, word: u16) -> Result<(), AllocError> {
-    put_number(out, u64::from(word))
+    out.extend_from_slice(Buffer::new().format(number).as_bytes())
 }
 
 /// Adds `null`.
-pub(crate) fn put_null(out: &mut String) -> Result<(), AllocError> {
+pub(crate) fn put_null(out: &mut Vec<u8>) -> Result<(), AllocError> {
     put_comma(out)?;
-    out.push_str("null")
+    out.extend_from_slice(b"null")
 }
 
 /// Adds the key of a member of an object.
-pub(crate) fn put_key(out: &mut String, key: &str) -> Result<(), AllocError> {
-    put_comma(out)?;
-    write!(out, "\"{key}\":")
+pub(crate) fn put_key(out: &mut Vec<u8>, key: &str) -> Result<(), AllocError> {
+    put_text(out, key)?;
+    out.extend_from_slice(b":")
 }
 
 /// Begins a list by `[`, or an object by `{`; it ends by the other bracket.
-pub(crate) fn begin(out: &mut String, bracket: char) -> Result<(), AllocError> {
+pub(crate) fn begin(out: &mut Vec<u8>, bracket: u8) -> Result<(), AllocError> {
     put_comma(out)?;
-    out.push(bracket)
+    out.extend_from_slice(&[bracket])
 }
 
 /// Adds numbers as a list.
-pub(crate) fn put_numbers(out: &mut String, numbers: &[usize]) -> Result<(), AllocError> {
-    begin(out, '[')?;
+pub(crate) fn put_numbers(out: &mut Vec<u8>, numbers: &[usize]) -> Result<(), AllocError> {
+    begin(out, b'[')?;
     for number in numbers {
         put_number(out, *number as u64)?;
     }
-    out.push(']')
+    out.extend_from_slice(b"]")
 }
 
 /// Adds words as a list.
-pub(crate) fn put_words(out: &mut String, words: &[u16]) -> Result<(), AllocError> {
-    begin(out, '[')?;
+pub(crate) fn put_words(out: &mut Vec<u8>, words: &[u16]) -> Result<(), AllocError> {
+    begin(out, b'[')?;
     for word in words {
-        put_word(out, *word)?;
+        put_number(out, u64::from(*word))?;
     }
-    out.push(']')
+    out.extend_from_slice(b"]")
 }

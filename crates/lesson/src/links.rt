@@ -1,32 +1,27 @@
 //! The links of a session.
-use crate::given::Part;
 use crate::json::{begin, put_bytes, put_key, put_number, put_text};
-use aout_core::{File, Wire};
-use link_out::{Bases, Keep, Layout, LinkFault, Linked, Options, Report, finish, link_bases};
+use aout_core::{Segment, Symbol, Wire};
+use link_out::{
+    Bases, Keep, Layout, LinkFault, Linked, Options, Report, finish, link_bases, link_externals,
+};
 use link_session::Session;
 use std::alloc::{AllocError, Global};
 
-/// A link: where its segments lie, and what it gives or why it is refused.
+/// A link: where its segments are, and what it gives or why it is refused.
 #[derive(Drop)]
 pub(crate) struct Link {
     bases: Bases,
-    made: Result<Linked, LinkFault>,
+    pub(crate) made: Result<Linked, LinkFault>,
+    /// The externals, by first mention; none if the link is refused.
+    pub(crate) externals: Vec<Symbol>,
 }
 
 impl Link {
-    /// The linked file, if the link is not refused.
-    pub(crate) fn file(&self) -> Option<&File> {
-        match &self.made {
-            Ok(linked) => Some(&linked.file),
-            Err(_) => None,
-        }
-    }
-
-    /// The address of the front of a segment.
-    pub(crate) fn base(&self, part: Part) -> u16 {
-        match part {
-            Part::Text => 0,
-            Part::Data => (self.bases.data_start % 65_536) as u16,
+    /// The address at which a segment with words begins; 0 if the link is refused since its data begins later than all addresses.
+    pub(crate) fn start(&self, segment: Segment) -> u16 {
+        match segment {
+            Segment::DataSeg => u16::try_from(self.bases.data_start).unwrap_or(0),
+            _ => 0,
         }
     }
 }
@@ -40,11 +35,17 @@ static LINKS: [(Layout, bool); 4] = [
 ];
 
 fn link_of(alloc: Global, session: &Session, options: &Options) -> Result<Link, AllocError> {
-    let bases = link_bases(session, options);
-    match finish(alloc, session, options) {
-        Err(LinkFault::Memory) => Err(AllocError),
-        made => Ok(Link { bases, made }),
-    }
+    let made = finish(alloc, session, options);
+    let externals = match &made {
+        Ok(_) => link_externals(alloc, session, options)?,
+        Err(LinkFault::Memory) => return Err(AllocError),
+        Err(_) => None,
+    };
+    Ok(Link {
+        bases: link_bases(session, options),
+        made,
+        externals: externals.unwrap_or(Vec::new(alloc)),
+    })
 }
 
 /// The links of a session that are shown.
@@ -65,26 +66,26 @@ fn report_lines(alloc: Global, report: &Report) -> Vec<u8> {
     out.into_inner()
 }
 
-/// Adds where the segments lie, as a list.
-fn put_bases(out: &mut String, bases: &Bases) -> Result<(), AllocError> {
+/// Adds a link, with the bounds of its segments, or why it is refused.
+fn put_link(alloc: Global, out: &mut Vec<u8>, link: &Link) -> Result<(), AllocError> {
+    let at = &link.bases;
+    begin(out, b'{')?;
     put_key(out, "bases")?;
-    begin(out, '[')?;
-    put_number(out, bases.text_end)?;
-    put_number(out, bases.data_start)?;
-    put_number(out, bases.data_end)?;
-    put_number(out, bases.bss_start)?;
-    put_number(out, bases.bss_end)?;
-    out.push(']')
-}
-
-/// Adds a link, or why it is refused.
-fn put_link(alloc: Global, out: &mut String, link: &Link) -> Result<(), AllocError> {
-    begin(out, '{')?;
-    put_bases(out, &link.bases)?;
+    begin(out, b'[')?;
+    for bound in [
+        at.text_end,
+        at.data_start,
+        at.data_end,
+        at.bss_start,
+        at.bss_end,
+    ] {
+        put_number(out, bound)?;
+    }
+    out.extend_from_slice(b"]")?;
     match &link.made {
         Ok(linked) => {
             put_key(out, "report")?;
-            put_bytes(out, "", &report_lines(alloc, &linked.report))?;
+            put_bytes(out, b"", &report_lines(alloc, &linked.report))?;
         }
         Err(fault) => {
             let text = format!(in alloc; "{fault}")?;
@@ -92,14 +93,18 @@ fn put_link(alloc: Global, out: &mut String, link: &Link) -> Result<(), AllocErr
             put_text(out, text.as_str())?;
         }
     }
-    out.push('}')
+    out.extend_from_slice(b"}")
 }
 
 /// Adds the links, as a list.
-pub(crate) fn put_links(alloc: Global, out: &mut String, links: &[Link]) -> Result<(), AllocError> {
-    begin(out, '[')?;
+pub(crate) fn put_links(
+    alloc: Global,
+    out: &mut Vec<u8>,
+    links: &[Link],
+) -> Result<(), AllocError> {
+    begin(out, b'[')?;
     for link in links {
         put_link(alloc, out, link)?;
     }
-    out.push(']')
+    out.extend_from_slice(b"]")
 }

@@ -24,24 +24,17 @@ use anyhow::{Error, Result};
 use link_session::Session;
 use page::write_page;
 use std::process::ExitCode;
-use steps::{All, play};
+use steps::play;
 use words::{Asked, Words, words_given};
 
 /// Does what the words ask for.
 fn run(rt: &HostRuntime, session: &mut Session) -> Result<()> {
     let Words { asked, files } = words_given(rt)?;
     match asked {
-        Asked::All => play(rt, session, files, All::Steps),
-        Asked::Step(step) => play(rt, session, files, All::Only(step)),
-        Asked::Page(folder) => write_page(rt, session, folder.as_str(), None, files),
-        Asked::Lessons(folder, questions) => {
-            write_page(
-                rt,
-                session,
-                folder.as_str(),
-                Some(questions.as_str()),
-                files,
-            )
+        Asked::Steps(shown) => play(rt, session, files, shown),
+        Asked::Page(folder, questions) => {
+            let questions = questions.as_ref().map(|path| path.as_str());
+            write_page(rt, session, folder.as_str(), questions, files)
         }
     }
 }

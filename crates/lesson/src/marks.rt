@@ -1,6 +1,5 @@
 //! What the last addition overwrote, as JSON.
-use crate::given::offset_of;
-use crate::json::{begin, put_null, put_text, put_word};
+use crate::json::{begin, put_null, put_number, put_text};
 use crate::parts::{put_cell, put_state};
 use link_session::{Cell, Mark, Place, Session, State, Target};
 use std::alloc::AllocError;
@@ -19,52 +18,47 @@ fn offset_bound(session: &Session, target: Target) -> Option<u16> {
 /// Adds a cell that was overwritten: its segment and offset, what it was, the offset of the name that it waited for,
 /// and its word now.
 fn put_cell_mark(
-    out: &mut String,
+    out: &mut Vec<u8>,
     session: &Session,
     place: Place,
     was: Cell,
 ) -> Result<(), AllocError> {
     let (segment, cells, index) = match place {
-        Place::InText(index) => ("text", session.text_cells(), usize::from(index)),
-        Place::InData(index) => ("data", session.data_cells(), usize::from(index)),
+        Place::InText(index) => ("text", session.text_cells(), index),
+        Place::InData(index) => ("data", session.data_cells(), index),
     };
-    let offset = offset_of(index);
+    let offset = index.wrapping_mul(2);
     put_text(out, segment)?;
-    put_word(out, offset)?;
+    put_number(out, u64::from(offset))?;
     put_cell(out, session, offset, was)?;
-    match (offset_bound(session, was.target), cells.get(index)) {
+    match (
+        offset_bound(session, was.target),
+        cells.get(usize::from(index)),
+    ) {
         (Some(bound), Some(now)) => {
-            put_word(out, bound)?;
-            put_word(out, now.value)
+            put_number(out, u64::from(bound))?;
+            put_number(out, u64::from(now.value))
         }
         _ => put_null(out),
     }
 }
 
-/// Adds a state that was overwritten: its name, and what it was.
-fn put_state_mark(
-    out: &mut String,
-    session: &Session,
-    index: u16,
-    was: State,
-) -> Result<(), AllocError> {
-    put_text(out, "name")?;
-    match session.external(index) {
-        Some((name, _)) => put_state(out, &name, was),
-        None => put_null(out),
-    }
-}
-
 /// Adds the marks of the last addition, as a list.
-pub(crate) fn put_marks(out: &mut String, session: &Session) -> Result<(), AllocError> {
-    begin(out, '[')?;
+pub(crate) fn put_marks(out: &mut Vec<u8>, session: &Session) -> Result<(), AllocError> {
+    begin(out, b'[')?;
     for mark in session.last_marks() {
-        begin(out, '[')?;
+        begin(out, b'[')?;
         match *mark {
             Mark::CellWas(place, cell) => put_cell_mark(out, session, place, cell)?,
-            Mark::StateWas(index, state) => put_state_mark(out, session, index, state)?,
+            Mark::StateWas(index, state) => {
+                put_text(out, "name")?;
+                match session.external(index) {
+                    Some((name, _)) => put_state(out, &name, state)?,
+                    None => put_null(out)?,
+                }
+            }
         }
-        out.push(']')?;
+        out.extend_from_slice(b"]")?;
     }
-    out.push(']')
+    out.extend_from_slice(b"]")
 }

@@ -1,13 +1,12 @@
 //! The numbers of a state. The page has, for each state, only those that differ from the state before it.
 use crate::fronts::Fronts;
-use crate::given::{Given, Part, Reference, offset_of, words_of};
+use crate::given::{Given, Reference, words_of};
 use crate::json::{begin, put_key, put_number};
 use crate::links::Link;
 use crate::parts::{place_meant, state_numbers, target_number};
-use crate::symbols::is_alike;
 use anyhow::{Result, anyhow};
-use aout_core::{File, Symbol};
-use link_session::{Cell, Session};
+use aout_core::{Segment, Symbol};
+use link_session::Session;
 use std::alloc::{AllocError, Global};
 use symtools::letter;
 
@@ -60,7 +59,7 @@ impl Numbers {
     }
 
     /// Adds what differs from the numbers before.
-    pub(crate) fn put(&self, out: &mut String, before: &Numbers) -> Result<(), AllocError> {
+    pub(crate) fn put(&self, out: &mut Vec<u8>, before: &Numbers) -> Result<(), AllocError> {
         put_key(out, "names")?;
         put_changes(out, &before.names, &self.names)?;
         put_key(out, "groups")?;
@@ -71,59 +70,38 @@ impl Numbers {
 }
 
 /// Adds two lists: the places of the numbers that have changed, each with the number now, and the numbers that are new.
-fn put_changes(out: &mut String, before: &[u32], now: &[u32]) -> Result<(), AllocError> {
-    begin(out, '[')?;
-    begin(out, '[')?;
+fn put_changes(out: &mut Vec<u8>, before: &[u32], now: &[u32]) -> Result<(), AllocError> {
+    begin(out, b'[')?;
+    begin(out, b'[')?;
     for (place, (old, new)) in before.iter().zip(now).enumerate() {
         if *old != *new {
             put_number(out, place as u64)?;
             put_number(out, u64::from(*new))?;
         }
     }
-    out.push(']')?;
-    begin(out, '[')?;
+    out.extend_from_slice(b"]")?;
+    begin(out, b'[')?;
     for number in now.get(before.len()..).unwrap_or(&[]) {
         put_number(out, u64::from(*number))?;
     }
-    out.push(']')?;
-    out.push(']')
+    out.extend_from_slice(b"]")?;
+    out.extend_from_slice(b"]")
 }
 
-/// The symbols of the externals, by first mention: the last of the table.
-fn externals_of<'a>(session: &Session, file: &'a File) -> &'a [Symbol] {
-    let symbols = file.symbols();
-    let count = usize::from(session.external_count());
-    let first = symbols.len().saturating_sub(count);
-    symbols.get(first..).unwrap_or(&[])
-}
-
-/// Adds the numbers of the names.
-fn push_names(out: &mut Vec<u32>, computed: Computed<'_>) -> Result<()> {
+/// Adds the numbers of the names: 0 for those of a link that is refused.
+fn push_names(out: &mut Vec<u32>, computed: Computed<'_>) -> Result<(), AllocError> {
     for index in 0..computed.session.external_count() {
         if let Some((_, state)) = computed.session.external(index) {
             let (kind, number) = state_numbers(state);
             out.push(kind)?;
             out.push(u32::from(number))?;
-            for link in computed.links {
-                push_external(out, computed.session, link, usize::from(index))?;
-            }
+        }
+        for link in computed.links {
+            let symbol = link.externals.get(usize::from(index));
+            out.push(symbol.map_or(0, |symbol| u32::from(symbol.value)))?;
+            out.push(symbol.map_or(0, |symbol| u32::from(letter(symbol))))?;
         }
     }
-    Ok(())
-}
-
-/// Adds the value and the letter of a name in a link.
-fn push_external(out: &mut Vec<u32>, session: &Session, link: &Link, index: usize) -> Result<()> {
-    let Some(file) = link.file() else {
-        out.push(0)?;
-        out.push(0)?;
-        return Ok(());
-    };
-    let Some(symbol) = externals_of(session, file).get(index) else {
-        return Err(anyhow!("name {index} has no symbol"));
-    };
-    out.push(u32::from(symbol.value))?;
-    out.push(u32::from(letter(symbol)))?;
     Ok(())
 }
 
@@ -144,23 +122,18 @@ fn push_locals(out: &mut Vec<u32>, computed: Computed<'_>) -> Result<()> {
 /// Adds the values of a local symbol in the links, where it is at this place of the table.
 fn push_local(out: &mut Vec<u32>, links: &[Link], symbol: &Symbol, place: usize) -> Result<()> {
     for link in links {
-        let linked = link.file().and_then(|file| file.symbols().get(place));
-        match linked {
-            Some(found) if is_alike(symbol, found) => out.push(u32::from(found.value))?,
-            Some(_) => return Err(anyhow!("symbol {place} of a link is another one")),
-            None => out.push(0)?,
+        let Ok(linked) = &link.made else {
+            out.push(0)?;
+            continue;
+        };
+        match linked.file.symbols().get(place) {
+            Some(found) if letter(found) == letter(symbol) && found.name == symbol.name => {
+                out.push(u32::from(found.value))?;
+            }
+            _ => return Err(anyhow!("symbol {place} of a link is another one")),
         }
     }
     Ok(())
-}
-
-/// The cell of a word in the merged image.
-fn cell_at(session: &Session, part: Part, offset: u16) -> Option<Cell> {
-    let cells = match part {
-        Part::Text => session.text_cells(),
-        Part::Data => session.data_cells(),
-    };
-    cells.get(usize::from(offset / 2)).copied()
 }
 
 /// Adds the numbers of a word.
@@ -171,36 +144,30 @@ fn push_word(
     fronts: &Fronts,
     reference: Reference,
 ) -> Result<()> {
-    let Reference {
-        part,
-        index,
-        word,
-        reloc,
-        ..
-    } = reference;
-    let offset = offset_of(index).wrapping_add(fronts.front(part));
-    let Some(cell) = cell_at(computed.session, part, offset) else {
+    let Reference { segment, word, .. } = reference;
+    let offset = reference.offset.wrapping_add(fronts.starts.of(segment));
+    let place = usize::from(offset / 2);
+    let cells = match segment {
+        Segment::DataSeg => computed.session.data_cells(),
+        _ => computed.session.text_cells(),
+    };
+    let Some(cell) = cells.get(place) else {
         return Err(anyhow!("{}: word {offset} is not in the image", given.path));
     };
-    let own = place_meant(
-        word,
-        reloc.is_pc(),
-        offset_of(index).wrapping_add(given.start(part)),
-    );
     let meant = place_meant(cell.value, cell.pc, offset);
     out.push(u32::from(cell.value.wrapping_sub(word)))?;
-    out.push(u32::from(meant.wrapping_sub(own)))?;
-    out.push(target_number(cell))?;
+    out.push(u32::from(meant.wrapping_sub(given.meant(reference))))?;
+    out.push(target_number(cell.target, cell.pc))?;
     for link in computed.links {
-        let minus = if reloc.is_pc() {
-            link.base(part).wrapping_add(fronts.shift(part))
-        } else {
-            0
+        // how far the word itself has moved
+        let moved = link.start(segment).wrapping_add(fronts.shifts.of(segment));
+        let minus = if cell.pc { moved } else { 0 };
+        let last = match &link.made {
+            Ok(linked) => words_of(&linked.file, segment).get(place).copied(),
+            Err(_) => None,
         };
-        let place = usize::from(offset / 2);
-        let linked = link.file().and_then(|file| words_of(file, part).get(place));
-        let last = linked.copied().unwrap_or(word);
-        out.push(u32::from(last.wrapping_sub(word).wrapping_add(minus)))?;
+        let plus = last.unwrap_or(word).wrapping_sub(word).wrapping_add(minus);
+        out.push(u32::from(plus))?;
         out.push(u32::from(minus))?;
     }
     Ok(())
@@ -224,9 +191,9 @@ fn push_object(
         let at = reference.group.saturating_mul(row.len());
         if rows.get(at..at.saturating_add(row.len())) != Some(row.as_slice()) {
             return Err(anyhow!(
-                "{}: word {} differs from its group",
+                "{}: the word at {} differs from its group",
                 given.path,
-                reference.index
+                reference.offset
             ));
         }
     }

@@ -1,5 +1,5 @@
 //! The page: all states of a session of some objects, and the script that shows them.
-use crate::files::bytes_at;
+use crate::files::text_at;
 use crate::given::{Given, given_at, put_given};
 use crate::json::{begin, put_key};
 use crate::questions::put_questions;
@@ -7,6 +7,7 @@ use crate::states::put_states;
 use anyhow::{Result, anyhow};
 use link_session::Session;
 use std::alloc::AllocError;
+use std::io::{self, Write};
 
 /// How many bytes a page has at most.
 const PAGE_LIMIT: usize = 5_000_000;
@@ -20,6 +21,11 @@ static SCRIPTS: [&str; 6] = [
     "keys.js",
     "steps.js",
 ];
+
+/// The beginning of a page, up to its styles.
+const HEAD: &str = "<!DOCTYPE html>\n<html lang=\"en\">\n<head>\n<meta charset=\"utf-8\">\n\
+<meta name=\"viewport\" content=\"width=device-width, initial-scale=1\">\n\
+<title>What a linker does</title>\n<style>\n";
 
 /// What a page is made of: the scripts and styles of a folder, the file of questions if there is one, and the objects.
 #[derive(Clone, Copy)]
@@ -39,23 +45,30 @@ fn givens_at(rt: &HostRuntime, files: Vec<String>) -> Result<Vec<Given>> {
 }
 
 /// Adds the objects, as a list.
-fn put_givens(rt: &HostRuntime, out: &mut String, givens: &[Given]) -> Result<()> {
+fn put_givens(rt: &HostRuntime, out: &mut Vec<u8>, givens: &[Given]) -> Result<()> {
     put_key(out, "objects")?;
-    begin(out, '[')?;
+    begin(out, b'[')?;
     for given in givens {
         put_given(rt, out, given)?;
     }
-    out.push(']')?;
+    out.extend_from_slice(b"]")?;
     Ok(())
 }
 
-/// Adds a file as it is; one that is not a text is a fault.
-fn put_text_of(rt: &HostRuntime, out: &mut String, folder: &str, file: &str) -> Result<()> {
+/// Adds a file of a folder as it is; one that is not a text is a fault.
+fn put_text_of(rt: &HostRuntime, out: &mut Vec<u8>, folder: &str, file: &str) -> Result<()> {
     let path = format!(in rt.alloc(); "{folder}/{file}")?;
-    let bytes = bytes_at(rt, path.as_str())?;
-    match str::from_utf8(&bytes) {
-        Ok(text) => out.push_str(text)?,
-        Err(_) => return Err(anyhow!("{path}: not a text")),
+    out.extend_from_slice(text_at(rt, path.as_str())?.as_bytes())?;
+    Ok(())
+}
+
+/// Adds JSON inside a script: a `<`, which only strings have, is escaped, so that none ends the script.
+fn put_script(out: &mut Vec<u8>, json: &[u8]) -> Result<(), AllocError> {
+    for byte in json {
+        match *byte {
+            b'<' => out.extend_from_slice(b"\\u003c")?,
+            byte => out.push(byte)?,
+        }
     }
     Ok(())
 }
@@ -63,11 +76,11 @@ fn put_text_of(rt: &HostRuntime, out: &mut String, folder: &str, file: &str) -> 
 /// Adds the lessons, the objects and all their states.
 fn put_data(
     rt: &HostRuntime,
-    out: &mut String,
+    out: &mut Vec<u8>,
     session: &mut Session,
     parts: Parts<'_>,
 ) -> Result<()> {
-    out.push('{')?;
+    out.extend_from_slice(b"{")?;
     if let Some(questions) = parts.questions {
         put_key(out, "lessons")?;
         put_questions(rt, out, questions, parts.givens)?;
@@ -75,15 +88,8 @@ fn put_data(
     put_givens(rt, out, parts.givens)?;
     put_key(out, "states")?;
     put_states(rt.alloc(), out, session, parts.givens)?;
-    out.push('}')?;
+    out.extend_from_slice(b"}")?;
     Ok(())
-}
-
-/// The beginning of a page, up to its styles.
-fn put_head(out: &mut String) -> Result<(), AllocError> {
-    out.push_str("<!DOCTYPE html>\n<html lang=\"en\">\n<head>\n<meta charset=\"utf-8\">\n")?;
-    out.push_str("<meta name=\"viewport\" content=\"width=device-width, initial-scale=1\">\n")?;
-    out.push_str("<title>What a linker does</title>\n<style>\n")
 }
 
 /// Writes the page of the objects at the paths to standard output. Nothing is written if something is wrong.
@@ -95,7 +101,7 @@ pub(crate) fn write_page(
     files: Vec<String>,
 ) -> Result<()> {
     let givens = givens_at(rt, files)?;
-    let mut out = String::new(rt.alloc());
+    let mut out = Vec::new(rt.alloc());
     let parts = Parts {
         folder,
         questions,
@@ -105,36 +111,32 @@ pub(crate) fn write_page(
     if PAGE_LIMIT < out.len() {
         return Err(anyhow!("the page would have more than {PAGE_LIMIT} bytes"));
     }
-    rt.print(out.as_str())?;
-    Ok(())
-}
-
-/// Adds the scripts, each as one of its own.
-fn put_scripts(rt: &HostRuntime, out: &mut String, folder: &str) -> Result<()> {
-    for script in &SCRIPTS {
-        out.push_str("<script>\n")?;
-        put_text_of(rt, out, folder, script)?;
-        out.push_str("</script>\n")?;
-    }
+    io::writer(rt).write_all(&out)?;
     Ok(())
 }
 
 /// Adds the page.
 fn put_page(
     rt: &HostRuntime,
-    out: &mut String,
+    out: &mut Vec<u8>,
     session: &mut Session,
     parts: Parts<'_>,
 ) -> Result<()> {
     let folder = parts.folder;
-    put_head(out)?;
+    out.extend_from_slice(HEAD.as_bytes())?;
     put_text_of(rt, out, folder, "lesson.css")?;
-    out.push_str("</style>\n</head>\n<body>\n")?;
+    out.extend_from_slice(b"</style>\n</head>\n<body>\n")?;
     put_text_of(rt, out, folder, "body.html")?;
-    out.push_str("<script type=\"application/json\" id=\"data\">\n")?;
-    put_data(rt, out, session, parts)?;
-    out.push_str("</script>\n")?;
-    put_scripts(rt, out, folder)?;
-    out.push_str("</body>\n</html>\n")?;
+    out.extend_from_slice(b"<script type=\"application/json\" id=\"data\">\n")?;
+    let mut data = Vec::new(rt.alloc());
+    put_data(rt, &mut data, session, parts)?;
+    put_script(out, &data)?;
+    out.extend_from_slice(b"</script>\n")?;
+    for script in &SCRIPTS {
+        out.extend_from_slice(b"<script>\n")?;
+        put_text_of(rt, out, folder, script)?;
+        out.extend_from_slice(b"</script>\n")?;
+    }
+    out.extend_from_slice(b"</body>\n</html>\n")?;
     Ok(())
 }

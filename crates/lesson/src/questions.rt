@@ -1,9 +1,10 @@
 //! The questions of lessons: a text file, of which each line is checked against the objects as it is read.
-use crate::files::{bytes_at, object_in};
+use crate::files::text_at;
 use crate::given::Given;
-use crate::json::{begin, put_number, put_text, put_word};
+use crate::json::{begin, put_number, put_text};
 use crate::walk::ALL_ORDERS;
 use anyhow::{Result, anyhow};
+use aout_core::Name;
 use link_session::Session;
 use std::alloc::Global;
 
@@ -40,7 +41,7 @@ fn is_at(path: &str, name: &str) -> bool {
 
 impl<'a> Reader<'a> {
     /// A text that must not be empty, after this word.
-    fn put_said(&self, out: &mut String, word: &str, text: &str) -> Result<()> {
+    fn put_said(&self, out: &mut Vec<u8>, word: &str, text: &str) -> Result<()> {
         if text.is_empty() {
             return Err(anyhow!("{word} is followed by a text"));
         }
@@ -50,17 +51,11 @@ impl<'a> Reader<'a> {
     }
 
     /// A lesson begins: no object is there.
-    fn put_lesson(&mut self, out: &mut String, title: &str) -> Result<()> {
+    fn put_lesson(&mut self, out: &mut Vec<u8>, title: &str) -> Result<()> {
         self.session = Session::new(self.alloc);
         self.list = Vec::new(self.alloc);
         self.begun = Begun::Lesson;
         self.put_said(out, "lesson", title)
-    }
-
-    /// A question begins.
-    fn put_ask(&mut self, out: &mut String, line: usize, text: &str) -> Result<()> {
-        self.begun = Begun::Question(line);
-        self.put_said(out, "ask", text)
     }
 
     /// That an answer is given.
@@ -73,7 +68,7 @@ impl<'a> Reader<'a> {
     }
 
     /// An answer that is a word: its segment and its offset, in octal digits.
-    fn put_answer_word(&mut self, out: &mut String, text: &str) -> Result<()> {
+    fn put_answer_word(&mut self, out: &mut Vec<u8>, text: &str) -> Result<()> {
         self.answer()?;
         let (segment, digits) = text.split_once(' ').unwrap_or((text, ""));
         let cells = match segment {
@@ -85,38 +80,21 @@ impl<'a> Reader<'a> {
             Ok(offset) if offset % 2 == 0 && usize::from(offset / 2) < cells.len() => {
                 put_text(out, "word")?;
                 put_text(out, segment)?;
-                put_word(out, offset)?;
+                put_number(out, u64::from(offset))?;
                 Ok(())
             }
             _ => Err(anyhow!("there is no word {text}")),
         }
     }
 
-    /// Whether a name is known.
-    fn has_name(&self, text: &str) -> bool {
-        for index in 0..self.session.external_count() {
-            if let Some((name, _)) = self.session.external(index)
-                && name.as_bytes() == text.as_bytes()
-            {
-                return true;
-            }
-        }
-        false
-    }
-
     /// An answer that is a name.
-    fn put_answer_name(&mut self, out: &mut String, text: &str) -> Result<()> {
+    fn put_answer_name(&mut self, out: &mut Vec<u8>, text: &str) -> Result<()> {
         self.answer()?;
-        if !self.has_name(text) {
+        let name = Name::from_bytes(text.as_bytes());
+        if name.as_bytes() != text.as_bytes() || self.session.find(&name).is_none() {
             return Err(anyhow!("there is no name {text}"));
         }
         self.put_said(out, "name", text)
-    }
-
-    /// An answer that is a text to choose, right or wrong.
-    fn put_choice(&mut self, out: &mut String, word: &str, text: &str) -> Result<()> {
-        self.answer()?;
-        self.put_said(out, word, text)
     }
 
     /// The object of this name that is not there yet.
@@ -131,15 +109,13 @@ impl<'a> Reader<'a> {
     }
 
     /// The step that adds an object.
-    fn put_add(&mut self, out: &mut String, name: &str) -> Result<()> {
+    fn put_add(&mut self, out: &mut Vec<u8>, name: &str) -> Result<()> {
         let Some(object) = self.object_named(name) else {
             return Err(anyhow!("no step adds {name}"));
         };
         if let Some(given) = self.givens.get(object) {
-            let label = given.path.clone()?;
-            let content = object_in(self.alloc, given.path.as_str(), &given.bytes)?;
-            if let Err(refused) = self.session.add(label, content) {
-                return Err(anyhow!("{name} is refused: {}", refused.cause));
+            if let Some(cause) = given.add_to(self.alloc, &mut self.session)? {
+                return Err(anyhow!("{name} is refused: {cause}"));
             }
         }
         self.list.push(object)?;
@@ -148,18 +124,8 @@ impl<'a> Reader<'a> {
         Ok(())
     }
 
-    /// The step that withdraws the last object.
-    fn put_withdraw(&mut self, out: &mut String) -> Result<()> {
-        if self.session.withdraw().is_none() {
-            return Err(anyhow!("there is nothing to withdraw"));
-        }
-        let _ = self.list.pop();
-        put_text(out, "withdraw")?;
-        Ok(())
-    }
-
     /// The step that shows a link.
-    fn put_link(&mut self, out: &mut String, name: &str) -> Result<()> {
+    fn put_link(&mut self, out: &mut Vec<u8>, name: &str) -> Result<()> {
         match LAYOUTS.iter().position(|layout| *layout == name) {
             Some(layout) => {
                 put_text(out, "link")?;
@@ -171,11 +137,18 @@ impl<'a> Reader<'a> {
     }
 
     /// A line that makes a step.
-    fn put_step(&mut self, out: &mut String, word: &str, rest: &str) -> Result<()> {
+    fn put_step(&mut self, out: &mut Vec<u8>, word: &str, rest: &str) -> Result<()> {
         self.begun = Begun::Lesson;
         match word {
             "add" => self.put_add(out, rest),
-            "withdraw" => self.put_withdraw(out),
+            "withdraw" => {
+                if self.session.withdraw().is_none() {
+                    return Err(anyhow!("there is nothing to withdraw"));
+                }
+                let _ = self.list.pop();
+                put_text(out, word)?;
+                Ok(())
+            }
             "link" => self.put_link(out, rest),
             _ => {
                 put_text(out, "image")?;
@@ -185,7 +158,7 @@ impl<'a> Reader<'a> {
     }
 
     /// A line that has this word first.
-    fn put_line(&mut self, out: &mut String, line: usize, word: &str, rest: &str) -> Result<()> {
+    fn put_line(&mut self, out: &mut Vec<u8>, line: usize, word: &str, rest: &str) -> Result<()> {
         if self.begun == Begun::Nothing && word != "lesson" {
             return Err(anyhow!("no lesson has begun"));
         }
@@ -194,24 +167,30 @@ impl<'a> Reader<'a> {
         {
             return Err(anyhow!("the question of line {asked} has no answer"));
         }
-        begin(out, '[')?;
+        begin(out, b'[')?;
         match word {
             "lesson" => self.put_lesson(out, rest)?,
             "say" => self.put_said(out, word, rest)?,
-            "ask" => self.put_ask(out, line, rest)?,
+            "ask" => {
+                self.begun = Begun::Question(line);
+                self.put_said(out, word, rest)?;
+            }
             "word" => self.put_answer_word(out, rest)?,
             "name" => self.put_answer_name(out, rest)?,
-            "right" | "wrong" => self.put_choice(out, word, rest)?,
+            "right" | "wrong" => {
+                self.answer()?;
+                self.put_said(out, word, rest)?;
+            }
             "add" | "withdraw" | "link" | "image" => self.put_step(out, word, rest)?,
             _ => return Err(anyhow!("{word} begins no line of a lesson")),
         }
-        out.push(']')?;
+        out.extend_from_slice(b"]")?;
         Ok(())
     }
 }
 
 /// Adds the lines of a text, and returns the number of the line that a fault is in.
-fn put_lines(reader: &mut Reader<'_>, out: &mut String, path: &str, text: &str) -> Result<()> {
+fn put_lines(reader: &mut Reader<'_>, out: &mut Vec<u8>, path: &str, text: &str) -> Result<()> {
     for (index, line) in text.lines().enumerate() {
         let line = line.trim();
         let number = index.saturating_add(1);
@@ -232,15 +211,12 @@ fn put_lines(reader: &mut Reader<'_>, out: &mut String, path: &str, text: &str) 
 /// Adds the lessons in the file at a path, as a list of its lines.
 pub(crate) fn put_questions(
     rt: &HostRuntime,
-    out: &mut String,
+    out: &mut Vec<u8>,
     path: &str,
     givens: &[Given],
 ) -> Result<()> {
     let alloc = rt.alloc();
-    let bytes = bytes_at(rt, path)?;
-    let Ok(text) = str::from_utf8(&bytes) else {
-        return Err(anyhow!("{path}: not a text"));
-    };
+    let text = text_at(rt, path)?;
     let mut reader = Reader {
         alloc,
         givens,
@@ -248,8 +224,8 @@ pub(crate) fn put_questions(
         list: Vec::new(alloc),
         begun: Begun::Nothing,
     };
-    begin(out, '[')?;
-    put_lines(&mut reader, out, path, text)?;
-    out.push(']')?;
+    begin(out, b'[')?;
+    put_lines(&mut reader, out, path, text.as_str())?;
+    out.extend_from_slice(b"]")?;
     Ok(())
 }

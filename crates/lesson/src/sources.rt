@@ -1,9 +1,9 @@
 //! Source lines of the words of an object, from the listing beside it: that of FILE.o is FILE.lst, if there is one.
-use crate::files::bytes_at;
-use crate::given::{Given, Part, words_of};
+use crate::files::text_at;
+use crate::given::{Given, words_of};
 use crate::json::{begin, put_key, put_text};
 use anyhow::Result;
-use aout_core::File;
+use aout_core::{File, Segment};
 
 /// A line of a listing that is about a word.
 #[derive(Clone, Copy)]
@@ -26,19 +26,19 @@ fn fields_of(line: &str) -> Option<Line<'_>> {
 }
 
 /// Which segment's words follow a line that names one.
-fn part_after(line: &str, part: Option<Part>) -> Option<Part> {
+fn segment_after(line: &str, segment: Option<Segment>) -> Option<Segment> {
     match line.trim() {
-        "text" => Some(Part::Text),
-        "data" => Some(Part::Data),
+        "text" => Some(Segment::TextSeg),
+        "data" => Some(Segment::DataSeg),
         "symbols" => None,
-        _ => part,
+        _ => segment,
     }
 }
 
 /// Adds the source of a line, if it is about this word of the object.
 fn put_source(
     rt: &HostRuntime,
-    out: &mut String,
+    out: &mut Vec<u8>,
     words: &[u16],
     start: u16,
     line: Line<'_>,
@@ -53,32 +53,38 @@ fn put_source(
 }
 
 /// Adds the source lines of a segment, by the indices of their words.
-fn put_part(
+fn put_segment(
     rt: &HostRuntime,
-    out: &mut String,
+    out: &mut Vec<u8>,
     given: &Given,
     file: &File,
-    part: Part,
+    segment: Segment,
     text: &str,
 ) -> Result<()> {
     let mut here = None;
-    begin(out, '{')?;
+    begin(out, b'{')?;
     for line in text.lines() {
-        here = part_after(line, here);
-        if here == Some(part)
+        here = segment_after(line, here);
+        if here == Some(segment)
             && let Some(fields) = fields_of(line)
         {
-            put_source(rt, out, words_of(file, part), given.start(part), fields)?;
+            put_source(
+                rt,
+                out,
+                words_of(file, segment),
+                given.alone.own(segment),
+                fields,
+            )?;
         }
     }
-    out.push('}')?;
+    out.extend_from_slice(b"}")?;
     Ok(())
 }
 
 /// Adds the source lines of an object's words, if a listing has them.
 pub(crate) fn put_sources(
     rt: &HostRuntime,
-    out: &mut String,
+    out: &mut Vec<u8>,
     given: &Given,
     file: &File,
 ) -> Result<()> {
@@ -86,17 +92,14 @@ pub(crate) fn put_sources(
         return Ok(());
     };
     let path = format!(in rt.alloc(); "{front}.lst")?;
-    let Ok(bytes) = bytes_at(rt, path.as_str()) else {
-        return Ok(());
-    };
-    if let Ok(text) = str::from_utf8(&bytes) {
+    if let Ok(text) = text_at(rt, path.as_str()) {
         put_key(out, "source")?;
-        begin(out, '{')?;
+        begin(out, b'{')?;
         put_key(out, "text")?;
-        put_part(rt, out, given, file, Part::Text, text)?;
+        put_segment(rt, out, given, file, Segment::TextSeg, text.as_str())?;
         put_key(out, "data")?;
-        put_part(rt, out, given, file, Part::Data, text)?;
-        out.push('}')?;
+        put_segment(rt, out, given, file, Segment::DataSeg, text.as_str())?;
+        out.extend_from_slice(b"}")?;
     }
     Ok(())
 }

@@ -1,5 +1,4 @@
 //! The states that a session can be in, as JSON.
-use crate::files::object_in;
 use crate::fronts::{fronts_of, put_last_front};
 use crate::given::Given;
 use crate::json::{begin, put_bytes, put_key, put_numbers, put_text};
@@ -7,7 +6,6 @@ use crate::links::{links_of, put_links};
 use crate::marks::put_marks;
 use crate::numbers::{Computed, Numbers};
 use crate::parts::put_names;
-use crate::steps::withdraw;
 use crate::walk::Walk;
 use anyhow::{Result, anyhow};
 use link_session::{AddFault, Session};
@@ -20,30 +18,20 @@ struct Before {
     name_count: u16,
 }
 
-impl Before {
-    /// The state before the first one, which has nothing.
-    fn none(alloc: Global) -> Before {
-        Before {
-            numbers: Numbers::none(alloc),
-            name_count: 0,
-        }
-    }
-}
-
 /// Adds the names from this one on, as a list.
-fn put_new_names(out: &mut String, session: &Session, first: u16) -> Result<(), AllocError> {
+fn put_new_names(out: &mut Vec<u8>, session: &Session, first: u16) -> Result<(), AllocError> {
     put_key(out, "newNames")?;
-    begin(out, '[')?;
+    begin(out, b'[')?;
     for index in first..session.external_count() {
         if let Some((name, _)) = session.external(index) {
-            put_bytes(out, "", name.as_bytes())?;
+            put_bytes(out, b"", name.as_bytes())?;
         }
     }
-    out.push(']')
+    out.extend_from_slice(b"]")
 }
 
 /// Adds the sizes of the merged segments, text and data in words.
-fn put_sizes(out: &mut String, session: &Session) -> Result<(), AllocError> {
+fn put_sizes(out: &mut Vec<u8>, session: &Session) -> Result<(), AllocError> {
     put_key(out, "sizes")?;
     put_numbers(
         out,
@@ -59,7 +47,7 @@ fn put_sizes(out: &mut String, session: &Session) -> Result<(), AllocError> {
 /// the next states are compared with.
 fn put_session(
     alloc: Global,
-    out: &mut String,
+    out: &mut Vec<u8>,
     session: &Session,
     walk: &Walk,
     givens: &[Given],
@@ -72,10 +60,10 @@ fn put_session(
         fronts: &fronts,
         links: &links,
     };
-    let numbers = Numbers::of(alloc, computed, givens, walk.list())?;
-    begin(out, '{')?;
+    let numbers = Numbers::of(alloc, computed, givens, &walk.list)?;
+    begin(out, b'{')?;
     put_key(out, "list")?;
-    put_numbers(out, walk.list())?;
+    put_numbers(out, &walk.list)?;
     put_sizes(out, session)?;
     put_key(out, "front")?;
     put_last_front(out, &fronts)?;
@@ -87,8 +75,8 @@ fn put_session(
     put_marks(out, session)?;
     put_key(out, "links")?;
     put_links(alloc, out, &links)?;
-    out.push('}')?;
-    out.push('\n')?;
+    out.extend_from_slice(b"}")?;
+    out.extend_from_slice(b"\n")?;
     Ok(Before {
         numbers,
         name_count: session.external_count(),
@@ -98,30 +86,20 @@ fn put_session(
 /// Adds that an object is refused where these are there.
 fn put_refused(
     alloc: Global,
-    out: &mut String,
+    out: &mut Vec<u8>,
     list: &[usize],
     object: usize,
     cause: AddFault,
 ) -> Result<(), AllocError> {
     let text = format!(in alloc; "{cause}")?;
-    begin(out, '{')?;
+    begin(out, b'{')?;
     put_key(out, "list")?;
     put_numbers(out, list)?;
     put_key(out, "object")?;
     put_numbers(out, &[object])?;
     put_key(out, "refused")?;
     put_text(out, text.as_str())?;
-    out.push('}')
-}
-
-/// Adds an object to the session, and returns why it is refused, if it is.
-fn add(alloc: Global, session: &mut Session, given: &Given) -> Result<Option<AddFault>> {
-    let label = given.path.clone()?;
-    let object = object_in(alloc, given.path.as_str(), &given.bytes)?;
-    match session.add(label, object) {
-        Ok(()) => Ok(None),
-        Err(refused) => Ok(Some(refused.cause)),
-    }
+    out.extend_from_slice(b"}")
 }
 
 /// Takes a step of the walk to a list that has one object more, and returns why it is refused, if it is.
@@ -135,7 +113,7 @@ fn step_to(
     let Some(given) = givens.get(object) else {
         return Err(anyhow!("object {object} is not given"));
     };
-    let refused = add(alloc, session, given)?;
+    let refused = given.add_to(alloc, session)?;
     match refused {
         None => walk.add(object)?,
         Some(_) => walk.pass(object),
@@ -146,14 +124,17 @@ fn step_to(
 /// Adds each state that the objects can reach, by additions to a session and withdrawals from it.
 pub(crate) fn put_states(
     alloc: Global,
-    out: &mut String,
+    out: &mut Vec<u8>,
     session: &mut Session,
     givens: &[Given],
 ) -> Result<()> {
     let mut walk = Walk::new(givens.len(), Vec::new(alloc));
     let mut trail = Vec::new(alloc);
-    begin(out, '[')?;
-    let first = Before::none(alloc);
+    begin(out, b'[')?;
+    let first = Before {
+        numbers: Numbers::none(alloc),
+        name_count: 0,
+    };
     trail.push(put_session(alloc, out, session, &walk, givens, &first)?)?;
     for _ in 0..walk.steps() {
         match walk.next() {
@@ -163,15 +144,15 @@ pub(crate) fn put_states(
                     let now = put_session(alloc, out, session, &walk, givens, before)?;
                     trail.push(now)?;
                 }
-                Some(cause) => put_refused(alloc, out, walk.list(), object, cause)?,
+                Some(cause) => put_refused(alloc, out, &walk.list, object, cause)?,
             },
             None if walk.withdraw() => {
-                let _ = withdraw(session);
+                let _ = session.withdraw();
                 let _ = trail.pop();
             }
             None => break,
         }
     }
-    out.push(']')?;
+    out.extend_from_slice(b"]")?;
     Ok(())
 }

@@ -2,25 +2,10 @@
 use crate::files::{bytes_at, object_in};
 use crate::lines::show;
 use anyhow::{Result, anyhow};
-use aout_core::Object;
 use link_session::Session;
 
-/// Which steps are shown.
-#[derive(Clone, Copy, PartialEq, Eq)]
-pub(crate) enum All {
-    Steps,
-    /// The one of this number, from 1.
-    Only(usize),
-}
-
-impl All {
-    fn has(self, step: usize) -> bool {
-        match self {
-            All::Steps => true,
-            All::Only(only) => step == only,
-        }
-    }
-}
+/// Which steps are shown: the one of this number, from 1, or all.
+type Shown = Option<usize>;
 
 /// The text of a step, if it is shown.
 fn show_step(
@@ -37,20 +22,15 @@ fn show_step(
     show(rt, session)
 }
 
-/// Adds an object to a session.
-pub(crate) fn add(session: &mut Session, path: String, object: Object) -> Result<()> {
-    match session.add(path, object) {
-        Ok(()) => Ok(()),
-        Err(refused) => Err(anyhow!("{}: {}", refused.label, refused.cause)),
-    }
-}
-
+/// Adds the object at a path.
 fn add_file(rt: &HostRuntime, session: &mut Session, path: String, is_shown: bool) -> Result<()> {
     let bytes = bytes_at(rt, path.as_str())?;
     let object = object_in(rt.alloc(), path.as_str(), &bytes)?;
     let label = path.clone()?;
-    add(session, path, object)?;
-    show_step(rt, session, is_shown, "add", label.as_str())
+    match session.add(path, object) {
+        Ok(()) => show_step(rt, session, is_shown, "add", label.as_str()),
+        Err(refused) => Err(anyhow!("{}: {}", refused.label, refused.cause)),
+    }
 }
 
 /// Adds the objects, and returns the number of the next step.
@@ -58,30 +38,30 @@ fn add_all(
     rt: &HostRuntime,
     session: &mut Session,
     files: Vec<String>,
-    shown: All,
+    shown: Shown,
 ) -> Result<usize> {
     let mut step = 1usize;
     for path in files {
-        add_file(rt, session, path, shown.has(step))?;
+        add_file(rt, session, path, shown.is_none_or(|only| only == step))?;
         step = step.saturating_add(1);
     }
     Ok(step)
 }
 
-/// The label of the object that was withdrawn.
-pub(crate) fn withdraw(session: &mut Session) -> Option<String> {
-    let (label, _) = session.withdraw()?;
-    Some(label)
-}
-
 /// Withdraws all objects, from this step on.
-fn withdraw_all(rt: &HostRuntime, session: &mut Session, first: usize, shown: All) -> Result<()> {
+fn withdraw_all(rt: &HostRuntime, session: &mut Session, first: usize, shown: Shown) -> Result<()> {
     let mut step = first;
     for _ in 0..session.entries().len() {
-        let Some(label) = withdraw(session) else {
+        let Some((label, _)) = session.withdraw() else {
             break;
         };
-        show_step(rt, session, shown.has(step), "withdraw", label.as_str())?;
+        show_step(
+            rt,
+            session,
+            shown.is_none_or(|only| only == step),
+            "withdraw",
+            label.as_str(),
+        )?;
         step = step.saturating_add(1);
     }
     Ok(())
@@ -92,10 +72,10 @@ pub(crate) fn play(
     rt: &HostRuntime,
     session: &mut Session,
     files: Vec<String>,
-    shown: All,
+    shown: Shown,
 ) -> Result<()> {
     let count = files.len().saturating_mul(2);
-    if let All::Only(step) = shown
+    if let Some(step) = shown
         && count < step
     {
         return Err(anyhow!("there are {count} steps"));

@@ -2,10 +2,10 @@
 use crate::json::{begin, put_bytes};
 use aout_core::{Symbol, Wire};
 use std::alloc::{AllocError, Global};
-use symtools::{letter, line};
+use symtools::line;
 
 /// The line of `nm -p` for a symbol, without its end.
-pub(crate) fn nm_line(alloc: Global, symbol: &Symbol) -> Vec<u8> {
+fn nm_line(alloc: Global, symbol: &Symbol) -> Vec<u8> {
     let mut out = Wire::new(Vec::new(alloc));
     let _ = line(symbol, &mut out);
     let mut text = out.into_inner();
@@ -13,20 +13,15 @@ pub(crate) fn nm_line(alloc: Global, symbol: &Symbol) -> Vec<u8> {
     text
 }
 
-/// Whether two symbols have the same letter and name.
-pub(crate) fn is_alike(one: &Symbol, other: &Symbol) -> bool {
-    letter(one) == letter(other) && one.name == other.name
-}
-
 /// Adds the lines, as a list.
 pub(crate) fn put_lines(
     alloc: Global,
-    out: &mut String,
+    out: &mut Vec<u8>,
     symbols: &[Symbol],
 ) -> Result<(), AllocError> {
-    begin(out, '[')?;
+    begin(out, b'[')?;
     for symbol in symbols {
-        put_bytes(out, "", &nm_line(alloc, symbol))?;
+        put_bytes(out, b"", &nm_line(alloc, symbol))?;
     }
-    out.push(']')
+    out.extend_from_slice(b"]")
 }

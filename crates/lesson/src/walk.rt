@@ -10,7 +10,7 @@ pub(crate) const ALL_ORDERS: usize = 5;
 pub(crate) struct Walk {
     count: usize,
     /// The objects that are there, in order.
-    list: Vec<usize>,
+    pub(crate) list: Vec<usize>,
     /// No object below this one may come next.
     from: usize,
 }
@@ -23,11 +23,6 @@ impl Walk {
             list: room,
             from: 0,
         }
-    }
-
-    /// The objects that are there, in order.
-    pub(crate) fn list(&self) -> &[usize] {
-        &self.list
     }
 
     /// How many additions and withdrawals the walk has at most.

@@ -8,14 +8,10 @@ const USAGE: &str =
 /// What is asked of the objects.
 #[derive(Drop)]
 pub(crate) enum Asked {
-    /// All steps as text.
-    All,
-    /// One step as text, from 1.
-    Step(usize),
-    /// The page, of the scripts and the styles in this folder.
-    Page(String),
-    /// The page with the lessons of a file: the folder, and this file.
-    Lessons(String, String),
+    /// All steps as text, or the one of this number, from 1.
+    Steps(Option<usize>),
+    /// The page: the folder of its scripts and styles, and the file of its lessons, if it has any.
+    Page(String, Option<String>),
 }
 
 /// What the arguments ask for, and the paths of the objects, at least one.
@@ -49,31 +45,25 @@ fn after_first(word: &str) -> Next {
     }
 }
 
-/// What is asked for, with a file of questions.
-fn with_questions(asked: Asked, questions: String) -> Asked {
-    match asked {
-        Asked::Page(folder) => Asked::Lessons(folder, questions),
-        other => other,
-    }
-}
-
 /// The words after the program's name.
 pub(crate) fn words_given(rt: &HostRuntime) -> Result<Words> {
-    let mut asked = Asked::All;
+    let mut asked = Asked::Steps(None);
     let mut files = Vec::new(rt.alloc());
     let mut next = Next::First;
     for word in env::args(rt)?.skip(1) {
         if next == Next::Step {
             // 0 if the word is not a number, and there is no such step
-            asked = Asked::Step(word.as_str().parse::<usize>().unwrap_or(0));
+            asked = Asked::Steps(Some(word.as_str().parse::<usize>().unwrap_or(0)));
             next = Next::File;
         } else if next == Next::Folder {
-            asked = Asked::Page(word);
+            asked = Asked::Page(word, None);
             next = Next::Option;
         } else if next == Next::Option && word.as_str() == "-q" {
             next = Next::Questions;
         } else if next == Next::Questions {
-            asked = with_questions(asked, word);
+            if let Asked::Page(_, questions) = &mut asked {
+                *questions = Some(word);
+            }
             next = Next::File;
         } else {
             if next == Next::Option {
@@ -87,7 +77,7 @@ pub(crate) fn words_given(rt: &HostRuntime) -> Result<Words> {
             }
         }
     }
-    if files.is_empty() || matches!(&asked, Asked::Step(0)) {
+    if files.is_empty() || matches!(&asked, Asked::Steps(Some(0))) {
         return Err(anyhow!("{USAGE}"));
     }
     Ok(Words { asked, files })

@@ -27,6 +27,10 @@ json_byte b =
     if nat_lt 31 b && (nat_lt b 127 && (not (eqb b 34) && not (eqb b 92))) then b ∷ []
     else codes "\\u00" ++ digit_glyph false (b / 16) ∷ digit_glyph false (b % 16) ∷ []
 
+-- a byte of a text in UTF-8: those of characters beyond ASCII stand for themselves
+abbrev pub json_text_byte : ℕ → List ℕ
+json_text_byte b = if nat_lt 127 b then b ∷ [] else json_byte b
+
 abbrev pub json_name : List ℕ → List ℕ
 json_name name = codes "\"" ++ flat_map json_byte name ++ codes "\""
 

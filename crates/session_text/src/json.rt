@@ -6,7 +6,7 @@ ghost use Rattle.link_session.specs.Sessions.{newest};
 ghost use Rattle.link_session.specs.Undo.{IsJournal, image_of};
 ghost use Rattle.link_session.specs.Labelled.{objects};
 ghost use Rattle.session_text.specs.Items.{each};
-ghost use Rattle.session_text.specs.StateJson.{cell_json, comma, external_json, json_byte, json_name, listed_mark, mark_json, members_of_state, multiple_json, names_json, pc_json, place_json, state_json, state_value, state_word, target_json, word_json, words_json};
+ghost use Rattle.session_text.specs.StateJson.{cell_json, comma, external_json, json_byte, json_name, json_text_byte, listed_mark, mark_json, members_of_state, multiple_json, names_json, pc_json, place_json, state_json, state_value, state_word, target_json, word_json, words_json};
 
 use crate::names::name_at;
 use crate::numbers::push_decimal;
@@ -37,11 +37,38 @@ fn push_json_byte(text: &mut Vec<u8>, byte: u8) -> Result<(), AllocError>
     text.extend_from_slice(&[hex_digit(byte / 16), hex_digit(byte % 16)])
 }
 
-fn push_json_bytes(text: &mut Vec<u8>, bytes: &[u8]) -> Result<(), AllocError>
+/// Appends bytes as what is between the quotes of a JSON string, each as the character of its number: one that does not print in
+/// ASCII, a quote and a backslash are `\u00` and two hexadecimal digits. (own choice)
+///
+/// An error: out of memory.
+pub fn push_json_bytes(text: &mut Vec<u8>, bytes: &[u8]) -> Result<(), AllocError>
     ensures { OnOk result (text.new.items ≡ text.old.items ++ flat_map json_byte bytes.now) }
 {
     for byte in bytes {
         push_json_byte(text, *byte)?;
+    }
+    Ok(())
+}
+
+/// Appends a byte of a text in UTF-8.
+fn push_json_text_byte(text: &mut Vec<u8>, byte: u8) -> Result<(), AllocError>
+    ensures { OnOk result (text.new.items ≡ text.old.items ++ json_text_byte byte) }
+{
+    if byte > 127 {
+        return text.extend_from_slice(&[byte]);
+    }
+    push_json_byte(text, byte)
+}
+
+/// Appends a text as what is between the quotes of a JSON string: its characters beyond ASCII as they are, and the others as
+/// `push_json_bytes` has them. (own choice)
+///
+/// An error: out of memory.
+pub fn push_json_text(text: &mut Vec<u8>, characters: &str) -> Result<(), AllocError>
+    ensures { OnOk result (text.new.items ≡ text.old.items ++ flat_map json_text_byte characters.now) }
+{
+    for byte in characters.as_bytes() {
+        push_json_text_byte(text, *byte)?;
     }
     Ok(())
 }
