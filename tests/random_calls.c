@@ -2,8 +2,9 @@
  * first that v7_check refuses, and that one last. The answer, the file and the report must be equal. Each buffer ends at a page that
  * may not be touched, or begins after one. What a call reads may not be written, and nothing is written beside a result. Each call is made
  * once more with each of its requests for memory refused, and all later ones. The findings of v7_link_findings, as lines, must be the
- * report. Of each object v7_disassemble must refuse what v7_strip refuses, and give for the stripped file what v7_disassemble_words gives
- * for its words, in the same buffers and with refused memory too. tests/library.sh compiles it as it does tests/faults.c, and runs it.
+ * report. Of the first object v7_disassemble must refuse what v7_strip refuses, and give for the stripped file what
+ * v7_disassemble_words gives for its words, in such buffers and with memory refused. tests/library.sh compiles it as it does
+ * tests/faults.c, and runs it.
  *
  * usage: random_calls NUMBER */
 #define _DEFAULT_SOURCE
@@ -306,13 +307,19 @@ static uint32_t show(const struct buffer *in, int address, size_t size, struct v
     return v7_disassemble_words((uint16_t)address, (const uint16_t *)in->at, in->size / 2, file.at, size, answer);
 }
 
-/* whether the call refuses this, keeps no memory and writes nothing; needed is the size that it asks for */
+/* whether the answer has this fault and this size, and nothing else, and no memory is kept */
+static int has(const struct v7_answer *answer, uint32_t fault, size_t size)
+{
+    return answer->fault == fault && answer->size == size && answer->word == 0 && answer->place == 0 &&
+           answer->report_size == 0 && held == 0;
+}
+
+/* whether the call has this fault and writes nothing; needed is the size that it asks for */
 static int refuses(const struct buffer *in, int address, size_t size, uint32_t fault, size_t needed)
 {
     struct v7_answer answer;
 
-    return show(in, address, size, &answer) == 2 && answer.fault == fault && answer.word == 0 && answer.place == 0 && answer.size == needed &&
-           answer.report_size == 0 && held == 0 && has_alone(&file, filled, 0);
+    return show(in, address, size, &answer) == 2 && has(&answer, fault, needed) && has_alone(&file, filled, 0);
 }
 
 /* whether the call gives this text in a room of its size, and refuses smaller ones and each lack of memory */
@@ -323,8 +330,7 @@ static int shows(const struct buffer *in, int address, const unsigned char *text
     int is_refused = 1;
 
     requests = 0;
-    if (show(in, address, size, &answer) != 0 || answer.fault != 0 || answer.word != 0 || answer.place != 0 || answer.size != size ||
-        answer.report_size != 0 || held != 0 || !has_alone(&file, text, size))
+    if (show(in, address, size, &answer) != 0 || !has(&answer, V7_NO_FAULT, size) || !has_alone(&file, text, size))
         return 0;
     all = requests;
     for (n = 1; n <= all && is_refused; n++) {
@@ -355,16 +361,6 @@ static int is_disassembled(const struct buffer *b)
     return answer.fault == 0 && shows(&words, 0, text, answer.size);
 }
 
-static int are_disassembled(void)
-{
-    size_t i;
-
-    for (i = 0; i < count; i++)
-        if (!is_disassembled(&inputs[i]))
-            return 0;
-    return 1;
-}
-
 int main(int argc, char **argv)
 {
     static unsigned char room[SPACE], lines[SPACE];
@@ -389,7 +385,7 @@ int main(int argc, char **argv)
             printf("call %ld: another answer than that of v7_link: fault %u\n", n, (unsigned)wanted.fault);
             return 1;
         }
-        if (!are_disassembled()) {
+        if (count > 0 && !is_disassembled(&inputs[0])) {
             printf("call %ld: the instructions of an object differ\n", n);
             return 1;
         }
