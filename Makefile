@@ -81,7 +81,8 @@ build/$(SONAME): build/libv7.a packaging/libv7.map
 build/libv7.so: build/$(SONAME)
 	ln -sf $(SONAME) build/libv7.so
 
-LIBRARY_CRATES := $(addprefix crates/,aout_core link_session link_options link_out symtools session_text library_calls v7_c)
+LIBRARY_CRATES := $(addprefix crates/,aout_core link_session link_options link_out symtools session_text listings instructions disassemblies \
+	library_calls v7_c)
 crates/v7_c/out/libv7_c.a: crates.txt $(shell find $(LIBRARY_CRATES) -name out -prune -o -type f -print)
 	python3 tests/prove.py v7_c $@
 	touch $@

@@ -1,5 +1,5 @@
-/* libv7: the linker, nm, size and strip of v7, for C. v7(3) shows it in use; docs/LINK.md has the rules of a link, and
- * docs/FORMAT.md the format.
+/* libv7: the linker, nm, size, strip and the disassembler of v7, for C. v7(3) shows it in use; docs/LINK.md has the rules of a
+ * link, and docs/FORMAT.md the format.
  *
  * Each call takes bytes and gives bytes, and keeps nothing for the next call. An object or a file is the bytes of an a.out
  * file; a list of objects is their bytes one after another, since the header of each says how long it is. v7_link_list and
@@ -169,6 +169,17 @@ uint32_t v7_nm(uint32_t options, const unsigned char *bytes, size_t size, unsign
 /* Writes the sizes of text, data and bss of the file that BYTES begin with, and their sum in decimal and in octal, as
  * `v7 size` prints them: one line with its newline. Faults: 11 to 14, V7_NO_MEMORY, V7_NO_ROOM. */
 uint32_t v7_size(const unsigned char *bytes, size_t size, unsigned char *room, size_t room_size, struct v7_answer *answer);
+
+/* Writes the text of the file that BYTES begin with as instructions, with names and labels, as `v7-explain -d` prints it without
+ * notes; v7-explain(1) describes the notation. A line is the address, two blanks, one to three words in 20 columns, two blanks, the
+ * instruction, and a newline; labels have lines of their own. All numbers are octal. Faults: 11 to 14, V7_NO_MEMORY, V7_NO_ROOM. */
+uint32_t v7_disassemble(const unsigned char *bytes, size_t size, unsigned char *room, size_t room_size, struct v7_answer *answer);
+
+/* Writes WORDS as instructions in the same columns, without names and labels. The first word is at ADDRESS, and the address after
+ * 0177776 is 0. A word that begins no instruction is a line of its own, and so is one if the words end before its instruction does.
+ * Faults: V7_NO_MEMORY, only if there are words, and V7_NO_ROOM. */
+uint32_t v7_disassemble_words(uint16_t address, const uint16_t *words, size_t word_count, unsigned char *room, size_t room_size,
+                              struct v7_answer *answer);
 
 /* Links OBJECTS in their order, as `v7 ld` does: the linked file goes to ROOM, and the lines of the report to REPORT. Both are
  * written or neither. ENTRY is the name of the entry point, at most 8 bytes, or of size 0 if there is none. FORCED are

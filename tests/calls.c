@@ -7,8 +7,9 @@
 
 enum { GUARD = 16, FILLER = 0xa5 };
 
-static const char *const names[CALLS] = {"v7_check", "v7_strip", "v7_nm", "v7_size", "v7_read", "v7_take_apart",
-                                         "v7_make", "v7_link", "v7_link_list", "v7_link_findings", "v7_session", "v7_state"};
+static const char *const names[CALLS] = {
+    "v7_check", "v7_strip", "v7_nm", "v7_size", "v7_disassemble", "v7_read", "v7_take_apart", "v7_disassemble_words",
+    "v7_make", "v7_link", "v7_link_list", "v7_link_findings", "v7_session", "v7_state"};
 
 /* rooms, aligned for words, symbols and findings */
 static union {
@@ -84,6 +85,8 @@ static uint32_t call_with_bytes(const struct request *r)
         return v7_nm(r->option, in[0].at, in[0].size, room[0].at, room[0].size, &answer);
     case SIZE:
         return v7_size(in[0].at, in[0].size, room[0].at, room[0].size, &answer);
+    case DISASSEMBLE:
+        return v7_disassemble(in[0].at, in[0].size, room[0].at, room[0].size, &answer);
     case READ:
         return v7_read(in[0].at, in[0].size, &header, room[0].at, room[0].size, room[1].at, room[1].size, room[2].at,
                        room[2].size, &counts, &answer);
@@ -99,6 +102,8 @@ static uint32_t call(const struct request *r)
     const struct space *room = r->room;
 
     switch (r->call) {
+    case DISASSEMBLE_WORDS:
+        return v7_disassemble_words((uint16_t)r->option, in[0].at, in[0].size, room[0].at, room[0].size, &answer);
     case MAKE:
         return v7_make(in[0].at, in[0].size, in[1].at, in[1].size, r->option, in[2].at, in[2].size, room[0].at,
                        room[0].size, &answer);
@@ -250,6 +255,14 @@ static const struct v7_slice apart[] = {{more, sizeof more}, {definition, sizeof
 static const struct v7_finding findings[] = {{"_x", V7_UNDEFINED_NAME}};
 static const struct v7_word text[] = {{04767, 0}, {0177774, 011}, {0207, 0}}, data[] = {{7, 0}};
 static const struct v7_symbol symbols[] = {{"_f", 040, 0}, {"L1", 02, 0}};
+static const char instructions[] = "L1:\n"
+                                   "000000  004767 177774         jsr pc,_f\n"
+                                   "000004  000207                rts pc\n";
+/* the last instruction is cut, so that its first word is plain; and the address after the first is 0 */
+static const uint16_t at_end[] = {0401, 012767, 0177777, 0, 012737};
+static const char plain[] = "177776  000401                br 2\n"
+                            "000000  012767 177777 000000  mov $177777,6\n"
+                            "000006  012737                012737\n";
 static const struct v7_word linked_text[] = {{04767, 0}, {4, 0}, {0207, 0}, {0240, 0}, {0207, 0}};
 static const struct v7_symbol linked_symbols[] = {{"_x", 040, 0}, {"_f", 042, 8}};
 
@@ -266,8 +279,10 @@ const struct request good[CALLS] = {
     {STRIP, 0, {BYTES(more)}, {SPACE(0, 24)}},
     {NM, V7_NM_REVERSE, {BYTES(more)}, {SPACE(0, 24)}},
     {SIZE, 0, {BYTES(more)}, {SPACE(0, 19)}},
+    {DISASSEMBLE, 0, {BYTES(more)}, {SPACE(0, sizeof instructions - 1)}},
     {READ, 0, {BYTES(linked)}, {SPACE(0, 5), SPACE(1, 1), SPACE(2, 2)}},
     {TAKE_APART, 0, {BYTES(more)}, {SPACE(0, 3), SPACE(1, 1), SPACE(2, 2)}},
+    {DISASSEMBLE_WORDS, 0177776, {LIST(at_end)}, {SPACE(0, sizeof plain - 1)}},
     {MAKE, 4, {LIST(text), LIST(data), LIST(symbols)}, {SPACE(0, 56)}},
     {LINK, V7_NOT_L, {STRING("_f"), FORCED, BYTES(both)}, {SPACE(0, 52), SPACE(1, 14)}},
     {LINK_LIST, V7_NOT_L, {STRING("_f"), FORCED, LIST(apart)}, {SPACE(0, 52), SPACE(1, 14)}},
@@ -280,8 +295,10 @@ static const struct wanted given[CALLS] = {
     {0, {0, 0, 0, 24, 0}, {0}, {BYTES(stripped)}, {0}},
     {0, {0, 0, 0, 24, 0}, {0}, {STRING("       U _f\n000000 t L1\n")}, {0}},
     {0, {0, 0, 0, 19, 0}, {0}, {STRING("6+2+4 = 12b = 014b\n")}, {0}},
+    {0, {0, 0, 0, sizeof instructions - 1, 0}, {0}, {STRING(instructions)}, {0}},
     {0, {0, 0, 0, 0, 0}, {5, 1, 2, 4}, {BYTES(linked_text), BYTES(data), BYTES(linked_symbols)}, {0407, 10, 2, 4, 24, 8, 0, 1}},
     {0, {0, 0, 0, 0, 0}, {3, 1, 2, 4}, {BYTES(text), BYTES(data), BYTES(symbols)}, {0}},
+    {0, {0, 0, 0, sizeof plain - 1, 0}, {0}, {STRING(plain)}, {0}},
     {0, {0, 0, 0, 56, 0}, {0}, {BYTES(object)}, {0}},
     {1, {0, 0, 0, 52, 14}, {0}, {BYTES(linked), REPORT}, {0}},
     {1, {0, 0, 0, 52, 14}, {0}, {BYTES(linked), REPORT}, {0}},

@@ -4,7 +4,23 @@
 
 #include "v7.h"
 
-enum call { CHECK, STRIP, NM, SIZE, READ, TAKE_APART, MAKE, LINK, LINK_LIST, LINK_FINDINGS, SESSION, STATE, CALLS };
+enum call {
+    CHECK,
+    STRIP,
+    NM,
+    SIZE,
+    DISASSEMBLE,
+    READ,
+    TAKE_APART,
+    DISASSEMBLE_WORDS,
+    MAKE,
+    LINK,
+    LINK_LIST,
+    LINK_FINDINGS,
+    SESSION,
+    STATE,
+    CALLS
+};
 
 /* the most that a room may have */
 enum { ROOM = 1 << 22 };
@@ -19,9 +35,9 @@ struct space {
     size_t size;
 };
 
-/* A call: OPTIONS, FORM or BSS, what it reads and its rooms, each in the order of the parameters. Sizes are those of the call:
- * of v7_make, v7_take_apart and v7_read numbers of words and symbols, of v7_link_list and v7_link_findings numbers of objects and
- * findings. */
+/* A call: OPTIONS, FORM, BSS or ADDRESS, what it reads and its rooms, each in the order of the parameters. Sizes are those of the
+ * call: of v7_make, v7_take_apart, v7_read and v7_disassemble_words numbers of words and symbols, of v7_link_list and
+ * v7_link_findings numbers of objects and findings. */
 struct request {
     enum call call;
     uint32_t option;

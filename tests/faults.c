@@ -129,14 +129,14 @@ static void put_damaged(const struct damage *d, unsigned char *bytes)
         bytes[d->change[n].at] = (unsigned char)d->change[n].byte;
 }
 
-/* A damaged file alone. A file that is not an object is good enough for v7_strip, v7_nm, v7_size and v7_read. No memory is wanted before
- * the file is known to be whole. */
+/* A damaged file alone. A file that is not an object is good enough for v7_strip, v7_nm, v7_size, v7_disassemble and v7_read. No memory
+ * is wanted before the file is known to be whole. */
 static void check_file(const struct damage *d, enum call kind)
 {
     struct request r = good[kind];
 
     r.in[0] = (struct span){objects, d->size};
-    if (d->fault >= V7_NOT_AN_OBJECT && (kind == STRIP || kind == NM || kind == SIZE || kind == READ)) {
+    if (d->fault >= V7_NOT_AN_OBJECT && kind != CHECK && kind != TAKE_APART) {
         r.room[0].size = 256;
         if (status_of(&r) != 0)
             expect_fault("a file that is not an object", &r, V7_NO_FAULT, 0, 0);
@@ -446,6 +446,8 @@ static void check_null(void)
     const struct v7_slice none[] = {{NULL, 0}};
     struct request list = {LINK_LIST, 0, {{NULL, 0}, {NULL, 0}, {NULL, 0}}, {room, {NULL, 0}}};
     const struct request check = {CHECK, 0, {{NULL, 0}}, {{0}}};
+    const struct request no_words = {DISASSEMBLE_WORDS, 0, {{NULL, 0}}, {{NULL, 0}}};
+    const struct wanted no_lines = {0, {0, 0, 0, 0, 0}, {0}, {{NULL, 0}}, {0}};
 
     put_word(bytes, 0407);
     expect("null parts", &make, &header);
@@ -460,6 +462,7 @@ static void check_null(void)
     expect("null pointers", &list, &header);
     expect("null pointers", &session, &session_header);
     expect_fault("null bytes", &check, V7_SHORT_HEADER, 0, 0);
+    expect("null words", &no_words, &no_lines);
     link.room[0] = (struct space){NULL, 0};
     status_of(&link);
     if (answer.fault != V7_NO_ROOM || answer.size != 16)

@@ -1,16 +1,20 @@
 """The Python module of libv7: its docstrings come out as shown, its texts of faults are those of v7.h, its numbers are refused where
-they do not fit, a cut object is blamed itself, and a session keeps nothing of what was withdrawn.
+they do not fit, a cut object is blamed itself, and a session keeps nothing of what was withdrawn. Instructions are those of v7-explain(1):
+examples worked out by hand, and random files and words by the decoder of tests/disassembly.py.
 
-usage: python3 tests/library.py V7.H       with the module v7 on the path
+usage: python3 tests/library.py V7.H       with the module v7 and the folder tests on the path
 """
 import doctest
+import random
 import re
 import sys
 import typing
 
+import disassembly
 import v7
 
 FITS = 0o177777
+HINTED = "link link_findings make read take_apart nm check disassemble disassemble_words".split()
 
 
 def refused(call, *words):
@@ -51,6 +55,10 @@ def numbers():
     yield refused(v7.link, (), 1 << 32)
     yield refused(v7.link, (), -1)
     yield refused(v7.nm, v7.make(), 1 << 32)
+    yield refused(v7.disassemble_words, [FITS + 1])
+    yield refused(v7.disassemble_words, [-1])
+    yield refused(v7.disassemble_words, [0], FITS + 1)
+    yield refused(v7.disassemble_words, [0], -1)
     yield refused(v7.refers_to, 4096)
     yield refused(v7.refers_to, -1)
     yield not refused(v7.make, [(FITS, v7.NUMBER)], (), 0, [("_f", v7.ABSOLUTE, FITS)])
@@ -111,6 +119,79 @@ def replies():
     yield session.link() == v7.link([])
 
 
+# words at an address, and the texts of their lines
+LINES = [
+    (0, "012700 000005", "mov $5,r0"),
+    (0, "016700 177774", "mov 0,r0"),
+    (2, "016767 000004 000004", "mov 12,14"),
+    (0, "012767 177777 000000", "mov $177777,6"),
+    (0, "013737 177560 177562", "mov *$177560,*$177562"),
+    (0, "017071 000000 000010", "mov *0(r0),*10(r1)"),
+    (0, "016061 177776 100000", "mov -2(r0),-100000(r1)"),
+    (0, "112100", "movb (r1)+,r0"),
+    (0, "000177 000004", "jmp *10"),
+    (0, "004737 001000", "jsr pc,*$1000"),
+    (0, "071027 000012", "div $12,r0"),
+    (0, "074203", "xor r2,r3"),
+    (0o1000, "000577", "br 1400"),
+    (0o1000, "000600", "br 402"),
+    (0, "000776", "br 177776"),
+    (0o177776, "000401", "br 2"),
+    (1, "000401", "br 5"),
+    (0o1000, "077077", "sob r0,604"),
+    (0, "104401", "sys 1"),
+    (0, "172400", "ldf fr0,fr0"),
+    (0, "172427 040200", "movf $40200,fr0"),
+    (0, "174105", "movf fr1,fr5"),
+    (0, "175401", "movfi fr0,r1"),
+    (0, "177467 000010", "movof 14,fr0"),
+    (0, "170406", "170406"),
+    (0, "000243", "000243"),
+]
+
+
+def row(address, words, text):
+    """A line in columns."""
+    return f"{address % (FITS + 1):06o}  {words:20}  {text}\n"
+
+
+def alone(words, address):
+    """The lines of words at an even address by the other decoder: of a text in which so many bytes precede them."""
+    place = address // 2
+    file, lines = disassembly.File([disassembly.NOP] * place + words, magic=0o405), []
+    while place < len(file.words):
+        length, text = file.line(place)
+        lines.append(row(2 * place, " ".join("%06o" % word for word in file.words[place : place + length]), text))
+        place += length
+    return "".join(lines)
+
+
+def instructions():
+    """Words and files as instructions, one after another."""
+    for address, words, text in LINES:
+        yield v7.disassemble_words([int(word, 8) for word in words.split()], address) == row(address, words, text)
+    yield v7.disassemble_words([0o12737, 1]) == row(0, "012737", "012737") + row(2, "000001", "wait")
+    yield v7.disassemble_words([]) == v7.disassemble(v7.make()) == ""
+    dice = random.Random(7)
+    for count in [*range(100), 40000]:
+        words, address = [dice.choice([dice.randrange(FITS + 1), 0o016767]) for _ in range(count)], 2 * dice.randrange(0o100000)
+        yield v7.disassemble_words(words, address) == alone(words, address)
+    for _ in range(300):
+        file = disassembly.random_file(dice)
+        yield v7.disassemble(file.encoded() + b"more").split("\n") == [*file.disassembly(), ""]
+
+
+def cut_files():
+    """The faults of files without instructions."""
+    whole = v7.make(text=[(7, v7.NUMBER)])
+    for fault, data in ((11, b""), (11, whole[:15]), (12, b"\0" + whole[1:]), (13, whole[:2] + b"\3" + whole[3:]), (14, whole[:-1])):
+        try:
+            v7.disassemble(data)
+            yield False
+        except v7.Fault as refusal:
+            yield refusal.fault == fault
+
+
 def main(header):
     wrong = doctest.testmod(v7).failed
     texts = texts_of(header)
@@ -122,7 +203,9 @@ def main(header):
         "blame": [*blames()],
         "parts": [*parts()],
         "replies": [*replies()],
-        "type hints": [typing.get_type_hints(getattr(v7, name)) != {} for name in ("link", "link_findings", "make", "read", "take_apart", "nm", "check")],
+        "instructions": [*instructions()],
+        "cut files": [*cut_files()],
+        "type hints": [typing.get_type_hints(getattr(v7, name)) != {} for name in HINTED],
     }
     for name, outcomes in checks.items():
         if not outcomes or not all(outcomes):

@@ -210,7 +210,7 @@ if command -v python3 >/dev/null; then
     export LIBV7 PYTHONDONTWRITEBYTECODE
     links Python "python3 $top/examples/python/link.py"
     session Python python3 "$top/examples/python/session.py"
-    PYTHONPATH=$top/examples/python python3 "$top/tests/library.py" "$top/include/v7.h" || fail "Python: a check fails"
+    PYTHONPATH=$top/examples/python:$top/tests python3 "$top/tests/library.py" "$top/include/v7.h" || fail "Python: a check fails"
     PYTHONPATH=$top/examples/python:$top/tests python3 "$top/tests/agree_library.py" ${CASES:-500 100} || fail "the model differs"
     mkdir heavy
     PYTHONPATH=$top/examples/python python3 "$top/tests/heavy_library.py" "$top/build/v7" heavy || fail "the large benchmark"

@@ -2,7 +2,9 @@
  * first that v7_check refuses, and that one last. The answer, the file and the report must be equal. Each buffer ends at a page that
  * may not be touched, or begins after one. What a call reads may not be written, and nothing is written beside a result. Each call is made
  * once more with each of its requests for memory refused, and all later ones. The findings of v7_link_findings, as lines, must be the
- * report. tests/library.sh compiles it as it does tests/faults.c, and runs it.
+ * report. Of the first object v7_disassemble must refuse what v7_strip refuses, and give for the stripped file what
+ * v7_disassemble_words gives for its words, in such buffers and with memory refused. tests/library.sh compiles it as it does
+ * tests/faults.c, and runs it.
  *
  * usage: random_calls NUMBER */
 #define _DEFAULT_SOURCE
@@ -67,7 +69,7 @@ struct buffer {
     size_t size;
 };
 
-static struct buffer inputs[PARTS + 3], file, report;
+static struct buffer inputs[PARTS + 3], file, report, words;
 static unsigned char filled[SPACE];
 
 static void make_buffer(struct buffer *b)
@@ -293,6 +295,72 @@ static int finds(uint32_t status, const struct v7_answer *wanted, const unsigned
            memcmp(text, lines, wanted->report_size) == 0;
 }
 
+/* ---- instructions: those of a file, or with an address those of words */
+
+enum { OF_FILE = -1 };
+
+static uint32_t show(const struct buffer *in, int address, size_t size, struct v7_answer *answer)
+{
+    fill(&file, size);
+    if (address == OF_FILE)
+        return v7_disassemble(in->at, in->size, file.at, size, answer);
+    return v7_disassemble_words((uint16_t)address, (const uint16_t *)in->at, in->size / 2, file.at, size, answer);
+}
+
+/* whether the answer has this fault and this size, and nothing else, and no memory is kept */
+static int has(const struct v7_answer *answer, uint32_t fault, size_t size)
+{
+    return answer->fault == fault && answer->size == size && answer->word == 0 && answer->place == 0 &&
+           answer->report_size == 0 && held == 0;
+}
+
+/* whether the call has this fault and writes nothing; needed is the size that it asks for */
+static int refuses(const struct buffer *in, int address, size_t size, uint32_t fault, size_t needed)
+{
+    struct v7_answer answer;
+
+    return show(in, address, size, &answer) == 2 && has(&answer, fault, needed) && has_alone(&file, filled, 0);
+}
+
+/* whether the call gives this text in a room of its size, and refuses smaller ones and each lack of memory */
+static int shows(const struct buffer *in, int address, const unsigned char *text, size_t size)
+{
+    struct v7_answer answer;
+    size_t all, n;
+    int is_refused = 1;
+
+    requests = 0;
+    if (show(in, address, size, &answer) != 0 || !has(&answer, V7_NO_FAULT, size) || !has_alone(&file, text, size))
+        return 0;
+    all = requests;
+    for (n = 1; n <= all && is_refused; n++) {
+        requests = 0;
+        refused_from = n;
+        is_refused = refuses(in, address, size, V7_NO_MEMORY, 0);
+        refused_from = (size_t)-1;
+    }
+    return is_refused && (size == 0 || refuses(in, address, below((unsigned)size), V7_NO_ROOM, size));
+}
+
+static int is_disassembled(const struct buffer *b)
+{
+    static unsigned char stripped[SPACE], text[SPACE];
+    struct v7_answer whole, answer;
+    size_t size;
+
+    v7_strip(b->at, b->size, stripped, SPACE, &whole);
+    if (whole.fault != 0)
+        return refuses(b, OF_FILE, SPACE, whole.fault, 0);
+    v7_disassemble(b->at, b->size, text, SPACE, &answer);
+    if (answer.fault != 0 || !shows(b, OF_FILE, text, answer.size))
+        return 0;
+    v7_disassemble(stripped, whole.size, text, SPACE, &answer);
+    size = stripped[2] + 256u * stripped[3];
+    place(&words, size, (int)below(2));
+    memcpy(words.at, stripped + 16, size);
+    return answer.fault == 0 && shows(&words, 0, text, answer.size);
+}
+
 int main(int argc, char **argv)
 {
     static unsigned char room[SPACE], lines[SPACE];
@@ -305,6 +373,7 @@ int main(int argc, char **argv)
         make_buffer(&inputs[i]);
     make_buffer(&file);
     make_buffer(&report);
+    make_buffer(&words);
     memset(filled, FILLER, SPACE);
     for (n = 0; n < calls; n++) {
         put_call();
@@ -314,6 +383,10 @@ int main(int argc, char **argv)
         if (!is_right(status, &wanted, room, lines, wanted.size, wanted.report_size) || !is_refused(requests) ||
             !is_right(status, &wanted, room, lines, below(200), below(30)) || !finds(status, &wanted, room, lines)) {
             printf("call %ld: another answer than that of v7_link: fault %u\n", n, (unsigned)wanted.fault);
+            return 1;
+        }
+        if (count > 0 && !is_disassembled(&inputs[0])) {
+            printf("call %ld: the instructions of an object differ\n", n);
             return 1;
         }
         refused += wanted.fault >= V7_SHORT_HEADER && wanted.fault <= V7_BAD_SYMBOL_NUMBER;

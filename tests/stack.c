@@ -37,6 +37,8 @@ static void *call_all(void *unused)
     called(v7_strip(objects, objects_size, room, ROOM, &answer), &answer);
     called(v7_nm(V7_NM_BY_VALUE, objects, objects_size, room, ROOM, &answer), &answer);
     called(v7_size(objects, objects_size, room, ROOM, &answer), &answer);
+    called(v7_disassemble(objects, objects_size, room, ROOM, &answer), &answer);
+    called(v7_disassemble_words(0, (const uint16_t *)objects, objects_size / 2, room, ROOM, &answer), &answer);
     for (option = 0; option < 128; option = 2 * option + (option == 0)) {
         called(v7_link(option, none, 0, none, 0, objects, objects_size, room, ROOM, more, ROOM, &answer), &answer);
         called(v7_link_list(option, none, 0, none, 0, slices, count, room, ROOM, more, ROOM, &answer), &answer);
@@ -100,5 +102,5 @@ int main(void)
     edits[COUNT - 1] = V7_WITHDRAW;
     call_in_thread();
     printf("%u calls, %u with a result\n", calls, results);
-    return calls != 82 || results < 70;
+    return calls != 86 || results < 74;
 }

@@ -282,6 +282,32 @@ def nm(data: bytes, options: int = 0) -> str:
     return _given("v7_nm", _number("the options", options), *_slice(data)).decode("latin-1")
 
 
+def disassemble(data: bytes) -> str:
+    """The text of a file as instructions, with names and labels, as `v7-explain -d` shows it without notes.
+
+    >>> call = [(0o4767, NUMBER), (0o177774, refers_to(0) + FROM_PC), (0o207, NUMBER)]
+    >>> print(disassemble(make(text=call, symbols=[("_f", EXTERNAL, 0), ("_main", TEXT | EXTERNAL, 0)])), end="")
+    _main:
+    000000  004767 177774         jsr pc,_f
+    000004  000207                rts pc
+    """
+    return _given("v7_disassemble", *_slice(data)).decode("latin-1")
+
+
+def disassemble_words(words: Iterable[int], address: int = 0) -> str:
+    """Words as instructions, without names and labels. The first is at the address, and the address after 0177776 is 0.
+
+    >>> print(disassemble_words([0o077077, 0o012700, 5], 0o1000), end="")
+    001000  077077                sob r0,604
+    001002  012700 000005         mov $5,r0
+    >>> disassemble_words([65536])
+    Traceback (most recent call last):
+    ValueError: a word is 0 to 65535, and not 65536
+    """
+    at = ctypes.c_uint16(_fitting("an address", address, 16))
+    return _given("v7_disassemble_words", at, *_array(ctypes.c_uint16, [_fitting("a word", word, 16) for word in words])).decode("latin-1")
+
+
 def _padded(name: str) -> bytes:
     data = name.encode("latin-1")
     if len(data) > 8:

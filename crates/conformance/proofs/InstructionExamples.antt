@@ -10,6 +10,12 @@ use Rattle.instructions.specs.Lines.{line_at, lines}
 use Rattle.instructions.specs.References.{octal}
 use Rattle.instructions.specs.Texts.{line_text, branch_target, branch_back_target}
 use Rattle.instructions.specs.Laws.{lines_text}
+use Rattle.disassemblies.specs.Columns.{plain_disassembly}
+
+in_columns : plain_disassembly 0o177776 (0o401 ∷ 0o12767 ∷ 0o177777 ∷ 0 ∷ 0o12737 ∷ [])
+    ≡ codes "177776  000401                br 2\n000000  012767 177777 000000  mov $177777,6\n000006  012737                012737\n"
+unfolding row_of begins digits
+in_columns = refl
 
 immediate : line_text 0 (line_at (0o12700 ∷ 5 ∷ []) 0) ≡ codes "mov $5,r0"
 unfolding row_of begins digits

@@ -4,8 +4,8 @@ use aout_core::{ObjectFault, ReadFault};
 use fixtures::{TWO_OBJECTS, UNDEFINED, sized};
 use library_calls::{
     Cause, Finding, LongPart, ObjectBytes, ObjectParts, ObjectWord, Refusal, Shown, Wanted, check,
-    link, link_each, link_findings, list_symbols, make, read_apart, run_session, show_session,
-    show_sizes, strip, take_apart,
+    disassemble, disassemble_words, link, link_each, link_findings, list_symbols, make, read_apart,
+    run_session, show_session, show_sizes, strip, take_apart,
 };
 use std::alloc::{AllocError, Global};
 use std::test::Fail;
@@ -41,6 +41,24 @@ fn calls_on_one_file(rt: HostRuntime) {
     assert!(rt; gives(list_symbols(alloc, 1, &C_O), b"       U _f\n"));
     assert!(rt; list_symbols(alloc, 32, &C_O).err() == Some(Cause::NoOption));
     assert!(rt; gives(show_sizes(alloc, &C_O), b"4+0+0 = 4b = 04b\n"));
+}
+
+/// The words end within the last instruction.
+const PLAIN: &[u8] = b"177776  000401                br 2
+000000  012767 177777 000000  mov $177777,6
+000006  012737                012737
+";
+
+#[test]
+fn instructions_shown(rt: HostRuntime) {
+    let alloc = rt.alloc();
+    let named = b"L1:\n000000  004767 177774         jsr pc,_f\n";
+    assert!(rt; gives(disassemble(alloc, &C_O), named));
+    let cause = Cause::BadFile(ReadFault::Truncated);
+    assert!(rt; disassemble(alloc, &C_O[..47]).err() == Some(cause));
+    let words = [0o401, 0o12767, 0o177777, 0, 0o12737];
+    assert!(rt; gives(disassemble_words(alloc, 0o177776, &words), PLAIN));
+    assert!(rt; gives(disassemble_words(alloc, 0o177776, &[]), b""));
 }
 
 /// Whether an object that is taken apart is made again of its parts; and whether it is too long with more bss.

@@ -1,3 +1,4 @@
 pub mod StartLemmas
 pub mod LabelLemmas
+pub mod PlainLemmas
 pub mod SilentLabels

@@ -1,8 +1,11 @@
--- A file's text in columns: labels, and lines with the address, the words and the text. (own choice)
-use Rattle.std.specs.Prelude.{ℕ, ◌-◌, ◌*◌, List, ◌++◌, length, take, drop, replicate, codes}
+-- Lines in columns: the address, the words and the text. Those of a file have labels before them. (own choice)
+use Rattle.std.specs.Prelude.{ℕ, ◌-◌, ◌*◌, List, [], ◌∷◌, ◌++◌, length, take, drop, replicate, codes}
 use Rattle.std.specs.List.{flat_map}
 use Rattle.aout_core.specs.Contents.{Contents}
-use Rattle.instructions.specs.Texts.{six_digits}
+use Rattle.aout_core.specs.Words.{plus}
+use Rattle.instructions.specs.declared.line.Line.{Line}
+use Rattle.instructions.specs.Lines.{line_length, lines, words_of}
+use Rattle.instructions.specs.Texts.{line_text, six_digits}
 use Rattle.disassemblies.specs.Lines.{line_text_in}
 use Rattle.disassemblies.specs.Starts.{by_lines}
 use Rattle.disassemblies.specs.Labels.{labels}
@@ -10,14 +13,29 @@ use Rattle.disassemblies.specs.Labels.{labels}
 abbrev pub word_column : ℕ → List ℕ
 word_column w = six_digits w ++ codes " "
 
--- the line of so many words at a place: its text begins in the 31st column
+-- the address of a line and its words: its text begins in the 31st column
+abbrev pub columns : ℕ → List ℕ → List ℕ
+columns address words = six_digits address ++ codes "  " ++ flat_map word_column words ++ replicate (22 - 7 * length words) 32
+
+-- the line of so many words at a place of a file's text
 abbrev pub row : Contents → ℕ → ℕ → List ℕ
-row c place n =
-    six_digits (2 * place) ++ codes "  " ++ flat_map word_column (take n (drop place c.text_words))
-    ++ replicate (22 - 7 * n) 32 ++ line_text_in c place ++ codes "\n"
+row c place n = columns (2 * place) (take n (drop place c.text_words)) ++ line_text_in c place ++ codes "\n"
 
 abbrev pub labelled_row : Contents → ℕ → ℕ → List ℕ
 labelled_row c place n = labels c.symbols (2 * place) n ++ row c place n
 
 abbrev pub disassembly : Contents → List ℕ
 disassembly c = by_lines c (λ place n. labelled_row c place n) (labels c.symbols (2 * length c.text_words) 0)
+
+-- a line at an address, without names
+abbrev pub plain_row : ℕ → Line → List ℕ
+plain_row address line = columns address (words_of line) ++ line_text address line ++ codes "\n"
+
+-- these lines, the first of them at an address; after 177776 the addresses begin again at 0
+abbrev pub plain_rows : ℕ → List Line → List ℕ
+plain_rows address [] = []
+plain_rows address (line ∷ rest) = plain_row address line ++ plain_rows (plus address (2 * line_length line)) rest
+
+-- the lines of words alone
+abbrev pub plain_disassembly : ℕ → List ℕ → List ℕ
+plain_disassembly address words = plain_rows address (lines words)

@@ -1,13 +1,14 @@
 //! A text in columns.
-ghost use Rattle.std.specs.Prelude.{◌≡◌, ◌<◌, ◌≤◌, ◌+◌, ◌-◌, ◌*◌, ◌++◌, length, take, drop, replicate, OnOk, string_bytes};
+ghost use Rattle.std.specs.Prelude.{◌≡◌, ◌≢◌, ◌<◌, ◌≤◌, ◌+◌, ◌-◌, ◌*◌, [], ◌++◌, length, take, drop, replicate, IsErr, OnOk, string_bytes};
 ghost use Rattle.std.specs.List.{flat_map};
+ghost use Rattle.instructions.specs.Lines.{words_of};
 ghost use Rattle.disassemblies.specs.Labels.{labels};
-ghost use Rattle.disassemblies.specs.Columns.{word_column, row, labelled_row, disassembly};
+ghost use Rattle.disassemblies.specs.Columns.{word_column, columns, row, labelled_row, disassembly, plain_row, plain_disassembly};
 
 use crate::label::put_labels;
 use crate::line::{line_in, put_line_text};
 use aout_core::File;
-use instructions::put_six_digits;
+use instructions::{Line, decode, put_six_digits};
 use std::alloc::AllocError;
 
 /// Appends words, each with a blank after it.
@@ -34,6 +35,18 @@ fn blanks(count: usize) -> &'static str
     }
 }
 
+/// Appends the address of a line and its words, up to the column of its text.
+fn put_columns(text: &mut String, address: u16, words: &[u16]) -> Result<(), AllocError>
+    requires some { 1 ≤ length words.now }
+    requires short { length words.now ≤ 3 }
+    ensures { OnOk result (string_bytes text.new ≡ string_bytes text.old ++ columns address words.now) }
+{
+    put_six_digits(text, address)?;
+    text.push_str("  ")?;
+    put_words(text, words)?;
+    text.push_str(blanks(words.len()))
+}
+
 /// Appends the line of so many words at a place, in columns.
 fn put_row(text: &mut String, file: &File, place: usize, count: usize) -> Result<(), AllocError>
     requires within { place + count ≤ length file.now.text_words }
@@ -42,10 +55,7 @@ fn put_row(text: &mut String, file: &File, place: usize, count: usize) -> Result
     ensures { OnOk result (string_bytes text.new ≡ string_bytes text.old ++ row file.now place count) }
 {
     let words = file.text_words();
-    put_six_digits(text, (2 * place) as u16)?;
-    text.push_str("  ")?;
-    put_words(text, &words[place..place + count])?;
-    text.push_str(blanks(count))?;
+    put_columns(text, (2 * place) as u16, &words[place..place + count])?;
     put_line_text(text, file, place)?;
     text.push_str("\n")
 }
@@ -88,4 +98,43 @@ pub fn put_disassembly(text: &mut String, file: &File) -> Result<(), AllocError>
         place += count;
     }
     put_end_labels(text, file)
+}
+
+/// Appends the line of these words at an address, in columns.
+fn put_plain_row(
+    text: &mut String,
+    address: u16,
+    line: &Line,
+    words: &[u16],
+) -> Result<(), AllocError>
+    requires { words.now ≡ words_of line.now }
+    ensures { OnOk result (string_bytes text.new ≡ string_bytes text.old ++ plain_row address line.now) }
+{
+    put_columns(text, address, words)?;
+    line.put_text(address, text)?;
+    text.push_str("\n")
+}
+
+/// Appends the lines of words in the columns of `put_disassembly`, without names and labels. The first word is at the address,
+/// and the address after 177776 is 0. (own choice)
+///
+/// An error, out of memory, only if there are words.
+pub fn put_plain_disassembly(
+    text: &mut String,
+    address: u16,
+    words: &[u16],
+) -> Result<(), AllocError>
+    ensures ok { OnOk result (string_bytes text.new ≡ string_bytes text.old ++ plain_disassembly address words.now) }
+    ensures memory { IsErr result → words.now ≢ [] }
+{
+    let mut next = address;
+    let mut rest = words;
+    while !rest.is_empty() {
+        let line = decode(rest, 0);
+        let count = line.length();
+        put_plain_row(text, next, &line, &rest[..count])?;
+        next = next.wrapping_add((2 * count) as u16);
+        rest = &rest[count..];
+    }
+    Ok(())
 }

@@ -12,6 +12,7 @@
 //! Functions:
 //!
 //! - `put_disassembly`: appends the whole text of a file, in columns
+//! - `put_plain_disassembly`: appends words at an address in these columns, without names
 //! - `line_in`: the line at a place of a file's text
 //! - `put_line_text`: appends the text of that line
 //! - `put_labels`: appends the labels before a line
@@ -29,7 +30,7 @@ mod naming;
 mod relocated;
 mod starts;
 
-pub use columns::put_disassembly;
+pub use columns::{put_disassembly, put_plain_disassembly};
 pub use label::put_labels;
 pub use line::{line_in, put_line_text};
 pub use starts::line_starts;

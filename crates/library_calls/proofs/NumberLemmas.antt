@@ -35,7 +35,8 @@ use Rattle.link_out.specs.Results.{Outcome}
 use Rattle.aout_core.specs.Strip.{stripped}
 use Rattle.symtools.specs.NmLists.{nm_text}
 use Rattle.symtools.specs.SizeLines.{size_text}
-use Rattle.library_calls.specs.FileAnswers.{behind_file, checked_in, file_in, has_bit, names_in, nm_options_in, nm_options_of, object_in, object_of, sizes_in, stripped_in}
+use Rattle.disassemblies.specs.Columns.{disassembly}
+use Rattle.library_calls.specs.FileAnswers.{behind_file, checked_in, disassembled_in, file_in, has_bit, names_in, nm_options_in, nm_options_of, object_in, object_of, sizes_in, stripped_in}
 use Rattle.library_calls.specs.LinkAnswers.{found_each, found_of, linked_each, linked_in, objects_in, outcome_each, output_each, output_in, output_of, with_each, with_first, with_most, with_object}
 use Rattle.library_calls.specs.LinkWanted.{choices_in, entry_of, flags_in, forced_in, name_of, unless_long, with_names}
 use Rattle.library_calls.specs.ObjectParts.{Pieces, contents_for, file_for, header_for, header_of, made_of, parts_in, pieces_of, whole_in}
@@ -100,6 +101,9 @@ told_stripped bytes = told_then (file_in bytes) (λ c. Ok (encoding (stripped c)
 
 pub told_sizes : (bytes : List ℕ) → Told (sizes_in bytes)
 told_sizes bytes = told_then (file_in bytes) (λ c. Ok (size_text (([], c) ∷ []))) (told_file bytes) (λ c. tt)
+
+pub told_disassembled : (bytes : List ℕ) → Told (disassembled_in bytes)
+told_disassembled bytes = told_then (file_in bytes) (λ c. Ok (disassembly c)) (told_file bytes) (λ c. tt)
 
 pub told_apart : (bytes : List ℕ) → Told (parts_in bytes)
 told_apart bytes = told_then (object_in bytes) (λ c. Ok (pieces_of c)) (told_object bytes) (λ c. tt)

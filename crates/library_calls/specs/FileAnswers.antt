@@ -1,4 +1,4 @@
--- What a call says of one file, from its bytes. (strip(1), nm(1), size(1); the refusals: own choice)
+-- What a call says of one file, from its bytes. (strip(1), nm(1), size(1); instructions and the refusals: own choice)
 --
 -- The file is the one that the bytes begin with; what is after it is not looked at.
 use Rattle.std.specs.Prelude.{ℕ, ◌%◌, ◌/◌, Bool, false, eqb, nat_lt, if◌then◌else◌, List, [], ◌∷◌, drop, Result, Ok, Err}
@@ -7,6 +7,7 @@ use Rattle.aout_core.specs.Decoding.{header_in, decode}
 use Rattle.aout_core.specs.Encoding.{file_length, encoding}
 use Rattle.aout_core.specs.Strip.{stripped}
 use Rattle.aout_core.specs.WellFormed.{first_object_fault}
+use Rattle.disassemblies.specs.Columns.{disassembly}
 use Rattle.link_out.specs.Steps.{and_then, refused_as, unless}
 use Rattle.symtools.specs.declared.options.NmOptions.{NmOptions}
 use Rattle.symtools.specs.NmLists.{nm_text}
@@ -39,6 +40,10 @@ stripped_in bytes = and_then (file_in bytes) (λ c. Ok (encoding (stripped c)))
 -- the line of size, without a path
 abbrev pub sizes_in : List ℕ → Result (List ℕ) Cause
 sizes_in bytes = and_then (file_in bytes) (λ c. Ok (size_text (([], c) ∷ [])))
+
+-- the text as instructions
+abbrev pub disassembled_in : List ℕ → Result (List ℕ) Cause
+disassembled_in bytes = and_then (file_in bytes) (λ c. Ok (disassembly c))
 
 -- the bit at a place, of value 1, 2, 4 ..
 abbrev pub has_bit : ℕ → ℕ → Bool

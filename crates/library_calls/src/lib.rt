@@ -33,12 +33,14 @@
 //! - `check`: how many bytes an object has
 //! - `strip`: a file without symbols and relocation
 //! - `list_symbols`, `show_sizes`: the lines of nm, and that of size
+//! - `disassemble`, `disassemble_words`: the text of a file, or words at an address, as instructions
 //!
 //! Nothing is kept between two calls. Objects are bytes, one after another: the header of each gives its length.
 #![tactic(auto)]
 
 mod apart;
 mod cause;
+mod disassembly;
 mod edits;
 mod file_calls;
 mod findings_call;
@@ -53,6 +55,7 @@ mod wanted;
 
 pub use apart::{read_apart, take_apart};
 pub use cause::{Cause, LongPart, Refusal};
+pub use disassembly::{disassemble, disassemble_words};
 pub use file_calls::{check, list_symbols, show_sizes, strip};
 pub use findings_call::{Finding, Found, link_findings};
 pub use link_call::{Program, Wanted, link, link_each};

@@ -1,6 +1,6 @@
 -- What a call leaves, by what the library returned.
 use Rattle.std.proofs.Common.{◌≡◌, ◌≢◌, ℕ, Bool, true, false, cond, nat_lt, ◌||◌, List, [], length, Result, Ok, Err, IfOk, IfErr, inl, inr, refl, sym, ap, subst, ◌∙◌, arith}
-use Rattle.std.specs.Prelude.{◌⊎◌, IsErrAnd, IsOk, MatchResult, Vec}
+use Rattle.std.specs.Prelude.{◌⊎◌, IsErr, IsErrAnd, IsOk, MatchResult, Vec}
 use Rattle.std.specs.declared.alloc.Global.{Global}
 use Rattle.aout_core.specs.declared.object.ObjectFault.TheVariants as objects
 use Rattle.library_calls.specs.declared.cause.Cause.{Cause}
@@ -170,6 +170,10 @@ bytes_fault status answer old new (Ok x) is h =
     absurd (no_left_memory (nat_lt (length old) (length x.items)) (left 2 (given 60 (length x.items) 0) old) (left 0 (given 0 (length x.items) 0) (put_in old x.items))
     refl refl (sym (ap (λ (l : Left). l.answer.fault) is) ∙ h))
 bytes_fault status answer old new (Err cause) is h = sym (ap (λ (l : Left). l.answer.fault) is) ∙ h
+
+pub bytes_err : (status : ℕ) (answer : Answer) (old new : List ℕ) (r : Result (Vec ℕ Global) Cause) → left status answer new ≡ left_by (items_of r) old → answer.fault ≡ 50 → IsErr r
+bytes_err status answer old new (Ok x) is h = absurd (bytes_fault status answer old new (Ok x) is h)
+bytes_err status answer old new (Err cause) is h = refl
 
 pub count_fault : (status : ℕ) (answer : Answer) (r : Result ℕ Cause) → left status answer [] ≡ counted_by r → answer.fault ≡ 50 → IsErrAnd r (λ cause. number_of cause ≡ 50)
 count_fault status answer (Ok x) is h =

@@ -6,9 +6,10 @@
 mod answer;
 mod rooms;
 
-ghost use Rattle.std.specs.Prelude.{◌≡◌, ◌≢◌, ◌⊎◌, [], Err, IsOk};
+ghost use Rattle.std.specs.Prelude.{◌≡◌, ◌≢◌, ◌⊎◌, [], Ok, Err, IsOk};
+ghost use Rattle.disassemblies.specs.Columns.{plain_disassembly};
 ghost use Rattle.library_calls.specs.declared.cause.Cause.TheVariants.{Memory};
-ghost use Rattle.library_calls.specs.FileAnswers.{checked_in, names_in, sizes_in, stripped_in};
+ghost use Rattle.library_calls.specs.FileAnswers.{checked_in, disassembled_in, names_in, sizes_in, stripped_in};
 ghost use Rattle.library_calls.specs.LinkAnswers.{each_of, found_each, output_each, output_in};
 ghost use Rattle.library_calls.specs.MemoryWanted.{HasBody, LinkMayRunOut, LinkOfEachMayRunOut, SessionMayRunOut, StateMayRunOut};
 ghost use Rattle.library_calls.specs.ObjectParts.{file_for, made_of, parts_in, pieces, whole_in};
@@ -80,6 +81,41 @@ pub extern "C" fn v7_size(alloc: Global, bytes: &[u8], room: &mut [u8], answer: 
     ensures ran_out { answer.new.fault ≡ 50 → IsOk (sizes_in bytes.now) }
 {
     leave_bytes(library_calls::show_sizes(alloc, bytes), room, answer)
+}
+
+/// Shows the text of a file as instructions.
+#[unsafe(no_mangle)]
+pub extern "C" fn v7_disassemble(
+    alloc: Global,
+    bytes: &[u8],
+    room: &mut [u8],
+    answer: &mut Answer,
+) -> u32
+    ensures value { answer.new.fault ≢ 50 → left result answer.new room.new ≡ left_by (disassembled_in bytes.now) room.old }
+    ensures memory { answer.new.fault ≡ 50 → left result answer.new room.new ≡ no_bytes room.old }
+    ensures ran_out { answer.new.fault ≡ 50 → IsOk (disassembled_in bytes.now) }
+{
+    leave_bytes(library_calls::disassemble(alloc, bytes), room, answer)
+}
+
+/// Shows words as instructions, the first of them at an address.
+#[unsafe(no_mangle)]
+pub extern "C" fn v7_disassemble_words(
+    alloc: Global,
+    address: u16,
+    words: &[u16],
+    room: &mut [u8],
+    answer: &mut Answer,
+) -> u32
+    ensures value { answer.new.fault ≢ 50 → left result answer.new room.new ≡ left_by (Ok (plain_disassembly address words.now)) room.old }
+    ensures memory { answer.new.fault ≡ 50 → left result answer.new room.new ≡ no_bytes room.old }
+    ensures ran_out { answer.new.fault ≡ 50 → words.now ≢ [] }
+{
+    leave_bytes(
+        library_calls::disassemble_words(alloc, address, words),
+        room,
+        answer,
+    )
 }
 
 /// Links objects.

@@ -1,0 +1,47 @@
+//! Words as instructions: those of the text of a file, and words alone.
+ghost use Rattle.std.specs.Prelude.{◌≡◌, ◌≢◌, [], Ok, Err, IsErr, IsOk, IfOk, IfErr};
+ghost use Rattle.disassemblies.specs.Columns.{disassembly, plain_disassembly};
+ghost use Rattle.library_calls.specs.FileAnswers.{disassembled_in};
+ghost use Rattle.library_calls.specs.declared.cause.Cause.TheVariants.{Memory};
+
+use crate::cause::Cause;
+use crate::first::first_file;
+use aout_core::File;
+use disassemblies::{put_disassembly, put_plain_disassembly};
+use std::alloc::{AllocError, Global};
+
+/// The text of a file as instructions.
+fn disassembly_of(alloc: Global, file: &File) -> Result<Vec<u8>, AllocError>
+    ensures { IfOk result (λ text. text.items ≡ disassembly file.now) }
+{
+    let mut text = String::new(alloc);
+    put_disassembly(&mut text, file)?;
+    Ok(text.into_bytes())
+}
+
+/// The text of the file that the bytes begin with as instructions, with names and labels, as
+/// `disassemblies::put_disassembly` shows it. What is after the file is not looked at. (as(1))
+///
+/// Errors: `BadFile`, 11 to 14, if the bytes do not begin with a file; else `Memory`, 50, if memory runs out.
+pub fn disassemble(alloc: Global, bytes: &[u8]) -> Result<Vec<u8>, Cause>
+    ensures ok { IfOk result (λ text. disassembled_in bytes.now ≡ Ok text.items) }
+    ensures err { IfErr result (λ cause. cause ≢ Memory → disassembled_in bytes.now ≡ Err cause) }
+    ensures memory { IfErr result (λ cause. cause ≡ Memory → IsOk (disassembled_in bytes.now)) }
+{
+    let (file, _) = first_file(alloc, bytes)?;
+    Ok(disassembly_of(alloc, &file)?)
+}
+
+/// These words as instructions, the first of them at this address, without names, as
+/// `disassemblies::put_plain_disassembly` shows them. (as(1))
+///
+/// An error: `Memory`, 50, if there are words and memory runs out.
+pub fn disassemble_words(alloc: Global, address: u16, words: &[u16]) -> Result<Vec<u8>, Cause>
+    ensures ok { IfOk result (λ text. text.items ≡ plain_disassembly address words.now) }
+    ensures err { IfErr result (λ cause. cause ≡ Memory) }
+    ensures memory { IsErr result → words.now ≢ [] }
+{
+    let mut text = String::new(alloc);
+    put_plain_disassembly(&mut text, address, words)?;
+    Ok(text.into_bytes())
+}
