@@ -5,8 +5,9 @@ usage: tests/map.py V7 V7-EXPLAIN
 
 The links are those of a few lists of objects in examples/, and 200 that are made, the same in each run: objects of some
 words, with names that are defined, wanted as commons and referred to. Who defines a name, who wants it, and which words
-of an object refer to it are known from the objects as they were made. What is used of each limit is counted in the objects
-and in the linked file. 60 further links are refused, some because a file can't be read.
+of an object refer to it are known from the objects as they were made. The instruction of each such word is what
+tests/disassembly.py makes of the object's words. What is used of each limit is counted in the objects and in the linked
+file. 60 further links are refused, some because a file can't be read.
 """
 import os
 import random
@@ -15,10 +16,14 @@ import subprocess
 import sys
 import tempfile
 
+import disassembly
+
 V7, EXPLAIN = (os.path.abspath(path) for path in sys.argv[1:3])
 EXAMPLES = os.path.join(os.path.dirname(os.path.abspath(__file__)), "..", "examples")
 OPTIONS = [[], ["-n"], ["-i"], ["-r"], ["-r", "-d"], ["-x"], ["-X"], ["-s"], ["-u", "_forced"], ["-e", "_a"], ["-d"]]
 NAMES = ["_a", "_b", "_c", "_main", "_long_na", "x", "_forced", "_end", "_etext", "Lx"]
+# first words of one to three words, one that begins no instruction, and words like those of operands
+WORDS = [0o000207, 0o005200, 0o004767, 0o004737, 0o012700, 0o016167, 0o016767, 0o012737, 0o013737, 0o170006, 2, 0o177772, 0o177776]
 
 
 def run(*words):
@@ -28,26 +33,26 @@ def run(*words):
 
 
 class RandomObject:
-    """An object: words, bss, and symbols as name, type word and value; each reference is a word and a symbol's number."""
+    """An object: how many words it has of text, data and bss; symbols as name, type word and value; each reference is a word, a
+    symbol's number and the bit of the pc; and the words of its text, if they are not 0."""
 
-    def __init__(self, text, data, bss, symbols, references):
+    def __init__(self, text, data, bss, symbols, references, words=()):
         self.text, self.data, self.bss, self.symbols, self.references = text, data, bss, symbols, references
+        relocation = [0] * (text + data)
+        for word, number, pc in references:
+            relocation[word] = 0o10 + 16 * number + pc
+        table = [(name.encode("latin-1").ljust(8, b"\0"), kind, value) for name, kind, value in symbols]
+        in_data = [0] * data
+        self.file = disassembly.File(list(words) or [0] * text, relocation[:text], table, 0o407, in_data, relocation[text:], 2 * bss)
 
     def write(self, path):
-        words = [0] * (self.text + self.data)
-        relocation = [0] * len(words)
-        for word, number in self.references:
-            relocation[word] = 0o10 + 16 * number
-        header = [0o407, 2 * self.text, 2 * self.data, 2 * self.bss, 12 * len(self.symbols), 0, 0, 0]
         with open(path, "wb") as file:
-            file.write(struct.pack(f"<{8 + 2 * len(words)}H", *header, *words, *relocation))
-            for name, kind, value in self.symbols:
-                file.write(struct.pack("<8sHH", name.encode("latin-1"), kind, value))
+            file.write(self.file.encoded())
 
 
 def random_object(dice):
     """An object of few words, in which a name stands once."""
-    text, data, bss = dice.randrange(6), dice.randrange(4), dice.randrange(4)
+    text, data, bss = dice.randrange(9), dice.randrange(4), dice.randrange(4)
     symbols = []
     for name in dice.sample(NAMES, dice.randrange(7)):
         kind = dice.choice([0o40, 0o40, 0o40, 0o40, 0o41, 0o42, 0o43, 0o44, 2, 1])
@@ -58,8 +63,8 @@ def random_object(dice):
             value = 2 * (start + dice.randrange(size + 1))
         symbols.append((name, kind, value))
     expected = [number for number, symbol in enumerate(symbols) if symbol[1] == 0o40]
-    references = [(word, dice.choice(expected)) for word in range(text + data) if expected and dice.randrange(2)]
-    return RandomObject(text, data, bss, symbols, references)
+    references = [(word, dice.choice(expected), dice.randrange(2)) for word in range(text + data) if expected and dice.randrange(2)]
+    return RandomObject(text, data, bss, symbols, references, [dice.choice(WORDS) for _ in range(text)])
 
 
 def parts(text):
@@ -99,7 +104,7 @@ def listed(objects, says, item):
     for place, given in enumerate(objects):
         for number, symbol in enumerate(given.symbols):
             if symbol[1] & 0o40 and says(symbol):
-                count = sum(1 for reference in given.references if reference[1] == number)
+                count = sum(1 for _, to, _ in given.references if to == number)
                 lists.setdefault(symbol[0], []).append(item(f"{place}.o", symbol, count))
     return lists
 
@@ -133,17 +138,21 @@ def label_before(given, segment, address):
 
 def word_line(given, starts, word):
     """The line of a word of an object, whose text and data begin at these addresses."""
-    segment, label, offset = (2, "text", 2 * word) if word < given.text else (3, "data", 2 * (word - given.text))
-    return f"{label} {starts[label] + offset:06o}{label_before(given, segment, 2 * word)}"
+    if word >= given.text:
+        return f"data {starts['data'] + 2 * (word - given.text):06o}{label_before(given, 3, 2 * word)}"
+    owner = given.file.owner(word)
+    first = word if owner is None else owner
+    before = label_before(given, 2, 2 * first) or f"  {starts['text'] + 2 * first:06o}"
+    return f"text {starts['text'] + 2 * word:06o}{before}: {given.file.line(first)[1]}"
 
 
 def check_words(what, names, found, objects):
-    """The words of each name are those of the objects as they were made, each with its address and the label before it."""
+    """The words of each name are those of the objects as they were made, each with its address, label and instruction."""
     expected = {}
     for place, (row, given) in enumerate(zip(found["Objects"][1:], objects)):
         starts = {"text": int(row.split()[0], 8), "data": int(row.split()[2], 8)}
         for number, symbol in enumerate(given.symbols):
-            lines = [word_line(given, starts, word) for word, to in given.references if to == number]
+            lines = [word_line(given, starts, word) for word, to, _ in given.references if to == number]
             if lines:
                 expected.setdefault(symbol[0], {})[f"{place}.o"] = lines
     check(f"{what}: words", {name: words for name, (_, _, words) in names.items() if words}, expected)
@@ -287,7 +296,7 @@ def line_without_address(objects, name):
 def check_random_refused(number):
     """A link of objects that are made, and of one too many. Returns how many words are placed."""
     dice = random.Random(1000 + number)
-    objects = [random_object(dice) for _ in range(dice.randrange(1, 5))] + [RandomObject(1, 1, 0, [("_b", 0o40, 0)], [(0, 0)])]
+    objects = [random_object(dice) for _ in range(dice.randrange(1, 5))] + [RandomObject(1, 1, 0, [("_b", 0o40, 0)], [(0, 0, 0)])]
     more, fault, choices = TOO_MUCH[number % len(TOO_MUCH)]
     objects.insert(dice.randrange(len(objects) + 1), more)
     paths = [f"{place}.o" for place in range(len(objects))]
@@ -368,7 +377,7 @@ def check_unread():
 
 
 def all_refused():
-    half = RandomObject(16000, 0, 0, [("_x", 0o40, 0)], [(0, 0)])
+    half = RandomObject(16000, 0, 0, [("_x", 0o40, 0)], [(0, 0, 0)])
     data = RandomObject(0, 16000, 10, [("_x", 0o40, 7)], [])
     more = RandomObject(0, 1000, 0, [], [])
     # 32,000 of text, 34,000 of data, a common of 8 and 20 of bss end at 66,028
@@ -376,13 +385,14 @@ def all_refused():
                   ["  end of bss       66028   65535     493 over\n",
                    "        0   32000      20   32020        1  1.o\n",
                    "  commons 200720  200730       8\n",
-                   "    used in     0.o (1)\n                text 000000\n    used in     1.o (0)\n"])
+                   "    used in     0.o (1)\n                text 000000  000000: 000000 / _x\n    used in     1.o (0)\n"])
     # three times 32,000 of text
     check_refused("text full", [half, half, half], "text full",
                   ["  text             96000   65534   30466 over\n", "  2.o\n",
                    "  175000  32000  000000      0  000000      0  2.o\n",
-                   "\nUndefined\n       U _x\n    used in     0.o (1)\n                text 000000\n    used in     1.o (1)\n"
-                   "                text 076400\n    used in     2.o (1)\n                text 175000\n"])
+                   "\nUndefined\n       U _x\n    used in     0.o (1)\n                text 000000  000000: 000000 / _x\n"
+                   "    used in     1.o (1)\n                text 076400  076400: 000000 / _x\n"
+                   "    used in     2.o (1)\n                text 175000  175000: 000000 / _x\n"])
     symbols = RandomObject(0, 0, 0, [(f"L{number}", 1, 0) for number in range(5461)], [])
     check_refused("too many symbols", [symbols, RandomObject(0, 0, 0, [("_x", 0o41, 8)], [])], "too many symbols",
                   ["000010 A _x\n    defined in  1.o\n"])

@@ -1,5 +1,5 @@
--- The lines of a file's text, one after the other, and the words at which they begin.
-use Rattle.std.specs.Prelude.{ℕ, zero, suc, ◌+◌, ◌-◌, Bool, true, false, nat_lt, if◌then◌else◌, List, [], ◌∷◌, ◌++◌, length, replicate}
+-- The lines of a file's text, one after the other, the words at which they begin, and the line that has a word.
+use Rattle.std.specs.Prelude.{ℕ, zero, suc, ◌+◌, ◌-◌, Bool, true, false, nat_lt, if◌then◌else◌, List, [], ◌∷◌, ◌++◌, Option, Some, None, length, replicate, slice_get}
 use Rattle.aout_core.specs.Contents.{Contents}
 use Rattle.instructions.specs.Lines.{line_length}
 use Rattle.disassemblies.specs.Lines.{line_in}
@@ -21,3 +21,16 @@ start n = true ∷ replicate (n - 1) false
 -- for each word of the text, whether a line begins there
 abbrev pub starts : Contents → List Bool
 starts c = by_lines c (λ place n. start n) []
+
+abbrev pub start_by : Option Bool → Bool
+start_by None = false
+start_by (Some b) = b
+
+-- a line begins at a place
+abbrev pub is_start : List Bool → ℕ → Bool
+is_start starts i = start_by (slice_get starts i)
+
+-- the place at which the line begins that has the word at a place: the last one up to it at which a line begins
+abbrev pub line_start : List Bool → ℕ → ℕ
+line_start starts zero = 0
+line_start starts (suc i) = if is_start starts (suc i) then suc i else line_start starts i

@@ -17,6 +17,7 @@
 //! - `put_line_text`: appends the text of that line
 //! - `put_labels`: appends the labels before a line
 //! - `line_starts`: for each word of a text, whether a line begins there
+//! - `is_start`, `line_start`: whether a line begins at a place, and where the line begins that has the word there
 //!
 //! A file with relocation is an object, in which relocation words name what each operand refers to; in any other the symbols
 //! name the addresses. Addresses are in bytes from the start of the text, which is at 0.
@@ -33,4 +34,4 @@ mod starts;
 pub use columns::{put_disassembly, put_plain_disassembly};
 pub use label::put_labels;
 pub use line::{line_in, put_line_text};
-pub use starts::line_starts;
+pub use starts::{is_start, line_start, line_starts};

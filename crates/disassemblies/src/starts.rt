@@ -1,6 +1,6 @@
-//! The words at which lines begin.
+//! The words at which lines begin, and the line that has a word.
 ghost use Rattle.std.specs.Prelude.{◌≡◌, ◌≤◌, ◌++◌, IfOk, OnOk};
-ghost use Rattle.disassemblies.specs.Starts.{start, starts};
+ghost use Rattle.disassemblies.specs.Starts.{start, starts, is_start, line_start};
 
 use crate::line::line_in;
 use aout_core::File;
@@ -32,4 +32,27 @@ pub fn line_starts(alloc: Global, file: &File) -> Result<Vec<bool>, AllocError>
         place += count;
     }
     Ok(starts)
+}
+
+/// Whether a line begins at a place, by what `line_starts` gives; none begins after the end of the text.
+pub fn is_start(starts: &[bool], place: usize) -> bool
+    ensures { result ≡ is_start starts.now place }
+{
+    match starts.get(place) {
+        Some(is_start) => *is_start,
+        None => false,
+    }
+}
+
+/// The place at which the line begins that has the word at a place, by what `line_starts` gives: the last place up to it at
+/// which a line begins, or 0.
+pub fn line_start(starts: &[bool], place: usize) -> usize
+    ensures value { result ≡ line_start starts.now place }
+    ensures before { result ≤ place }
+{
+    let mut start = place;
+    while start > 0 && !is_start(starts, start) {
+        start -= 1;
+    }
+    start
 }

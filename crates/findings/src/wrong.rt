@@ -5,7 +5,7 @@ use crate::places::Places;
 use crate::text::shown;
 use crate::words::is_wanted;
 use aout_core::{File, Header, Kind, ReadFault, Reloc, Symbol};
-use disassemblies::{line_starts, put_line_text};
+use disassemblies::{line_start, line_starts, put_line_text};
 use std::alloc::{AllocError, Global};
 
 /// How many bad relocation words are shown one by one.
@@ -161,12 +161,7 @@ fn put_owner(
     if starts.get(index) != Some(&false) {
         return Ok(());
     }
-    let one = index.saturating_sub(1);
-    let place = if starts.get(one) == Some(&true) {
-        one
-    } else {
-        index.saturating_sub(2)
-    };
+    let place = line_start(starts, index);
     if place >= file.text_words().len() {
         return Ok(());
     }

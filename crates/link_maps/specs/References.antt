@@ -1,8 +1,9 @@
--- The words of an object that refer to a symbol, each with the label before it. (a.out(5); the label: own choice)
+-- The words of an object that refer to a symbol, each with its line and the label before that. (a.out(5); line and label: own choice)
 --
--- A label is a symbol of text or of data, at its address in the object. The one before a word is that with the largest address up to the
--- word's own; of several at that address, the first of the table.
-use Rattle.std.specs.Prelude.{ℕ, ◌+◌, ◌-◌, Bool, true, false, ◌&&◌, eqb, nat_lt, nat_le, if◌then◌else◌, List, [], ◌∷◌, ◌++◌, Option, Some, None, min}
+-- A word of text is in a line, an instruction or a plain word; a word of data is a line of its own. A label is a symbol of text or of data,
+-- at its address in the object. The one before a line is that with the largest address up to the line's own; of several at that address,
+-- the first of the table.
+use Rattle.std.specs.Prelude.{ℕ, ◌+◌, ◌-◌, ◌*◌, ◌/◌, Bool, true, false, ◌&&◌, eqb, nat_lt, nat_le, if◌then◌else◌, List, [], ◌∷◌, ◌++◌, length, Option, Some, None}
 use Rattle.aout_core.specs.declared.symbol.Symbol.{Symbol}
 use Rattle.aout_core.specs.declared.symbol.Segment.{Segment}
 use Rattle.aout_core.specs.declared.symbol.Segment.TheVariants.{TextSeg, DataSeg}
@@ -12,6 +13,8 @@ use Rattle.aout_core.specs.declared.reloc.Kind.TheVariants.{External}
 use Rattle.aout_core.specs.Contents.{Contents}
 use Rattle.aout_core.specs.Words.{plus}
 use Rattle.aout_core.specs.WellFormed.{segment_of, segment_number, kind_of, symbol_number}
+use Rattle.disassemblies.specs.Lines.{line_text_in}
+use Rattle.disassemblies.specs.Starts.{line_start}
 use Rattle.link_session.specs.Starts.{own}
 use Rattle.link_maps.specs.declared.references.Part.{Part}
 use Rattle.link_maps.specs.declared.references.Part.TheVariants.{Text, Data}
@@ -50,10 +53,24 @@ before address (Some s) = Some (record { name = s.name; bytes = address - s.valu
 abbrev pub label_before : List Symbol → Segment → ℕ → Option Before
 label_before symbols segment address = before address (nearest segment address None symbols)
 
--- the word of a segment so many bytes after its first
-abbrev pub reference_at : Contents → Part → ℕ → Reference
-reference_at o part offset =
-    record { part = part; offset = offset; before = label_before o.symbols (segment_of_part part) (plus offset (own o (segment_of_part part))) }
+-- where the line begins that has the word so many bytes after the first of a part, by the words at which the lines of text begin
+abbrev pub line_of : List Bool → Part → ℕ → ℕ
+line_of starts Text offset = 2 * line_start starts (offset / 2)
+line_of starts Data offset = offset
+
+-- the text of a line of text
+abbrev pub text_of_line : Contents → Part → ℕ → List ℕ
+text_of_line o Text line = if nat_lt (line / 2) (length o.text_words) then line_text_in o (line / 2) else []
+text_of_line o Data line = []
+
+-- the label before a line
+abbrev pub before_line : Contents → Part → ℕ → Option Before
+before_line o part line = label_before o.symbols (segment_of_part part) (plus line (own o (segment_of_part part)))
+
+-- the word of a part so many bytes after its first
+abbrev pub reference_at : List Bool → Contents → Part → ℕ → Reference
+reference_at starts o part offset =
+    record { part = part; offset = offset; line = line_of starts part offset; before = before_line o part (line_of starts part offset) }
 
 abbrev pub is_external_kind : Option Kind → Bool
 is_external_kind (Some External) = true
@@ -63,17 +80,17 @@ abbrev pub refers_to : ℕ → Reloc → Bool
 refers_to number r = is_external_kind (kind_of r) && eqb (symbol_number r) number
 
 -- the word with this relocation word, if it refers to the symbol
-abbrev pub reference_by : Contents → Part → ℕ → ℕ → Reloc → List Reference
-reference_by o part number offset r = if refers_to number r then reference_at o part offset ∷ [] else []
+abbrev pub reference_by : List Bool → Contents → Part → ℕ → ℕ → Reloc → List Reference
+reference_by starts o part number offset r = if refers_to number r then reference_at starts o part offset ∷ [] else []
 
--- the words with these relocation words, of which the first is so many bytes after the first of the segment
-abbrev pub references_in : Contents → Part → ℕ → ℕ → List Reloc → List Reference
-references_in o part number offset [] = []
-references_in o part number offset (r ∷ rs) = reference_by o part number offset r ++ references_in o part number (plus offset 2) rs
+-- the words with these relocation words, of which the first is so many bytes after the first of the part
+abbrev pub references_in : List Bool → Contents → Part → ℕ → ℕ → List Reloc → List Reference
+references_in starts o part number offset [] = []
+references_in starts o part number offset (r ∷ rs) = reference_by starts o part number offset r ++ references_in starts o part number (plus offset 2) rs
 
-abbrev pub references_of : Contents → Part → ℕ → List Reference
-references_of o part number = references_in o part number 0 (relocs_of o part)
+abbrev pub references_of : List Bool → Contents → Part → ℕ → List Reference
+references_of starts o part number = references_in starts o part number 0 (relocs_of o part)
 
 -- the words of an object that refer to the symbol of this number: those of text, and then those of data
-abbrev pub references_to : Contents → ℕ → List Reference
-references_to o number = references_of o Text number ++ references_of o Data number
+abbrev pub references_to : List Bool → Contents → ℕ → List Reference
+references_to starts o number = references_of starts o Text number ++ references_of starts o Data number

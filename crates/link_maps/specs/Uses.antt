@@ -9,6 +9,7 @@ use Rattle.std.specs.Ordering.{nat_cmp, is_lt}
 use Rattle.aout_core.specs.declared.symbol.Symbol.{Symbol}
 use Rattle.aout_core.specs.Contents.{Contents}
 use Rattle.aout_core.specs.WellFormed.{is_external, masked_type}
+use Rattle.disassemblies.specs.Starts.{starts}
 use Rattle.link_session.specs.declared.state.State.TheVariants.{Wanted}
 use Rattle.link_out.specs.function.Reports.{is_missing}
 use Rattle.symtools.specs.NmLists.{in_order}
@@ -21,20 +22,20 @@ pub record Use : Type 0 where
   pub symbol : Symbol
   pub references : List Reference
 
-abbrev pub use_of : ℕ → Contents → ℕ → Symbol → Use
-use_of object o number s = record { object = Some object; symbol = s; references = references_to o number }
+abbrev pub use_of : ℕ → List Bool → Contents → ℕ → Symbol → Use
+use_of object starts o number s = record { object = Some object; symbol = s; references = references_to starts o number }
 
 -- the use by the symbol of this number, if it is external
-abbrev pub use_by : ℕ → Contents → ℕ → Symbol → List Use
-use_by object o number s = if is_external s then use_of object o number s ∷ [] else []
+abbrev pub use_by : ℕ → List Bool → Contents → ℕ → Symbol → List Use
+use_by object starts o number s = if is_external s then use_of object starts o number s ∷ [] else []
 
 -- the uses by these symbols of an object, of which the first has this number
-abbrev pub uses_by : ℕ → Contents → ℕ → List Symbol → List Use
-uses_by object o number [] = []
-uses_by object o number (s ∷ ss) = use_by object o number s ++ uses_by object o (number + 1) ss
+abbrev pub uses_by : ℕ → List Bool → Contents → ℕ → List Symbol → List Use
+uses_by object starts o number [] = []
+uses_by object starts o number (s ∷ ss) = use_by object starts o number s ++ uses_by object starts o (number + 1) ss
 
 abbrev pub uses_in : ℕ → Contents → List Use
-uses_in object o = uses_by object o 0 o.symbols
+uses_in object o = uses_by object (starts o) o 0 o.symbols
 
 -- the uses in these objects, of which the first has this number
 abbrev pub uses_from : ℕ → List Contents → List Use

@@ -1,10 +1,10 @@
 //! The objects of a link: those that a session takes, and those that are left if it refuses one.
-ghost use Rattle.std.specs.Prelude.{◌≡◌, ◌++◌, ◌∷◌, [], None, is_some, if◌then◌else◌, IfOk, OnOk};
+ghost use Rattle.std.specs.Prelude.{◌≡◌, ◌++◌, ◌∷◌, [], None, is_some, if◌then◌else◌, option_copied, slice_get, IfOk, OnOk};
 ghost use Rattle.aout_core.specs.WellFormed.{first_of};
 ghost use Rattle.link_session.specs.Labelled.{objects};
 ghost use Rattle.link_session.specs.Limits.{refusal};
 ghost use Rattle.link_session.specs.Sessions.{labelled, nothing_kept};
-ghost use Rattle.link_maps.specs.Members.{left_of, cause_of, member_of};
+ghost use Rattle.link_maps.specs.Members.{all_of, left_of, cause_of, member_of};
 
 use aout_core::{File, Header, Object};
 use link_session::{AddFault, Forced, Session};
@@ -128,6 +128,20 @@ impl Objects {
         match &self.refused {
             Some(refused) => &refused.left,
             None => &[],
+        }
+    }
+
+    /// The object with this number, counted from 0, if there are so many.
+    pub fn object(&self, number: usize) -> Option<&Object>
+        ensures { option_copied result ≡ slice_get (objects (all_of self.now)) number }
+    {
+        let entries = self.session.entries();
+        match entries.get(number) {
+            Some(entry) => Some(entry.object()),
+            None => match self.left().get(number - entries.len()) {
+                Some(one) => Some(&one.object),
+                None => None,
+            },
         }
     }
 }

@@ -3,7 +3,7 @@ ghost use Rattle.std.specs.Prelude.{◌≡◌, Option, IfOk};
 ghost use Rattle.link_maps.specs.Members.{capped, first_places, next_places, places_from, start_in};
 
 use crate::members::Member;
-use crate::references::{Part, Reference};
+use crate::references::Part;
 use aout_core::Header;
 use link_out::Bases;
 use std::alloc::{AllocError, Global};
@@ -47,15 +47,15 @@ impl Places {
         }
     }
 
-    /// The address of a word of the object.
-    pub fn address_of(&self, reference: &Reference) -> u64
-        ensures { result ≡ capped (start_in self.now reference.now.part) reference.now.offset }
+    /// The address so many bytes after the start of a part of the object.
+    pub fn address(&self, part: Part, offset: u16) -> u64
+        ensures { result ≡ capped (start_in self.now part) offset }
     {
-        let start = match reference.part {
+        let start = match part {
             Part::Text => self.text,
             Part::Data => self.data,
         };
-        start.saturating_add(reference.offset as u64)
+        start.saturating_add(offset as u64)
     }
 }
 

@@ -1,9 +1,10 @@
-//! The words of an object that refer to a symbol, each with the label before it.
-ghost use Rattle.std.specs.Prelude.{◌≡◌, ◌++◌, None, IfOk, OnOk};
+//! The words of an object that refer to a symbol, each with its line and the label before that.
+ghost use Rattle.std.specs.Prelude.{◌≡◌, ◌++◌, None, IfOk, OnOk, string_bytes};
 ghost use Rattle.link_session.specs.Starts.{own};
-ghost use Rattle.link_maps.specs.References.{segment_of_part, relocs_of, is_label, is_nearer, nearer, nearest, label_before, reference_at, refers_to, reference_by, references_of, references_to};
+ghost use Rattle.link_maps.specs.References.{segment_of_part, relocs_of, is_label, is_nearer, nearer, nearest, label_before, line_of, text_of_line, reference_at, refers_to, reference_by, references_of, references_to};
 
 use aout_core::{File, Kind, Name, Reloc, Segment, Symbol};
+use disassemblies::{line_start, put_line_text};
 use std::alloc::{AllocError, Global};
 
 /// A part of a file that has words.
@@ -25,11 +26,11 @@ impl Part {
     }
 }
 
-/// The label before a word.
+/// The label before a line.
 #[derive(Clone, Copy, Debug)]
 pub struct Before {
     pub name: Name,
-    /// How many bytes after the label the word is.
+    /// How many bytes after the label the line begins.
     pub bytes: u16,
 }
 
@@ -39,8 +40,17 @@ pub struct Reference {
     pub part: Part,
     /// The place of the word in the part, in bytes.
     pub offset: u16,
-    /// The nearest label of the object at the word or before it, in the same segment.
+    /// The place at which the line begins that has the word: an instruction or a plain word of text. A word of data is a line.
+    pub line: u16,
+    /// The nearest label of the object where the line begins or before it, in the same segment.
     pub before: Option<Before>,
+}
+
+/// An object, and for each word of its text, whether a line begins there.
+#[derive(Clone, Copy)]
+pub(crate) struct Lined<'a> {
+    pub(crate) file: &'a File,
+    pub(crate) starts: &'a [bool],
 }
 
 /// Whether a symbol is a label of a segment, at an address or before it.
@@ -115,12 +125,41 @@ fn start_of(file: &File, part: Part) -> u16
     }
 }
 
-/// The label before the word of a part so many bytes after its first.
-fn before_word(file: &File, part: Part, offset: u16) -> Option<Before>
-    ensures { result ≡ (reference_at file.now part offset).before }
+/// The place at which the line begins that has a word, both in bytes.
+fn line_of(starts: &[bool], part: Part, offset: u16) -> u16
+    ensures { result ≡ line_of starts.now part offset }
 {
-    let address = offset.wrapping_add(start_of(file, part));
-    label_before(file.symbols(), part.segment(), address)
+    match part {
+        Part::Text => (2 * line_start(starts, usize::from(offset / 2))) as u16,
+        Part::Data => offset,
+    }
+}
+
+/// The word of a part so many bytes after its first.
+fn reference_at(lined: &Lined<'_>, part: Part, offset: u16) -> Reference
+    ensures { result ≡ reference_at lined.now.starts.now lined.now.file.now part offset }
+{
+    let file = lined.file;
+    let line = line_of(lined.starts, part, offset);
+    let address = line.wrapping_add(start_of(file, part));
+    Reference {
+        part,
+        offset,
+        line,
+        before: label_before(file.symbols(), part.segment(), address),
+    }
+}
+
+/// Appends the text of the line that has a word of text: an instruction or a plain word, with the names of the object. For a
+/// word of data it appends nothing. An error: out of memory.
+pub fn put_line_of(text: &mut String, file: &File, reference: &Reference) -> Result<(), AllocError>
+    ensures { OnOk result (string_bytes text.new ≡ string_bytes text.old ++ text_of_line file.now reference.now.part reference.now.line) }
+{
+    let place = usize::from(reference.line / 2);
+    match reference.part {
+        Part::Text if place < file.text_words().len() => put_line_text(text, file, place),
+        _ => Ok(()),
+    }
 }
 
 /// Whether a word with this relocation word refers to the symbol of a number.
@@ -133,39 +172,34 @@ fn refers_to(number: usize, reloc: Reloc) -> bool
 /// Appends a word, if it refers to the symbol of a number.
 fn put_reference(
     list: &mut Vec<Reference>,
-    file: &File,
+    lined: &Lined<'_>,
     part: Part,
     number: usize,
     offset: u16,
     reloc: Reloc,
 ) -> Result<(), AllocError>
-    ensures { OnOk result (list.new.items ≡ list.old.items ++ reference_by file.now part number offset reloc) }
+    ensures { OnOk result (list.new.items ≡ list.old.items ++ reference_by lined.now.starts.now lined.now.file.now part number offset reloc) }
 {
     if !refers_to(number, reloc) {
         return Ok(());
     }
-    let before = before_word(file, part, offset);
-    list.push(Reference {
-        part,
-        offset,
-        before,
-    })?;
+    list.push(reference_at(lined, part, offset))?;
     Ok(())
 }
 
 /// Appends the words of a part that refer to the symbol of a number.
 fn put_references(
     list: &mut Vec<Reference>,
-    file: &File,
+    lined: &Lined<'_>,
     part: Part,
     number: usize,
 ) -> Result<(), AllocError>
-    ensures { OnOk result (list.new.items ≡ list.old.items ++ references_of file.now part number) }
+    ensures { OnOk result (list.new.items ≡ list.old.items ++ references_of lined.now.starts.now lined.now.file.now part number) }
 {
-    let relocs = relocs_of(file, part);
+    let relocs = relocs_of(lined.file, part);
     let mut offset = 0u16;
     for reloc in relocs {
-        put_reference(list, file, part, number, offset, *reloc)?;
+        put_reference(list, lined, part, number, offset, *reloc)?;
         offset = offset.wrapping_add(2);
     }
     Ok(())
@@ -176,13 +210,13 @@ fn put_references(
 /// An error: out of memory.
 pub(crate) fn references_to(
     alloc: Global,
-    file: &File,
+    lined: &Lined<'_>,
     number: usize,
 ) -> Result<Vec<Reference>, AllocError>
-    ensures { IfOk result (λ list. list.items ≡ references_to file.now number) }
+    ensures { IfOk result (λ list. list.items ≡ references_to lined.now.starts.now lined.now.file.now number) }
 {
     let mut list = Vec::new(alloc);
-    put_references(&mut list, file, Part::Text, number)?;
-    put_references(&mut list, file, Part::Data, number)?;
+    put_references(&mut list, lined, Part::Text, number)?;
+    put_references(&mut list, lined, Part::Data, number)?;
     Ok(list)
 }

@@ -1,10 +1,11 @@
 //! The uses of names: the symbols that define a name or want it, and the words that refer to it.
 ghost use Rattle.std.specs.Prelude.{◌≡◌, ◌++◌, map, OnOk};
 ghost use Rattle.symtools.specs.NmLists.{in_order};
-ghost use Rattle.link_maps.specs.Uses.{use_by, uses_in, forced_use, is_before};
+ghost use Rattle.link_maps.specs.Uses.{use_by, uses_by, uses_in, forced_use, is_before};
 
-use crate::references::{Reference, references_to};
+use crate::references::{Lined, Reference, references_to};
 use aout_core::{File, Name, Symbol};
+use disassemblies::line_starts;
 use std::alloc::{AllocError, Global};
 use std::marker::Model;
 
@@ -63,21 +64,37 @@ fn put_use(
     alloc: Global,
     uses: &mut Vec<Use>,
     object: usize,
-    file: &File,
+    lined: &Lined<'_>,
     number: usize,
     symbol: &Symbol,
 ) -> Result<(), AllocError>
-    ensures { OnOk result (uses.new.items ≡ uses.old.items ++ use_by object file.now number symbol.now) }
+    ensures { OnOk result (uses.new.items ≡ uses.old.items ++ use_by object lined.now.starts.now lined.now.file.now number symbol.now) }
 {
     if !symbol.is_external() {
         return Ok(());
     }
-    let references = references_to(alloc, file, number)?;
+    let references = references_to(alloc, lined, number)?;
     uses.push(Use {
         object: Some(object),
         symbol: *symbol,
         references,
     })?;
+    Ok(())
+}
+
+/// Appends the uses by the symbols of an object.
+fn put_symbols(
+    alloc: Global,
+    uses: &mut Vec<Use>,
+    object: usize,
+    lined: &Lined<'_>,
+) -> Result<(), AllocError>
+    ensures { OnOk result (uses.new.items ≡ uses.old.items ++ uses_by object lined.now.starts.now lined.now.file.now 0 lined.now.file.now.symbols) }
+{
+    let symbols = lined.file.symbols();
+    for (number, symbol) in symbols.iter().enumerate() {
+        put_use(alloc, uses, object, lined, number, symbol)?;
+    }
     Ok(())
 }
 
@@ -90,11 +107,12 @@ pub(crate) fn put_uses(
 ) -> Result<(), AllocError>
     ensures { OnOk result (uses.new.items ≡ uses.old.items ++ uses_in object file.now) }
 {
-    let symbols = file.symbols();
-    for (number, symbol) in symbols.iter().enumerate() {
-        put_use(alloc, uses, object, file, number, symbol)?;
-    }
-    Ok(())
+    let starts = line_starts(alloc, file)?;
+    let lined = Lined {
+        file,
+        starts: &starts,
+    };
+    put_symbols(alloc, uses, object, &lined)
 }
 
 /// Sorts by name; uses of one name keep their order.

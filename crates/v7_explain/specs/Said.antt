@@ -20,6 +20,7 @@ use Rattle.listings.specs.Listing.{Remarks}
 use Rattle.instructions.specs.Lines.{line_length}
 use Rattle.disassemblies.specs.Lines.{line_in, line_text_in}
 use Rattle.disassemblies.specs.Labels.{label_lines}
+use Rattle.disassemblies.specs.Starts.{is_start}
 use Rattle.findings.specs.Words.{meant}
 
 abbrev pub printed_byte : ℕ → List ℕ
@@ -64,13 +65,6 @@ word_said symbols at w r = target_said symbols at w r (kind_of r) ++ pc_said r
 abbrev pub reloc_said : List Symbol → ℕ → ℕ → Option Reloc → List ℕ
 reloc_said symbols at w None = []
 reloc_said symbols at w (Some r) = word_said symbols at w r
-
-abbrev pub start_by : Option Bool → Bool
-start_by None = false
-start_by (Some b) = b
-
-abbrev pub is_start : List Bool → ℕ → Bool
-is_start starts i = start_by (slice_get starts i)
 
 -- of a word of text: the instruction that begins there, or what the relocation word says
 abbrev pub text_said : List Bool → Contents → ℕ → List ℕ

@@ -124,7 +124,8 @@ fn put_sizes(
     options: &Options,
 ) -> Result<(), AllocError> {
     let map = names.map;
-    put_limits(text, map, names.session, options.is_relocatable())?;
+    let session = &names.objects.session;
+    put_limits(text, map, session, options.is_relocatable())?;
     if is_refused(map) {
         put_largest(alloc, text, &map.members)?;
     }
@@ -142,8 +143,7 @@ fn put_map(
     map: &LinkMap,
     options: &Options,
 ) -> Result<(), AllocError> {
-    let session = &objects.session;
-    let names = Names { map, session };
+    let names = Names { map, objects };
     put_head(text, map, objects)?;
     put_sizes(alloc, text, &names, options)?;
     put_faults(text, &names)?;

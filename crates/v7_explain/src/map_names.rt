@@ -1,17 +1,19 @@
 //! Names of the map: who defines a name, who makes it a common, and who refers to it.
 use crate::map_text::{put_front, put_item};
-use aout_core::{Name, Symbol};
+use aout_core::{File, Name, Symbol};
 use findings::put_name;
-use link_maps::{LinkMap, Part, Places, Reference, Use, row_of, stays_undefined, telling};
-use link_session::Session;
+use link_maps::{
+    Before, LinkMap, Objects, Part, Places, Reference, Use, put_line_of, row_of, stays_undefined,
+    telling,
+};
 use std::alloc::AllocError;
 use std::fmt::Write;
 
-/// A map, and the session of its objects.
+/// A map, and its objects.
 #[derive(Clone, Copy)]
 pub(crate) struct Names<'a> {
     pub(crate) map: &'a LinkMap,
-    pub(crate) session: &'a Session,
+    pub(crate) objects: &'a Objects,
 }
 
 /// The path of an object; none for a forced name.
@@ -44,9 +46,36 @@ fn put_commons(text: &mut String, names: &Names<'_>, uses: &[Use]) -> Result<(),
     Ok(())
 }
 
-/// Adds the line of a word that refers to a name: its address, and the label before it.
+/// Adds a label, and how far beyond it a line begins.
+fn put_before(text: &mut String, before: &Before) -> Result<(), AllocError> {
+    text.push_str("  ")?;
+    put_name(text, &before.name)?;
+    let bytes = before.bytes;
+    if bytes > 0 {
+        write!(text, "+{bytes:o}")?;
+    }
+    Ok(())
+}
+
+/// Adds where the instruction is that has a word of text, by the label before it or else by its address, and the instruction.
+fn put_instruction(
+    text: &mut String,
+    file: &File,
+    places: &Places,
+    reference: &Reference,
+) -> Result<(), AllocError> {
+    if reference.before.is_none() {
+        let address = places.address(reference.part, reference.line);
+        write!(text, "  {address:06o}")?;
+    }
+    text.push_str(": ")?;
+    put_line_of(text, file, reference)
+}
+
+/// Adds the line of a word that refers to a name: its address, the label before it, and of text the instruction.
 fn put_reference(
     text: &mut String,
+    file: &File,
     places: &Places,
     reference: &Reference,
 ) -> Result<(), AllocError> {
@@ -54,24 +83,25 @@ fn put_reference(
         Part::Text => "text",
         Part::Data => "data",
     };
-    let address = places.address_of(reference);
+    let address = places.address(reference.part, reference.offset);
     write!(text, "                {part} {address:06o}")?;
     if let Some(before) = &reference.before {
-        text.push_str("  ")?;
-        put_name(text, &before.name)?;
-        let bytes = before.bytes;
-        if bytes > 0 {
-            write!(text, "+{bytes:o}")?;
-        }
+        put_before(text, before)?;
+    }
+    if matches!(reference.part, Part::Text) {
+        put_instruction(text, file, places, reference)?;
     }
     text.push('\n')
 }
 
 /// Adds the lines of the words of an object that refer to a name.
 fn put_references(text: &mut String, names: &Names<'_>, used: &Use) -> Result<(), AllocError> {
-    if let Some(places) = names.map.places.get(used.object.unwrap_or(0)) {
+    let number = used.object.unwrap_or(0);
+    if let (Some(places), Some(object)) =
+        (names.map.places.get(number), names.objects.object(number))
+    {
         for reference in &used.references {
-            put_reference(text, places, reference)?;
+            put_reference(text, object.file(), places, reference)?;
         }
     }
     Ok(())
@@ -102,7 +132,7 @@ fn put_users(text: &mut String, names: &Names<'_>, uses: &[Use]) -> Result<(), A
 /// The row of a name in the table of the link.
 fn row_in(names: &Names<'_>, name: &Name) -> Option<Symbol> {
     let outcome = names.map.outcome.as_ref()?;
-    row_of(names.session, outcome.externals.as_ref()?, name)
+    row_of(&names.objects.session, outcome.externals.as_ref()?, name)
 }
 
 /// Adds the line of a name as `nm` has it; without its address if the link is refused.
@@ -142,7 +172,7 @@ fn is_multiple(names: &Names<'_>, uses: &[Use]) -> bool {
     match uses.first() {
         Some(first) => {
             let name = &first.symbol.name;
-            names.session.multiples().contains(name) || is_reserved(names, name)
+            names.objects.session.multiples().contains(name) || is_reserved(names, name)
         }
         None => false,
     }

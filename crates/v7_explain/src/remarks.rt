@@ -4,11 +4,11 @@ ghost use Rattle.listings.specs.Drafts.{data_start};
 ghost use Rattle.listings.specs.Listing.{remarked, note_lines, text_of};
 ghost use Rattle.disassemblies.specs.Lines.{line_text_in};
 ghost use Rattle.disassemblies.specs.Labels.{label_lines};
-ghost use Rattle.v7_explain.specs.Said.{printed_byte, printed, is_plain, word_said, reloc_said, is_start, text_said, data_said, labels_said};
+ghost use Rattle.v7_explain.specs.Said.{printed_byte, printed, is_plain, word_said, reloc_said, text_said, data_said, labels_said};
 
 use crate::words_in::put_word_text;
 use aout_core::{File, Reloc, Symbol};
-use disassemblies::{line_in, put_labels, put_line_text};
+use disassemblies::{is_start, line_in, put_labels, put_line_text};
 use listings::{Part, Remark, data_start};
 use std::alloc::{AllocError, Global};
 use symtools::letter;
@@ -172,16 +172,6 @@ fn put_instruction(
     let mut line = String::new(alloc);
     put_line_text(&mut line, file, place)?;
     put_remark(text, line.as_bytes())
-}
-
-/// Whether a line begins at a place.
-fn is_start(starts: &[bool], place: usize) -> bool
-    ensures { result ≡ is_start starts.now place }
-{
-    match starts.get(place) {
-        Some(is_start) => *is_start,
-        None => false,
-    }
 }
 
 /// Appends what is remarked of a word of text: its instruction, or what its relocation word says.

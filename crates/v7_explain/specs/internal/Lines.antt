@@ -11,9 +11,10 @@ use Rattle.instructions.specs.Lines.{line_length}
 use Rattle.instructions.proofs.LineLemmas.{length_from}
 use Rattle.disassemblies.specs.Lines.{line_in}
 use Rattle.disassemblies.specs.Labels.{label_lines}
+use Rattle.disassemblies.specs.Starts.{is_start}
 use Rattle.disassemblies.proofs.SilentLabels.{are_labels}
 use Rattle.symtools.specs.SymbolLines.{letter}
-use Rattle.v7_explain.specs.Said.{printed_byte, printed, is_start, word_remark, labels_before, explained}
+use Rattle.v7_explain.specs.Said.{printed_byte, printed, word_remark, labels_before, explained}
 
 append_line : (f g : List ℕ) → IsLine f → IsLine g → IsLine (f ++ g)
 append_line [] g hf hg = hg
