@@ -1,7 +1,7 @@
 //! The words of an object that refer to a symbol, each with its line and the label before that.
 ghost use Rattle.std.specs.Prelude.{◌≡◌, ◌++◌, None, IfOk, OnOk, string_bytes};
 ghost use Rattle.link_session.specs.Starts.{own};
-ghost use Rattle.link_maps.specs.References.{segment_of_part, relocs_of, is_label, is_nearer, nearer, nearest, label_before, line_of, text_of_line, reference_at, refers_to, reference_by, references_of, references_to};
+ghost use Rattle.link_maps.specs.References.{segment_of_part, relocs_of, is_label, is_nearer, nearer, nearest, label_before, line_of, text_of_line, before_line, refers_to, reference_by, references_of, references_to};
 
 use aout_core::{File, Kind, Name, Reloc, Segment, Symbol};
 use disassemblies::{line_start, put_line_text};
@@ -135,19 +135,12 @@ fn line_of(starts: &[bool], part: Part, offset: u16) -> u16
     }
 }
 
-/// The word of a part so many bytes after its first.
-fn reference_at(lined: &Lined<'_>, part: Part, offset: u16) -> Reference
-    ensures { result ≡ reference_at lined.now.starts.now lined.now.file.now part offset }
+/// The label before a line.
+fn before_line(file: &File, part: Part, line: u16) -> Option<Before>
+    ensures { result ≡ before_line file.now part line }
 {
-    let file = lined.file;
-    let line = line_of(lined.starts, part, offset);
     let address = line.wrapping_add(start_of(file, part));
-    Reference {
-        part,
-        offset,
-        line,
-        before: label_before(file.symbols(), part.segment(), address),
-    }
+    label_before(file.symbols(), part.segment(), address)
 }
 
 /// Appends the text of the line that has a word of text: an instruction or a plain word, with the names of the object. For a
@@ -183,7 +176,14 @@ fn put_reference(
     if !refers_to(number, reloc) {
         return Ok(());
     }
-    list.push(reference_at(lined, part, offset))?;
+    let line = line_of(lined.starts, part, offset);
+    let before = before_line(lined.file, part, line);
+    list.push(Reference {
+        part,
+        offset,
+        line,
+        before,
+    })?;
     Ok(())
 }
 
