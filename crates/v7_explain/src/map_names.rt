@@ -97,9 +97,10 @@ fn put_reference(
 /// Adds the lines of the words of an object that refer to a name.
 fn put_references(text: &mut String, names: &Names<'_>, used: &Use) -> Result<(), AllocError> {
     let number = used.object.unwrap_or(0);
-    if let (Some(places), Some(object)) =
-        (names.map.places.get(number), names.objects.object(number))
-    {
+    if let (Some(places), Some(object)) = (
+        names.map.places.get(number),
+        names.objects.object(number),
+    ) {
         for reference in &used.references {
             put_reference(text, object.file(), places, reference)?;
         }
