@@ -1,7 +1,7 @@
 #!/usr/bin/env python3
 """Runs the gate, and then prints what it took: minutes of a processor for each crate, and from which minute to which.
 
-usage: tests/gate_times.py rt ci --anew
+usage: tests/gate_times.py rt ci
 
 The command's own output goes through. Twice a second the processor time of each `rattle` and of each compiler that it starts
 is read from /proc: a process in a folder rt-edit-* tries an edit, and every other proves or compiles a crate or its tests. What
