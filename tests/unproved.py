@@ -247,13 +247,13 @@ def main():
     tally = Tally()
     with tempfile.TemporaryDirectory() as folder, ThreadPoolExecutor(min(SIDE_BY_SIDE, len(os.sched_getaffinity(0)))) as pool:
         player, groups = Player(folder), shares()
-        # the first group compiles the program that the other groups wait for
+        # the first group compiles the program that the other groups wait for, so little else runs beside it
         work = [(f"cases of {' '.join(groups[0])}", play_in_memory, player, groups[0], True)]
-        tests = sorted(crates_with_tests().items(), key=lambda it: -it[1])
-        work += [(f"tests of {name}", run_tests, name, count) for name, count in tests]
         work += [(f"tests/{name}.py", passes, sys.executable, f"tests/{name}.py") for name in TEXTS]
         work += [("samples", passes, sys.executable, "tests/cases.py", "-s"), ("names of cases", check_names)]
         work += [(f"cases of {' '.join(files)}", play_in_memory, player, files, False) for files in groups[1:]]
+        tests = sorted(crates_with_tests().items(), key=lambda it: -it[1])
+        work += [(f"tests of {name}", run_tests, name, count) for name, count in tests]
         jobs = {pool.submit(*rest): name for name, *rest in work}
         for job in as_completed(jobs):
             tally.take(jobs[job], job.result)
