@@ -45,3 +45,4 @@ pub mod FewLemmas
 pub mod TakenBackLemmas
 pub mod PlacedLemmas
 pub mod PlacedCellLemmas
+pub mod ExternalLemmas

@@ -14,6 +14,7 @@
 //! - `AddRefused`, `AddFault`: an object that was not added, handed back, and why
 //! - `Cell`, `Target`: a word of the image, and what it refers to
 //! - `State`: what the objects define of a name, or at which size they want it
+//! - `ExternalStates`: the names with their states, one after another
 //! - `Mark`, `Place`: what an addition overwrote, and where
 //! - `Starts`, `Shifts`: where the segments of an object start in the image, and by how much its addresses move
 //! - `Forced`: the names of `-u`, at most 64
@@ -32,6 +33,7 @@ mod bind;
 mod cell;
 mod chain;
 mod entry;
+mod externals;
 mod forced;
 mod join;
 pub mod laws;
@@ -46,6 +48,7 @@ mod undo;
 
 pub use cell::{Cell, Target};
 pub use entry::{AddFault, AddRefused, Entry};
+pub use externals::ExternalStates;
 pub use forced::Forced;
 pub use limits::{MOST_BYTES, MOST_NAMES};
 pub use mark::{Mark, Place};

@@ -4,6 +4,7 @@ ghost use Rattle.std.specs.List.{AllByRecursion};
 ghost use Rattle.std.specs.Map.{keys_of};
 ghost use Rattle.indexmap.specs.IndexMap.{spare};
 ghost use Rattle.link_session.specs.ForcedNames.{AreDifferent};
+ghost use Rattle.link_session.specs.Image.{GivesInOrder};
 ghost use Rattle.link_session.specs.Labelled.{objects};
 ghost use Rattle.link_session.specs.Mentions.{externals, forced_mention};
 ghost use Rattle.link_session.specs.Limits.{limit_passed, refusal};
@@ -18,6 +19,7 @@ ghost use Rattle.link_session.specs.Sessions.{nothing_kept, labelled, newest, Ad
 use crate::cell::Cell;
 use crate::chain::{Link, grow_heads};
 use crate::entry::{AddFault, AddRefused, Entry};
+use crate::externals::ExternalStates;
 use crate::forced::Forced;
 use crate::join::join;
 use crate::limits::limit_passed;
@@ -245,6 +247,15 @@ impl Session {
             Some((name, state)) => Some((*name, *state)),
             None => None,
         }
+    }
+
+    /// The externals, one after another, by first mention. (ld(1))
+    pub fn externals(&self) -> ExternalStates<'_>
+        ensures value { result ≡ (image_of self.now).externals }
+        ensures few { length result ≤ 65535 }
+        ensures runs { GivesInOrder }
+    {
+        ExternalStates::of(&self.image.externals)
     }
 
     /// How many externals there are. (ld(1))
