@@ -1,7 +1,6 @@
 -- The names of a report, and the address of the entry point.
-use Rattle.std.proofs.Common.{◌≡◌, ℕ, zero, suc, ◌+◌, ◌<◌, ◌≤◌, ◌⊎◌, inl, inr, Bool, true, false, cond, ◌&&◌, ◌||◌, eqb, List, [], ◌∷◌, ◌++◌, drop, length, position, Some, None, refl, sym, ◌∙◌, ap, arith, append_assoc, append-nil, drop_of_length-le, nat_lt}
-use Rattle.std.specs.Prelude.{bytes_eq, slice_get, filter}
-use Rattle.std.proofs.lemmas.List.{length-map}
+use Rattle.std.proofs.Common.{◌≡◌, ℕ, ◌+◌, ◌<◌, ◌≤◌, ◌⊎◌, inl, inr, Bool, true, false, cond, ◌&&◌, ◌||◌, eqb, List, [], ◌∷◌, map, length, position, Some, None, refl, sym, ◌∙◌, ap, arith, nat_lt}
+use Rattle.std.specs.Prelude.{bytes_eq, filter}
 use Rattle.std.proofs.lemmas.List.Recursion.{is_position_or_len}
 use Rattle.std.proofs.lemmas.Bool.{le-ltb, lt-ltb, cases_lt}
 use Rattle.link_session.specs.declared.state.State.{State}
@@ -18,7 +17,8 @@ use Rattle.link_out.specs.internal.FromCells.{finals}
 use Rattle.link_out.specs.function.Reports.{is_missing, undefined_names, is_in_text, entry_word, entry_found_bad}
 use Rattle.link_out.specs.internal.Entries.{text_address, text_address_at}
 use Rattle.link_out.proofs.CellWordLemmas.{mapped_at_place}
-use Rattle.link_out.proofs.InOrderLemmas.{drop_next, named_by}
+use Rattle.link_out.specs.internal.InOrder.{missing_among}
+use Rattle.link_out.proofs.InOrderLemmas.{named_by}
 
 -- the state of a name that is found, and of one that is not
 pub found_known : (ms : List Mention) (name : List ℕ) (i : ℕ) → Some i ≡ position (bytes_eq name) (names_by_first_mention ms) → state_at (named_states ms) i ≡ state ms name
@@ -29,39 +29,23 @@ found_known ms name i h =
 pub missing_known : (ms : List Mention) (name : List ℕ) → None ≡ position (bytes_eq name) (names_by_first_mention ms) → Wanted 0 ≡ state ms name
 missing_known ms name h = missing_state (named_states ms) name (h ∙ ap (position (bytes_eq name)) (sym (keys-named_states ms))) ∙ state_for-named_states ms name
 
--- the names that are reported among those from this place on
-abbrev pub missing_behind : List Mention → ℕ → List (List ℕ)
-missing_behind ms i = filter (λ n. is_missing n (state ms n)) (drop i (names_by_first_mention ms))
-
--- a name and its state
-pub name_read : (ms : List Mention) (names : List (List ℕ)) (i : ℕ) (name : List ℕ) (s : State) → slice_get (named_by ms names) i ≡ Some (name, s) → (slice_get names i ≡ Some name) × (s ≡ state ms name)
-name_read ms [] i name s h = absurd (cc)
-name_read ms (n ∷ ns) zero name s h =
-    let same : (n, state ms n) ≡ (name, s) = cc in
-    (ap (λ (e : List ℕ × State). Some e.0) same, sym (ap (λ (e : List ℕ × State). e.1) same) ∙ ap (λ (e : List ℕ × State). state ms e.0) same)
-name_read ms (n ∷ ns) (suc i) name s h = name_read ms ns i name s h
-
--- the next of the names
-pub missing_more : (ms : List Mention) (before : List (List ℕ)) (i : ℕ) (name : List ℕ) (s : State) → slice_get (named_states ms) i ≡ Some (name, s) →
-    before ++ missing_behind ms i ≡ (before ++ cond (is_missing name s) (name ∷ []) []) ++ missing_behind ms (i + 1)
-missing_more ms before i name s h =
-    let read = name_read ms (names_by_first_mention ms) i name s h in
-    let rest = missing_behind ms (i + 1) in
-    ap (λ (names : List (List ℕ)). before ++ filter (λ n. is_missing n (state ms n)) names) (drop_next (names_by_first_mention ms) i name read.0)
-    ∙ ap (λ (names : List (List ℕ)). before ++ names) (by_test (is_missing name (state ms name)) rest ∙ ap (λ (t : State). cond (is_missing name t) (name ∷ []) [] ++ rest) (sym read.1))
-    ∙ sym (append_assoc before (cond (is_missing name s) (name ∷ []) []) rest)
+-- the names that are reported, from the names with their states
+missing-named : (ms : List Mention) (names : List (List ℕ)) → missing_among (named_by ms names) ≡ filter (λ n. is_missing n (state ms n)) names
+missing-named ms [] = refl
+missing-named ms (n ∷ ns) = by_test (is_missing n (state ms n)) (missing-named ms ns)
   where
-    by_test : (t : Bool) (rest : List (List ℕ)) → cond t (name ∷ rest) rest ≡ cond t (name ∷ []) [] ++ rest
-    by_test true rest = refl
-    by_test false rest = refl
+    known : List (List ℕ × State)
+    known = filter (λ (e : List ℕ × State). is_missing e.0 e.1) (named_by ms ns)
 
--- no name is left
-pub missing_all : (ms : List Mention) (names : List (List ℕ)) (i : ℕ) → length (named_states ms) ≤ i → undefined_names ms ≡ names ++ missing_behind ms i → names ≡ undefined_names ms
-missing_all ms names i behind so_far =
-    sym (append-nil names)
-    ∙ ap (λ (left : List (List ℕ)). names ++ filter (λ n. is_missing n (state ms n)) left)
-    (sym (drop_of_length-le (names_by_first_mention ms) (omega (arith, behind, length-map (names_by_first_mention ms) (λ (n : List ℕ). let e : List ℕ × State = (n, state ms n) in e)))))
-    ∙ sym so_far
+    missed : List (List ℕ)
+    missed = filter (λ (m : List ℕ). is_missing m (state ms m)) ns
+
+    by_test : (t : Bool) → map (λ (e : List ℕ × State). e.0) known ≡ missed → map (λ (e : List ℕ × State). e.0) (cond t ((n, state ms n) ∷ known) known) ≡ cond t (n ∷ missed) missed
+    by_test true h = ap (λ (l : List (List ℕ)). n ∷ l) h
+    by_test false h = h
+
+pub missing-in_order : (ms : List Mention) → missing_among (named_states ms) ≡ undefined_names ms
+missing-in_order ms = missing-named ms (names_by_first_mention ms)
 
 one_more : (a b : ℕ) → nat_lt (a + 1) (b + 1) ≡ nat_lt a b
 one_more a b = by_order (cases_lt a b)

@@ -1,8 +1,7 @@
 -- Commons, final names and undefined names, name by name.
-use Rattle.std.proofs.Common.{◌≡◌, ℕ, zero, suc, ◌+◌, ◌<◌, ◌≤◌, Bool, true, false, cond, ◌||◌, List, [], ◌∷◌, ◌++◌, map, take, drop, length, Option, Some, None, refl, sym, ◌∙◌, ap, arith, append_assoc, add-one}
-use Rattle.std.specs.Prelude.{bytes_eq, slice_get, IsSome}
-use Rattle.std.proofs.Math.Seq.{take-append_seam, drop-cons}
-use Rattle.std.proofs.lemmas.Option.{slice_get_within, get_or_from_slice_get}
+use Rattle.std.proofs.Common.{◌≡◌, ℕ, ◌+◌, Bool, true, false, cond, ◌||◌, List, [], ◌∷◌, ◌++◌, map, take, length, refl, sym, ◌∙◌, ap, arith, append_assoc}
+use Rattle.std.specs.Prelude.{bytes_eq}
+use Rattle.std.proofs.Math.Seq.{take-append_seam}
 use Rattle.std.proofs.lemmas.List.Sums.{sum_by-append}
 use Rattle.link_session.specs.declared.state.State.{State}
 use Rattle.link_session.specs.Image.{Named}
@@ -11,10 +10,8 @@ use Rattle.link_session.specs.Mentions.{Mention, is_among, new_names, names_of, 
 use Rattle.link_session.specs.States.{state}
 use Rattle.link_session.proofs.MentionLemmas.{is_among-append}
 use Rattle.link_session.proofs.UpdateLemmas.{own_name}
-use Rattle.link_options.specs.Choices.{Choices}
-use Rattle.link_out.specs.Layouts.{Bases}
 use Rattle.link_out.specs.function.Plans.{Plan, common_size, room_of, commons_total, common_offset}
-use Rattle.link_out.specs.function.Finals.{Final, final}
+use Rattle.link_out.specs.function.Finals.{final}
 use Rattle.link_out.specs.internal.FromCells.{finals}
 use Rattle.link_out.specs.function.Finals.{final_at}
 use Rattle.link_out.specs.internal.InOrder.{finals_from, room_in}
@@ -22,32 +19,6 @@ use Rattle.link_out.specs.internal.InOrder.{finals_from, room_in}
 -- names with their states
 abbrev pub named_by : List Mention → List (List ℕ) → Named
 named_by ms names = map {B = List ℕ × State} (λ n. (n, state ms n)) names
-
--- the next of what is left
-pub drop_next : {A : Type 0} (xs : List A) (i : ℕ) (x : A) → slice_get xs i ≡ Some x → drop i xs ≡ x ∷ drop (i + 1) xs
-drop_next xs i x h =
-    drop-cons xs i x (slice_get_within xs i x h)
-    ∙ ap (λ z. z ∷ drop (suc i) xs) (get_or_from_slice_get xs i x x h)
-    ∙ ap (λ (k : ℕ). x ∷ drop k xs) (sym (add-one i))
-
-pub none_behind : {A : Type 0} (xs : List A) (i : ℕ) → slice_get xs i ≡ None → length xs ≤ i
-none_behind [] i h = omega arith
-none_behind (x ∷ xs) zero h = absurd (cc)
-none_behind (x ∷ xs) (suc i) h = let shorter = none_behind xs i h in omega arith
-
--- what is read ahead of the end is there
-pub some_within : {A : Type 0} (found : Option A) (xs : List A) (i : ℕ) → found ≡ slice_get xs i → i < length xs → IsSome found
-some_within None xs i e h = absurd (omega (arith, none_behind xs i (sym e)))
-some_within (Some x) xs i e h = refl
-
-pub room_next : (total : ℕ) (es : Named) (i : ℕ) (e : List ℕ × State) → slice_get es i ≡ Some e → total + room_in (drop i es) ≡ (total + common_size e.1) + room_in (drop (i + 1) es)
-room_next total es i e h = let next = ap room_in (drop_next es i e h) in omega arith
-
-pub finals_next : (o : Choices) (b : Bases) (before : List Final) (offset : ℕ) (es : Named) (i : ℕ) (e : List ℕ × State) → slice_get es i ≡ Some e →
-    before ++ finals_from o b offset (drop i es) ≡ (before ++ final_at o b offset e.0 e.1 ∷ []) ++ finals_from o b (offset + common_size e.1) (drop (i + 1) es)
-finals_next o b before offset es i e h =
-    ap (λ (rest : Named). before ++ finals_from o b offset rest) (drop_next es i e h)
-    ∙ sym (append_assoc before (final_at o b offset e.0 e.1 ∷ []) (finals_from o b (offset + common_size e.1) (drop (i + 1) es)))
 
 -- the room of all names
 room-named : (ms : List Mention) (names : List (List ℕ)) → room_in (named_by ms names) ≡ room_of ms names

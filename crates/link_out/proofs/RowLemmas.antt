@@ -1,6 +1,6 @@
 -- The rows of the table, object by object and name by name, are those of the whole list.
-use Rattle.std.proofs.Common.{◌≡◌, ℕ, ◌+◌, ◌%◌, Bool, true, false, List, [], ◌∷◌, ◌++◌, map, length, drop, refl, sym, subst, ◌∙◌, ap, arith, append_assoc, length-append, append-nil, drop_of_length-le, ◌≤◌}
-use Rattle.std.specs.Prelude.{filter, cond, nat_lt, slice_get, Option, Some, IsNone, IsTrue, IfSome, ◌↔◌}
+use Rattle.std.proofs.Common.{◌≡◌, ℕ, ◌+◌, ◌%◌, ◌⊎◌, inl, inr, Bool, true, false, List, [], ◌∷◌, ◌++◌, map, length, drop, refl, sym, subst, ◌∙◌, ap, arith, length-append, append-nil, drop_of_length-le, ◌≤◌}
+use Rattle.std.specs.Prelude.{filter, cond, nat_lt, Option, IsNone, IsTrue, IfSome, ◌↔◌}
 use Rattle.std.specs.List.{flat_map}
 use Rattle.std.proofs.lemmas.List.{length-map}
 use Rattle.aout_core.specs.declared.symbol.Symbol.{Symbol}
@@ -9,7 +9,6 @@ use Rattle.aout_core.specs.declared.symbol.Segment.TheVariants as segments
 use Rattle.aout_core.specs.Contents.{Contents}
 use Rattle.aout_core.specs.Words.{plus, minus}
 use Rattle.aout_core.specs.WellFormed.{segment_of}
-use Rattle.link_session.specs.declared.state.State.{State}
 use Rattle.link_session.specs.Earlier.{with_earlier}
 use Rattle.link_session.specs.Labelled.{Labelled, objects}
 use Rattle.link_session.specs.declared.relocate.Starts.{Starts}
@@ -25,9 +24,8 @@ use Rattle.link_out.specs.function.Finals.{Final, final}
 use Rattle.link_out.specs.internal.FromCells.{finals}
 use Rattle.link_out.specs.function.Plans.{Plan}
 use Rattle.link_out.specs.function.Tables.{is_kept_local, moved_value, moved_local, local_rows, external_row, external_rows, rows_kept, table}
-use Rattle.link_out.specs.internal.Rows.{moves_by, value_moved, symbol_moved, rows_in, rows_from, row_with, rows_with, kept_count}
+use Rattle.link_out.specs.internal.Rows.{moves_by, value_moved, symbol_moved, rows_in, rows_from, rows_with, kept_count}
 use Rattle.link_session.proofs.StartLemmas.{next_starts-after}
-use Rattle.link_out.proofs.InOrderLemmas.{drop_next}
 
 -- a start modulo 65,536 moves as the start does
 moved_from : (v b t own : ℕ) → plus v (plus b (minus (t % 65536) own)) ≡ plus v (plus b (minus t own))
@@ -100,28 +98,17 @@ rows_all b keep s rows es i «end» so_far =
     ∙ ap (λ (left : List Labelled). rows ++ rows_from b keep s (objects left)) (sym (drop_of_length-le es «end»))
     ∙ sym so_far
 
--- one more external
-pub rows_next : (es : Named) (fs : List Final) (i : ℕ) (e : List ℕ × State) (f : Final) (all rows more : List Symbol) → slice_get es i ≡ Some e → slice_get fs i ≡ Some f →
-    all ≡ rows ++ rows_with (drop i es) (drop i fs) → more ≡ rows ++ row_with e.0 f ∷ [] → all ≡ more ++ rows_with (drop (i + 1) es) (drop (i + 1) fs)
-rows_next es fs i e f all rows more named at so_far put =
-    so_far
-    ∙ (λ j. rows ++ rows_with (drop_next es i e named j) (drop_next fs i f at j))
-    ∙ sym (append_assoc rows (row_with e.0 f ∷ []) (rows_with (drop (i + 1) es) (drop (i + 1) fs)))
-    ∙ ap (λ (l : List Symbol). l ++ rows_with (drop (i + 1) es) (drop (i + 1) fs)) (sym put)
+-- no row is left if no external is left, or nothing that becomes of one
+rows_none : (es : Named) (fs : List Final) → (es ≡ []) ⊎ (length fs ≡ 0) → rows_with es fs ≡ []
+rows_none es fs (inl h) = ap (λ (l : Named). rows_with l fs) h
+rows_none [] fs (inr h) = refl
+rows_none (e ∷ es) [] (inr h) = refl
+rows_none (e ∷ es) (f ∷ fs) (inr h) = absurd (omega arith)
 
--- no external is left
-pub rows_put : (es : Named) (fs : List Final) (i : ℕ) (all rows : List Symbol) → length es ≤ i → all ≡ rows ++ rows_with (drop i es) (drop i fs) → rows ≡ all
-rows_put es fs i all rows behind so_far =
-    sym (append-nil rows)
-    ∙ ap (λ (left : Named). rows ++ rows_with left (drop i fs)) (sym (drop_of_length-le es behind))
-    ∙ sym so_far
+pub rows_put : (es : Named) (fs : List Final) (all rows : List Symbol) → (es ≡ []) ⊎ (length fs ≡ 0) → all ≡ rows ++ rows_with es fs → rows ≡ all
+rows_put es fs all rows none so_far = sym (append-nil rows) ∙ ap (λ (l : List Symbol). rows ++ l) (sym (rows_none es fs none)) ∙ sym so_far
 
 -- the externals with what becomes of them in a link
-pub finals_many : (p : Plan) → length (finals p) ≡ length (named_states p.mentions)
-finals_many p =
-    let names = names_by_first_mention p.mentions in
-    length-map names (final p) ∙ sym (length-map names (λ (n : List ℕ). let e : List ℕ × State = (n, state p.mentions n) in e))
-
 pub rows_planned : (p : Plan) → rows_with (named_states p.mentions) (finals p) ≡ external_rows p
 rows_planned p = from (names_by_first_mention p.mentions)
   where

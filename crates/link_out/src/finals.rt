@@ -105,8 +105,7 @@ pub(crate) fn finals_of(
 {
     let mut finals = Vec::with_capacity(alloc, session.external_count() as usize)?;
     let mut offset = 0;
-    for index in 0..session.external_count() {
-        let (name, state) = session.external(index).unwrap();
+    for (name, state) in session.externals() {
         finals.push(final_at(options, bases, offset, name, state))?;
         offset += common_size(state);
     }

@@ -1,14 +1,12 @@
 //! What is reported of a link.
-ghost use Rattle.std.specs.Prelude.{◌≡◌, ◌++◌, ◌∷◌, [], not, cond, filter, bytes_eq, position, Some, IfOk, OnOk};
-ghost use Rattle.link_session.specs.Image.{state_at};
+ghost use Rattle.std.specs.Prelude.{◌≡◌, bytes_eq, position, Some, IfOk};
 ghost use Rattle.link_session.specs.Labelled.{objects};
-ghost use Rattle.link_session.specs.Mentions.{mentions, externals, is_among};
-ghost use Rattle.link_session.specs.States.{state};
+ghost use Rattle.link_session.specs.Mentions.{externals};
 ghost use Rattle.link_session.specs.Undo.{image_of};
 ghost use Rattle.link_out.specs.internal.FromCells as from_cells;
 ghost use Rattle.link_out.specs.internal.Entries.{text_address, text_address_at};
-ghost use Rattle.link_out.specs.function.Reports.{is_undefined, is_missing, reserved_names, reserved_taken, undefined_names, entry_word, entry_found_bad, findings};
-ghost use Rattle.link_out.specs.internal.InOrder.{plan_of};
+ghost use Rattle.link_out.specs.function.Reports.{entry_word, entry_found_bad, findings};
+ghost use Rattle.link_out.specs.internal.InOrder.{missing_among, plan_of};
 ghost use Rattle.link_out.specs.Outcomes.{findings_of};
 
 use crate::finals::Final;
@@ -16,7 +14,7 @@ use crate::linked::Report;
 use crate::reserved_names::{is_missing, reserved_taken};
 use aout_core::{Name, Segment};
 use link_options::Options;
-use link_session::{Session, State};
+use link_session::Session;
 use std::alloc::{AllocError, Global};
 
 /// The entry point of a program.
@@ -28,26 +26,15 @@ pub(crate) struct EntryPoint {
     pub(crate) bad: Option<Name>,
 }
 
-/// Appends a name if it is reported as undefined.
-fn put_if_missing(names: &mut Vec<Name>, name: Name, state: State) -> Result<(), AllocError>
-    ensures { OnOk result (names.new.items ≡ names.old.items ++ cond (is_missing name state) (name ∷ []) []) }
-{
-    if is_missing(&name, state) {
-        names.push(name)?;
-    }
-    Ok(())
-}
-
 /// The names that are undefined and not reserved, by first mention. An error: out of memory.
 fn missing(alloc: Global, session: &Session) -> Result<Vec<Name>, AllocError>
-    ensures { IfOk result (λ names. names.items ≡ undefined_names (mentions session.now.forced (objects session.now.entries))) }
+    ensures { IfOk result (λ names. names.items ≡ missing_among (image_of session.now).externals) }
 {
-    let mut names = Vec::new(alloc);
-    for index in 0..session.external_count() {
-        let (name, state) = session.external(index).unwrap();
-        put_if_missing(&mut names, name, state)?;
-    }
-    Ok(names)
+    session
+        .externals()
+        .filter(|(name, state)| is_missing(name, *state))
+        .map(|(name, _)| name)
+        .collect(alloc)
 }
 
 /// The undefined names that are reported: none where relocation is kept. An error: out of memory.

@@ -88,10 +88,8 @@ fn commons_total(session: &Session) -> u64
     ensures small { result ≤ 65535 * 65536 }
 {
     let mut total = 0;
-    for index in 0..session.external_count() {
-        if let Some((_, state)) = session.external(index) {
-            total += common_size(state);
-        }
+    for (_, state) in session.externals() {
+        total += common_size(state);
     }
     total
 }

@@ -1,5 +1,5 @@
 //! The symbol table of a linked file.
-ghost use Rattle.std.specs.Prelude.{◌≡◌, ◌++◌, length, IfOk, OnOk};
+ghost use Rattle.std.specs.Prelude.{◌≡◌, ◌++◌, IfOk, OnOk};
 ghost use Rattle.link_session.specs.Labelled.{objects};
 ghost use Rattle.link_session.specs.Starts.{no_starts};
 ghost use Rattle.link_session.specs.Undo.{image_of};
@@ -126,13 +126,10 @@ pub(crate) fn put_externals(
     session: &Session,
     finals: &[Final],
 ) -> Result<(), AllocError>
-    requires { length finals.now ≡ length (image_of session.now).externals }
     ensures { OnOk result (rows.new.items ≡ rows.old.items ++ rows_with (image_of session.now).externals finals.now) }
 {
-    for index in 0..session.external_count() {
-        if let Some((name, _)) = session.external(index) {
-            rows.push(row_for(name, &finals[index as usize]))?;
-        }
+    for ((name, _), last) in session.externals().zip(finals) {
+        rows.push(row_for(name, last))?;
     }
     Ok(())
 }

@@ -1,5 +1,5 @@
--- Commons and final names as they follow from the names in order.
-use Rattle.std.specs.Prelude.{ℕ, ◌+◌, List, [], ◌∷◌}
+-- Commons, final names and undefined names as they follow from the names in order.
+use Rattle.std.specs.Prelude.{ℕ, ◌+◌, List, [], ◌∷◌, map, filter}
 use Rattle.link_session.specs.Labelled.{objects}
 use Rattle.link_session.specs.Image.{Named}
 use Rattle.link_session.specs.Undo.{Kept}
@@ -7,6 +7,7 @@ use Rattle.link_options.specs.Choices.{Choices}
 use Rattle.link_out.specs.Layouts.{Bases}
 use Rattle.link_out.specs.function.Plans.{Plan, plan, common_size}
 use Rattle.link_out.specs.function.Finals.{Final, final_at}
+use Rattle.link_out.specs.function.Reports.{is_missing}
 
 -- what a link of what a session keeps is computed from
 abbrev pub plan_of : Kept → Choices → Plan
@@ -21,3 +22,7 @@ finals_from o b offset (e ∷ es) = final_at o b offset e.0 e.1 ∷ finals_from 
 abbrev pub room_in : Named → ℕ
 room_in [] = 0
 room_in (e ∷ es) = common_size e.1 + room_in es
+
+-- those of the names that a link without relocation reports as undefined
+abbrev pub missing_among : Named → List (List ℕ)
+missing_among es = map (λ e. e.0) (filter (λ e. is_missing e.0 e.1) es)

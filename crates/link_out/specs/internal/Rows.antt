@@ -1,5 +1,5 @@
 -- The kept locals as they follow from the objects' sizes, and the rows of externals as they follow from what becomes of them.
-use Rattle.std.specs.Prelude.{ℕ, ◌+◌, List, [], ◌∷◌, ◌++◌, map, filter, length}
+use Rattle.std.specs.Prelude.{ℕ, ◌+◌, List, [], ◌∷◌, ◌++◌, map, filter, length, zip}
 use Rattle.aout_core.specs.declared.symbol.Symbol.{Symbol}
 use Rattle.aout_core.specs.declared.symbol.Segment.{Segment}
 use Rattle.aout_core.specs.declared.symbol.Segment.TheVariants.{TextSeg, DataSeg, BssSeg}
@@ -48,9 +48,7 @@ abbrev pub row_with : List ℕ → Final → Symbol
 row_with name f = record { name = name; type_bits = type_of f.bound; value = f.written }
 
 abbrev pub rows_with : Named → List Final → List Symbol
-rows_with [] fs = []
-rows_with (e ∷ es) [] = []
-rows_with (e ∷ es) (f ∷ fs) = row_with e.0 f ∷ rows_with es fs
+rows_with es fs = map (λ p. row_with p.0.0 p.1) (zip es fs)
 
 -- how many locals are kept
 abbrev pub count_in : Keep → List Symbol → ℕ

@@ -1,20 +1,12 @@
-use Rattle.std.proofs.Common.{◌≡◌, ◌∙◌, ◌++◌, List, ap, length}
+use Rattle.std.proofs.Common.{◌≡◌, ◌∙◌, ◌++◌}
 use Rattle.link_session.specs.Labelled.{objects}
 use Rattle.link_session.specs.Undo.{image_of}
-use Rattle.link_out.specs.function.Finals.{Final}
 use Rattle.link_out.specs.internal.FromCells as from_cells
 use Rattle.link_out.specs.internal.InOrder.{plan_of}
 use Rattle.link_out.specs.internal.Rows.{rows_with}
 use Rattle.link_out.proofs.FinishLemmas.{names_planned}
-use Rattle.link_out.proofs.RowLemmas.{finals_many, rows_planned}
+use Rattle.link_out.proofs.RowLemmas.{rows_planned}
 use Rattle.link_out.proofs.externals.link_externals.Goals as goal
-
-pub put_externals-requires : goal.put_externals-requires
-put_externals-requires c =
-    let s = c.args.session.now in
-    let o = c.args.options.now in
-    ap (λ (l : List Final). length l) (c.deref.ensures.value ∙ c.in_ok-finals.ensures ∙ names_planned s.forced (objects s.entries) o c.link_bases-bases.result c.link_bases-bases.ensures.value)
-    ∙ finals_many (plan_of s o)
 
 pub returns-clause-rows : goal.returns-clause-rows
 returns-clause-rows c =

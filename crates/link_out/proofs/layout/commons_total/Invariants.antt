@@ -1,11 +1,10 @@
-use Rattle.std.proofs.Common.{◌≡◌, ◌+◌, ◌*◌, ◌≤◌, drop}
-use Rattle.link_session.specs.Undo.{image_of}
+use Rattle.std.proofs.Common.{◌≡◌, ◌+◌, ◌*◌, ◌≤◌, length}
 use Rattle.link_out.specs.internal.InOrder.{room_in}
 use Rattle.link_out.proofs.layout.commons_total.Given as goal
 
 -- the room so far, and that of the names that are left
-abbrev pub invariant-loop-index : goal.invariant-loop-index
-invariant-loop-index l = record {
-  total : room_in (image_of l.session).externals ≡ l.total + room_in (drop l.index (image_of l.session).externals);
-  small : l.total ≤ l.index * 65536;
+abbrev pub invariant-loop-state : goal.invariant-loop-state
+invariant-loop-state l = record {
+  total : room_in l.initial.state-iterator ≡ l.total + room_in l.state-iterator;
+  small : l.total + length l.state-iterator * 65536 ≤ 65535 * 65536;
 }

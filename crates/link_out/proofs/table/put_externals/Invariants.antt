@@ -1,9 +1,8 @@
-use Rattle.std.proofs.Common.{◌≡◌, ◌++◌, drop}
-use Rattle.link_session.specs.Undo.{image_of}
+use Rattle.std.proofs.Common.{◌≡◌, ◌++◌}
+use Rattle.std.specs.Slice.Iter.{iter_rest}
 use Rattle.link_out.specs.internal.Rows.{rows_with}
 use Rattle.link_out.proofs.table.put_externals.Given as goal
 
 -- the rows so far, and those of the externals that are left
-abbrev pub invariant-loop-index : goal.invariant-loop-index
-invariant-loop-index l =
-    l.initial.rows.items ++ rows_with (image_of l.session).externals l.finals ≡ l.rows.items ++ rows_with (drop l.index (image_of l.session).externals) (drop l.index l.finals)
+abbrev pub invariant-loop-name : goal.invariant-loop-name
+invariant-loop-name l = (l.initial.rows.items ++ rows_with l.initial.name-iterator.a (iter_rest l.initial.name-iterator.b) ≡ l.rows.items ++ rows_with l.name-iterator.a (iter_rest l.name-iterator.b))

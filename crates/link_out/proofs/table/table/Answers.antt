@@ -1,4 +1,4 @@
-use Rattle.std.proofs.Common.{◌≡◌, ◌∙◌, ◌++◌, ap, sym, length, rules, List}
+use Rattle.std.proofs.Common.{◌≡◌, ◌∙◌, ◌++◌, ap, sym, rules, List}
 use Rattle.aout_core.specs.declared.symbol.Symbol.{Symbol}
 use Rattle.link_session.specs.Labelled.{objects}
 use Rattle.link_session.specs.Starts.{no_starts}
@@ -8,11 +8,8 @@ use Rattle.link_out.specs.function.Finals.{Final}
 use Rattle.link_out.specs.function.Tables.{local_rows, external_rows}
 use Rattle.link_out.specs.internal.InOrder.{plan_of}
 use Rattle.link_out.specs.internal.Rows.{rows_from, rows_with}
-use Rattle.link_out.proofs.RowLemmas.{rows_from-local_rows, finals_many, rows_planned, table_whole}
+use Rattle.link_out.proofs.RowLemmas.{rows_from-local_rows, rows_planned, table_whole}
 use Rattle.link_out.proofs.table.table.Goals as goal
-
-pub put_externals-requires : goal.put_externals-requires
-put_externals-requires c = ap (λ (l : List Final). length l) c.requires.finals ∙ finals_many (plan_of c.args.session.now c.args.options.now)
 
 pub returns : goal.returns
 returns c =
