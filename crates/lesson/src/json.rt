@@ -1,6 +1,6 @@
 //! JSON. What is put after another value of a list or object has a comma before it.
 use itoa::Buffer;
-use session_text::{push_json_bytes, push_json_text};
+use reports::{push_json_bytes, push_json_text};
 use std::alloc::AllocError;
 
 /// Adds a comma, except at the beginning of a list or an object and after a key.

@@ -7,8 +7,8 @@ use Rattle.link_session.specs.declared.mark.Mark.{Mark}
 use Rattle.link_session.specs.Edits.{Change, answers, survivors}
 use Rattle.link_session.specs.Labelled.{objects}
 use Rattle.link_session.specs.Undo.{Kept, IsJournal}
-use Rattle.session_text.specs.StateJson.{state_json}
-use Rattle.session_text.specs.StateLines.{state_lines}
+use Rattle.reports.specs.StateJson.{state_json}
+use Rattle.reports.specs.StateLines.{state_lines}
 use Rattle.link_out.specs.Steps.{and_then}
 use Rattle.library_calls.specs.declared.cause.Cause.{Cause}
 use Rattle.library_calls.specs.declared.cause.Cause.TheVariants.{NoOption}

@@ -1,0 +1,23 @@
+//! Reports the state of a session as lines for a reader or as JSON for a program, and writes JSON strings.
+//!
+//! ```rust
+//! use reports::state_lines;
+//!
+//! session.withdraw();
+//! state_lines(alloc, session)
+//! ```
+//!
+//! Functions:
+//!
+//! - `state_lines`: the image and the last marks, a line each
+//! - `state_json`: the same as one JSON object
+//! - `push_json_bytes`, `push_json_text`: what is between the quotes of a JSON string
+#![tactic(auto)]
+
+mod json;
+mod lines;
+mod names;
+mod numbers;
+
+pub use json::{push_json_bytes, push_json_text, state_json};
+pub use lines::state_lines;
