@@ -3,8 +3,8 @@ ghost use Rattle.std.specs.Prelude.{◌≡◌, ◌≤◌, [], length, Ok};
 ghost use Rattle.library_calls.specs.LinkAnswers.{founds_of, outputs_of};
 ghost use Rattle.library_calls.specs.ObjectParts.{pieces_in};
 ghost use Rattle.library_calls.specs.SessionAnswers.{sessions_of};
-ghost use Rattle.library_calls.specs.StateAnswers.{told_of};
-ghost use Rattle.v7_c.specs.Left.{apart_left, counted_by, counts_of, file_left, founds_or, items_of, left, left_by, link_left, output_left, outputs_or, parts_left, pieces_or, put_in, ran_left, read_left, session_left, sessions_or, told_left, told_or, wholes_or};
+ghost use Rattle.library_calls.specs.StateAnswers.{states_of};
+ghost use Rattle.v7_c.specs.Left.{apart_left, counted_by, counts_of, file_left, founds_or, items_of, left, left_by, link_left, output_left, outputs_or, parts_left, pieces_or, put_in, ran_left, read_left, session_left, sessions_or, state_left, states_or, wholes_or};
 
 use crate::answer::{Answer, Counts, FileHeader};
 use library_calls::{
@@ -16,11 +16,11 @@ use library_calls::{
 const NO_ROOM: u32 = 60;
 
 /// Writes bytes, or what else there is, at the beginning of a buffer.
-fn put<T: Copy>(items: &[T], room: &mut [T])
-    requires { length items.now ≤ length room.old }
-    ensures { room.new ≡ put_in room.old items.now }
+fn put<T: Copy>(items: &[T], buffer: &mut [T])
+    requires { length items.now ≤ length buffer.old }
+    ensures { buffer.new ≡ put_in buffer.old items.now }
 {
-    room[..items.len()].copy_from_slice(items);
+    buffer[..items.len()].copy_from_slice(items);
 }
 
 /// Answers by a number of bytes.
@@ -42,18 +42,18 @@ pub(crate) fn leave_count(count: Result<usize, Cause>, answer: &mut Answer) -> u
 /// Writes bytes into the buffer, if they fit.
 pub(crate) fn leave_bytes(
     bytes: Result<Vec<u8>, Cause>,
-    room: &mut [u8],
+    buffer: &mut [u8],
     answer: &mut Answer,
 ) -> u32
-    ensures { left result answer.new room.new ≡ left_by (items_of bytes) room.old }
+    ensures { left result answer.new buffer.new ≡ left_by (items_of bytes) buffer.old }
 {
     match bytes {
-        Ok(bytes) if room.len() < bytes.len() => {
+        Ok(bytes) if buffer.len() < bytes.len() => {
             *answer = Answer::given(NO_ROOM, bytes.len(), 0);
             2
         }
         Ok(bytes) => {
-            put(&bytes, room);
+            put(&bytes, buffer);
             *answer = Answer::given(0, bytes.len(), 0);
             0
         }
@@ -75,48 +75,53 @@ struct Both<'a, T> {
 /// Writes two results into their buffers, if both fit.
 fn leave_both<T: Copy>(
     both: &Both<'_, T>,
-    room: &mut [u8],
+    buffer: &mut [u8],
     report: &mut [T],
     answer: &mut Answer,
 ) -> u32
-    ensures { link_left result answer.new room.new report.new
-        ≡ output_left (Ok (record { status = both.now.status; file = both.now.bytes.now; report = both.now.more.now })) room.old report.old }
+    ensures { link_left result answer.new buffer.new report.new
+        ≡ output_left (Ok (record { status = both.now.status; file = both.now.bytes.now; report = both.now.more.now })) buffer.old report.old }
 {
     let size = both.bytes.len();
     let report_size = both.more.len();
-    if room.len() < size || report.len() < report_size {
+    if buffer.len() < size || report.len() < report_size {
         *answer = Answer::given(NO_ROOM, size, report_size);
         return 2;
     }
-    put(both.bytes, room);
+    put(both.bytes, buffer);
     put(both.more, report);
     *answer = Answer::given(0, size, report_size);
     u32::from(both.status)
 }
 
 /// Writes the file of a link and its report into the buffers, if both fit.
-fn leave_program(program: &Program, room: &mut [u8], report: &mut [u8], answer: &mut Answer) -> u32
-    ensures { link_left result answer.new room.new report.new ≡ output_left (Ok (outputs_of program.now)) room.old report.old }
+fn leave_program(
+    program: &Program,
+    buffer: &mut [u8],
+    report: &mut [u8],
+    answer: &mut Answer,
+) -> u32
+    ensures { link_left result answer.new buffer.new report.new ≡ output_left (Ok (outputs_of program.now)) buffer.old report.old }
 {
     let both = Both {
         status: program.status,
         bytes: &program.file,
         more: &program.report,
     };
-    leave_both(&both, room, report, answer)
+    leave_both(&both, buffer, report, answer)
 }
 
 /// Writes a link into the buffers, if there is one.
 pub(crate) fn leave_output(
     program: Result<Program, Refusal>,
-    room: &mut [u8],
+    buffer: &mut [u8],
     report: &mut [u8],
     answer: &mut Answer,
 ) -> u32
-    ensures { link_left result answer.new room.new report.new ≡ output_left (outputs_or program) room.old report.old }
+    ensures { link_left result answer.new buffer.new report.new ≡ output_left (outputs_or program) buffer.old report.old }
 {
     match program {
-        Ok(program) => leave_program(&program, room, report, answer),
+        Ok(program) => leave_program(&program, buffer, report, answer),
         Err(refusal) => {
             *answer = Answer::refused(refusal);
             2
@@ -125,28 +130,33 @@ pub(crate) fn leave_output(
 }
 
 /// Writes the file of a link and its findings into the buffers, if both fit.
-fn leave_found(found: &Found, room: &mut [u8], findings: &mut [Finding], answer: &mut Answer) -> u32
-    ensures { link_left result answer.new room.new findings.new ≡ output_left (Ok (founds_of found.now)) room.old findings.old }
+fn leave_found(
+    found: &Found,
+    buffer: &mut [u8],
+    findings: &mut [Finding],
+    answer: &mut Answer,
+) -> u32
+    ensures { link_left result answer.new buffer.new findings.new ≡ output_left (Ok (founds_of found.now)) buffer.old findings.old }
 {
     let both = Both {
         status: found.status,
         bytes: &found.file,
         more: &found.findings,
     };
-    leave_both(&both, room, findings, answer)
+    leave_both(&both, buffer, findings, answer)
 }
 
 /// Writes a link and its findings into the buffers, if there is one.
 pub(crate) fn leave_findings(
     found: Result<Found, Refusal>,
-    room: &mut [u8],
+    buffer: &mut [u8],
     findings: &mut [Finding],
     answer: &mut Answer,
 ) -> u32
-    ensures { link_left result answer.new room.new findings.new ≡ output_left (founds_or found) room.old findings.old }
+    ensures { link_left result answer.new buffer.new findings.new ≡ output_left (founds_or found) buffer.old findings.old }
 {
     match found {
-        Ok(found) => leave_found(&found, room, findings, answer),
+        Ok(found) => leave_found(&found, buffer, findings, answer),
         Err(refusal) => {
             *answer = Answer::refused(refusal);
             2
@@ -158,20 +168,20 @@ pub(crate) fn leave_findings(
 fn leave_ran(
     ran: &Ran,
     replies: &mut [u8],
-    room: &mut [u8],
+    buffer: &mut [u8],
     report: &mut [u8],
     answer: &mut Answer,
 ) -> u32
-    ensures { session_left (link_left result answer.new room.new report.new) replies.new ≡ ran_left (Ok (sessions_of ran.now)) replies.old room.old report.old }
+    ensures { session_left (link_left result answer.new buffer.new report.new) replies.new ≡ ran_left (Ok (sessions_of ran.now)) replies.old buffer.old report.old }
 {
     let size = ran.program.file.len();
     let report_size = ran.program.report.len();
-    if replies.len() < ran.replies.len() || room.len() < size || report.len() < report_size {
+    if replies.len() < ran.replies.len() || buffer.len() < size || report.len() < report_size {
         *answer = Answer::given(NO_ROOM, size, report_size);
         return 2;
     }
     put(&ran.replies, replies);
-    put(&ran.program.file, room);
+    put(&ran.program.file, buffer);
     put(&ran.program.report, report);
     *answer = Answer::given(0, size, report_size);
     u32::from(ran.program.status)
@@ -181,14 +191,14 @@ fn leave_ran(
 pub(crate) fn leave_session(
     ran: Result<Ran, Refusal>,
     replies: &mut [u8],
-    room: &mut [u8],
+    buffer: &mut [u8],
     report: &mut [u8],
     answer: &mut Answer,
 ) -> u32
-    ensures { session_left (link_left result answer.new room.new report.new) replies.new ≡ ran_left (sessions_or ran) replies.old room.old report.old }
+    ensures { session_left (link_left result answer.new buffer.new report.new) replies.new ≡ ran_left (sessions_or ran) replies.old buffer.old report.old }
 {
     match ran {
-        Ok(ran) => leave_ran(&ran, replies, room, report, answer),
+        Ok(ran) => leave_ran(&ran, replies, buffer, report, answer),
         Err(refusal) => {
             *answer = Answer::refused(refusal);
             2
@@ -197,28 +207,28 @@ pub(crate) fn leave_session(
 }
 
 /// Writes the state of a session and the replies into the buffers, if both fit.
-fn leave_shown(shown: &Shown, room: &mut [u8], replies: &mut [u8], answer: &mut Answer) -> u32
-    ensures { link_left result answer.new room.new replies.new ≡ told_left (Ok (told_of shown.now)) room.old replies.old }
+fn leave_shown(shown: &Shown, buffer: &mut [u8], replies: &mut [u8], answer: &mut Answer) -> u32
+    ensures { link_left result answer.new buffer.new replies.new ≡ state_left (Ok (states_of shown.now)) buffer.old replies.old }
 {
     let both = Both {
         status: shown.status,
         bytes: &shown.state,
         more: &shown.replies,
     };
-    leave_both(&both, room, replies, answer)
+    leave_both(&both, buffer, replies, answer)
 }
 
 /// Writes the state of a session and the replies into the buffers, if there is one.
 pub(crate) fn leave_state(
     shown: Result<Shown, Refusal>,
-    room: &mut [u8],
+    buffer: &mut [u8],
     replies: &mut [u8],
     answer: &mut Answer,
 ) -> u32
-    ensures { link_left result answer.new room.new replies.new ≡ told_left (told_or shown) room.old replies.old }
+    ensures { link_left result answer.new buffer.new replies.new ≡ state_left (states_or shown) buffer.old replies.old }
 {
     match shown {
-        Ok(shown) => leave_shown(&shown, room, replies, answer),
+        Ok(shown) => leave_shown(&shown, buffer, replies, answer),
         Err(refusal) => {
             *answer = Answer::refused(refusal);
             2

@@ -1,8 +1,8 @@
 use Rattle.std.proofs.Common.{◌≡◌, ◌/◌, true, length, [], rules, arith}
 use Rattle.link_session.specs.ForcedNames.{takes}
-use Rattle.library_calls.specs.LinkWanted.{with_names}
+use Rattle.library_calls.specs.LinkRequests.{with_names}
 use Rattle.library_calls.proofs.TakingLemmas.{one_more_name}
-use Rattle.library_calls.proofs.wanted.forced_names.Goals as goal
+use Rattle.library_calls.proofs.requests.forced_names.Goals as goal
 
 pub loop-i-preserved : goal.loop-i-preserved
 loop-i-preserved c =

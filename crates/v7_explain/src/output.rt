@@ -1,19 +1,19 @@
-//! What the program tells.
+//! What the program writes.
 use findings::{Finding, finding_text};
 use std::alloc::{AllocError, Global};
 
 /// A text for standard output, lines for standard error, and the status.
 #[derive(Drop)]
-pub(crate) struct Told {
+pub(crate) struct Output {
     pub(crate) text: Vec<u8>,
     pub(crate) errors: String,
     pub(crate) status: u8,
 }
 
-impl Told {
-    /// Nothing told, and status 0.
-    pub(crate) fn new(alloc: Global) -> Told {
-        Told {
+impl Output {
+    /// Nothing to write, and status 0.
+    pub(crate) fn new(alloc: Global) -> Output {
+        Output {
             text: Vec::new(alloc),
             errors: String::new(alloc),
             status: 0,
@@ -33,11 +33,11 @@ impl Told {
 }
 
 /// Writes the text and the lines to the standard streams, and returns the status.
-pub(crate) fn tell(rt: &HostRuntime, told: &Told) -> u8 {
-    let written = rt.write_all(&told.text);
-    let _ = rt.eprint(told.errors.as_str());
+pub(crate) fn write_output(rt: &HostRuntime, output: &Output) -> u8 {
+    let written = rt.write_all(&output.text);
+    let _ = rt.eprint(output.errors.as_str());
     match written {
-        Ok(()) => told.status,
+        Ok(()) => output.status,
         Err(_) => {
             let _ = rt.eprint("v7-explain: write error\n");
             2
@@ -46,15 +46,15 @@ pub(crate) fn tell(rt: &HostRuntime, told: &Told) -> u8 {
 }
 
 /// Adds findings as lines for standard error, of a file that is wrong.
-pub(crate) fn tell_findings(
+pub(crate) fn report_findings(
     alloc: Global,
-    told: &mut Told,
+    output: &mut Output,
     path: &str,
     findings: &[Finding],
 ) -> Result<(), AllocError> {
     for finding in findings {
         let text = finding_text(alloc, finding)?;
-        told.fault(path, text.as_str(), 1)?;
+        output.fault(path, text.as_str(), 1)?;
     }
     Ok(())
 }

@@ -1,6 +1,6 @@
 use Rattle.std.proofs.Common.{◌≡◌, ◌-◌, ◌*◌, ◌/◌, [], length}
-use Rattle.library_calls.specs.LinkWanted.{with_names}
-use Rattle.library_calls.proofs.wanted.forced_names.Given as goal
+use Rattle.library_calls.specs.LinkRequests.{with_names}
+use Rattle.library_calls.proofs.requests.forced_names.Given as goal
 
 -- the names so far, with those of the bytes that are left, make the whole
 abbrev pub invariant-loop-i : goal.invariant-loop-i
