@@ -1,4 +1,4 @@
-//! Reports the state of a session as lines for a reader or as JSON for a program, and writes JSON strings.
+//! Reports the state of a session as lines for a reader or as JSON for a program, and writes JSON values.
 //!
 //! ```rust
 //! use reports::state_lines;
@@ -6,6 +6,10 @@
 //! session.withdraw();
 //! state_lines(alloc, session)
 //! ```
+//!
+//! Types:
+//!
+//! - `JsonWriter`: a JSON text that is written value by value, with the commas between them
 //!
 //! Functions:
 //!
@@ -15,9 +19,11 @@
 #![tactic(auto)]
 
 mod json;
+mod json_writer;
 mod lines;
 mod names;
 mod numbers;
 
 pub use json::{push_json_bytes, push_json_text, state_json};
+pub use json_writer::JsonWriter;
 pub use lines::state_lines;
