@@ -4,7 +4,7 @@ use crate::output::check_output;
 use aout_core::{Name, Object, Wire, read_file};
 use case_format::{Item, Problem, Shown, wrong};
 use link_session::{Forced, Session};
-use session_text::state_lines;
+use reports::state_lines;
 use std::alloc::{AllocError, Global};
 
 /// The names that the edits force, each after `-u`, and how many words of the edits that is.

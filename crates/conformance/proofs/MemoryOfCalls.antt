@@ -4,7 +4,7 @@ use Rattle.std.specs.Prelude.{◌⊎◌, IsOk}
 use Rattle.aout_core.specs.Encoding.{header_encoding}
 use Rattle.library_calls.specs.declared.cause.Cause.TheVariants.{Excluded, LongName}
 use Rattle.library_calls.specs.FileAnswers.{names_in, sizes_in, stripped_in}
-use Rattle.library_calls.specs.LinkWanted.{choices_in}
+use Rattle.library_calls.specs.LinkRequests.{choices_in}
 use Rattle.library_calls.specs.MemoryWanted.{HasBody, LinkMayRunOut, SessionMayRunOut, StateMayRunOut}
 use Rattle.library_calls.specs.ObjectParts.{file_for, parts_in, pieces}
 use Rattle.gnu_objects.specs.declared.refusal.Refusal.TheVariants.{ShortHeader}

@@ -3,15 +3,15 @@ use aout_core::samples::{A_O, B_O, C_O, D_O, G_O};
 use aout_core::{ObjectFault, ReadFault};
 use fixtures::{TWO_OBJECTS, UNDEFINED, sized};
 use library_calls::{
-    Cause, Finding, LongPart, ObjectBytes, ObjectParts, ObjectWord, Refusal, Shown, Wanted, check,
-    disassemble, disassemble_words, link, link_each, link_findings, list_symbols, make, read_apart,
-    run_session, show_session, show_sizes, strip, take_apart,
+    Cause, Finding, LinkRequest, LongPart, ObjectBytes, ObjectParts, ObjectWord, Refusal, Shown,
+    check, disassemble, disassemble_words, link, link_each, link_findings, list_symbols, make,
+    read_apart, run_session, show_session, show_sizes, strip, take_apart,
 };
 use std::alloc::{AllocError, Global};
 use std::test::Fail;
 
 /// With no symbols.
-const STRIPPED: Wanted<'static> = Wanted {
+const STRIPPED: LinkRequest<'static> = LinkRequest {
     options: 2,
     entry: &[],
     forced: &[],
@@ -112,11 +112,11 @@ fn links(alloc: Global, options: u32, two: (&[u8], &[u8]), file: &[u8], report: 
     let Ok(objects) = both(alloc, two.0, two.1) else {
         return false;
     };
-    let wanted = Wanted {
+    let request = LinkRequest {
         options,
         ..STRIPPED
     };
-    link(alloc, &wanted, &objects).is_ok_and(|given| {
+    link(alloc, &request, &objects).is_ok_and(|given| {
         given.status == u8::from(!report.is_empty())
             && given.file.as_slice() == file
             && given.report.as_slice() == report.as_bytes()
@@ -131,22 +131,27 @@ fn objects_linked(rt: HostRuntime) {
 }
 
 /// Why there is no link of two objects.
-fn refusal(alloc: Global, wanted: &Wanted<'_>, first: &[u8], second: &[u8]) -> Option<Refusal> {
+fn refusal(
+    alloc: Global,
+    request: &LinkRequest<'_>,
+    first: &[u8],
+    second: &[u8],
+) -> Option<Refusal> {
     let objects = both(alloc, first, second).ok()?;
-    link(alloc, wanted, &objects).err()
+    link(alloc, request, &objects).err()
 }
 
 #[test]
-fn wishes_refused(rt: HostRuntime) {
+fn requests_refused(rt: HostRuntime) {
     let alloc = rt.alloc();
-    let split = Wanted {
+    let split = LinkRequest {
         options: 48,
         entry: b"_too_long",
         ..STRIPPED
     };
     let cause = Cause::Excluded;
     assert!(rt; refusal(alloc, &split, &A_O, &B_O) == Some(Refusal { cause, place: 0 }));
-    let cut = Wanted {
+    let cut = LinkRequest {
         forced: b"_f",
         ..STRIPPED
     };
@@ -178,7 +183,7 @@ fn finding(name: &[u8; 8], kind: u32) -> Finding {
 #[test]
 fn findings_listed(rt: HostRuntime) {
     let objects = [ObjectBytes { bytes: &C_O }, ObjectBytes { bytes: &G_O }];
-    let wanted = Wanted {
+    let request = LinkRequest {
         options: 0,
         entry: b"_start_x",
         ..STRIPPED
@@ -188,7 +193,7 @@ fn findings_listed(rt: HostRuntime) {
         finding(b"_f\0\0\0\0\0\0", 4),
         finding(b"_g\0\0\0\0\0\0", 4),
     ];
-    let given = link_findings(rt.alloc(), &wanted, &objects);
+    let given = link_findings(rt.alloc(), &request, &objects);
     assert!(rt;
         given.is_ok_and(|given| given.status == 1
             && given.file.as_slice() == UNDEFINED.as_slice()

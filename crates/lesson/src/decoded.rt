@@ -1,8 +1,8 @@
 //! The instructions of the objects' texts.
-use crate::json::{begin, put_key, put_text};
 use aout_core::File;
 use disassemblies::{line_in, line_starts, put_line_text};
 use instructions::Line;
+use reports::JsonWriter;
 use std::alloc::{AllocError, Global};
 
 /// For each word of a file's text the instruction that begins there; an empty text if none does.
@@ -23,19 +23,20 @@ pub(crate) fn instructions_of(alloc: Global, file: &File) -> Result<Vec<String>,
 /// Adds the instructions of a text, by the indices of their first words.
 pub(crate) fn put_instructions(
     alloc: Global,
-    out: &mut Vec<u8>,
+    out: &mut JsonWriter,
     file: &File,
 ) -> Result<(), AllocError> {
-    put_key(out, "instructions")?;
-    begin(out, b'{')?;
-    put_key(out, "text")?;
-    begin(out, b'{')?;
+    out.put_key("instructions")?;
+    out.begin_object()?;
+    out.put_key("text")?;
+    out.begin_object()?;
     for (index, text) in instructions_of(alloc, file)?.iter().enumerate() {
         if !text.is_empty() {
             let key = format!(in alloc; "{index}")?;
-            put_key(out, key.as_str())?;
-            put_text(out, text.as_str())?;
+            out.put_key(key.as_str())?;
+            out.put_text(text.as_str())?;
         }
     }
-    out.extend_from_slice(b"}}")
+    out.end_object()?;
+    out.end_object()
 }

@@ -1,7 +1,7 @@
 //! Where the objects of a session are in the merged segments.
-use crate::json::{begin, put_number};
 use aout_core::{Header, Segment};
 use link_session::{Session, Shifts, Starts};
+use reports::JsonWriter;
 use std::alloc::AllocError;
 
 /// Where the segments of an object are in the merged segments.
@@ -45,12 +45,12 @@ pub(crate) fn fronts_of(room: Vec<Fronts>, session: &Session) -> Result<Vec<Fron
 }
 
 /// Adds where the segments of the last object start, as a list; an empty list where there is no object.
-pub(crate) fn put_last_front(out: &mut Vec<u8>, fronts: &[Fronts]) -> Result<(), AllocError> {
-    begin(out, b'[')?;
+pub(crate) fn put_last_front(out: &mut JsonWriter, fronts: &[Fronts]) -> Result<(), AllocError> {
+    out.begin_list()?;
     if let Some(last) = fronts.last() {
         for segment in [Segment::TextSeg, Segment::DataSeg, Segment::BssSeg] {
-            put_number(out, u64::from(last.starts.of(segment)))?;
+            out.put_number(u64::from(last.starts.of(segment)))?;
         }
     }
-    out.extend_from_slice(b"]")
+    out.end_list()
 }

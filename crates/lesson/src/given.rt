@@ -2,13 +2,14 @@
 use crate::decoded::put_instructions;
 use crate::files::{bytes_at, object_in};
 use crate::fronts::Fronts;
-use crate::json::{begin, put_key, put_number, put_text, put_words};
+use crate::json::put_words;
 use crate::parts::{place_meant, put_name_meant, target_number};
 use crate::sources::put_sources;
 use crate::symbols::put_lines;
 use anyhow::Result;
 use aout_core::{File, Kind, Reloc, Segment, Symbol};
 use link_session::{AddFault, Session, Starts, Target};
+use reports::JsonWriter;
 use std::alloc::{AllocError, Global};
 
 /// The segments that have words.
@@ -126,9 +127,9 @@ fn gather_word(
 }
 
 /// Adds a group: 0 for text and 1 for data, and what its words refer to.
-fn put_group(out: &mut Vec<u8>, symbols: &[Symbol], first: Reference) -> Result<(), AllocError> {
+fn put_group(out: &mut JsonWriter, symbols: &[Symbol], first: Reference) -> Result<(), AllocError> {
     let pc = first.reloc.is_pc();
-    put_number(out, u64::from(first.segment == Segment::DataSeg))?;
+    out.put_number(u64::from(first.segment == Segment::DataSeg))?;
     let target = match first.reloc.kind() {
         Some(Kind::External) => {
             if let Some(symbol) = symbols.get(usize::from(first.reloc.number())) {
@@ -141,47 +142,47 @@ fn put_group(out: &mut Vec<u8>, symbols: &[Symbol], first: Reference) -> Result<
         Some(Kind::BssSeg) => Target::BssSeg,
         Some(Kind::Absolute) | None => Target::Absolute,
     };
-    put_number(out, u64::from(target_number(target, pc)))
+    out.put_number(u64::from(target_number(target, pc)))
 }
 
 /// Adds the groups, as a list.
-fn put_groups(out: &mut Vec<u8>, symbols: &[Symbol], given: &Given) -> Result<(), AllocError> {
-    put_key(out, "groups")?;
-    begin(out, b'[')?;
+fn put_groups(out: &mut JsonWriter, symbols: &[Symbol], given: &Given) -> Result<(), AllocError> {
+    out.put_key("groups")?;
+    out.begin_list()?;
     for first in &given.groups {
         put_group(out, symbols, *first)?;
     }
-    out.extend_from_slice(b"]")
+    out.end_list()
 }
 
 /// Adds the words of a segment that refer to something, as a list: the index of each, its group, and to which place of
 /// what it refers.
 fn put_references(
-    out: &mut Vec<u8>,
+    out: &mut JsonWriter,
     key: &str,
     given: &Given,
     segment: Segment,
 ) -> Result<(), AllocError> {
-    put_key(out, key)?;
-    begin(out, b'[')?;
+    out.put_key(key)?;
+    out.begin_list()?;
     for reference in &given.references {
         if reference.segment == segment {
-            put_number(out, u64::from(reference.offset / 2))?;
-            put_number(out, reference.group as u64)?;
-            put_number(out, u64::from(given.meant(*reference)))?;
+            out.put_number(u64::from(reference.offset / 2))?;
+            out.put_number(reference.group as u64)?;
+            out.put_number(u64::from(given.meant(*reference)))?;
         }
     }
-    out.extend_from_slice(b"]")
+    out.end_list()
 }
 
 /// Adds the words and symbols of an object.
 fn put_file(
     alloc: Global,
-    out: &mut Vec<u8>,
+    out: &mut JsonWriter,
     given: &Given,
     file: &File,
 ) -> Result<(), AllocError> {
-    put_key(out, "at")?;
+    out.put_key("at")?;
     put_words(
         out,
         &[
@@ -189,29 +190,29 @@ fn put_file(
             given.alone.own(Segment::DataSeg),
         ],
     )?;
-    put_key(out, "text")?;
+    out.put_key("text")?;
     put_words(out, file.text_words())?;
-    put_key(out, "data")?;
+    out.put_key("data")?;
     put_words(out, file.data_words())?;
-    put_key(out, "bss")?;
-    put_number(out, u64::from(file.header().bss_size))?;
+    out.put_key("bss")?;
+    out.put_number(u64::from(file.header().bss_size))?;
     put_groups(out, file.symbols(), given)?;
     put_references(out, "textReferences", given, Segment::TextSeg)?;
     put_references(out, "dataReferences", given, Segment::DataSeg)?;
     put_instructions(alloc, out, file)?;
-    put_key(out, "symbols")?;
+    out.put_key("symbols")?;
     put_lines(alloc, out, file.symbols())
 }
 
 /// Adds an object as it is given.
-pub(crate) fn put_given(rt: &HostRuntime, out: &mut Vec<u8>, given: &Given) -> Result<()> {
+pub(crate) fn put_given(rt: &HostRuntime, out: &mut JsonWriter, given: &Given) -> Result<()> {
     let alloc = rt.alloc();
     let object = object_in(alloc, given.path.as_str(), &given.bytes)?;
-    begin(out, b'{')?;
-    put_key(out, "path")?;
-    put_text(out, given.path.as_str())?;
+    out.begin_object()?;
+    out.put_key("path")?;
+    out.put_text(given.path.as_str())?;
     put_file(alloc, out, given, object.file())?;
     put_sources(rt, out, given, object.file())?;
-    out.extend_from_slice(b"}")?;
+    out.end_object()?;
     Ok(())
 }

@@ -2,7 +2,7 @@
 use crate::decoded::instructions_of;
 use anyhow::Result;
 use link_session::Session;
-use session_text::state_lines;
+use reports::state_lines;
 use std::alloc::{AllocError, Global};
 use std::io::{self, Write};
 

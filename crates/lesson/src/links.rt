@@ -1,10 +1,10 @@
 //! The links of a session.
-use crate::json::{begin, put_bytes, put_key, put_number, put_text};
 use aout_core::{Segment, Symbol, Wire};
 use link_out::{
     Bases, Keep, Layout, LinkFault, Linked, Options, Report, finish, link_bases, link_externals,
 };
 use link_session::Session;
+use reports::JsonWriter;
 use std::alloc::{AllocError, Global};
 
 /// A link: where its segments are, and what it gives or why it is refused.
@@ -67,11 +67,11 @@ fn report_lines(alloc: Global, report: &Report) -> Vec<u8> {
 }
 
 /// Adds a link, with the bounds of its segments, or why it is refused.
-fn put_link(alloc: Global, out: &mut Vec<u8>, link: &Link) -> Result<(), AllocError> {
+fn put_link(alloc: Global, out: &mut JsonWriter, link: &Link) -> Result<(), AllocError> {
     let at = &link.bases;
-    begin(out, b'{')?;
-    put_key(out, "bases")?;
-    begin(out, b'[')?;
+    out.begin_object()?;
+    out.put_key("bases")?;
+    out.begin_list()?;
     for bound in [
         at.text_end,
         at.data_start,
@@ -79,32 +79,32 @@ fn put_link(alloc: Global, out: &mut Vec<u8>, link: &Link) -> Result<(), AllocEr
         at.bss_start,
         at.bss_end,
     ] {
-        put_number(out, bound)?;
+        out.put_number(bound)?;
     }
-    out.extend_from_slice(b"]")?;
+    out.end_list()?;
     match &link.made {
         Ok(linked) => {
-            put_key(out, "report")?;
-            put_bytes(out, b"", &report_lines(alloc, &linked.report))?;
+            out.put_key("report")?;
+            out.put_bytes(b"", &report_lines(alloc, &linked.report))?;
         }
         Err(fault) => {
             let text = format!(in alloc; "{fault}")?;
-            put_key(out, "refused")?;
-            put_text(out, text.as_str())?;
+            out.put_key("refused")?;
+            out.put_text(text.as_str())?;
         }
     }
-    out.extend_from_slice(b"}")
+    out.end_object()
 }
 
 /// Adds the links, as a list.
 pub(crate) fn put_links(
     alloc: Global,
-    out: &mut Vec<u8>,
+    out: &mut JsonWriter,
     links: &[Link],
 ) -> Result<(), AllocError> {
-    begin(out, b'[')?;
+    out.begin_list()?;
     for link in links {
         put_link(alloc, out, link)?;
     }
-    out.extend_from_slice(b"]")
+    out.end_list()
 }

@@ -1,7 +1,7 @@
 //! What the last addition overwrote, as JSON.
-use crate::json::{begin, put_null, put_number, put_text};
 use crate::parts::{put_cell, put_state};
 use link_session::{Cell, Mark, Place, Session, State, Target};
+use reports::JsonWriter;
 use std::alloc::AllocError;
 
 /// The offset of the name that a cell waited for, which is defined now.
@@ -18,7 +18,7 @@ fn offset_bound(session: &Session, target: Target) -> Option<u16> {
 /// Adds a cell that was overwritten: its segment and offset, what it was, the offset of the name that it waited for,
 /// and its word now.
 fn put_cell_mark(
-    out: &mut Vec<u8>,
+    out: &mut JsonWriter,
     session: &Session,
     place: Place,
     was: Cell,
@@ -28,37 +28,37 @@ fn put_cell_mark(
         Place::InData(index) => ("data", session.data_cells(), index),
     };
     let offset = index.wrapping_mul(2);
-    put_text(out, segment)?;
-    put_number(out, u64::from(offset))?;
+    out.put_text(segment)?;
+    out.put_number(u64::from(offset))?;
     put_cell(out, session, offset, was)?;
     match (
         offset_bound(session, was.target),
         cells.get(usize::from(index)),
     ) {
         (Some(bound), Some(now)) => {
-            put_number(out, u64::from(bound))?;
-            put_number(out, u64::from(now.value))
+            out.put_number(u64::from(bound))?;
+            out.put_number(u64::from(now.value))
         }
-        _ => put_null(out),
+        _ => out.put_null(),
     }
 }
 
 /// Adds the marks of the last addition, as a list.
-pub(crate) fn put_marks(out: &mut Vec<u8>, session: &Session) -> Result<(), AllocError> {
-    begin(out, b'[')?;
+pub(crate) fn put_marks(out: &mut JsonWriter, session: &Session) -> Result<(), AllocError> {
+    out.begin_list()?;
     for mark in session.last_marks() {
-        begin(out, b'[')?;
+        out.begin_list()?;
         match *mark {
             Mark::CellWas(place, cell) => put_cell_mark(out, session, place, cell)?,
             Mark::StateWas(index, state) => {
-                put_text(out, "name")?;
+                out.put_text("name")?;
                 match session.external(index) {
                     Some((name, _)) => put_state(out, &name, state)?,
-                    None => put_null(out)?,
+                    None => out.put_null()?,
                 }
             }
         }
-        out.extend_from_slice(b"]")?;
+        out.end_list()?;
     }
-    out.extend_from_slice(b"]")
+    out.end_list()
 }

@@ -1,12 +1,12 @@
 //! The numbers of a state. The page has, for each state, only those that differ from the state before it.
 use crate::fronts::Fronts;
 use crate::given::{Given, Reference, words_of};
-use crate::json::{begin, put_key, put_number};
 use crate::links::Link;
 use crate::parts::{place_meant, state_numbers, target_number};
 use anyhow::{Result, anyhow};
 use aout_core::{Segment, Symbol};
 use link_session::Session;
+use reports::JsonWriter;
 use std::alloc::{AllocError, Global};
 use symtools::letter;
 
@@ -59,33 +59,33 @@ impl Numbers {
     }
 
     /// Adds what differs from the numbers before.
-    pub(crate) fn put(&self, out: &mut Vec<u8>, before: &Numbers) -> Result<(), AllocError> {
-        put_key(out, "names")?;
+    pub(crate) fn put(&self, out: &mut JsonWriter, before: &Numbers) -> Result<(), AllocError> {
+        out.put_key("names")?;
         put_changes(out, &before.names, &self.names)?;
-        put_key(out, "groups")?;
+        out.put_key("groups")?;
         put_changes(out, &before.groups, &self.groups)?;
-        put_key(out, "locals")?;
+        out.put_key("locals")?;
         put_changes(out, &before.locals, &self.locals)
     }
 }
 
 /// Adds two lists: the places of the numbers that have changed, each with the number now, and the numbers that are new.
-fn put_changes(out: &mut Vec<u8>, before: &[u32], now: &[u32]) -> Result<(), AllocError> {
-    begin(out, b'[')?;
-    begin(out, b'[')?;
+fn put_changes(out: &mut JsonWriter, before: &[u32], now: &[u32]) -> Result<(), AllocError> {
+    out.begin_list()?;
+    out.begin_list()?;
     for (place, (old, new)) in before.iter().zip(now).enumerate() {
         if *old != *new {
-            put_number(out, place as u64)?;
-            put_number(out, u64::from(*new))?;
+            out.put_number(place as u64)?;
+            out.put_number(u64::from(*new))?;
         }
     }
-    out.extend_from_slice(b"]")?;
-    begin(out, b'[')?;
+    out.end_list()?;
+    out.begin_list()?;
     for number in now.get(before.len()..).unwrap_or(&[]) {
-        put_number(out, u64::from(*number))?;
+        out.put_number(u64::from(*number))?;
     }
-    out.extend_from_slice(b"]")?;
-    out.extend_from_slice(b"]")
+    out.end_list()?;
+    out.end_list()
 }
 
 /// Adds the numbers of the names: 0 for those of a link that is refused.

@@ -1,11 +1,11 @@
 //! The page: all states of a session of some objects, and the script that shows them.
 use crate::files::text_at;
 use crate::given::{Given, given_at, put_given};
-use crate::json::{begin, put_key};
 use crate::questions::put_questions;
 use crate::states::put_states;
 use anyhow::{Result, anyhow};
 use link_session::Session;
+use reports::JsonWriter;
 use std::alloc::AllocError;
 use std::io::{self, Write};
 
@@ -45,13 +45,13 @@ fn givens_at(rt: &HostRuntime, files: Vec<String>) -> Result<Vec<Given>> {
 }
 
 /// Adds the objects, as a list.
-fn put_givens(rt: &HostRuntime, out: &mut Vec<u8>, givens: &[Given]) -> Result<()> {
-    put_key(out, "objects")?;
-    begin(out, b'[')?;
+fn put_givens(rt: &HostRuntime, out: &mut JsonWriter, givens: &[Given]) -> Result<()> {
+    out.put_key("objects")?;
+    out.begin_list()?;
     for given in givens {
         put_given(rt, out, given)?;
     }
-    out.extend_from_slice(b"]")?;
+    out.end_list()?;
     Ok(())
 }
 
@@ -76,19 +76,19 @@ fn put_script(out: &mut Vec<u8>, json: &[u8]) -> Result<(), AllocError> {
 /// Adds the lessons, the objects and all their states.
 fn put_data(
     rt: &HostRuntime,
-    out: &mut Vec<u8>,
+    out: &mut JsonWriter,
     session: &mut Session,
     parts: Parts<'_>,
 ) -> Result<()> {
-    out.extend_from_slice(b"{")?;
+    out.begin_object()?;
     if let Some(questions) = parts.questions {
-        put_key(out, "lessons")?;
+        out.put_key("lessons")?;
         put_questions(rt, out, questions, parts.givens)?;
     }
     put_givens(rt, out, parts.givens)?;
-    put_key(out, "states")?;
+    out.put_key("states")?;
     put_states(rt.alloc(), out, session, parts.givens)?;
-    out.extend_from_slice(b"}")?;
+    out.end_object()?;
     Ok(())
 }
 
@@ -128,9 +128,9 @@ fn put_page(
     out.extend_from_slice(b"</style>\n</head>\n<body>\n")?;
     put_text_of(rt, out, folder, "body.html")?;
     out.extend_from_slice(b"<script type=\"application/json\" id=\"data\">\n")?;
-    let mut data = Vec::new(rt.alloc());
+    let mut data = JsonWriter::new(rt.alloc());
     put_data(rt, &mut data, session, parts)?;
-    put_script(out, &data)?;
+    put_script(out, &data.into_text())?;
     out.extend_from_slice(b"</script>\n")?;
     for script in &SCRIPTS {
         out.extend_from_slice(b"<script>\n")?;

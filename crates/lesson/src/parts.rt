@@ -1,7 +1,7 @@
 //! Words, names and states as JSON.
-use crate::json::{begin, put_bytes, put_number};
 use aout_core::{Name, Segment};
 use link_session::{Cell, Session, State, Target};
+use reports::JsonWriter;
 use std::alloc::AllocError;
 
 /// What a word refers to is a number in its segment: that of its value, counted from the word after it if it is
@@ -28,13 +28,17 @@ pub(crate) fn target_number(target: Target, pc: bool) -> u32 {
 }
 
 /// Adds the name that a word waits for: `p` before it where the word is relative to the pc, and else `-`.
-pub(crate) fn put_name_meant(out: &mut Vec<u8>, name: &Name, pc: bool) -> Result<(), AllocError> {
-    put_bytes(out, if pc { b"p" } else { b"-" }, name.as_bytes())
+pub(crate) fn put_name_meant(
+    out: &mut JsonWriter,
+    name: &Name,
+    pc: bool,
+) -> Result<(), AllocError> {
+    out.put_bytes(if pc { b"p" } else { b"-" }, name.as_bytes())
 }
 
 /// Adds three values: the word of a cell, what it refers to or waits for, and at which place of that.
 pub(crate) fn put_cell(
-    out: &mut Vec<u8>,
+    out: &mut JsonWriter,
     session: &Session,
     offset: u16,
     cell: Cell,
@@ -44,12 +48,12 @@ pub(crate) fn put_cell(
         Target::External(index) => session.external(index),
         _ => None,
     };
-    put_number(out, u64::from(value))?;
+    out.put_number(u64::from(value))?;
     match waits_for {
         Some((name, _)) => put_name_meant(out, &name, pc)?,
-        None => put_number(out, u64::from(target_number(target, pc)))?,
+        None => out.put_number(u64::from(target_number(target, pc)))?,
     }
-    put_number(out, u64::from(place_meant(value, pc, offset)))
+    out.put_number(u64::from(place_meant(value, pc, offset)))
 }
 
 /// The kind of a state, from 0 for undefined over common, text, data and bss to 5 for a number, and its number.
@@ -65,18 +69,18 @@ pub(crate) fn state_numbers(state: State) -> (u32, u16) {
 }
 
 /// Adds three values: a name, the kind of its state, and the number of that.
-pub(crate) fn put_state(out: &mut Vec<u8>, name: &Name, state: State) -> Result<(), AllocError> {
+pub(crate) fn put_state(out: &mut JsonWriter, name: &Name, state: State) -> Result<(), AllocError> {
     let (kind, number) = state_numbers(state);
-    put_bytes(out, b"", name.as_bytes())?;
-    put_number(out, u64::from(kind))?;
-    put_number(out, u64::from(number))
+    out.put_bytes(b"", name.as_bytes())?;
+    out.put_number(u64::from(kind))?;
+    out.put_number(u64::from(number))
 }
 
 /// Adds names as a list.
-pub(crate) fn put_names(out: &mut Vec<u8>, names: &[Name]) -> Result<(), AllocError> {
-    begin(out, b'[')?;
+pub(crate) fn put_names(out: &mut JsonWriter, names: &[Name]) -> Result<(), AllocError> {
+    out.begin_list()?;
     for name in names {
-        put_bytes(out, b"", name.as_bytes())?;
+        out.put_bytes(b"", name.as_bytes())?;
     }
-    out.extend_from_slice(b"]")
+    out.end_list()
 }

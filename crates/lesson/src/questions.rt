@@ -1,11 +1,11 @@
 //! The questions of lessons: a text file, of which each line is checked against the objects as it is read.
 use crate::files::text_at;
 use crate::given::Given;
-use crate::json::{begin, put_number, put_text};
 use crate::walk::ALL_ORDERS;
 use anyhow::{Result, anyhow};
 use aout_core::Name;
 use link_session::Session;
+use reports::JsonWriter;
 use std::alloc::Global;
 
 /// What the lines before have begun.
@@ -41,17 +41,17 @@ fn is_at(path: &str, name: &str) -> bool {
 
 impl<'a> Reader<'a> {
     /// A text that must not be empty, after this word.
-    fn put_said(&self, out: &mut Vec<u8>, word: &str, text: &str) -> Result<()> {
+    fn put_said(&self, out: &mut JsonWriter, word: &str, text: &str) -> Result<()> {
         if text.is_empty() {
             return Err(anyhow!("{word} is followed by a text"));
         }
-        put_text(out, word)?;
-        put_text(out, text)?;
+        out.put_text(word)?;
+        out.put_text(text)?;
         Ok(())
     }
 
     /// A lesson begins: no object is there.
-    fn put_lesson(&mut self, out: &mut Vec<u8>, title: &str) -> Result<()> {
+    fn put_lesson(&mut self, out: &mut JsonWriter, title: &str) -> Result<()> {
         self.session = Session::new(self.alloc);
         self.list = Vec::new(self.alloc);
         self.begun = Begun::Lesson;
@@ -68,7 +68,7 @@ impl<'a> Reader<'a> {
     }
 
     /// An answer that is a word: its segment and its offset, in octal digits.
-    fn put_answer_word(&mut self, out: &mut Vec<u8>, text: &str) -> Result<()> {
+    fn put_answer_word(&mut self, out: &mut JsonWriter, text: &str) -> Result<()> {
         self.answer()?;
         let (segment, digits) = text.split_once(' ').unwrap_or((text, ""));
         let cells = match segment {
@@ -78,9 +78,9 @@ impl<'a> Reader<'a> {
         };
         match u16::from_str_radix(digits, 8) {
             Ok(offset) if offset % 2 == 0 && usize::from(offset / 2) < cells.len() => {
-                put_text(out, "word")?;
-                put_text(out, segment)?;
-                put_number(out, u64::from(offset))?;
+                out.put_text("word")?;
+                out.put_text(segment)?;
+                out.put_number(u64::from(offset))?;
                 Ok(())
             }
             _ => Err(anyhow!("there is no word {text}")),
@@ -88,7 +88,7 @@ impl<'a> Reader<'a> {
     }
 
     /// An answer that is a name.
-    fn put_answer_name(&mut self, out: &mut Vec<u8>, text: &str) -> Result<()> {
+    fn put_answer_name(&mut self, out: &mut JsonWriter, text: &str) -> Result<()> {
         self.answer()?;
         let name = Name::from_bytes(text.as_bytes());
         if name.as_bytes() != text.as_bytes() || self.session.find(&name).is_none() {
@@ -109,7 +109,7 @@ impl<'a> Reader<'a> {
     }
 
     /// The step that adds an object.
-    fn put_add(&mut self, out: &mut Vec<u8>, name: &str) -> Result<()> {
+    fn put_add(&mut self, out: &mut JsonWriter, name: &str) -> Result<()> {
         let Some(object) = self.object_named(name) else {
             return Err(anyhow!("no step adds {name}"));
         };
@@ -119,17 +119,17 @@ impl<'a> Reader<'a> {
             }
         }
         self.list.push(object)?;
-        put_text(out, "add")?;
-        put_number(out, object as u64)?;
+        out.put_text("add")?;
+        out.put_number(object as u64)?;
         Ok(())
     }
 
     /// The step that shows a link.
-    fn put_link(&mut self, out: &mut Vec<u8>, name: &str) -> Result<()> {
+    fn put_link(&mut self, out: &mut JsonWriter, name: &str) -> Result<()> {
         match LAYOUTS.iter().position(|layout| *layout == name) {
             Some(layout) => {
-                put_text(out, "link")?;
-                put_number(out, layout as u64)?;
+                out.put_text("link")?;
+                out.put_number(layout as u64)?;
                 Ok(())
             }
             None => Err(anyhow!("there is no link {name}")),
@@ -137,7 +137,7 @@ impl<'a> Reader<'a> {
     }
 
     /// A line that makes a step.
-    fn put_step(&mut self, out: &mut Vec<u8>, word: &str, rest: &str) -> Result<()> {
+    fn put_step(&mut self, out: &mut JsonWriter, word: &str, rest: &str) -> Result<()> {
         self.begun = Begun::Lesson;
         match word {
             "add" => self.put_add(out, rest),
@@ -146,19 +146,25 @@ impl<'a> Reader<'a> {
                     return Err(anyhow!("there is nothing to withdraw"));
                 }
                 let _ = self.list.pop();
-                put_text(out, word)?;
+                out.put_text(word)?;
                 Ok(())
             }
             "link" => self.put_link(out, rest),
             _ => {
-                put_text(out, "image")?;
+                out.put_text("image")?;
                 Ok(())
             }
         }
     }
 
     /// A line that has this word first.
-    fn put_line(&mut self, out: &mut Vec<u8>, line: usize, word: &str, rest: &str) -> Result<()> {
+    fn put_line(
+        &mut self,
+        out: &mut JsonWriter,
+        line: usize,
+        word: &str,
+        rest: &str,
+    ) -> Result<()> {
         if self.begun == Begun::Nothing && word != "lesson" {
             return Err(anyhow!("no lesson has begun"));
         }
@@ -167,7 +173,7 @@ impl<'a> Reader<'a> {
         {
             return Err(anyhow!("the question of line {asked} has no answer"));
         }
-        begin(out, b'[')?;
+        out.begin_list()?;
         match word {
             "lesson" => self.put_lesson(out, rest)?,
             "say" => self.put_said(out, word, rest)?,
@@ -184,13 +190,13 @@ impl<'a> Reader<'a> {
             "add" | "withdraw" | "link" | "image" => self.put_step(out, word, rest)?,
             _ => return Err(anyhow!("{word} begins no line of a lesson")),
         }
-        out.extend_from_slice(b"]")?;
+        out.end_list()?;
         Ok(())
     }
 }
 
 /// Adds the lines of a text, and returns the number of the line that a fault is in.
-fn put_lines(reader: &mut Reader<'_>, out: &mut Vec<u8>, path: &str, text: &str) -> Result<()> {
+fn put_lines(reader: &mut Reader<'_>, out: &mut JsonWriter, path: &str, text: &str) -> Result<()> {
     for (index, line) in text.lines().enumerate() {
         let line = line.trim();
         let number = index.saturating_add(1);
@@ -211,7 +217,7 @@ fn put_lines(reader: &mut Reader<'_>, out: &mut Vec<u8>, path: &str, text: &str)
 /// Adds the lessons in the file at a path, as a list of its lines.
 pub(crate) fn put_questions(
     rt: &HostRuntime,
-    out: &mut Vec<u8>,
+    out: &mut JsonWriter,
     path: &str,
     givens: &[Given],
 ) -> Result<()> {
@@ -224,8 +230,8 @@ pub(crate) fn put_questions(
         list: Vec::new(alloc),
         begun: Begun::Nothing,
     };
-    begin(out, b'[')?;
+    out.begin_list()?;
     put_lines(&mut reader, out, path, text.as_str())?;
-    out.extend_from_slice(b"]")?;
+    out.end_list()?;
     Ok(())
 }

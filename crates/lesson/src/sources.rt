@@ -1,9 +1,9 @@
 //! Source lines of the words of an object, from the listing beside it: that of FILE.o is FILE.lst, if there is one.
 use crate::files::text_at;
 use crate::given::{Given, words_of};
-use crate::json::{begin, put_key, put_text};
 use anyhow::Result;
 use aout_core::{File, Segment};
+use reports::JsonWriter;
 
 /// A line of a listing that is about a word.
 #[derive(Clone, Copy)]
@@ -38,7 +38,7 @@ fn segment_after(line: &str, segment: Option<Segment>) -> Option<Segment> {
 /// Adds the source of a line, if it is about this word of the object.
 fn put_source(
     rt: &HostRuntime,
-    out: &mut Vec<u8>,
+    out: &mut JsonWriter,
     words: &[u16],
     start: u16,
     line: Line<'_>,
@@ -46,8 +46,8 @@ fn put_source(
     let index = line.address.wrapping_sub(start) / 2;
     if words.get(usize::from(index)) == Some(&line.word) && !line.source.is_empty() {
         let key = format!(in rt.alloc(); "{index}")?;
-        put_key(out, key.as_str())?;
-        put_text(out, line.source)?;
+        out.put_key(key.as_str())?;
+        out.put_text(line.source)?;
     }
     Ok(())
 }
@@ -55,14 +55,14 @@ fn put_source(
 /// Adds the source lines of a segment, by the indices of their words.
 fn put_segment(
     rt: &HostRuntime,
-    out: &mut Vec<u8>,
+    out: &mut JsonWriter,
     given: &Given,
     file: &File,
     segment: Segment,
     text: &str,
 ) -> Result<()> {
     let mut here = None;
-    begin(out, b'{')?;
+    out.begin_object()?;
     for line in text.lines() {
         here = segment_after(line, here);
         if here == Some(segment)
@@ -77,14 +77,14 @@ fn put_segment(
             )?;
         }
     }
-    out.extend_from_slice(b"}")?;
+    out.end_object()?;
     Ok(())
 }
 
 /// Adds the source lines of an object's words, if a listing has them.
 pub(crate) fn put_sources(
     rt: &HostRuntime,
-    out: &mut Vec<u8>,
+    out: &mut JsonWriter,
     given: &Given,
     file: &File,
 ) -> Result<()> {
@@ -93,13 +93,13 @@ pub(crate) fn put_sources(
     };
     let path = format!(in rt.alloc(); "{front}.lst")?;
     if let Ok(text) = text_at(rt, path.as_str()) {
-        put_key(out, "source")?;
-        begin(out, b'{')?;
-        put_key(out, "text")?;
+        out.put_key("source")?;
+        out.begin_object()?;
+        out.put_key("text")?;
         put_segment(rt, out, given, file, Segment::TextSeg, text.as_str())?;
-        put_key(out, "data")?;
+        out.put_key("data")?;
         put_segment(rt, out, given, file, Segment::DataSeg, text.as_str())?;
-        out.extend_from_slice(b"}")?;
+        out.end_object()?;
     }
     Ok(())
 }

@@ -1,7 +1,7 @@
 //! The states that a session can be in, as JSON.
 use crate::fronts::{fronts_of, put_last_front};
 use crate::given::Given;
-use crate::json::{begin, put_bytes, put_key, put_numbers, put_text};
+use crate::json::put_numbers;
 use crate::links::{links_of, put_links};
 use crate::marks::put_marks;
 use crate::numbers::{Computed, Numbers};
@@ -9,6 +9,7 @@ use crate::parts::put_names;
 use crate::walk::Walk;
 use anyhow::{Result, anyhow};
 use link_session::{AddFault, Session};
+use reports::JsonWriter;
 use std::alloc::{AllocError, Global};
 
 /// The state before the last object was added.
@@ -19,20 +20,20 @@ struct Before {
 }
 
 /// Adds the names from this one on, as a list.
-fn put_new_names(out: &mut Vec<u8>, session: &Session, first: u16) -> Result<(), AllocError> {
-    put_key(out, "newNames")?;
-    begin(out, b'[')?;
+fn put_new_names(out: &mut JsonWriter, session: &Session, first: u16) -> Result<(), AllocError> {
+    out.put_key("newNames")?;
+    out.begin_list()?;
     for index in first..session.external_count() {
         if let Some((name, _)) = session.external(index) {
-            put_bytes(out, b"", name.as_bytes())?;
+            out.put_bytes(b"", name.as_bytes())?;
         }
     }
-    out.extend_from_slice(b"]")
+    out.end_list()
 }
 
 /// Adds the sizes of the merged segments, text and data in words.
-fn put_sizes(out: &mut Vec<u8>, session: &Session) -> Result<(), AllocError> {
-    put_key(out, "sizes")?;
+fn put_sizes(out: &mut JsonWriter, session: &Session) -> Result<(), AllocError> {
+    out.put_key("sizes")?;
     put_numbers(
         out,
         &[
@@ -47,7 +48,7 @@ fn put_sizes(out: &mut Vec<u8>, session: &Session) -> Result<(), AllocError> {
 /// the next states are compared with.
 fn put_session(
     alloc: Global,
-    out: &mut Vec<u8>,
+    out: &mut JsonWriter,
     session: &Session,
     walk: &Walk,
     givens: &[Given],
@@ -61,22 +62,22 @@ fn put_session(
         links: &links,
     };
     let numbers = Numbers::of(alloc, computed, givens, &walk.list)?;
-    begin(out, b'{')?;
-    put_key(out, "list")?;
+    out.begin_object()?;
+    out.put_key("list")?;
     put_numbers(out, &walk.list)?;
     put_sizes(out, session)?;
-    put_key(out, "front")?;
+    out.put_key("front")?;
     put_last_front(out, &fronts)?;
     put_new_names(out, session, before.name_count)?;
     numbers.put(out, &before.numbers)?;
-    put_key(out, "multiples")?;
+    out.put_key("multiples")?;
     put_names(out, session.multiples())?;
-    put_key(out, "marks")?;
+    out.put_key("marks")?;
     put_marks(out, session)?;
-    put_key(out, "links")?;
+    out.put_key("links")?;
     put_links(alloc, out, &links)?;
-    out.extend_from_slice(b"}")?;
-    out.extend_from_slice(b"\n")?;
+    out.end_object()?;
+    out.end_line()?;
     Ok(Before {
         numbers,
         name_count: session.external_count(),
@@ -86,20 +87,20 @@ fn put_session(
 /// Adds that an object is refused where these are there.
 fn put_refused(
     alloc: Global,
-    out: &mut Vec<u8>,
+    out: &mut JsonWriter,
     list: &[usize],
     object: usize,
     cause: AddFault,
 ) -> Result<(), AllocError> {
     let text = format!(in alloc; "{cause}")?;
-    begin(out, b'{')?;
-    put_key(out, "list")?;
+    out.begin_object()?;
+    out.put_key("list")?;
     put_numbers(out, list)?;
-    put_key(out, "object")?;
+    out.put_key("object")?;
     put_numbers(out, &[object])?;
-    put_key(out, "refused")?;
-    put_text(out, text.as_str())?;
-    out.extend_from_slice(b"}")
+    out.put_key("refused")?;
+    out.put_text(text.as_str())?;
+    out.end_object()
 }
 
 /// Takes a step of the walk to a list that has one object more, and returns why it is refused, if it is.
@@ -124,13 +125,13 @@ fn step_to(
 /// Adds each state that the objects can reach, by additions to a session and withdrawals from it.
 pub(crate) fn put_states(
     alloc: Global,
-    out: &mut Vec<u8>,
+    out: &mut JsonWriter,
     session: &mut Session,
     givens: &[Given],
 ) -> Result<()> {
     let mut walk = Walk::new(givens.len(), Vec::new(alloc));
     let mut trail = Vec::new(alloc);
-    begin(out, b'[')?;
+    out.begin_list()?;
     let first = Before {
         numbers: Numbers::none(alloc),
         name_count: 0,
@@ -153,6 +154,6 @@ pub(crate) fn put_states(
             None => break,
         }
     }
-    out.extend_from_slice(b"]")?;
+    out.end_list()?;
     Ok(())
 }

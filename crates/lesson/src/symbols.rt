@@ -1,6 +1,6 @@
 //! Symbols as the lines of `nm -p`.
-use crate::json::{begin, put_bytes};
 use aout_core::{Symbol, Wire};
+use reports::JsonWriter;
 use std::alloc::{AllocError, Global};
 use symtools::line;
 
@@ -16,12 +16,12 @@ fn nm_line(alloc: Global, symbol: &Symbol) -> Vec<u8> {
 /// Adds the lines, as a list.
 pub(crate) fn put_lines(
     alloc: Global,
-    out: &mut Vec<u8>,
+    out: &mut JsonWriter,
     symbols: &[Symbol],
 ) -> Result<(), AllocError> {
-    begin(out, b'[')?;
+    out.begin_list()?;
     for symbol in symbols {
-        put_bytes(out, b"", &nm_line(alloc, symbol))?;
+        out.put_bytes(b"", &nm_line(alloc, symbol))?;
     }
-    out.extend_from_slice(b"]")
+    out.end_list()
 }

@@ -15,7 +15,7 @@ use Rattle.library_calls.specs.declared.cause.Cause.TheVariants.{NotLinked}
 use Rattle.library_calls.specs.declared.cause.Refusal.{Refusal}
 use Rattle.library_calls.specs.Causes.{at}
 use Rattle.library_calls.specs.LinkAnswers.{with_each, with_objects}
-use Rattle.library_calls.specs.LinkWanted.{choices_in, forced_in}
+use Rattle.library_calls.specs.LinkRequests.{choices_in, forced_in}
 use Rattle.library_calls.specs.MemoryWanted.{MayRunOutInLink, MayRunOutInLinkOfEach, MayRunOutInRun, MayRunOutInSession, SessionMayRunOut}
 use Rattle.library_calls.specs.SessionAnswers.{changes_in}
 

@@ -10,9 +10,9 @@ use Rattle.link_out.specs.Steps.{and_then}
 use Rattle.library_calls.specs.declared.state_call.Form.{Form}
 use Rattle.library_calls.specs.declared.cause.Refusal.{Refusal}
 use Rattle.library_calls.specs.Causes.{at}
-use Rattle.library_calls.specs.LinkWanted.{forced_in}
+use Rattle.library_calls.specs.LinkRequests.{forced_in}
 use Rattle.library_calls.specs.SessionAnswers.{changes_in, reply_number, session_status}
-use Rattle.library_calls.specs.StateAnswers.{Asked, IsShown, Shows, Told, asked_in, form_in, encoded_in}
+use Rattle.library_calls.specs.StateAnswers.{Asked, IsShown, Shows, StateOutput, asked_in, form_in, encoded_in}
 use Rattle.library_calls.specs.internal.Edited.{AreEdited, IsEdited, ShowsFrom}
 
 -- an edit that has a reply, with the number of that reply
@@ -76,7 +76,7 @@ module _ (number : ℕ) (bytes letters objects : List ℕ) where
       ∙ ap (λ r. and_then r (λ cs. Ok (asked form forced cs))) third
 
   -- and all of it is shown
-  pub all_shown : (form : Form) (forced : List (List ℕ)) (changes : List Change) (told : Told) → form_in number ≡ Ok form → forced_in bytes ≡ Ok forced → changes_in letters objects ≡ Ok changes →
-      Shows (asked form forced changes) told → IsShown (asked_in number bytes letters objects) (Ok told)
-  all_shown form forced changes told first second third shows =
-      subst (λ (r : Result Asked Refusal). IsShown r (Ok told)) (sym (all_asked form forced changes first second third)) shows
+  pub all_shown : (form : Form) (forced : List (List ℕ)) (changes : List Change) (output : StateOutput) → form_in number ≡ Ok form → forced_in bytes ≡ Ok forced → changes_in letters objects ≡ Ok changes →
+      Shows (asked form forced changes) output → IsShown (asked_in number bytes letters objects) (Ok output)
+  all_shown form forced changes output first second third shows =
+      subst (λ (r : Result Asked Refusal). IsShown r (Ok output)) (sym (all_asked form forced changes first second third)) shows

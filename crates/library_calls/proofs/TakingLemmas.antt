@@ -13,7 +13,7 @@ use Rattle.library_calls.specs.declared.cause.Refusal.{Refusal}
 use Rattle.library_calls.specs.Causes.{at}
 use Rattle.library_calls.specs.FileAnswers.{behind_file}
 use Rattle.library_calls.specs.LinkAnswers.{with_first, with_most}
-use Rattle.library_calls.specs.LinkWanted.{name_of, with_names}
+use Rattle.library_calls.specs.LinkRequests.{name_of, with_names}
 use Rattle.library_calls.specs.MemoryWanted.{MayRunOutForObject, MayRunOutInMost}
 
 -- one object more was taken

@@ -1,6 +1,6 @@
 pub mod Causes
 pub mod FileAnswers
-pub mod LinkWanted
+pub mod LinkRequests
 pub mod LinkAnswers
 pub mod ObjectParts
 pub mod SessionAnswers

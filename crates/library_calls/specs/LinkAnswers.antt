@@ -21,7 +21,7 @@ use Rattle.library_calls.specs.declared.link_call.Program.{Program}
 use Rattle.library_calls.specs.declared.parts.ObjectBytes.{ObjectBytes}
 use Rattle.library_calls.specs.Causes.{at}
 use Rattle.library_calls.specs.FileAnswers.{behind_file, object_in}
-use Rattle.library_calls.specs.LinkWanted.{choices_in, forced_in}
+use Rattle.library_calls.specs.LinkRequests.{choices_in, forced_in}
 
 abbrev pub with_object : List (List ℕ) → List Contents → Contents → Result (List Contents) Cause
 with_object forced os o = unless NotAdded (refusal forced os o) (os ++ o ∷ [])

@@ -11,7 +11,7 @@ use Rattle.link_options.specs.Choices.{Choices}
 use Rattle.link_out.specs.Runs.{link_after}
 use Rattle.library_calls.specs.FileAnswers.{behind_file, file_in}
 use Rattle.library_calls.specs.LinkAnswers.{linked_each, linked_in, with_first}
-use Rattle.library_calls.specs.LinkWanted.{choices_in, forced_in}
+use Rattle.library_calls.specs.LinkRequests.{choices_in, forced_in}
 use Rattle.library_calls.specs.SessionAnswers.{behind_edit, change_in, changes_in}
 use Rattle.library_calls.specs.StateAnswers.{form_in}
 

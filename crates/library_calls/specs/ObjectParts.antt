@@ -20,7 +20,7 @@ use Rattle.library_calls.specs.declared.cause.Cause.{Cause}
 use Rattle.library_calls.specs.declared.cause.Cause.TheVariants.{TooLong, BadFile}
 use Rattle.library_calls.specs.declared.cause.LongPart.TheVariants.{Text, Data, Bss, Symbols}
 use Rattle.library_calls.specs.FileAnswers.{file_in, object_in, object_of}
-use Rattle.library_calls.specs.LinkWanted.{name_of}
+use Rattle.library_calls.specs.LinkRequests.{name_of}
 
 pub record Pieces : Type 0 where
   pub text : List ObjectWord

@@ -15,7 +15,7 @@ use Rattle.library_calls.specs.declared.session_call.Ran.{Ran}
 use Rattle.library_calls.specs.Causes.{at, number_of}
 use Rattle.library_calls.specs.FileAnswers.{behind_file, object_in}
 use Rattle.library_calls.specs.LinkAnswers.{Output, output_of, outputs_of}
-use Rattle.library_calls.specs.LinkWanted.{choices_in, forced_in}
+use Rattle.library_calls.specs.LinkRequests.{choices_in, forced_in}
 
 -- ---- edits read
 

@@ -7,8 +7,8 @@ use Rattle.link_session.specs.declared.mark.Mark.{Mark}
 use Rattle.link_session.specs.Edits.{Change, answers, survivors}
 use Rattle.link_session.specs.Labelled.{objects}
 use Rattle.link_session.specs.Undo.{Kept, IsJournal}
-use Rattle.session_text.specs.StateJson.{state_json}
-use Rattle.session_text.specs.StateLines.{state_lines}
+use Rattle.reports.specs.StateJson.{state_json}
+use Rattle.reports.specs.StateLines.{state_lines}
 use Rattle.link_out.specs.Steps.{and_then}
 use Rattle.library_calls.specs.declared.cause.Cause.{Cause}
 use Rattle.library_calls.specs.declared.cause.Cause.TheVariants.{NoOption}
@@ -17,7 +17,7 @@ use Rattle.library_calls.specs.declared.state_call.Form.{Form}
 use Rattle.library_calls.specs.declared.state_call.Form.TheVariants.{Lines, Json}
 use Rattle.library_calls.specs.declared.state_call.Shown.{Shown}
 use Rattle.library_calls.specs.Causes.{at}
-use Rattle.library_calls.specs.LinkWanted.{forced_in}
+use Rattle.library_calls.specs.LinkRequests.{forced_in}
 use Rattle.library_calls.specs.SessionAnswers.{changes_in, reply_number, session_status}
 
 -- 0: lines, 1: JSON
@@ -42,25 +42,25 @@ asked_in form forced letters bytes =
     and_then (at 0 (form_in form)) (λ f. and_then (forced_in forced) (λ names. and_then (changes_in letters bytes) (λ cs. Ok (record { form = f; forced = names; changes = cs }))))
 
 -- what is shown: the status, the replies to the edits, and the state
-pub record Told : Type 0 where
+pub record StateOutput : Type 0 where
   pub status : ℕ
   pub replies : List ℕ
   pub state : List ℕ
 
-abbrev pub told_of : Shown → Told
-told_of s = record { status = s.status; replies = s.replies.items; state = s.state.items }
+abbrev pub states_of : Shown → StateOutput
+states_of s = record { status = s.status; replies = s.replies.items; state = s.state.items }
 
 -- the replies to the edits, the status by them, and the state of a session of what is left, with the marks of its objects
-pub record Shows (x : Asked) (told : Told) : Type 0 where
-  pub replies : told.replies ≡ map reply_number (answers x.forced x.changes)
-  pub status : told.status ≡ session_status told.replies 0
+pub record Shows (x : Asked) (output : StateOutput) : Type 0 where
+  pub replies : output.replies ≡ map reply_number (answers x.forced x.changes)
+  pub status : output.status ≡ session_status output.replies 0
   pub journal : List (List Mark)
   pub undoes : IsJournal x.forced (objects (survivors x.forced x.changes)) journal
-  pub state : told.state ≡ encoded_in x.form (record { forced = x.forced; entries = survivors x.forced x.changes; journal = journal })
+  pub state : output.state ≡ encoded_in x.form (record { forced = x.forced; entries = survivors x.forced x.changes; journal = journal })
 
 -- what is shown for what is asked, or its refusal
-abbrev pub IsShown : Result Asked Refusal → Result Told Refusal → Type 0
+abbrev pub IsShown : Result Asked Refusal → Result StateOutput Refusal → Type 0
 IsShown (Err refusal) (Err r) = refusal ≡ r
-IsShown (Err refusal) (Ok told) = ⊥
+IsShown (Err refusal) (Ok output) = ⊥
 IsShown (Ok x) (Err r) = ⊥
-IsShown (Ok x) (Ok told) = Shows x told
+IsShown (Ok x) (Ok output) = Shows x output

@@ -9,7 +9,7 @@ ghost use Rattle.library_calls.specs.declared.cause.Cause.TheVariants.{Memory};
 
 use crate::cause::Cause;
 use crate::first::{file_length, first_file, first_object};
-use crate::wanted::nm_options;
+use crate::requests::nm_options;
 use aout_core::{File, Wire, strip_file, write_file};
 use std::alloc::Global;
 use symtools::{NmOptions, nm, size};
@@ -93,7 +93,7 @@ pub fn list_symbols(alloc: Global, options: u32, bytes: &[u8]) -> Result<Vec<u8>
     ensures err { IfErr result (λ cause. cause ≢ Memory → names_in options bytes.now ≡ Err cause) }
     ensures memory { IfErr result (λ cause. cause ≡ Memory → IsOk (names_in options bytes.now)) }
 {
-    let wanted = nm_options(options)?;
+    let choices = nm_options(options)?;
     let (file, _) = first_file(alloc, bytes)?;
-    names_of(alloc, wanted, file)
+    names_of(alloc, choices, file)
 }

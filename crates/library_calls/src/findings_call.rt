@@ -7,7 +7,7 @@ ghost use Rattle.library_calls.specs.declared.cause.Cause.TheVariants.{Memory};
 
 use crate::cause::{Cause, Refusal};
 use crate::file_calls::bytes_of;
-use crate::link_call::{Wanted, link_wanted};
+use crate::link_call::{LinkRequest, link_requested};
 use crate::parts::{ObjectBytes, padded};
 use aout_core::Name;
 use link_out::{Linked, Report};
@@ -93,14 +93,14 @@ fn found_of(alloc: Global, linked: &Linked) -> Result<Found, Cause>
 /// Errors: those of `link_each`.
 pub fn link_findings(
     alloc: Global,
-    wanted: &Wanted<'_>,
+    request: &LinkRequest<'_>,
     parts: &[ObjectBytes<'_>],
 ) -> Result<Found, Refusal>
-    ensures ok { IfOk result (λ found. found_each wanted.now.options wanted.now.entry.now wanted.now.forced.now (each_of parts.now) ≡ Ok (founds_of found)) }
-    ensures err { IfErr result (λ r. r.cause ≢ Memory → found_each wanted.now.options wanted.now.entry.now wanted.now.forced.now (each_of parts.now) ≡ Err r) }
+    ensures ok { IfOk result (λ found. found_each request.now.options request.now.entry.now request.now.forced.now (each_of parts.now) ≡ Ok (founds_of found)) }
+    ensures err { IfErr result (λ r. r.cause ≢ Memory → found_each request.now.options request.now.entry.now request.now.forced.now (each_of parts.now) ≡ Err r) }
     ensures memory { IfErr result (λ r. r.cause ≡ Memory
-        → LinkOfEachMayRunOut wanted.now.options wanted.now.entry.now wanted.now.forced.now (each_of parts.now) r.place) }
+        → LinkOfEachMayRunOut request.now.options request.now.entry.now request.now.forced.now (each_of parts.now) r.place) }
 {
-    let linked = link_wanted(alloc, wanted, parts)?;
+    let linked = link_requested(alloc, request, parts)?;
     Ok(found_of(alloc, &linked)?)
 }

@@ -1,17 +1,17 @@
 //! Answers the calls of libv7: bytes of files in, bytes of files and text out.
 //!
 //! ```rust
-//! let wanted = Wanted {
+//! let request = LinkRequest {
 //!     options: 2,
 //!     entry: b"",
 //!     forced: b"",
 //! };
-//! link(alloc, &wanted, objects)
+//! link(alloc, &request, objects)
 //! ```
 //!
 //! Types:
 //!
-//! - `Wanted`: options, entry point and forced names of a link
+//! - `LinkRequest`: options, entry point and forced names of a link
 //! - `Program`: a linked file, its report and the status
 //! - `Found`, `Finding`: a linked file with its report as a list, and a name that is reported
 //! - `ObjectBytes`: the bytes of an object that is given apart
@@ -48,17 +48,17 @@ mod first;
 mod link_call;
 mod make_call;
 mod parts;
+mod requests;
 mod session_call;
 mod state_call;
 mod taking;
-mod wanted;
 
 pub use apart::{read_apart, take_apart};
 pub use cause::{Cause, LongPart, Refusal};
 pub use disassembly::{disassemble, disassemble_words};
 pub use file_calls::{check, list_symbols, show_sizes, strip};
 pub use findings_call::{Finding, Found, link_findings};
-pub use link_call::{Program, Wanted, link, link_each};
+pub use link_call::{LinkRequest, Program, link, link_each};
 pub use make_call::make;
 pub use parts::{FileLists, ObjectBytes, ObjectParts, ObjectWord, PartLists, SymbolRow};
 pub use session_call::{Ran, run_session};

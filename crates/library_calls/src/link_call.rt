@@ -11,8 +11,8 @@ ghost use Rattle.library_calls.specs.declared.cause.Cause.TheVariants.{Memory, N
 
 use crate::cause::{Cause, Refusal};
 use crate::parts::ObjectBytes;
+use crate::requests::{forced_names, link_options};
 use crate::taking::{take_each, take_objects};
-use crate::wanted::{forced_names, link_options};
 use aout_core::{Wire, write_file};
 use link_out::{Linked, Options, finish};
 use link_session::{Forced, Session};
@@ -20,7 +20,7 @@ use std::alloc::Global;
 
 /// What is asked of a link. (ld(1); the bits: own choice)
 #[derive(Clone, Copy)]
-pub struct Wanted<'a> {
+pub struct LinkRequest<'a> {
     /// The options, a bit each: 1 for `-r`, 2 `-s`, 4 `-x`, 8 `-X`, 16 `-n`, 32 `-i`, 64 `-d`.
     pub options: u32,
     /// The name of the entry point, at most 8 bytes; none where it is empty.
@@ -117,32 +117,32 @@ pub(crate) fn program_of(alloc: Global, linked: &Linked) -> Result<Program, Caus
 /// - `NotLinked`, 41 to 43, if all objects are taken and there is no link of them.
 ///
 /// `Memory`, 50, if memory runs out for forced names, for a whole file, for an object that is accepted, or for a link.
-pub fn link(alloc: Global, wanted: &Wanted<'_>, objects: &[u8]) -> Result<Program, Refusal>
-    ensures ok { IfOk result (λ program. output_in wanted.now.options wanted.now.entry.now wanted.now.forced.now objects.now ≡ Ok (outputs_of program)) }
-    ensures err { IfErr result (λ r. r.cause ≢ Memory → output_in wanted.now.options wanted.now.entry.now wanted.now.forced.now objects.now ≡ Err r) }
+pub fn link(alloc: Global, request: &LinkRequest<'_>, objects: &[u8]) -> Result<Program, Refusal>
+    ensures ok { IfOk result (λ program. output_in request.now.options request.now.entry.now request.now.forced.now objects.now ≡ Ok (outputs_of program)) }
+    ensures err { IfErr result (λ r. r.cause ≢ Memory → output_in request.now.options request.now.entry.now request.now.forced.now objects.now ≡ Err r) }
     ensures memory { IfErr result (λ r. r.cause ≡ Memory
-        → LinkMayRunOut wanted.now.options wanted.now.entry.now wanted.now.forced.now objects.now r.place) }
+        → LinkMayRunOut request.now.options request.now.entry.now request.now.forced.now objects.now r.place) }
 {
-    let options = link_options(wanted.options, wanted.entry)?;
-    let forced = forced_names(wanted.forced)?;
+    let options = link_options(request.options, request.entry)?;
+    let forced = forced_names(request.forced)?;
     let linked = link_objects(alloc, objects, &forced, &options)?;
     Ok(program_of(alloc, &linked)?)
 }
 
-/// The link of the object that each of the parts begins with, as it is wanted.
-pub(crate) fn link_wanted(
+/// The link of the object that each of the parts begins with, as it is requested.
+pub(crate) fn link_requested(
     alloc: Global,
-    wanted: &Wanted<'_>,
+    request: &LinkRequest<'_>,
     parts: &[ObjectBytes<'_>],
 ) -> Result<Linked, Refusal>
-    ensures ok { IfOk result (λ linked. outcome_each wanted.now.options wanted.now.entry.now wanted.now.forced.now (each_of parts.now) ≡ Ok (outcome_of linked)) }
-    ensures err { IfErr result (λ r. r.cause ≢ Memory → outcome_each wanted.now.options wanted.now.entry.now wanted.now.forced.now (each_of parts.now) ≡ Err r) }
+    ensures ok { IfOk result (λ linked. outcome_each request.now.options request.now.entry.now request.now.forced.now (each_of parts.now) ≡ Ok (outcome_of linked)) }
+    ensures err { IfErr result (λ r. r.cause ≢ Memory → outcome_each request.now.options request.now.entry.now request.now.forced.now (each_of parts.now) ≡ Err r) }
     ensures memory { IfErr result (λ r. r.cause ≡ Memory
-        → LinkOfEachMayRunOut wanted.now.options wanted.now.entry.now wanted.now.forced.now (each_of parts.now) r.place) }
-    ensures more { IsOk result → LinkOfEachMayRunOut wanted.now.options wanted.now.entry.now wanted.now.forced.now (each_of parts.now) 0 }
+        → LinkOfEachMayRunOut request.now.options request.now.entry.now request.now.forced.now (each_of parts.now) r.place) }
+    ensures more { IsOk result → LinkOfEachMayRunOut request.now.options request.now.entry.now request.now.forced.now (each_of parts.now) 0 }
 {
-    let choices = link_options(wanted.options, wanted.entry)?;
-    let forced = forced_names(wanted.forced)?;
+    let choices = link_options(request.options, request.entry)?;
+    let forced = forced_names(request.forced)?;
     link_parts(alloc, parts, &forced, &choices)
 }
 
@@ -152,14 +152,14 @@ pub(crate) fn link_wanted(
 /// Errors: those of `link`, with the number of the part in place of that of the object.
 pub fn link_each(
     alloc: Global,
-    wanted: &Wanted<'_>,
+    request: &LinkRequest<'_>,
     parts: &[ObjectBytes<'_>],
 ) -> Result<Program, Refusal>
-    ensures ok { IfOk result (λ program. output_each wanted.now.options wanted.now.entry.now wanted.now.forced.now (each_of parts.now) ≡ Ok (outputs_of program)) }
-    ensures err { IfErr result (λ r. r.cause ≢ Memory → output_each wanted.now.options wanted.now.entry.now wanted.now.forced.now (each_of parts.now) ≡ Err r) }
+    ensures ok { IfOk result (λ program. output_each request.now.options request.now.entry.now request.now.forced.now (each_of parts.now) ≡ Ok (outputs_of program)) }
+    ensures err { IfErr result (λ r. r.cause ≢ Memory → output_each request.now.options request.now.entry.now request.now.forced.now (each_of parts.now) ≡ Err r) }
     ensures memory { IfErr result (λ r. r.cause ≡ Memory
-        → LinkOfEachMayRunOut wanted.now.options wanted.now.entry.now wanted.now.forced.now (each_of parts.now) r.place) }
+        → LinkOfEachMayRunOut request.now.options request.now.entry.now request.now.forced.now (each_of parts.now) r.place) }
 {
-    let linked = link_wanted(alloc, wanted, parts)?;
+    let linked = link_requested(alloc, request, parts)?;
     Ok(program_of(alloc, &linked)?)
 }

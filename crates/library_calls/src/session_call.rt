@@ -10,8 +10,8 @@ ghost use Rattle.library_calls.specs.declared.cause.Cause.TheVariants.{Memory};
 
 use crate::cause::{Cause, Refusal};
 use crate::edits::{make_edits, read_edits, session_status};
-use crate::link_call::{Program, Wanted, link_kept, program_of};
-use crate::wanted::{forced_names, link_options};
+use crate::link_call::{LinkRequest, Program, link_kept, program_of};
+use crate::requests::{forced_names, link_options};
 use link_out::{Edit, Options};
 use link_session::{Forced, Session};
 use std::alloc::Global;
@@ -73,18 +73,18 @@ fn run_edits(
 /// `Memory`, 50, if memory runs out for a whole file, for an edit that is accepted, for forced names, or for a link.
 pub fn run_session(
     alloc: Global,
-    wanted: &Wanted<'_>,
+    request: &LinkRequest<'_>,
     letters: &[u8],
     objects: &[u8],
 ) -> Result<Ran, Refusal>
-    ensures ok { IfOk result (λ ran. session_in wanted.now.options wanted.now.entry.now wanted.now.forced.now letters.now objects.now ≡ Ok (sessions_of ran)) }
+    ensures ok { IfOk result (λ ran. session_in request.now.options request.now.entry.now request.now.forced.now letters.now objects.now ≡ Ok (sessions_of ran)) }
     ensures err { IfErr result (λ r. r.cause ≢ Memory
-        → session_in wanted.now.options wanted.now.entry.now wanted.now.forced.now letters.now objects.now ≡ Err r) }
+        → session_in request.now.options request.now.entry.now request.now.forced.now letters.now objects.now ≡ Err r) }
     ensures memory { IfErr result (λ r. r.cause ≡ Memory
-        → SessionMayRunOut wanted.now.options wanted.now.entry.now wanted.now.forced.now letters.now objects.now r.place) }
+        → SessionMayRunOut request.now.options request.now.entry.now request.now.forced.now letters.now objects.now r.place) }
 {
-    let options = link_options(wanted.options, wanted.entry)?;
-    let forced = forced_names(wanted.forced)?;
+    let options = link_options(request.options, request.entry)?;
+    let forced = forced_names(request.forced)?;
     let edits = read_edits(alloc, letters, objects)?;
     Ok(run_edits(alloc, edits, &forced, &options)?)
 }

@@ -2,16 +2,16 @@
 ghost use Rattle.std.specs.Prelude.{◌≡◌, ◌≢◌, [], map, Ok, Err, IfOk, IfErr};
 ghost use Rattle.link_out.specs.Runs.{change_of};
 ghost use Rattle.library_calls.specs.MemoryWanted.{StateMayRunOut};
-ghost use Rattle.library_calls.specs.StateAnswers.{asked_in, form_in, told_of, IsShown, Shows};
+ghost use Rattle.library_calls.specs.StateAnswers.{asked_in, form_in, states_of, IsShown, Shows};
 ghost use Rattle.library_calls.specs.internal.Edited.{ShowsFrom};
 ghost use Rattle.library_calls.specs.declared.cause.Cause.TheVariants.{Memory};
 
 use crate::cause::{Cause, Refusal};
 use crate::edits::{make_edits, read_edits, session_status};
-use crate::wanted::forced_names;
+use crate::requests::forced_names;
 use link_out::Edit;
 use link_session::Session;
-use session_text::{state_json, state_lines};
+use reports::{state_json, state_lines};
 use std::alloc::Global;
 
 /// How a state is encoded. (own choice)
@@ -63,7 +63,7 @@ fn edit_and_show(
     form: Form,
 ) -> Result<Shown, Cause>
     ensures ok { IfOk result (λ shown. session.old.entries ≡ []
-        → Shows (record { form = form; forced = session.old.forced; changes = map change_of edits.items }) (told_of shown)) }
+        → Shows (record { form = form; forced = session.old.forced; changes = map change_of edits.items }) (states_of shown)) }
     ensures err { IfErr result (λ cause. cause ≡ Memory) }
 {
     let replies = make_edits(alloc, session, edits)?;
@@ -76,7 +76,7 @@ fn edit_and_show(
 }
 
 /// Adds and withdraws objects as `run_session` does, and returns what the session then shows. With form 0 these are the
-/// lines of `session_text::state_lines`, and with form 1 the JSON of `session_text::state_json`. Without edits it shows the
+/// lines of `reports::state_lines`, and with form 1 the JSON of `reports::state_json`. Without edits it shows the
 /// forced names. (own choice)
 ///
 /// Errors, the first that applies:
@@ -94,7 +94,7 @@ pub fn show_session(
     letters: &[u8],
     objects: &[u8],
 ) -> Result<Shown, Refusal>
-    ensures ok { IfOk result (λ shown. IsShown (asked_in form forced.now letters.now objects.now) (Ok (told_of shown))) }
+    ensures ok { IfOk result (λ shown. IsShown (asked_in form forced.now letters.now objects.now) (Ok (states_of shown))) }
     ensures err { IfErr result (λ r. r.cause ≢ Memory → asked_in form forced.now letters.now objects.now ≡ Err r) }
     ensures memory { IfErr result (λ r. r.cause ≡ Memory → StateMayRunOut form forced.now letters.now objects.now r.place) }
 {

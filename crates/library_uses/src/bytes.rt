@@ -4,7 +4,7 @@ ghost use Rattle.library_calls.specs.LinkAnswers.{output_in, outputs_of};
 ghost use Rattle.library_calls.specs.MemoryWanted.{LinkMayRunOut};
 ghost use Rattle.library_calls.specs.declared.cause.Cause.TheVariants.{Memory};
 
-use library_calls::{Program, Refusal, Wanted, link};
+use library_calls::{LinkRequest, Program, Refusal, link};
 use std::alloc::Global;
 
 /// The link of the objects in some bytes, one after another, without symbols: `ld -s`.
@@ -13,10 +13,10 @@ pub(crate) fn bare_program(alloc: Global, objects: &[u8]) -> Result<Program, Ref
     ensures err { IfErr result (λ r. r.cause ≢ Memory → output_in 2 [] [] objects.now ≡ Err r) }
     ensures memory { IfErr result (λ r. r.cause ≡ Memory → LinkMayRunOut 2 [] [] objects.now r.place) }
 {
-    let wanted = Wanted {
+    let request = LinkRequest {
         options: 2,
         entry: b"",
         forced: b"",
     };
-    link(alloc, &wanted, objects)
+    link(alloc, &request, objects)
 }

@@ -1,9 +1,9 @@
-//! A use of `session_text`.
+//! A use of `reports`.
 ghost use Rattle.std.specs.Prelude.{◌≡◌, IfOk};
-ghost use Rattle.session_text.specs.StateLines.{state_lines};
+ghost use Rattle.reports.specs.StateLines.{state_lines};
 
 use link_session::Session;
-use session_text::state_lines;
+use reports::state_lines;
 use std::alloc::{AllocError, Global};
 
 /// Withdraws the last object, and shows what is left.

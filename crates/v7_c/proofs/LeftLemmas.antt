@@ -9,7 +9,7 @@ use Rattle.library_calls.specs.declared.cause.Refusal.{Refusal}
 use Rattle.library_calls.specs.declared.findings_call.Finding.{Finding}
 use Rattle.library_calls.specs.declared.findings_call.Found.{Found}
 use Rattle.library_calls.specs.declared.link_call.Program.{Program}
-use Rattle.library_calls.proofs.NumberLemmas.{IsTold, Told, told_made}
+use Rattle.library_calls.proofs.NumberLemmas.{IsNotMemory, CauseIsNotMemory, not_memory_made}
 use Rattle.library_calls.specs.declared.parts.FileLists.{FileLists}
 use Rattle.library_calls.specs.declared.parts.ObjectWord.{ObjectWord}
 use Rattle.library_calls.specs.declared.parts.PartLists.{PartLists}
@@ -19,11 +19,11 @@ use Rattle.library_calls.specs.declared.state_call.Shown.{Shown}
 use Rattle.library_calls.specs.Causes.{number_of, word_of}
 use Rattle.library_calls.specs.LinkAnswers.{Output, founds_of, outputs_of}
 use Rattle.library_calls.specs.ObjectParts.{Pieces, file_for, made_of, pieces_in}
-use Rattle.library_calls.specs.StateAnswers.{Asked, IsShown, told_of}
+use Rattle.library_calls.specs.StateAnswers.{Asked, IsShown, states_of}
 use Rattle.v7_c.specs.declared.answer.Answer.{Answer}
 use Rattle.v7_c.specs.declared.answer.Counts.{Counts}
 use Rattle.v7_c.specs.declared.answer.FileHeader.{FileHeader}
-use Rattle.v7_c.specs.Left.{FileLeft, LeavesState, Left, LinkLeft, PartsLeft, file_left, no_header, read_left, wholes_or, counted_by, items_of, left, left_by, output_told, outputs_or, founds_or, SessionLeft, apart_left, counts_of, no_counts, of_none, parts_left, pieces_or, put_in, refused, given, link_left, output_left, no_output, no_session, ran_left, session_left, sessions_or, told_left, told_or}
+use Rattle.v7_c.specs.Left.{FileLeft, LeavesState, Left, LinkLeft, PartsLeft, file_left, no_header, read_left, wholes_or, counted_by, items_of, left, left_by, output_of_state, outputs_or, founds_or, SessionLeft, apart_left, counts_of, no_counts, of_none, parts_left, pieces_or, put_in, refused, given, link_left, output_left, no_output, no_session, ran_left, session_left, sessions_or, state_left, states_or}
 
 -- a cause of the number of no memory lies in no word
 no_word : (cause : Cause) → number_of cause ≡ 50 → word_of cause ≡ 0
@@ -50,7 +50,7 @@ answer_with fault place word = record { fault = fault; word = word; place = plac
 no_memory : (r : Refusal) → number_of r.cause ≡ 50 → refused r ≡ answer_with 50 r.place 0
 no_memory r h = ap (λ (n : ℕ). answer_with n r.place (word_of r.cause)) h ∙ ap (answer_with 50 r.place) (no_word r.cause h)
 
--- a call that gives bytes, or has no room for them, is not answered as one without memory
+-- a call that gives bytes, or has no buffer for them, is not answered as one without memory
 not_memory : {A : Type 0} (b : Bool) (x y : LinkLeft A) → x.answer.fault ≡ 60 → y.answer.fault ≡ 0 → (cond b x y).answer.fault ≡ 50 → ⊥
 not_memory true x y hx hy h = absurd (omega (arith, sym hx ∙ h))
 not_memory false x y hx hy h = absurd (omega (arith, sym hy ∙ h))
@@ -70,13 +70,13 @@ module _ {A : Type 0} (status : ℕ) (answer : Answer) (old new : List ℕ) (rep
 
 module _ (status : ℕ) (answer : Answer) (old new report_old report_new : List ℕ) where
   -- what is left of a session that the library shows
-  pub leaves_state : (asked : Result Asked Refusal) (r : Result Shown Refusal) → IfOk r (λ shown. IsShown asked (Ok (told_of shown))) →
-      IfErr r (λ refusal. (refusal.cause ≡ Memory → ⊥) → asked ≡ Err refusal) → link_left status answer new report_new ≡ told_left (told_or r) old report_old → (answer.fault ≡ 50 → ⊥) →
+  pub leaves_state : (asked : Result Asked Refusal) (r : Result Shown Refusal) → IfOk r (λ shown. IsShown asked (Ok (states_of shown))) →
+      IfErr r (λ refusal. (refusal.cause ≡ Memory → ⊥) → asked ≡ Err refusal) → link_left status answer new report_new ≡ state_left (states_or r) old report_old → (answer.fault ≡ 50 → ⊥) →
       LeavesState asked old report_old (link_left status answer new report_new)
-  leaves_state asked (Ok shown) ok err is other = record { told = Ok (told_of shown); shown = ok; is = is }
+  leaves_state asked (Ok shown) ok err is other = record { output = Ok (states_of shown); shown = ok; is = is }
   leaves_state asked (Err refusal) ok err is other =
       let same = err (λ memory. other (ap (λ (l : LinkLeft ℕ). l.answer.fault) is ∙ ap number_of memory)) in
-      record { told = Err refusal; shown = subst (λ (a : Result Asked Refusal). IsShown a (Err refusal)) (sym same) refl; is = is }
+      record { output = Err refusal; shown = subst (λ (a : Result Asked Refusal). IsShown a (Err refusal)) (sym same) refl; is = is }
 
 no_session_memory : (b : Bool) (x y : SessionLeft) → x.link.answer.fault ≡ 60 → y.link.answer.fault ≡ 0 → (cond b x y).link.answer.fault ≡ 50 → ⊥
 no_session_memory true x y hx hy h = absurd (omega (arith, sym hx ∙ h))
@@ -100,7 +100,7 @@ no_parts_memory true x y hx hy h = absurd (omega (arith, sym hx ∙ h))
 no_parts_memory false x y hx hy h = absurd (omega (arith, sym hy ∙ h))
 
 module _ (status : ℕ) (answer : Answer) (counts : Counts) (text_old text_new data_old data_new : List ObjectWord) (symbols_old symbols_new : List SymbolRow) where
-  -- what gives parts, or has no room for them, is not answered as a call without memory is
+  -- what gives parts, or has no buffer for them, is not answered as a call without memory is
   pub parts_given : (p : Pieces) → parts_left status answer counts text_new data_new symbols_new ≡ apart_left (Ok p) text_old data_old symbols_old → answer.fault ≡ 50 → ⊥
   parts_given p is h =
       no_parts_memory
@@ -142,24 +142,24 @@ is_memory_or Memory = inl refl
 
 module _ {A B X : Type 0} (answer : Result A Cause) where
   -- what is refused under it is refused for memory
-  pub is_memory : (r : Result B Cause) → Told answer → IfErr r (λ cause. cause ≢ Memory → answer ≡ Err cause) → IfErr r (λ cause. cause ≡ Memory → X) →
+  pub is_memory : (r : Result B Cause) → CauseIsNotMemory answer → IfErr r (λ cause. cause ≢ Memory → answer ≡ Err cause) → IfErr r (λ cause. cause ≡ Memory → X) →
       IsErrAnd r (λ cause. number_of cause ≡ 50) → X
-  is_memory (Ok x) told err memory h = absurd h
-  is_memory (Err cause) told err memory h = by (is_memory_or cause)
+  is_memory (Ok x) not_memory err memory h = absurd h
+  is_memory (Err cause) not_memory err memory h = by (is_memory_or cause)
     where
       by : ((cause ≡ Memory) ⊎ (cause ≢ Memory)) → X
       by (inl e) = memory e
-      by (inr n) = absurd (subst (λ (r : Result A Cause). Told r) (err n) told h)
+      by (inr n) = absurd (subst (λ (r : Result A Cause). CauseIsNotMemory r) (err n) not_memory h)
 
 module _ {A B : Type 0} (X : ℕ → Type 0) (answer : Result A Refusal) where
-  pub is_memory_at : (r : Result B Refusal) → IsTold answer → IfErr r (λ refusal. refusal.cause ≢ Memory → answer ≡ Err refusal) → IfErr r (λ refusal. refusal.cause ≡ Memory → X refusal.place) →
+  pub is_memory_at : (r : Result B Refusal) → IsNotMemory answer → IfErr r (λ refusal. refusal.cause ≢ Memory → answer ≡ Err refusal) → IfErr r (λ refusal. refusal.cause ≡ Memory → X refusal.place) →
       (place : ℕ) → IsErrAnd r (λ refusal. (number_of refusal.cause ≡ 50) × (place ≡ refusal.place)) → X place
-  is_memory_at (Ok x) told err memory place h = absurd h
-  is_memory_at (Err refusal) told err memory place h = by (is_memory_or refusal.cause)
+  is_memory_at (Ok x) not_memory err memory place h = absurd h
+  is_memory_at (Err refusal) not_memory err memory place h = by (is_memory_or refusal.cause)
     where
       by : ((refusal.cause ≡ Memory) ⊎ (refusal.cause ≢ Memory)) → X place
       by (inl e) = subst X (sym h.1) (memory e)
-      by (inr n) = absurd (subst (λ (r : Result A Refusal). IsTold r) (err n) told h.0)
+      by (inr n) = absurd (subst (λ (r : Result A Refusal). IsNotMemory r) (err n) not_memory h.0)
 
 no_left_memory : (b : Bool) (x y : Left) → x.answer.fault ≡ 60 → y.answer.fault ≡ 0 → (cond b x y).answer.fault ≡ 50 → ⊥
 no_left_memory true x y hx hy h = absurd (omega (arith, sym hx ∙ h))
@@ -199,10 +199,10 @@ module _ (status : ℕ) (answer : Answer) (old new report_old report_new : List 
   program_fault (Ok x) is h = output_fault status answer old new report_old report_new outputs_of (Ok x) (Ok (outputs_of x)) refl is h
   program_fault (Err refusal) is h = output_fault status answer old new report_old report_new outputs_of (Err refusal) (Err refusal) refl is h
 
-  pub shown_fault : (r : Result Shown Refusal) → link_left status answer new report_new ≡ told_left (told_or r) old report_old → answer.fault ≡ 50 →
+  pub shown_fault : (r : Result Shown Refusal) → link_left status answer new report_new ≡ state_left (states_or r) old report_old → answer.fault ≡ 50 →
       IsErrAnd r (λ refusal. (number_of refusal.cause ≡ 50) × (answer.place ≡ refusal.place))
   shown_fault (Ok x) is h =
-      output_fault status answer old new report_old report_new (λ (s : Shown). record { status = s.status; file = s.state.items; report = s.replies.items }) (Ok x) (output_told (Ok (told_of x))) refl is h
+      output_fault status answer old new report_old report_new (λ (s : Shown). record { status = s.status; file = s.state.items; report = s.replies.items }) (Ok x) (output_of_state (Ok (states_of x))) refl is h
   shown_fault (Err refusal) is h =
       output_fault status answer old new report_old report_new (λ (s : Shown). record { status = s.status; file = s.state.items; report = s.replies.items }) (Err refusal) (Err refusal) refl is h
 
@@ -236,4 +236,4 @@ module _ (status : ℕ) (answer : Answer) (counts : Counts) (text_old text_new d
 -- memory ran out for an object that is made of parts
 pub made_memory : (p : Pieces) (status : ℕ) (answer : Answer) (old new : List ℕ) (r : Result (Vec ℕ Global) Cause) → left status answer new ≡ left_by (items_of r) old →
     IfErr r (λ cause. cause ≢ Memory → made_of p ≡ Err cause) → IfErr r (λ cause. cause ≡ Memory → IsOk (file_for p)) → answer.fault ≡ 50 → IsOk (file_for p)
-made_memory p status answer old new r is err memory fault = is_memory (made_of p) r (told_made p) err memory (bytes_fault status answer old new r is fault)
+made_memory p status answer old new r is err memory fault = is_memory (made_of p) r (not_memory_made p) err memory (bytes_fault status answer old new r is fault)

@@ -21,14 +21,14 @@ use Rattle.library_calls.specs.Causes.{number_of, word_of}
 use Rattle.library_calls.specs.LinkAnswers.{Output, founds_of, outputs_of}
 use Rattle.library_calls.specs.ObjectParts.{Pieces, Whole, pieces_in, whole_of}
 use Rattle.library_calls.specs.SessionAnswers.{SessionOutput, sessions_of}
-use Rattle.library_calls.specs.StateAnswers.{Asked, IsShown, Told, told_of}
+use Rattle.library_calls.specs.StateAnswers.{Asked, IsShown, StateOutput, states_of}
 use Rattle.v7_c.specs.declared.answer.Answer.{Answer}
 use Rattle.v7_c.specs.declared.answer.Counts.{Counts}
 use Rattle.v7_c.specs.declared.answer.FileHeader.{FileHeader}
 
 -- these at the beginning of a buffer
 abbrev pub put_in : {A : Type 0} → List A → List A → List A
-put_in room bytes = bytes ++ drop (length bytes) room
+put_in buffer bytes = bytes ++ drop (length bytes) buffer
 
 -- what a refusal is answered by
 abbrev pub refused : Refusal → Answer
@@ -46,17 +46,17 @@ given fault size report_size = record { fault = fault; word = 0; place = 0; size
 pub record Left : Type 0 where
   pub status : ℕ
   pub answer : Answer
-  pub room : List ℕ
+  pub buffer : List ℕ
 
 abbrev pub left : ℕ → Answer → List ℕ → Left
-left status answer room = record { status = status; answer = answer; room = room }
+left status answer buffer = record { status = status; answer = answer; buffer = buffer }
 
 -- what a call leaves that gives bytes
 abbrev pub left_by : Result (List ℕ) Cause → List ℕ → Left
-left_by (Err cause) room = left 2 (refused (of_none cause)) room
-left_by (Ok bytes) room =
-    if nat_lt (length room) (length bytes) then left 2 (given 60 (length bytes) 0) room
-    else left 0 (given 0 (length bytes) 0) (put_in room bytes)
+left_by (Err cause) buffer = left 2 (refused (of_none cause)) buffer
+left_by (Ok bytes) buffer =
+    if nat_lt (length buffer) (length bytes) then left 2 (given 60 (length bytes) 0) buffer
+    else left 0 (given 0 (length bytes) 0) (put_in buffer bytes)
 
 -- what a call leaves that gives a number of bytes
 abbrev pub counted_by : Result ℕ Cause → Left
@@ -65,31 +65,31 @@ counted_by (Ok count) = left 0 (given 0 count 0) []
 
 -- what a call leaves for which memory ran out
 abbrev pub no_bytes : List ℕ → Left
-no_bytes room = left_by (Err Memory) room
+no_bytes buffer = left_by (Err Memory) buffer
 
--- the same with a second room, for a report
+-- the same with a second buffer, for a report
 pub record LinkLeft (A : Type 0) : Type 0 where
   pub status : ℕ
   pub answer : Answer
-  pub room : List ℕ
+  pub buffer : List ℕ
   pub report : List A
 
 abbrev pub link_left : {A : Type 0} → ℕ → Answer → List ℕ → List A → LinkLeft A
-link_left status answer room report = record { status = status; answer = answer; room = room; report = report }
+link_left status answer buffer report = record { status = status; answer = answer; buffer = buffer; report = report }
 
 -- what a link leaves: both parts, or neither
 abbrev pub output_left : {A : Type 0} → Result (Output A) Refusal → List ℕ → List A → LinkLeft A
-output_left (Err r) room report = link_left 2 (refused r) room report
-output_left (Ok x) room report =
-    if nat_lt (length room) (length x.file) || nat_lt (length report) (length x.report)
-    then link_left 2 (given 60 (length x.file) (length x.report)) room report
-    else link_left x.status (given 0 (length x.file) (length x.report)) (put_in room x.file) (put_in report x.report)
+output_left (Err r) buffer report = link_left 2 (refused r) buffer report
+output_left (Ok x) buffer report =
+    if nat_lt (length buffer) (length x.file) || nat_lt (length report) (length x.report)
+    then link_left 2 (given 60 (length x.file) (length x.report)) buffer report
+    else link_left x.status (given 0 (length x.file) (length x.report)) (put_in buffer x.file) (put_in report x.report)
 
 -- what a link leaves for which memory ran out, at the object of this number
 abbrev pub no_output : {A : Type 0} → ℕ → List ℕ → List A → LinkLeft A
-no_output place room report = output_left (Err (record { cause = Memory; place = place })) room report
+no_output place buffer report = output_left (Err (record { cause = Memory; place = place })) buffer report
 
--- the same with a third room, for the replies to the edits of a session
+-- the same with a third buffer, for the replies to the edits of a session
 pub record SessionLeft : Type 0 where
   pub link : LinkLeft ℕ
   pub replies : List ℕ
@@ -99,30 +99,30 @@ session_left link replies = record { link = link; replies = replies }
 
 -- what a session leaves: all three parts, or none
 abbrev pub ran_left : Result SessionOutput Refusal → List ℕ → List ℕ → List ℕ → SessionLeft
-ran_left (Err r) replies room report = session_left (output_left (Err r) room report) replies
-ran_left (Ok x) replies room report =
-    if nat_lt (length replies) (length x.replies) || (nat_lt (length room) (length x.output.file) || nat_lt (length report) (length x.output.report))
-    then session_left (link_left 2 (given 60 (length x.output.file) (length x.output.report)) room report) replies
-    else session_left (link_left x.output.status (given 0 (length x.output.file) (length x.output.report)) (put_in room x.output.file) (put_in report x.output.report))
+ran_left (Err r) replies buffer report = session_left (output_left (Err r) buffer report) replies
+ran_left (Ok x) replies buffer report =
+    if nat_lt (length replies) (length x.replies) || (nat_lt (length buffer) (length x.output.file) || nat_lt (length report) (length x.output.report))
+    then session_left (link_left 2 (given 60 (length x.output.file) (length x.output.report)) buffer report) replies
+    else session_left (link_left x.output.status (given 0 (length x.output.file) (length x.output.report)) (put_in buffer x.output.file) (put_in report x.output.report))
     (put_in replies x.replies)
 
 -- what a session leaves for which memory ran out, at the edit of this number
 abbrev pub no_session : ℕ → List ℕ → List ℕ → List ℕ → SessionLeft
-no_session place replies room report = ran_left (Err (record { cause = Memory; place = place })) replies room report
+no_session place replies buffer report = ran_left (Err (record { cause = Memory; place = place })) replies buffer report
 
 -- what a call leaves that shows a session: the state and the replies, or neither
-abbrev pub output_told : Result Told Refusal → Result (Output ℕ) Refusal
-output_told (Ok x) = Ok (record { status = x.status; file = x.state; report = x.replies })
-output_told (Err r) = Err r
+abbrev pub output_of_state : Result StateOutput Refusal → Result (Output ℕ) Refusal
+output_of_state (Ok x) = Ok (record { status = x.status; file = x.state; report = x.replies })
+output_of_state (Err r) = Err r
 
-abbrev pub told_left : Result Told Refusal → List ℕ → List ℕ → LinkLeft ℕ
-told_left r room replies = output_left (output_told r) room replies
+abbrev pub state_left : Result StateOutput Refusal → List ℕ → List ℕ → LinkLeft ℕ
+state_left r buffer replies = output_left (output_of_state r) buffer replies
 
 -- it is one that the session may show which is asked for
-pub record LeavesState (asked : Result Asked Refusal) (room replies : List ℕ) (left : LinkLeft ℕ) : Type 0 where
-  pub told : Result Told Refusal
-  pub shown : IsShown asked told
-  pub is : left ≡ told_left told room replies
+pub record LeavesState (asked : Result Asked Refusal) (buffer replies : List ℕ) (left : LinkLeft ℕ) : Type 0 where
+  pub output : Result StateOutput Refusal
+  pub shown : IsShown asked output
+  pub is : left ≡ state_left output buffer replies
 
 -- what taking an object apart leaves: its words and symbols, and how many there are
 pub record PartsLeft : Type 0 where
@@ -195,9 +195,9 @@ abbrev pub sessions_or : Result Ran Refusal → Result SessionOutput Refusal
 sessions_or (Ok ran) = Ok (sessions_of ran)
 sessions_or (Err r) = Err r
 
-abbrev pub told_or : Result Shown Refusal → Result Told Refusal
-told_or (Ok shown) = Ok (told_of shown)
-told_or (Err r) = Err r
+abbrev pub states_or : Result Shown Refusal → Result StateOutput Refusal
+states_or (Ok shown) = Ok (states_of shown)
+states_or (Err r) = Err r
 
 abbrev pub pieces_or : Result PartLists Cause → Result Pieces Cause
 pieces_or (Ok p) = Ok (pieces_in p)

@@ -4,7 +4,7 @@
 #![tactic(auto)]
 
 mod answer;
-mod rooms;
+mod buffers;
 
 ghost use Rattle.std.specs.Prelude.{◌≡◌, ◌≢◌, ◌⊎◌, [], Ok, Err, IsOk};
 ghost use Rattle.disassemblies.specs.Columns.{plain_disassembly};
@@ -18,11 +18,11 @@ ghost use Rattle.library_calls.specs.StateAnswers.{asked_in};
 ghost use Rattle.v7_c.specs.Left.{LeavesState, apart_left, counted_by, file_left, left, left_by, link_left, no_bytes, no_output, no_session, output_left, parts_left, ran_left, read_left, session_left};
 
 use crate::answer::{Answer, Counts, FileHeader};
-use crate::rooms::{
+use crate::buffers::{
     leave_bytes, leave_count, leave_file, leave_findings, leave_output, leave_parts, leave_session,
     leave_state,
 };
-use library_calls::{Finding, ObjectBytes, ObjectParts, ObjectWord, SymbolRow, Wanted};
+use library_calls::{Finding, LinkRequest, ObjectBytes, ObjectParts, ObjectWord, SymbolRow};
 use std::alloc::Global;
 
 /// The version of the library, 0.4.0: 65,536 for each major version, 256 for each minor version, and the patch.
@@ -136,13 +136,13 @@ pub extern "C" fn v7_link(
         ≡ no_output answer.new.place room.old report.old }
     ensures ran_out { answer.new.fault ≡ 50 → LinkMayRunOut options entry.now forced.now objects.now answer.new.place }
 {
-    let wanted = Wanted {
+    let request = LinkRequest {
         options,
         entry,
         forced,
     };
     leave_output(
-        library_calls::link(alloc, &wanted, objects),
+        library_calls::link(alloc, &request, objects),
         room,
         report,
         answer,
@@ -167,13 +167,13 @@ pub extern "C" fn v7_link_list(
         ≡ no_output answer.new.place room.old report.old }
     ensures ran_out { answer.new.fault ≡ 50 → LinkOfEachMayRunOut options entry.now forced.now (each_of objects.now) answer.new.place }
 {
-    let wanted = Wanted {
+    let request = LinkRequest {
         options,
         entry,
         forced,
     };
     leave_output(
-        library_calls::link_each(alloc, &wanted, objects),
+        library_calls::link_each(alloc, &request, objects),
         room,
         report,
         answer,
@@ -198,12 +198,12 @@ pub extern "C" fn v7_link_findings(
         ≡ no_output answer.new.place room.old findings.old }
     ensures ran_out { answer.new.fault ≡ 50 → LinkOfEachMayRunOut options entry.now forced.now (each_of objects.now) answer.new.place }
 {
-    let wanted = Wanted {
+    let request = LinkRequest {
         options,
         entry,
         forced,
     };
-    let found = library_calls::link_findings(alloc, &wanted, objects);
+    let found = library_calls::link_findings(alloc, &request, objects);
     leave_findings(found, room, findings, answer)
 }
 
@@ -300,12 +300,12 @@ pub extern "C" fn v7_session(
         ≡ no_session answer.new.place replies.old room.old report.old }
     ensures ran_out { answer.new.fault ≡ 50 → SessionMayRunOut options entry.now forced.now edits.now objects.now answer.new.place }
 {
-    let wanted = Wanted {
+    let request = LinkRequest {
         options,
         entry,
         forced,
     };
-    let ran = library_calls::run_session(alloc, &wanted, edits, objects);
+    let ran = library_calls::run_session(alloc, &request, edits, objects);
     leave_session(ran, replies, room, report, answer)
 }
 

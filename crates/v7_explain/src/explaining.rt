@@ -1,8 +1,8 @@
 //! Files as listings, or their texts as instructions.
 use crate::disassembly::disassembly_of;
 use crate::listing::listing_of;
+use crate::output::{Output, report_findings};
 use crate::remarks::put_lines;
-use crate::told::{Told, tell_findings};
 use crate::words::ListingWords;
 use aout_core::{File, Object, ObjectFault, ReadFault, Wire, read_file};
 use findings::{
@@ -50,7 +50,7 @@ fn as_object(file: File) -> (File, Option<ObjectFault>) {
 /// Explains what is wrong with an object, and then what is odd of it.
 fn findings_of(
     alloc: Global,
-    told: &mut Told,
+    output: &mut Output,
     source: Source<'_>,
     file: &File,
     is_damaged: bool,
@@ -59,9 +59,9 @@ fn findings_of(
     if is_damaged {
         let wrong = wrong_words(alloc, file)?;
         put_findings(alloc, &mut notes, "wrong", &wrong)?;
-        told.status = told.status.max(1);
+        output.status = output.status.max(1);
         if source.purpose == Purpose::Store {
-            tell_findings(alloc, told, source.path, &wrong)?;
+            report_findings(alloc, output, source.path, &wrong)?;
         }
     }
     if source.purpose == Purpose::Disassemble {
@@ -78,7 +78,7 @@ fn findings_of(
 /// Explains a file, after these notes.
 fn explain_file(
     alloc: Global,
-    told: &mut Told,
+    output: &mut Output,
     notes: &mut Vec<String>,
     source: Source<'_>,
     file: File,
@@ -91,13 +91,13 @@ fn explain_file(
     if source.purpose != Purpose::Disassemble {
         put_header(alloc, notes, file.header())?;
     }
-    let findings = findings_of(alloc, told, source, &file, kind.is_none())?;
+    let findings = findings_of(alloc, output, source, &file, kind.is_none())?;
     let text = if source.purpose == Purpose::Disassemble {
         disassembly_of(alloc, &file, notes, &findings)?
     } else {
         listing_of(alloc, &file, notes, &findings)?
     };
-    told.text.extend_from_slice(&text)
+    output.text.extend_from_slice(&text)
 }
 
 /// What bytes are that are not a file, if it is known.
@@ -111,7 +111,7 @@ fn likeness_of(bytes: &[u8], fault: ReadFault) -> Option<&'static str> {
 /// Explains bytes that are not a file, after these notes.
 fn explain_refused(
     alloc: Global,
-    told: &mut Told,
+    output: &mut Output,
     notes: &mut Vec<String>,
     source: Source<'_>,
     fault: ReadFault,
@@ -122,9 +122,9 @@ fn explain_refused(
     }
     let wrong = wrong_bytes(alloc, source.bytes, fault)?;
     put_findings(alloc, notes, "wrong", &wrong)?;
-    told.status = told.status.max(1);
+    output.status = output.status.max(1);
     if source.purpose == Purpose::Store {
-        tell_findings(alloc, told, source.path, &wrong)?;
+        report_findings(alloc, output, source.path, &wrong)?;
     }
     if let Some(note) = known {
         put_note(alloc, notes, note)?;
@@ -132,62 +132,62 @@ fn explain_refused(
     if is_of_gnu(alloc, source.bytes, true) {
         put_note(alloc, notes, GNU_NOTE)?;
     }
-    put_lines(&mut told.text, notes)
+    put_lines(&mut output.text, notes)
 }
 
 /// Explains the bytes of a file.
-fn explain_bytes(alloc: Global, told: &mut Told, source: Source<'_>) -> Result<(), AllocError> {
+fn explain_bytes(alloc: Global, output: &mut Output, source: Source<'_>) -> Result<(), AllocError> {
     let path = source.path;
     let size = source.bytes.len();
     let title = format!(in alloc; "{path}: 0{size:o} ({size}) bytes")?;
     let mut notes = Vec::new(alloc);
     put_note(alloc, &mut notes, title.as_str())?;
     match read_file(alloc, &mut Wire::new(source.bytes)) {
-        Ok(file) => explain_file(alloc, told, &mut notes, source, file),
+        Ok(file) => explain_file(alloc, output, &mut notes, source, file),
         Err(ReadFault::Memory) => Err(AllocError),
-        Err(fault) => explain_refused(alloc, told, &mut notes, source, fault),
+        Err(fault) => explain_refused(alloc, output, &mut notes, source, fault),
     }
 }
 
-/// Tells why bytes that are not a file are not an object.
-fn tell_refused(
+/// Reports why bytes that are not a file are not an object.
+fn report_refused(
     alloc: Global,
-    told: &mut Told,
+    output: &mut Output,
     source: Source<'_>,
     fault: ReadFault,
 ) -> Result<(), AllocError> {
     let wrong = wrong_bytes(alloc, source.bytes, fault)?;
-    tell_findings(alloc, told, source.path, &wrong)?;
+    report_findings(alloc, output, source.path, &wrong)?;
     if let Some(text) = likeness_of(source.bytes, fault) {
-        told.fault(source.path, text, 1)?;
+        output.fault(source.path, text, 1)?;
     }
     if is_of_gnu(alloc, source.bytes, true) {
-        told.fault(source.path, GNU_NOTE, 1)?;
+        output.fault(source.path, GNU_NOTE, 1)?;
     }
     Ok(())
 }
 
-/// Tells why the bytes of a file are not an object, if they are not.
-fn check_bytes(alloc: Global, told: &mut Told, source: Source<'_>) -> Result<(), AllocError> {
+/// Reports why the bytes of a file are not an object, if they are not.
+fn check_bytes(alloc: Global, output: &mut Output, source: Source<'_>) -> Result<(), AllocError> {
     let file = match read_file(alloc, &mut Wire::new(source.bytes)) {
         Ok(file) => file,
         Err(ReadFault::Memory) => return Err(AllocError),
-        Err(fault) => return tell_refused(alloc, told, source, fault),
+        Err(fault) => return report_refused(alloc, output, source, fault),
     };
     let (file, refused) = as_object(file);
     if refused.is_none() {
         return Ok(());
     }
     match kind_text(alloc, file.header(), refused)? {
-        Some(text) => told.fault(source.path, text.as_str(), 1),
-        None => tell_findings(alloc, told, source.path, &wrong_words(alloc, &file)?),
+        Some(text) => output.fault(source.path, text.as_str(), 1),
+        None => report_findings(alloc, output, source.path, &wrong_words(alloc, &file)?),
     }
 }
 
 /// Explains the file at a path.
 fn explain_at(
     rt: &HostRuntime,
-    told: &mut Told,
+    output: &mut Output,
     path: &str,
     purpose: Purpose,
 ) -> Result<(), AllocError> {
@@ -199,64 +199,64 @@ fn explain_at(
                 purpose,
             };
             match purpose {
-                Purpose::Check => check_bytes(rt.alloc(), told, source),
+                Purpose::Check => check_bytes(rt.alloc(), output, source),
                 Purpose::Show | Purpose::Store | Purpose::Disassemble => {
-                    explain_bytes(rt.alloc(), told, source)
+                    explain_bytes(rt.alloc(), output, source)
                 }
             }
         }
-        Err(FileFault::NotOpened) => told.fault(path, "cannot open", 2),
-        Err(FileFault::Failed) => told.fault(path, "read error", 2),
+        Err(FileFault::NotOpened) => output.fault(path, "cannot open", 2),
+        Err(FileFault::Failed) => output.fault(path, "read error", 2),
         Err(FileFault::Memory) => Err(AllocError),
     }
 }
 
-/// Stores the listing in place of telling it, if nothing was wrong.
-fn store(rt: &HostRuntime, told: &mut Told, path: &str) -> Result<(), AllocError> {
-    if told.status == 0 {
+/// Stores the listing in place of writing it to standard output, if nothing was wrong.
+fn store(rt: &HostRuntime, output: &mut Output, path: &str) -> Result<(), AllocError> {
+    if output.status == 0 {
         let Ok(mut device) = fs::create(rt, path) else {
-            told.text.clear();
-            return told.fault(path, "cannot create", 2);
+            output.text.clear();
+            return output.fault(path, "cannot create", 2);
         };
-        if device.write_all(&told.text).is_err() {
-            told.fault(path, "write error", 2)?;
+        if device.write_all(&output.text).is_err() {
+            output.fault(path, "write error", 2)?;
         }
     }
-    told.text.clear();
+    output.text.clear();
     Ok(())
 }
 
-/// Tells the listings of the files, or stores them.
-pub(crate) fn explain_files(rt: &HostRuntime, words: &ListingWords) -> Result<Told, AllocError> {
-    let mut told = Told::new(rt.alloc());
+/// The listings of the files; they are stored if a file for them is given.
+pub(crate) fn explain_files(rt: &HostRuntime, words: &ListingWords) -> Result<Output, AllocError> {
+    let mut output = Output::new(rt.alloc());
     let purpose = if words.out.is_some() {
         Purpose::Store
     } else {
         Purpose::Show
     };
     for path in &words.files {
-        explain_at(rt, &mut told, path.as_str(), purpose)?;
+        explain_at(rt, &mut output, path.as_str(), purpose)?;
     }
     if let Some(path) = &words.out {
-        store(rt, &mut told, path.as_str())?;
+        store(rt, &mut output, path.as_str())?;
     }
-    Ok(told)
+    Ok(output)
 }
 
-/// Tells the texts of the files as instructions.
-pub(crate) fn disassemble_files(rt: &HostRuntime, files: &[String]) -> Result<Told, AllocError> {
-    let mut told = Told::new(rt.alloc());
+/// The texts of the files as instructions.
+pub(crate) fn disassemble_files(rt: &HostRuntime, files: &[String]) -> Result<Output, AllocError> {
+    let mut output = Output::new(rt.alloc());
     for path in files {
-        explain_at(rt, &mut told, path.as_str(), Purpose::Disassemble)?;
+        explain_at(rt, &mut output, path.as_str(), Purpose::Disassemble)?;
     }
-    Ok(told)
+    Ok(output)
 }
 
-/// Tells why files are not objects, if they are not.
-pub(crate) fn check_files(rt: &HostRuntime, files: &[String]) -> Result<Told, AllocError> {
-    let mut told = Told::new(rt.alloc());
+/// Why files are not objects, if they are not.
+pub(crate) fn check_files(rt: &HostRuntime, files: &[String]) -> Result<Output, AllocError> {
+    let mut output = Output::new(rt.alloc());
     for path in files {
-        explain_at(rt, &mut told, path.as_str(), Purpose::Check)?;
+        explain_at(rt, &mut output, path.as_str(), Purpose::Check)?;
     }
-    Ok(told)
+    Ok(output)
 }

@@ -10,16 +10,16 @@ mod map_limits;
 mod map_names;
 mod map_objects;
 mod map_text;
+mod output;
 mod remarks;
-mod told;
 mod words;
 mod words_in;
 
 use explaining::{check_files, disassemble_files, explain_files};
 use map::write_map;
+use output::{Output, write_output};
 use programs::show;
 use std::process::ExitCode;
-use told::{Told, tell};
 use words::{Asked, what_is_asked};
 
 const SYNOPSIS: &str =
@@ -39,7 +39,7 @@ fn no_memory(rt: &HostRuntime) -> u8 {
 
 /// Does what the arguments ask for, and returns the status.
 fn run(rt: &HostRuntime, asked: Asked) -> u8 {
-    let told = match &asked {
+    let output = match &asked {
         Asked::Nothing => return usage(rt),
         Asked::Show(shown) => return show(rt, "v7-explain", SYNOPSIS, *shown),
         Asked::Memory => return no_memory(rt),
@@ -48,8 +48,8 @@ fn run(rt: &HostRuntime, asked: Asked) -> u8 {
         Asked::Disassembly(files) => disassemble_files(rt, files),
         Asked::Map(call) => write_map(rt, call),
     };
-    match told {
-        Ok(told) => tell(rt, &told),
+    match output {
+        Ok(output) => write_output(rt, &output),
         Err(_) => no_memory(rt),
     }
 }

@@ -2,7 +2,7 @@
 use crate::map_limits::{put_largest, put_limits};
 use crate::map_names::{Names, put_externals, put_faults};
 use crate::map_objects::read_objects;
-use crate::told::Told;
+use crate::output::Output;
 use command_words::Call;
 use findings::put_name;
 use link_maps::{LinkMap, Member, Objects, Places, Refused, map_of};
@@ -151,10 +151,10 @@ fn put_map(
     put_externals(text, &names)
 }
 
-/// Tells the map of the link that a call of `ld` asks for.
-pub(crate) fn write_map(rt: &HostRuntime, call: &Call) -> Result<Told, AllocError> {
+/// Writes the map of the link that a call of `ld` asks for.
+pub(crate) fn write_map(rt: &HostRuntime, call: &Call) -> Result<Output, AllocError> {
     let alloc = rt.alloc();
-    let mut told = Told::new(alloc);
+    let mut output = Output::new(alloc);
     let Call::Ld {
         options,
         forced,
@@ -162,16 +162,16 @@ pub(crate) fn write_map(rt: &HostRuntime, call: &Call) -> Result<Told, AllocErro
         ..
     } = call
     else {
-        return Ok(told);
+        return Ok(output);
     };
     let mut objects = Objects::new(alloc, forced)?;
-    read_objects(rt, &mut objects, files, &mut told)?;
-    if told.status == 0 {
+    read_objects(rt, &mut objects, files, &mut output)?;
+    if output.status == 0 {
         let map = map_of(alloc, &objects, forced, options)?;
         let mut text = String::new(alloc);
         put_map(alloc, &mut text, &objects, &map, options)?;
-        told.status = status_of(&map);
-        told.text.extend_from_slice(text.as_bytes())?;
+        output.status = status_of(&map);
+        output.text.extend_from_slice(text.as_bytes())?;
     }
-    Ok(told)
+    Ok(output)
 }

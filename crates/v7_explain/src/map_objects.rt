@@ -1,5 +1,5 @@
 //! The objects of a link, from their files.
-use crate::told::Told;
+use crate::output::Output;
 use aout_core::{Object, ObjectFault, ReadFault, Wire, read_file};
 use link_maps::Objects;
 use std::alloc::{AllocError, Global};
@@ -27,36 +27,36 @@ fn object_at(rt: &HostRuntime, path: &str) -> Result<Object, Unread> {
     }
 }
 
-/// Tells why there is no object: status 1 for a file that `ld` refuses, 2 for one that can't be read.
+/// Reports why there is no object: status 1 for a file that `ld` refuses, 2 for one that can't be read.
 fn tell_unread(
     alloc: Global,
-    told: &mut Told,
+    output: &mut Output,
     path: &str,
     unread: Unread,
 ) -> Result<(), AllocError> {
     match unread {
-        Unread::NotOpened => told.fault(path, "cannot open", 2),
+        Unread::NotOpened => output.fault(path, "cannot open", 2),
         Unread::NoFile(fault) => {
             let line = format!(in alloc; "{fault}")?;
             let status = match fault {
                 ReadFault::Device | ReadFault::Memory => 2,
                 _ => 1,
             };
-            told.fault(path, line.as_str(), status)
+            output.fault(path, line.as_str(), status)
         }
         Unread::NoObject(fault) => {
             let line = format!(in alloc; "{fault}")?;
-            told.fault(path, line.as_str(), 1)
+            output.fault(path, line.as_str(), 1)
         }
     }
 }
 
-/// Takes the objects at these paths in order, and tells what is not an object.
+/// Takes the objects at these paths in order, and reports what is not an object.
 pub(crate) fn read_objects(
     rt: &HostRuntime,
     objects: &mut Objects,
     paths: &[String],
-    told: &mut Told,
+    output: &mut Output,
 ) -> Result<(), AllocError> {
     let alloc = rt.alloc();
     for path in paths {
@@ -65,7 +65,7 @@ pub(crate) fn read_objects(
                 let label = String::from_str(alloc, path.as_str())?;
                 objects.take(alloc, label, object)?;
             }
-            Err(unread) => tell_unread(alloc, told, path.as_str(), unread)?,
+            Err(unread) => tell_unread(alloc, output, path.as_str(), unread)?,
         }
     }
     Ok(())

@@ -31,8 +31,8 @@ fn read_and_convert(rt: &HostRuntime, choices: &Choices, path: String) -> Result
     }
 }
 
-/// Tells which names of a file are cut and which locals are dropped for their names, unless it is to be quiet.
-fn tell_remarks(rt: &HostRuntime, choices: &Choices, file: &Converted) -> Result<(), Fault> {
+/// Reports which names of a file are cut and which locals are dropped for their names, unless it is to be quiet.
+fn report_remarks(rt: &HostRuntime, choices: &Choices, file: &Converted) -> Result<(), Fault> {
     if choices.is_quiet {
         return Ok(());
     }
@@ -70,7 +70,7 @@ pub(crate) fn convert_file(
     to: &str,
 ) -> Result<(), Fault> {
     let file = read_and_convert(rt, choices, from)?;
-    tell_remarks(rt, choices, &file)?;
+    report_remarks(rt, choices, &file)?;
     write_object(rt, &file.object, to)
 }
 
@@ -94,7 +94,7 @@ fn beside(rt: &HostRuntime, first: &Converted, second: &Converted) -> Result<(),
         Ok(Some(clash)) => {
             let other = first.path.as_str();
             match clash_line(rt.alloc(), other, &first.bytes, path, &second.bytes, clash) {
-                Ok(line) => Err(Fault::Told(Failure { line, status: 1 })),
+                Ok(line) => Err(Fault::Failed(Failure { line, status: 1 })),
                 Err(_) => Err(Fault::Memory),
             }
         }
@@ -130,7 +130,7 @@ pub(crate) fn convert_files(
 ) -> Result<(), Fault> {
     let files = converted_together(rt, choices, paths)?;
     for file in &files {
-        tell_remarks(rt, choices, file)?;
+        report_remarks(rt, choices, file)?;
     }
     for file in &files {
         let name = name_in(file.path.as_str());

@@ -1,4 +1,4 @@
-//! Why nothing was converted, told on standard error.
+//! Why nothing was converted, reported on standard error.
 use crate::lines::{fault_line, refusal_line};
 use gnu_objects::Refusal;
 use programs::FileFault;
@@ -10,17 +10,17 @@ pub(crate) struct Failure {
     pub(crate) status: u8,
 }
 
-/// Why nothing was converted, or no memory for the line that would tell.
+/// Why nothing was converted, or no memory for the line that says so.
 #[derive(Drop)]
 pub(crate) enum Fault {
-    Told(Failure),
+    Failed(Failure),
     Memory,
 }
 
 /// A fault of status 2.
 pub(crate) fn device_fault(rt: &HostRuntime, path: &str, text: &str) -> Fault {
     match fault_line(rt.alloc(), path, text) {
-        Ok(line) => Fault::Told(Failure { line, status: 2 }),
+        Ok(line) => Fault::Failed(Failure { line, status: 2 }),
         Err(_) => Fault::Memory,
     }
 }
@@ -40,15 +40,15 @@ pub(crate) fn refused(rt: &HostRuntime, path: &str, bytes: &[u8], refusal: Refus
         return Fault::Memory;
     }
     match refusal_line(rt.alloc(), path, bytes, refusal) {
-        Ok(line) => Fault::Told(Failure { line, status: 1 }),
+        Ok(line) => Fault::Failed(Failure { line, status: 1 }),
         Err(_) => Fault::Memory,
     }
 }
 
-/// Tells a fault on standard error, and returns the status.
-pub(crate) fn told(rt: &HostRuntime, fault: Fault) -> u8 {
+/// Reports a fault on standard error, and returns the status.
+pub(crate) fn report(rt: &HostRuntime, fault: Fault) -> u8 {
     match fault {
-        Fault::Told(failure) => {
+        Fault::Failed(failure) => {
             let _ = rt.eprint(failure.line.as_str());
             failure.status
         }

@@ -8,7 +8,7 @@ mod lines;
 
 use arguments::{Asked, what_is_asked};
 use converting::{convert_file, convert_files};
-use faults::{Fault, told};
+use faults::{Fault, report};
 use programs::show;
 use std::io;
 use std::process::ExitCode;
@@ -32,7 +32,7 @@ fn answered(rt: &HostRuntime, asked: Asked) -> u8 {
     };
     match done {
         Ok(()) => 0,
-        Err(fault) => told(rt, fault),
+        Err(fault) => report(rt, fault),
     }
 }
 
@@ -41,7 +41,7 @@ fn main(rt: HostRuntime) -> ExitCode {
         Ok(Some(asked)) => answered(&rt, asked),
         Ok(None) => usage(&rt),
         Err(error) => match error.kind() {
-            io::ErrorKind::OutOfMemory => told(&rt, Fault::Memory),
+            io::ErrorKind::OutOfMemory => report(&rt, Fault::Memory),
             _ => usage(&rt),
         },
     };

@@ -34,7 +34,7 @@ struct Failure {
 /// Why nothing was made, or no memory for the line that says so.
 #[derive(Drop)]
 enum Refused {
-    Told(Failure),
+    Failed(Failure),
     Memory,
 }
 
@@ -56,7 +56,7 @@ fn mistake_line(alloc: Global, path: &str, fault: Fault) -> Result<String, Alloc
 /// A fault of status 2.
 fn device_fault(rt: &HostRuntime, path: &str, text: &str) -> Refused {
     match device_line(rt.alloc(), path, text) {
-        Ok(line) => Refused::Told(Failure { line, status: 2 }),
+        Ok(line) => Refused::Failed(Failure { line, status: 2 }),
         Err(_) => Refused::Memory,
     }
 }
@@ -64,7 +64,7 @@ fn device_fault(rt: &HostRuntime, path: &str, text: &str) -> Refused {
 /// A fault of status 1.
 fn mistake(rt: &HostRuntime, path: &str, fault: Fault) -> Refused {
     match mistake_line(rt.alloc(), path, fault) {
-        Ok(line) => Refused::Told(Failure { line, status: 1 }),
+        Ok(line) => Refused::Failed(Failure { line, status: 1 }),
         Err(_) => Refused::Memory,
     }
 }
@@ -122,9 +122,9 @@ fn what_is_asked(rt: &HostRuntime) -> io::Result<Option<Asked>> {
 }
 
 /// Reports a fault on standard error, and returns the status.
-fn told(rt: &HostRuntime, refused: Refused) -> u8 {
+fn report(rt: &HostRuntime, refused: Refused) -> u8 {
     match refused {
-        Refused::Told(failure) => {
+        Refused::Failed(failure) => {
             let _ = rt.eprint(failure.line.as_str());
             failure.status
         }
@@ -145,11 +145,11 @@ fn main(rt: HostRuntime) -> ExitCode {
         Ok(Some(Asked::Show(shown))) => show(&rt, "v7-object", SYNOPSIS, shown),
         Ok(Some(Asked::Make(words))) => match make_file(&rt, &words) {
             Ok(()) => 0,
-            Err(refused) => told(&rt, refused),
+            Err(refused) => report(&rt, refused),
         },
         Ok(None) => usage(&rt),
         Err(error) => match error.kind() {
-            io::ErrorKind::OutOfMemory => told(&rt, Refused::Memory),
+            io::ErrorKind::OutOfMemory => report(&rt, Refused::Memory),
             _ => usage(&rt),
         },
     };

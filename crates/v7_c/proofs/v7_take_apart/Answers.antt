@@ -1,4 +1,4 @@
-use Rattle.library_calls.proofs.NumberLemmas.{told_apart}
+use Rattle.library_calls.proofs.NumberLemmas.{not_memory_apart}
 use Rattle.library_calls.specs.ObjectParts.{parts_in}
 use Rattle.v7_c.proofs.LeftLemmas.{parts_fault, is_memory}
 use Rattle.v7_c.proofs.LeftLemmas.{apart_memory}
@@ -11,6 +11,6 @@ returns-clause-memory c =
 
 pub returns-clause-ran_out : goal.returns-clause-ran_out
 returns-clause-ran_out c = λ fault.
-    is_memory (parts_in c.args.bytes.now) c.take_apart-parts.result (told_apart c.args.bytes.now) c.take_apart-parts.ensures.err c.take_apart-parts.ensures.memory
+    is_memory (parts_in c.args.bytes.now) c.take_apart-parts.result (not_memory_apart c.args.bytes.now) c.take_apart-parts.ensures.err c.take_apart-parts.ensures.memory
     (parts_fault c.leave_parts-status.result.0 c.leave_parts-status.new.answer c.leave_parts-status.result.1 c.args.text.now c.leave_parts-status.new.text c.args.data_words.now c.leave_parts-status.new.data_words c.args.symbols.now c.leave_parts-status.new.symbols
     c.take_apart-parts.result c.leave_parts-status.ensures fault)

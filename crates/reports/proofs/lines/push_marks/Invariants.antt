@@ -1,0 +1,10 @@
+use Rattle.std.proofs.Common.{◌≡◌, ◌++◌, drop}
+use Rattle.link_session.specs.Sessions.{newest}
+use Rattle.link_session.specs.Undo.{image_of}
+use Rattle.reports.specs.StateLines.{mark_line}
+use Rattle.reports.specs.Items.{each, each_from}
+use Rattle.reports.proofs.lines.push_marks.Given as goal
+
+-- what is there, with the items that are left, makes the whole
+abbrev pub invariant-loop-mark : goal.invariant-loop-mark
+invariant-loop-mark l = l.initial.text.items ++ each (λ _ k. mark_line (image_of l.session).externals k) (newest l.session.journal) ≡ l.text.items ++ each_from (λ _ k. mark_line (image_of l.session).externals k) l.mark-index (drop l.mark-index (newest l.session.journal))

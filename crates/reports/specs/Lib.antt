@@ -1,0 +1,4 @@
+pub mod Items
+pub mod StateLines
+pub mod StateJson
+pub mod JsonTexts

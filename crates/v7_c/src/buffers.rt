@@ -1,0 +1,326 @@
+//! What a call gives, written into the buffers of its caller.
+ghost use Rattle.std.specs.Prelude.{◌≡◌, ◌≤◌, [], length, Ok};
+ghost use Rattle.library_calls.specs.LinkAnswers.{founds_of, outputs_of};
+ghost use Rattle.library_calls.specs.ObjectParts.{pieces_in};
+ghost use Rattle.library_calls.specs.SessionAnswers.{sessions_of};
+ghost use Rattle.library_calls.specs.StateAnswers.{states_of};
+ghost use Rattle.v7_c.specs.Left.{apart_left, counted_by, counts_of, file_left, founds_or, items_of, left, left_by, link_left, output_left, outputs_or, parts_left, pieces_or, put_in, ran_left, read_left, session_left, sessions_or, state_left, states_or, wholes_or};
+
+use crate::answer::{Answer, Counts, FileHeader};
+use library_calls::{
+    Cause, FileLists, Finding, Found, ObjectWord, PartLists, Program, Ran, Refusal, Shown,
+    SymbolRow,
+};
+
+/// The fault if a buffer is too short.
+const NO_ROOM: u32 = 60;
+
+/// Writes bytes, or what else there is, at the beginning of a buffer.
+fn put<T: Copy>(items: &[T], buffer: &mut [T])
+    requires { length items.now ≤ length buffer.old }
+    ensures { buffer.new ≡ put_in buffer.old items.now }
+{
+    buffer[..items.len()].copy_from_slice(items);
+}
+
+/// Answers by a number of bytes.
+pub(crate) fn leave_count(count: Result<usize, Cause>, answer: &mut Answer) -> u32
+    ensures { left result answer.new [] ≡ counted_by count }
+{
+    match count {
+        Ok(count) => {
+            *answer = Answer::given(0, count, 0);
+            0
+        }
+        Err(cause) => {
+            *answer = Answer::refused(Refusal::from(cause));
+            2
+        }
+    }
+}
+
+/// Writes bytes into the buffer, if they fit.
+pub(crate) fn leave_bytes(
+    bytes: Result<Vec<u8>, Cause>,
+    buffer: &mut [u8],
+    answer: &mut Answer,
+) -> u32
+    ensures { left result answer.new buffer.new ≡ left_by (items_of bytes) buffer.old }
+{
+    match bytes {
+        Ok(bytes) if buffer.len() < bytes.len() => {
+            *answer = Answer::given(NO_ROOM, bytes.len(), 0);
+            2
+        }
+        Ok(bytes) => {
+            put(&bytes, buffer);
+            *answer = Answer::given(0, bytes.len(), 0);
+            0
+        }
+        Err(cause) => {
+            *answer = Answer::refused(Refusal::from(cause));
+            2
+        }
+    }
+}
+
+/// Two results and a status.
+#[derive(Clone, Copy)]
+struct Both<'a, T> {
+    status: u8,
+    bytes: &'a [u8],
+    more: &'a [T],
+}
+
+/// Writes two results into their buffers, if both fit.
+fn leave_both<T: Copy>(
+    both: &Both<'_, T>,
+    buffer: &mut [u8],
+    report: &mut [T],
+    answer: &mut Answer,
+) -> u32
+    ensures { link_left result answer.new buffer.new report.new
+        ≡ output_left (Ok (record { status = both.now.status; file = both.now.bytes.now; report = both.now.more.now })) buffer.old report.old }
+{
+    let size = both.bytes.len();
+    let report_size = both.more.len();
+    if buffer.len() < size || report.len() < report_size {
+        *answer = Answer::given(NO_ROOM, size, report_size);
+        return 2;
+    }
+    put(both.bytes, buffer);
+    put(both.more, report);
+    *answer = Answer::given(0, size, report_size);
+    u32::from(both.status)
+}
+
+/// Writes the file of a link and its report into the buffers, if both fit.
+fn leave_program(
+    program: &Program,
+    buffer: &mut [u8],
+    report: &mut [u8],
+    answer: &mut Answer,
+) -> u32
+    ensures { link_left result answer.new buffer.new report.new ≡ output_left (Ok (outputs_of program.now)) buffer.old report.old }
+{
+    let both = Both {
+        status: program.status,
+        bytes: &program.file,
+        more: &program.report,
+    };
+    leave_both(&both, buffer, report, answer)
+}
+
+/// Writes a link into the buffers, if there is one.
+pub(crate) fn leave_output(
+    program: Result<Program, Refusal>,
+    buffer: &mut [u8],
+    report: &mut [u8],
+    answer: &mut Answer,
+) -> u32
+    ensures { link_left result answer.new buffer.new report.new ≡ output_left (outputs_or program) buffer.old report.old }
+{
+    match program {
+        Ok(program) => leave_program(&program, buffer, report, answer),
+        Err(refusal) => {
+            *answer = Answer::refused(refusal);
+            2
+        }
+    }
+}
+
+/// Writes the file of a link and its findings into the buffers, if both fit.
+fn leave_found(
+    found: &Found,
+    buffer: &mut [u8],
+    findings: &mut [Finding],
+    answer: &mut Answer,
+) -> u32
+    ensures { link_left result answer.new buffer.new findings.new ≡ output_left (Ok (founds_of found.now)) buffer.old findings.old }
+{
+    let both = Both {
+        status: found.status,
+        bytes: &found.file,
+        more: &found.findings,
+    };
+    leave_both(&both, buffer, findings, answer)
+}
+
+/// Writes a link and its findings into the buffers, if there is one.
+pub(crate) fn leave_findings(
+    found: Result<Found, Refusal>,
+    buffer: &mut [u8],
+    findings: &mut [Finding],
+    answer: &mut Answer,
+) -> u32
+    ensures { link_left result answer.new buffer.new findings.new ≡ output_left (founds_or found) buffer.old findings.old }
+{
+    match found {
+        Ok(found) => leave_found(&found, buffer, findings, answer),
+        Err(refusal) => {
+            *answer = Answer::refused(refusal);
+            2
+        }
+    }
+}
+
+/// Writes the link of a session and the replies into the buffers, if all fit.
+fn leave_ran(
+    ran: &Ran,
+    replies: &mut [u8],
+    buffer: &mut [u8],
+    report: &mut [u8],
+    answer: &mut Answer,
+) -> u32
+    ensures { session_left (link_left result answer.new buffer.new report.new) replies.new ≡ ran_left (Ok (sessions_of ran.now)) replies.old buffer.old report.old }
+{
+    let size = ran.program.file.len();
+    let report_size = ran.program.report.len();
+    if replies.len() < ran.replies.len() || buffer.len() < size || report.len() < report_size {
+        *answer = Answer::given(NO_ROOM, size, report_size);
+        return 2;
+    }
+    put(&ran.replies, replies);
+    put(&ran.program.file, buffer);
+    put(&ran.program.report, report);
+    *answer = Answer::given(0, size, report_size);
+    u32::from(ran.program.status)
+}
+
+/// Writes the link of a session and the replies into the buffers, if there is one.
+pub(crate) fn leave_session(
+    ran: Result<Ran, Refusal>,
+    replies: &mut [u8],
+    buffer: &mut [u8],
+    report: &mut [u8],
+    answer: &mut Answer,
+) -> u32
+    ensures { session_left (link_left result answer.new buffer.new report.new) replies.new ≡ ran_left (sessions_or ran) replies.old buffer.old report.old }
+{
+    match ran {
+        Ok(ran) => leave_ran(&ran, replies, buffer, report, answer),
+        Err(refusal) => {
+            *answer = Answer::refused(refusal);
+            2
+        }
+    }
+}
+
+/// Writes the state of a session and the replies into the buffers, if both fit.
+fn leave_shown(shown: &Shown, buffer: &mut [u8], replies: &mut [u8], answer: &mut Answer) -> u32
+    ensures { link_left result answer.new buffer.new replies.new ≡ state_left (Ok (states_of shown.now)) buffer.old replies.old }
+{
+    let both = Both {
+        status: shown.status,
+        bytes: &shown.state,
+        more: &shown.replies,
+    };
+    leave_both(&both, buffer, replies, answer)
+}
+
+/// Writes the state of a session and the replies into the buffers, if there is one.
+pub(crate) fn leave_state(
+    shown: Result<Shown, Refusal>,
+    buffer: &mut [u8],
+    replies: &mut [u8],
+    answer: &mut Answer,
+) -> u32
+    ensures { link_left result answer.new buffer.new replies.new ≡ state_left (states_or shown) buffer.old replies.old }
+{
+    match shown {
+        Ok(shown) => leave_shown(&shown, buffer, replies, answer),
+        Err(refusal) => {
+            *answer = Answer::refused(refusal);
+            2
+        }
+    }
+}
+
+/// The numbers of words and symbols.
+fn counts_of(parts: &PartLists) -> Counts
+    ensures { result ≡ counts_of (pieces_in parts.now) }
+{
+    Counts {
+        text: parts.text.len(),
+        data: parts.data.len(),
+        symbols: parts.symbols.len(),
+        bss: u32::from(parts.bss),
+    }
+}
+
+/// Writes the parts of an object into the buffers, if all fit.
+fn leave_lists(
+    parts: &PartLists,
+    text: &mut [ObjectWord],
+    data_words: &mut [ObjectWord],
+    symbols: &mut [SymbolRow],
+    answer: &mut Answer,
+) -> u32
+    ensures { parts_left result answer.new (counts_of (pieces_in parts.now)) text.new data_words.new symbols.new
+        ≡ apart_left (Ok (pieces_in parts.now)) text.old data_words.old symbols.old }
+{
+    if text.len() < parts.text.len()
+        || data_words.len() < parts.data.len()
+        || symbols.len() < parts.symbols.len()
+    {
+        *answer = Answer::given(NO_ROOM, 0, 0);
+        return 2;
+    }
+    put(&parts.text, text);
+    put(&parts.data, data_words);
+    put(&parts.symbols, symbols);
+    *answer = Answer::given(0, 0, 0);
+    0
+}
+
+/// Writes the parts of an object into the buffers, if there are some, and returns the status and their numbers.
+pub(crate) fn leave_parts(
+    parts: Result<PartLists, Cause>,
+    text: &mut [ObjectWord],
+    data_words: &mut [ObjectWord],
+    symbols: &mut [SymbolRow],
+    answer: &mut Answer,
+) -> (u32, Counts)
+    ensures { parts_left result.0 answer.new result.1 text.new data_words.new symbols.new ≡ apart_left (pieces_or parts) text.old data_words.old symbols.old }
+{
+    match parts {
+        Ok(parts) => {
+            let status = leave_lists(&parts, text, data_words, symbols, answer);
+            (status, counts_of(&parts))
+        }
+        Err(cause) => {
+            *answer = Answer::refused(Refusal::from(cause));
+            let none = Counts {
+                text: 0,
+                data: 0,
+                symbols: 0,
+                bss: 0,
+            };
+            (2, none)
+        }
+    }
+}
+
+/// Writes the header and the parts of a file, if there is one and all fit, and returns the status and their numbers.
+pub(crate) fn leave_file(
+    file: Result<FileLists, Cause>,
+    header: &mut FileHeader,
+    text: &mut [ObjectWord],
+    data_words: &mut [ObjectWord],
+    symbols: &mut [SymbolRow],
+    answer: &mut Answer,
+) -> (u32, Counts)
+    ensures { file_left header.new (parts_left result.0 answer.new result.1 text.new data_words.new symbols.new)
+        ≡ read_left (wholes_or file) text.old data_words.old symbols.old }
+{
+    match file {
+        Ok(file) => {
+            *header = FileHeader::of(&file.header);
+            leave_parts(Ok(file.parts), text, data_words, symbols, answer)
+        }
+        Err(cause) => {
+            *header = FileHeader::none();
+            leave_parts(Err(cause), text, data_words, symbols, answer)
+        }
+    }
+}
