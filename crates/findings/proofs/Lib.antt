@@ -1,1 +1,2 @@
 pub mod BadWordLemmas
+pub mod SymbolLemmas

@@ -3,7 +3,7 @@
 -- The header comes first, then the relocation words of text and of data, and then the symbols. Each finding has the byte of the file
 -- where the odd field begins.
 use Rattle.std.specs.Prelude.{ℕ, ◌+◌, ◌-◌, ◌*◌, ◌%◌, Bool, true, false, not, ◌&&◌, ◌||◌, eqb, nat_lt, nat_le, if◌then◌else◌, List, [], ◌∷◌, ◌++◌, take, drop, length, slice_index, bytes_eq, Option, Some, None}
-use Rattle.std.specs.List.{list_any, list_all}
+use Rattle.std.specs.List.{list_any}
 use Rattle.aout_core.specs.declared.header.Header.{Header}
 use Rattle.aout_core.specs.declared.symbol.Symbol.{Symbol}
 use Rattle.aout_core.specs.declared.reloc.Reloc.{Reloc}
@@ -13,7 +13,6 @@ use Rattle.aout_core.specs.Contents.{Contents}
 use Rattle.aout_core.specs.Encoding.{relocation_at, symbols_at, file_length}
 use Rattle.aout_core.specs.WellFormed.{is_wanted, kind_of, masked_type, segment_of}
 use Rattle.aout_core.specs.Words.{plus}
-use Rattle.findings.specs.declared.finding.FindingKind.{FindingKind}
 use Rattle.findings.specs.declared.finding.FindingKind.TheVariants.{IgnoredEntry, IgnoredWord, BytesAfterTable, IgnoredRelocationBits, OutsideReference, EmptyName, UnprintableName, BytesAfterName, RepeatedName, IgnoredTypeBits, UnknownType, OddCommon, OutsideValue}
 use Rattle.findings.specs.Found.{Found, found_if}
 use Rattle.findings.specs.Segments.{data_from, has_address, segment_meant}

@@ -1,7 +1,7 @@
 -- Where the segments of a file lie in memory. (a.out(5))
 --
 -- Text begins at 0. Data follows it, or begins at a multiple of 020000 or at 0, by the magic number; bss follows data.
-use Rattle.std.specs.Prelude.{ℕ, ◌+◌, Bool, true, ◌&&◌, nat_le, Option, Some, None}
+use Rattle.std.specs.Prelude.{ℕ, ◌+◌, Bool, true, ◌&&◌, nat_le, Option, Some}
 use Rattle.aout_core.specs.declared.header.Header.{Header}
 use Rattle.aout_core.specs.declared.symbol.Segment.{Segment}
 use Rattle.aout_core.specs.declared.symbol.Segment.TheVariants.{TextSeg, DataSeg, BssSeg, Undefined}

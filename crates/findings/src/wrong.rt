@@ -1,7 +1,8 @@
 //! What is damaged in a file.
-ghost use Rattle.std.specs.Prelude.{◌≡◌, ℕ, ◌+◌, ◌*◌, ◌%◌, ◌^◌, ◌<◌, ◌++◌, true, not, eqb, length, take, IfOk, OnOk};
+ghost use Rattle.std.specs.Prelude.{◌≡◌, ℕ, ◌+◌, ◌*◌, ◌%◌, ◌^◌, ◌<◌, ◌++◌, true, not, eqb, nat_lt, length, IfOk, OnOk};
+ghost use Rattle.aout_core.specs.Encoding.{relocation_at};
 ghost use Rattle.aout_core.specs.WellFormed.{word_fault};
-ghost use Rattle.findings.specs.declared.finding.FindingKind.TheVariants.{OddSize};
+ghost use Rattle.findings.specs.declared.finding.FindingKind.TheVariants.{OddSize, MoreBadWords};
 ghost use Rattle.findings.specs.Found.{all_found, found_if};
 ghost use Rattle.findings.specs.Wrong.{odd_sizes, wrong_bytes, fault_kind, bad_words, all_bad_words, wrong_words};
 ghost use Rattle.findings.specs.internal.BadWords.{all_bad};
@@ -254,21 +255,37 @@ fn find_bad(
     find(findings, bad.place, bad.kind, text)
 }
 
-/// Adds the first of the bad relocation words.
-#[tactic(auto, using(crate::proofs::BadWordLemmas::first_shown))]
-fn find_first(
+/// Adds bad relocation words.
+fn find_each(
     alloc: Global,
     findings: &mut Vec<Finding>,
     lined: &Lined<'_>,
     bad: &[BadWord],
 ) -> Result<(), AllocError>
-    ensures { OnOk result (all_found findings.new.items ≡ all_found findings.old.items ++ take 16 (all_bad bad.now)) }
+    ensures { OnOk result (all_found findings.new.items ≡ all_found findings.old.items ++ all_bad bad.now) }
 {
-    let shown = &bad[..MOST.min(bad.len())];
-    for word in shown {
+    for word in bad {
         find_bad(alloc, findings, lined, *word)?;
     }
     Ok(())
+}
+
+/// Adds that there are more bad relocation words than are shown, if there are, of so many.
+fn find_more(
+    alloc: Global,
+    findings: &mut Vec<Finding>,
+    header: &Header,
+    count: usize,
+) -> Result<(), AllocError>
+    ensures { OnOk result (all_found findings.new.items ≡ all_found findings.old.items ++ found_if (nat_lt 16 count) (relocation_at header.now) MoreBadWords) }
+{
+    if count <= MOST {
+        return Ok(());
+    }
+    let more = count - MOST;
+    let text = format!(in alloc; "and {more} more such relocation words")?;
+    let place = Places::of(header).relocation;
+    find(findings, place, FindingKind::MoreBadWords, text)
 }
 
 /// The bad relocation words of a file, the first of them one by one. An error: out of memory.
@@ -282,12 +299,9 @@ pub fn wrong_words(alloc: Global, file: &File) -> Result<Vec<Finding>, AllocErro
         starts: &starts,
     };
     let bad = bad_words_of(alloc, file)?;
-    find_first(alloc, &mut findings, &lined, &bad)?;
-    if MOST < bad.len() {
-        let more = bad.len() - MOST;
-        let text = format!(in alloc; "and {more} more such relocation words")?;
-        let place = Places::of(file.header()).relocation;
-        find(&mut findings, place, FindingKind::MoreBadWords, text)?;
-    }
+    let bad = bad.as_slice();
+    let shown = &bad[..MOST.min(bad.len())];
+    find_each(alloc, &mut findings, &lined, shown)?;
+    find_more(alloc, &mut findings, file.header(), bad.len())?;
     Ok(findings)
 }
