@@ -1,4 +1,4 @@
--- Where the segments of a file lie in memory. (a.out(5))
+-- The addresses of the segments of a file in memory. (a.out(5))
 --
 -- Text begins at 0. Data follows it, or begins at a multiple of 020000 or at 0, by the magic number; bss follows data.
 use Rattle.std.specs.Prelude.{ℕ, ◌+◌, Bool, true, ◌&&◌, nat_le, Option, Some}

@@ -5,18 +5,18 @@ ghost use Rattle.findings.specs.Found.{all_found, found_if};
 use crate::text::{byte_text, put_note};
 use std::alloc::{AllocError, Global};
 
-/// What is wrong or odd. docs/OBJECTS.md explains each.
+/// What is wrong or odd. v7-explain(1) lists what is.
 #[derive(Clone, Copy, Debug, PartialEq, Eq)]
 pub enum FindingKind {
     /// The file ends in its header.
     ShortHeader,
-    /// The magic number is none that a file begins with.
+    /// A file begins with another magic number.
     BadMagic,
     /// A size is not whole.
     OddSize,
     /// The file ends before its header says.
     Truncated,
-    /// A relocation word is of no kind.
+    /// A relocation word has none of the kinds.
     BadRelocation,
     /// A relocation word refers to no undefined external.
     BadSymbolNumber,
