@@ -151,14 +151,15 @@ def odd_header(file):
 
 def odd_words(file):
     for at, word, reloc in file.words():
+        address = at if at < file.text else (file.ranges()["data"][0] + at - file.text) % 65536
         if reloc > 0o17 and reloc & 0o16 < 0o10:
-            yield file.relocation_at + at, f"relocation word {reloc:06o} of the word at {at:06o}: bits above 17 are ignored"
+            yield file.relocation_at + at, f"relocation word {reloc:06o} of the word at {address:06o}: bits above 17 are ignored"
         segment = {2: "text", 4: "data", 6: "bss"}.get(reloc & 0o16)
         if segment:
             begin, end = file.ranges()[segment]
-            to = (word + at + 2) % 65536 if reloc & 1 else word
+            to = (word + address + 2) % 65536 if reloc & 1 else word
             if not begin <= to <= end:
-                yield file.relocation_at + at, (f"the word at {at:06o} is of kind {segment} and refers to {to:06o}; "
+                yield file.relocation_at + at, (f"the word at {address:06o} is of kind {segment} and refers to {to:06o}; "
                                                 f"{segment} lies from {begin:06o} to {end:06o}")
 
 
@@ -245,6 +246,8 @@ def files():
             yield whole[:at] + struct.pack("<H", size) + whole[at + 2:]
     for magic in (*PROGRAMS, 0o404, 0o406, 0o412, 0, 65535):
         yield from (random_file(text, 1, magic, flag) for text in (0, 1, 2) for flag in (0, 1, 65535))
+    # text and data of more than 65,536 bytes, the last words of which have relocation words of text and of data
+    yield struct.pack("<8H", 0o407, 40000, 40000, 0, 0, 0, 0, 0) + bytes(159996) + b"\x22\0\x05\0"
     yield from (random_file(dice.randrange(9), dice.randrange(5)) for _ in range(1000))
 
 

@@ -1,6 +1,54 @@
 //! What is found in a file.
+ghost use Rattle.std.specs.Prelude.{◌≡◌, ◌++◌, true, OnOk};
+ghost use Rattle.findings.specs.Found.{all_found, found_if};
+
 use crate::text::{byte_text, put_note};
 use std::alloc::{AllocError, Global};
+
+/// What is wrong or odd. v7-explain(1) lists what is.
+#[derive(Clone, Copy, Debug, PartialEq, Eq)]
+pub enum FindingKind {
+    /// The file ends in its header.
+    ShortHeader,
+    /// A file begins with another magic number.
+    BadMagic,
+    /// A size is not whole.
+    OddSize,
+    /// The file ends before its header says.
+    Truncated,
+    /// A relocation word has none of the kinds.
+    BadRelocation,
+    /// A relocation word refers to no undefined external.
+    BadSymbolNumber,
+    /// There are more bad relocation words than are shown.
+    MoreBadWords,
+    /// The entry point of an object is ignored.
+    IgnoredEntry,
+    /// The unused word of the header is not 0.
+    IgnoredWord,
+    /// Bytes after the table are not read.
+    BytesAfterTable,
+    /// Bits 15 to 4 of a relocation word count for an external alone.
+    IgnoredRelocationBits,
+    /// A word refers to a segment, and to an address outside of it.
+    OutsideReference,
+    /// A name is empty.
+    EmptyName,
+    /// A name has bytes that do not print.
+    UnprintableName,
+    /// Bytes after the NUL of a name are ignored.
+    BytesAfterName,
+    /// An earlier symbol has the name.
+    RepeatedName,
+    /// Bits of a type word above 77 are ignored.
+    IgnoredTypeBits,
+    /// The format does not have a type.
+    UnknownType,
+    /// A common has an odd size.
+    OddCommon,
+    /// The value of a symbol is outside of its segment.
+    OutsideValue,
+}
 
 /// What is found at a byte of a file.
 #[derive(Debug, Drop)]
@@ -8,6 +56,8 @@ pub struct Finding {
     /// The byte of the file.
     pub place: usize,
     /// What is wrong or odd there.
+    pub kind: FindingKind,
+    /// The same in words, with its numbers.
     pub text: String,
 }
 
@@ -15,9 +65,12 @@ pub struct Finding {
 pub(crate) fn find(
     findings: &mut Vec<Finding>,
     place: usize,
+    kind: FindingKind,
     text: String,
-) -> Result<(), AllocError> {
-    findings.push(Finding { place, text })?;
+) -> Result<(), AllocError>
+    ensures { OnOk result (all_found findings.new.items ≡ all_found findings.old.items ++ found_if true place kind) }
+{
+    findings.push(Finding { place, kind, text })?;
     Ok(())
 }
 

@@ -26,7 +26,7 @@ mod text;
 mod words;
 mod wrong;
 
-pub use finding::{Finding, finding_text, put_findings};
+pub use finding::{Finding, FindingKind, finding_text, put_findings};
 pub use heading::put_header;
 pub use kind::kind_text;
 pub use odd::odd_of;

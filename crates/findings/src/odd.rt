@@ -1,29 +1,37 @@
 //! What is odd of a file, and not refused.
-use crate::finding::{Finding, find};
-use crate::places::{Places, Range, Segments};
+ghost use Rattle.std.specs.Prelude.{◌≡◌, ◌+◌, ◌*◌, ◌%◌, ◌^◌, ◌<◌, ◌≤◌, ℕ, ◌&&◌, not, eqb, nat_lt, nat_le, Some, ◌++◌, length, take, slice_index, bytes_eq, is_some, IfOk, OnOk};
+ghost use Rattle.std.specs.Prelude.{◌||◌, List};
+ghost use Rattle.std.specs.List.{list_any};
+ghost use Rattle.std.specs.BTreeMap.{get};
+ghost use Rattle.std.specs.Cmp.Lexicographic.{slice_cmp};
+ghost use Rattle.std.specs.Ordering.{nat_cmp};
+ghost use Rattle.aout_core.specs.declared.symbol.Symbol.{Symbol};
+ghost use Rattle.aout_core.specs.Contents.{Fits};
+ghost use Rattle.aout_core.specs.Encoding.{relocation_at};
+ghost use Rattle.aout_core.specs.WellFormed.{is_wanted, kind_of, segment_of};
+ghost use Rattle.findings.specs.declared.finding.FindingKind.TheVariants.{EmptyName, UnprintableName, BytesAfterName, RepeatedName, IgnoredTypeBits, UnknownType, OddCommon, OutsideValue, IgnoredRelocationBits};
+ghost use Rattle.findings.specs.Found.{all_found, found_if};
+ghost use Rattle.findings.specs.Segments.{has_address, segment_meant};
+ghost use Rattle.findings.specs.Odd.{odd_header, ignores_number, odd_word, odd_words, is_hidden, after_name, has_type, odd_name, odd_fields, is_repeated, odd_symbol, symbol_at, odd_symbols, odd};
+
+use crate::finding::{Finding, FindingKind, find};
+use crate::places::{Places, Segments, has_address, symbol_at};
 use crate::text::shown;
-use crate::words::{Contents, is_wanted, meant};
+use crate::words::{is_wanted, meant};
 use aout_core::{File, Header, Kind, Name, Reloc, Segment, Symbol};
+use listings::data_start;
 use std::alloc::{AllocError, Global};
-use symtools::letter;
+use std::collections::BTreeMap;
 
-/// The name of a segment, and where it lies.
-fn segment_of(segments: &Segments, symbol: &Symbol) -> Option<(&'static str, Range)> {
-    match symbol.segment() {
-        Segment::TextSeg => Some(("text", segments.text)),
-        Segment::DataSeg => Some(("data", segments.data)),
-        Segment::BssSeg => Some(("bss", segments.bss)),
-        Segment::Undefined | Segment::Absolute | Segment::Other => None,
-    }
-}
-
-/// The name of the segment that a kind of relocation word is for, and where it lies.
-fn segment_meant(segments: &Segments, reloc: Reloc) -> Option<(&'static str, Range)> {
-    match reloc.kind() {
-        Some(Kind::TextSeg) => Some(("text", segments.text)),
-        Some(Kind::DataSeg) => Some(("data", segments.data)),
-        Some(Kind::BssSeg) => Some(("bss", segments.bss)),
-        Some(Kind::Absolute | Kind::External) | None => None,
+/// The segment that a kind of relocation word is for.
+fn segment_meant(kind: Option<Kind>) -> Segment
+    ensures { result ≡ segment_meant kind }
+{
+    match kind {
+        Some(Kind::TextSeg) => Segment::TextSeg,
+        Some(Kind::DataSeg) => Segment::DataSeg,
+        Some(Kind::BssSeg) => Segment::BssSeg,
+        Some(Kind::Absolute | Kind::External) | None => Segment::Undefined,
     }
 }
 
@@ -39,182 +47,218 @@ struct Titled<'a> {
 fn find_common(
     alloc: Global,
     findings: &mut Vec<Finding>,
-    at: Titled<'_>,
-) -> Result<(), AllocError> {
-    let Titled {
-        symbol,
-        place,
-        title,
-    } = at;
-    let size = symbol.value;
-    if !is_wanted(symbol) || size % 2 == 0 {
+    at: &Titled<'_>,
+) -> Result<(), AllocError>
+    requires { at.now.place < 2 ^ 32 }
+    ensures { OnOk result (all_found findings.new.items ≡ all_found findings.old.items ++ found_if (is_wanted (Some at.now.symbol.now) && eqb (at.now.symbol.now.value % 2) 1) (at.now.place + 10) OddCommon) }
+{
+    let size = at.symbol.value;
+    if !is_wanted(at.symbol) || size % 2 == 0 {
         return Ok(());
     }
+    let title = at.title;
     let text = format!(in alloc;
         "{title} is undefined with value {size:06o}: a common of {size} bytes, rounded up to even"
     )?;
-    find(findings, place.saturating_add(10), text)
+    find(findings, at.place + 10, FindingKind::OddCommon, text)
 }
 
-/// Whether the format has a type like that of a symbol. `nm` shows the letter of an absolute for those that it does not have.
-fn has_type(symbol: &Symbol) -> bool {
-    symbol.segment() != Segment::Other || !matches!(letter(symbol), b'a' | b'A')
+/// Whether the format has a type like that of a symbol.
+fn has_type(symbol: &Symbol) -> bool
+    ensures { result ≡ has_type symbol.now }
+{
+    let bits = symbol.type_bits % 0o40;
+    bits < 5 || bits == 0o24 || bits == 0o37
 }
 
 /// Adds a type that the format does not have.
-fn find_type(alloc: Global, findings: &mut Vec<Finding>, at: Titled<'_>) -> Result<(), AllocError> {
-    let Titled {
-        symbol,
-        place,
-        title,
-    } = at;
-    if has_type(symbol) {
+fn find_type(alloc: Global, findings: &mut Vec<Finding>, at: &Titled<'_>) -> Result<(), AllocError>
+    requires { at.now.place < 2 ^ 32 }
+    ensures { OnOk result (all_found findings.new.items ≡ all_found findings.old.items ++ found_if (not (has_type at.now.symbol.now)) (at.now.place + 8) UnknownType) }
+{
+    if has_type(at.symbol) {
         return Ok(());
     }
-    let bits = symbol.type_bits;
+    let title = at.title;
+    let bits = at.symbol.type_bits;
     let text = format!(in alloc;
         "{title} has type {bits:06o}, which the format does not have; it is taken as absolute"
     )?;
-    find(findings, place.saturating_add(8), text)
+    find(findings, at.place + 8, FindingKind::UnknownType, text)
 }
 
 /// Adds a value that lies outside of its segment.
 fn find_value(
     alloc: Global,
     findings: &mut Vec<Finding>,
-    at: Titled<'_>,
-    segments: &Segments,
-) -> Result<(), AllocError> {
-    let Titled {
-        symbol,
-        place,
-        title,
-    } = at;
-    let Some((name, range)) = segment_of(segments, symbol) else {
-        return Ok(());
-    };
-    if range.has(symbol.value) {
+    at: &Titled<'_>,
+    header: &Header,
+) -> Result<(), AllocError>
+    requires { at.now.place < 2 ^ 32 }
+    ensures { OnOk result (all_found findings.new.items ≡ all_found findings.old.items ++ found_if (not (has_address header.now (segment_of at.now.symbol.now) at.now.symbol.now.value)) (at.now.place + 10) OutsideValue) }
+{
+    let segment = at.symbol.segment();
+    let value = at.symbol.value;
+    if has_address(header, segment, value) {
         return Ok(());
     }
-    let value = symbol.value;
+    let title = at.title;
+    let (name, range) = Segments::of(header).named(segment);
     let start = range.start;
     let end = range.end;
     let text = format!(in alloc;
         "{title} of {name} has value {value:06o}, and {name} lies from {start:06o} to {end:06o}"
     )?;
-    find(findings, place.saturating_add(10), text)
+    find(findings, at.place + 10, FindingKind::OutsideValue, text)
 }
 
 /// Adds bits of the type word that are ignored.
 fn find_type_bits(
     alloc: Global,
     findings: &mut Vec<Finding>,
-    at: Titled<'_>,
-) -> Result<(), AllocError> {
-    let Titled {
-        symbol,
-        place,
-        title,
-    } = at;
-    let bits = symbol.type_bits;
+    at: &Titled<'_>,
+) -> Result<(), AllocError>
+    requires { at.now.place < 2 ^ 32 }
+    ensures { OnOk result (all_found findings.new.items ≡ all_found findings.old.items ++ found_if (nat_le 0o100 at.now.symbol.now.type_bits) (at.now.place + 8) IgnoredTypeBits) }
+{
+    let bits = at.symbol.type_bits;
     if bits < 0o100 {
         return Ok(());
     }
+    let title = at.title;
     let text = format!(in alloc;
         "{title} has type {bits:06o}, of which the bits above 77 are ignored"
     )?;
-    find(findings, place.saturating_add(8), text)
+    find(findings, at.place + 8, FindingKind::IgnoredTypeBits, text)
 }
 
-/// Whether each byte of a name prints.
-fn prints(name: &[u8]) -> bool {
-    name.iter().all(|byte| b' ' < *byte && *byte < 127)
+/// Whether a name has a byte that does not print.
+fn has_hidden(name: &[u8]) -> bool
+    ensures { result ≡ list_any is_hidden name.now }
+{
+    name.iter().any(|byte| *byte <= b' ' || 127 <= *byte)
 }
 
-/// Adds a name with bytes that do not print, and one that is empty.
-fn find_name_bytes(
+/// Adds a name that is empty.
+fn find_empty_name(
     alloc: Global,
     findings: &mut Vec<Finding>,
-    at: Titled<'_>,
-) -> Result<(), AllocError> {
-    let Titled {
-        symbol,
-        place,
-        title,
-    } = at;
-    let name = symbol.name.as_bytes();
-    if name.is_empty() {
-        let text = format!(in alloc; "{title} has an empty name")?;
-        return find(findings, place, text);
-    }
-    if prints(name) {
+    at: &Titled<'_>,
+) -> Result<(), AllocError>
+    ensures { OnOk result (all_found findings.new.items ≡ all_found findings.old.items ++ found_if (eqb (length at.now.symbol.now.name) 0) at.now.place EmptyName) }
+{
+    if !at.symbol.name.as_bytes().is_empty() {
         return Ok(());
     }
+    let title = at.title;
+    let text = format!(in alloc; "{title} has an empty name")?;
+    find(findings, at.place, FindingKind::EmptyName, text)
+}
+
+/// Adds a name with bytes that do not print.
+fn find_hidden(
+    alloc: Global,
+    findings: &mut Vec<Finding>,
+    at: &Titled<'_>,
+) -> Result<(), AllocError>
+    ensures { OnOk result (all_found findings.new.items ≡ all_found findings.old.items ++ found_if (list_any is_hidden at.now.symbol.now.name) at.now.place UnprintableName) }
+{
+    if !has_hidden(at.symbol.name.as_bytes()) {
+        return Ok(());
+    }
+    let title = at.title;
     let text = format!(in alloc; "{title} has bytes in its name that do not print")?;
-    find(findings, place, text)
+    find(findings, at.place, FindingKind::UnprintableName, text)
+}
+
+/// Whether a byte is not NUL.
+fn has_byte(bytes: &[u8]) -> bool
+    ensures { result ≡ list_any (λ (b : ℕ). not (eqb b 0)) bytes.now }
+{
+    bytes.iter().any(|byte| *byte != 0)
 }
 
 /// Whether the bytes of a name after its NUL are not NULs too.
-fn has_rest(bytes: &[u8], place: usize, symbol: &Symbol) -> bool {
-    let Some(field) = bytes.get(place..place.saturating_add(8)) else {
-        return false;
-    };
+fn has_rest(bytes: &[u8], place: usize, symbol: &Symbol) -> bool
+    requires { place < 2 ^ 32 }
+    ensures { result ≡ list_any (λ (b : ℕ). not (eqb b 0)) (after_name bytes.now place symbol.now) }
+{
     let used = symbol.name.as_bytes().len();
-    field.iter().skip(used).any(|byte| *byte != 0)
-}
-
-/// A name, and the number of a symbol that has it.
-#[derive(Clone, Copy)]
-struct Numbered {
-    name: Name,
-    number: usize,
-}
-
-/// The symbols in the order of their names, and those of one name in the order of the table.
-fn by_name(alloc: Global, symbols: &[Symbol]) -> Result<Vec<Numbered>, AllocError> {
-    let mut order = Vec::new(alloc);
-    for (number, symbol) in symbols.iter().enumerate() {
-        let name = symbol.name;
-        order.push(Numbered { name, number })?;
+    let end = place + 8;
+    if bytes.len() < end {
+        return false;
     }
-    order.sort_by_key(|numbered| numbered.name)?;
-    Ok(order)
+    has_byte(&bytes[place + used..end])
 }
 
-/// For each symbol the number of the first one that has its name.
-fn first_alike(alloc: Global, symbols: &[Symbol]) -> Result<Vec<usize>, AllocError> {
-    let mut firsts = Vec::new(alloc);
-    firsts.resize(symbols.len(), 0)?;
-    let mut first: Option<Numbered> = None;
-    for numbered in &by_name(alloc, symbols)? {
-        let before = match first {
-            Some(before) if before.name == numbered.name => before,
-            _ => *numbered,
-        };
-        if let Some(place) = firsts.get_mut(numbered.number) {
-            *place = before.number;
-        }
-        first = Some(before);
+/// Adds bytes after the NUL of a name.
+fn find_rest(
+    alloc: Global,
+    findings: &mut Vec<Finding>,
+    at: &Titled<'_>,
+    bytes: &[u8],
+) -> Result<(), AllocError>
+    requires { at.now.place < 2 ^ 32 }
+    ensures { OnOk result (all_found findings.new.items ≡ all_found findings.old.items ++ found_if (list_any (λ (b : ℕ). not (eqb b 0)) (after_name bytes.now at.now.place at.now.symbol.now)) at.now.place BytesAfterName) }
+{
+    if !has_rest(bytes, at.place, at.symbol) {
+        return Ok(());
     }
-    Ok(firsts)
+    let title = at.title;
+    let text = format!(in alloc; "{title} has bytes after the NUL of its name, which are ignored")?;
+    find(findings, at.place, FindingKind::BytesAfterName, text)
 }
 
-/// Adds a name that an earlier symbol has, the one of the number `first`.
+/// Adds a name that an earlier symbol has, if there is one, by its number.
 fn find_alike(
     alloc: Global,
     findings: &mut Vec<Finding>,
-    at: Titled<'_>,
-    number: usize,
-    first: usize,
-) -> Result<(), AllocError> {
-    let Titled { place, title, .. } = at;
-    if first >= number {
+    at: &Titled<'_>,
+    first: Option<usize>,
+) -> Result<(), AllocError>
+    ensures { OnOk result (all_found findings.new.items ≡ all_found findings.old.items ++ found_if (is_some first) at.now.place RepeatedName) }
+{
+    let Some(first) = first else {
         return Ok(());
-    }
+    };
+    let title = at.title;
     let text = format!(in alloc;
         "{title} has the name of symbol {first}; names are equal in eight bytes"
     )?;
-    find(findings, place, text)
+    find(findings, at.place, FindingKind::RepeatedName, text)
+}
+
+/// Adds what is odd of a name, which an earlier symbol has first, if one has it.
+fn find_name(
+    alloc: Global,
+    findings: &mut Vec<Finding>,
+    at: &Titled<'_>,
+    bytes: &[u8],
+    first: Option<usize>,
+) -> Result<(), AllocError>
+    requires { at.now.place < 2 ^ 32 }
+    ensures { OnOk result (all_found findings.new.items ≡ all_found findings.old.items ++ odd_name bytes.now (is_some first) at.now.place at.now.symbol.now) }
+{
+    find_empty_name(alloc, findings, at)?;
+    find_hidden(alloc, findings, at)?;
+    find_rest(alloc, findings, at, bytes)?;
+    find_alike(alloc, findings, at, first)
+}
+
+/// Adds what is odd of a type word and of a value.
+fn find_fields(
+    alloc: Global,
+    findings: &mut Vec<Finding>,
+    at: &Titled<'_>,
+    header: &Header,
+) -> Result<(), AllocError>
+    requires { at.now.place < 2 ^ 32 }
+    ensures { OnOk result (all_found findings.new.items ≡ all_found findings.old.items ++ odd_fields header.now at.now.place at.now.symbol.now) }
+{
+    find_type_bits(alloc, findings, at)?;
+    find_type(alloc, findings, at)?;
+    find_common(alloc, findings, at)?;
+    find_value(alloc, findings, at, header)
 }
 
 /// A file, and the bytes that it was read from.
@@ -224,18 +268,21 @@ struct Source<'a> {
     file: &'a File,
 }
 
-/// Adds what is odd of a symbol, whose name the symbol of the number `first` has first.
+/// Adds what is odd of a symbol, whose name an earlier one has first, if one has it.
 fn find_symbol(
     alloc: Global,
     findings: &mut Vec<Finding>,
-    source: Source<'_>,
+    source: &Source<'_>,
     number: usize,
-    first: usize,
+    first: Option<usize>,
     symbol: &Symbol,
-) -> Result<(), AllocError> {
-    let Source { bytes, file } = source;
-    let place = Places::of(file.header()).symbol(number);
-    let segments = Segments::of(file.header());
+) -> Result<(), AllocError>
+    requires few { number < 65536 }
+    requires first { is_some first ≡ is_repeated symbol.now.name (take number source.now.file.now.symbols) }
+    ensures { OnOk result (all_found findings.new.items ≡ all_found findings.old.items ++ odd_symbol source.now.file.now.header source.now.bytes.now (take number source.now.file.now.symbols) (symbol_at source.now.file.now.header number) symbol.now) }
+{
+    let header = source.file.header();
+    let place = symbol_at(header, number);
     let name = shown(alloc, &symbol.name)?;
     let title = format!(in alloc; "symbol {number} {name}")?;
     let title = title.as_str();
@@ -244,61 +291,110 @@ fn find_symbol(
         place,
         title,
     };
-    find_name_bytes(alloc, findings, at)?;
-    if has_rest(bytes, place, symbol) {
-        let text = format!(in alloc;
-            "{title} has bytes after the NUL of its name, which are ignored"
-        )?;
-        find(findings, place, text)?;
-    }
-    find_alike(alloc, findings, at, number, first)?;
-    find_type_bits(alloc, findings, at)?;
-    find_type(alloc, findings, at)?;
-    find_common(alloc, findings, at)?;
-    find_value(alloc, findings, at, &segments)
+    find_name(alloc, findings, &at, source.bytes, first)?;
+    find_fields(alloc, findings, &at, header)
 }
 
-/// A word at an address, and its relocation word.
+/// The number of the first symbol so far that has a name, which is noted if none has it.
+fn first_alike(
+    seen: &mut BTreeMap<Name, usize>,
+    name: Name,
+    number: usize,
+) -> Result<Option<usize>, AllocError>
+    ensures first { IfOk result (λ first. first ≡ get (slice_cmp nat_cmp) seen.old name) }
+    ensures noted { OnOk result ((other : List ℕ) → is_some (get (slice_cmp nat_cmp) seen.new other) ≡ (is_some (get (slice_cmp nat_cmp) seen.old other) || bytes_eq name other)) }
+{
+    if let Some(first) = seen.get(&name) {
+        return Ok(Some(*first));
+    }
+    seen.insert(name, number)?;
+    Ok(None)
+}
+
+/// Adds what is odd of the symbols.
+fn find_symbols(
+    alloc: Global,
+    findings: &mut Vec<Finding>,
+    source: &Source<'_>,
+) -> Result<(), AllocError>
+    ensures { OnOk result (all_found findings.new.items ≡ all_found findings.old.items ++ odd_symbols source.now.file.now source.now.bytes.now 0 source.now.file.now.symbols) }
+{
+    let mut seen = BTreeMap::new(alloc);
+    let symbols = source.file.symbols();
+    for (number, symbol) in symbols.iter().enumerate() {
+        let first = first_alike(&mut seen, symbol.name, number)?;
+        find_symbol(alloc, findings, source, number, first, symbol)?;
+    }
+    Ok(())
+}
+
+/// A word at an address, and its relocation word, which has this place in the file.
 #[derive(Clone, Copy)]
 struct Relocated {
     address: u16,
     word: u16,
     reloc: Reloc,
+    place: usize,
 }
 
-/// Adds what is odd of a word, whose relocation word has this place in the file.
+/// Whether the bits of a relocation word above 17 are ignored.
+fn ignores_number(kind: Option<Kind>) -> bool
+    ensures { result ≡ ignores_number kind }
+{
+    !matches!(kind, None | Some(Kind::External))
+}
+
+/// Adds bits of a relocation word that are ignored.
+fn find_reloc_bits(
+    alloc: Global,
+    findings: &mut Vec<Finding>,
+    at: Relocated,
+) -> Result<(), AllocError>
+    ensures { OnOk result (all_found findings.new.items ≡ all_found findings.old.items ++ found_if (nat_le 0o20 at.reloc.0 && ignores_number (kind_of at.reloc)) at.place IgnoredRelocationBits) }
+{
+    let address = at.address;
+    let bits = at.reloc.0;
+    if bits < 0o20 || !ignores_number(at.reloc.kind()) {
+        return Ok(());
+    }
+    let text = format!(in alloc;
+        "relocation word {bits:06o} of the word at {address:06o}: bits above 17 are ignored"
+    )?;
+    find(findings, at.place, FindingKind::IgnoredRelocationBits, text)
+}
+
+/// Adds what is odd of a word.
 fn find_word(
     alloc: Global,
     findings: &mut Vec<Finding>,
-    place: usize,
-    segments: &Segments,
+    header: &Header,
     at: Relocated,
-) -> Result<(), AllocError> {
-    let Relocated {
-        address,
-        word,
-        reloc,
-    } = at;
-    let bits = reloc.0;
-    if bits >= 0o20 && reloc.kind().is_some() && reloc.kind() != Some(Kind::External) {
-        let text = format!(in alloc;
-            "relocation word {bits:06o} of the word at {address:06o}: bits above 17 are ignored"
-        )?;
-        find(findings, place, text)?;
-    }
-    let Some((name, range)) = segment_meant(segments, reloc) else {
-        return Ok(());
-    };
-    let target = meant(word, reloc, address);
-    if range.has(target) {
+) -> Result<(), AllocError>
+    ensures { OnOk result (all_found findings.new.items ≡ all_found findings.old.items ++ odd_word header.now at.place at.address at.word at.reloc) }
+{
+    find_reloc_bits(alloc, findings, at)?;
+    let address = at.address;
+    let segment = segment_meant(at.reloc.kind());
+    let target = meant(at.word, at.reloc, address);
+    if has_address(header, segment, target) {
         return Ok(());
     }
+    let (name, range) = Segments::of(header).named(segment);
     let start = range.start;
     let end = range.end;
     let text = format!(in alloc;
         "the word at {address:06o} is of kind {name} and refers to {target:06o}; {name} lies from {start:06o} to {end:06o}"
     )?;
-    find(findings, place, text)
+    find(findings, at.place, FindingKind::OutsideReference, text)
+}
+
+/// The words of a segment, of which the first has this address, and their relocation words, which begin at this place of the file.
+#[derive(Clone, Copy)]
+struct Contents<'a> {
+    start: u16,
+    words: &'a [u16],
+    relocs: &'a [Reloc],
+    place: usize,
 }
 
 /// Adds what is odd of the words of a segment.
@@ -306,78 +402,76 @@ fn find_words(
     alloc: Global,
     findings: &mut Vec<Finding>,
     header: &Header,
-    contents: Contents<'_>,
-) -> Result<(), AllocError> {
-    let Contents {
-        start,
-        words,
-        relocs,
-    } = contents;
-    let places = Places::of(header);
-    let segments = Segments::of(header);
-    let mut address = start;
-    for (word, reloc) in words.iter().zip(relocs.iter()) {
-        let place = places.relocation.saturating_add(usize::from(address));
+    contents: &Contents<'_>,
+) -> Result<(), AllocError>
+    requires each { length contents.now.relocs.now ≤ length contents.now.words.now }
+    requires short { length contents.now.words.now < 32768 }
+    requires near { contents.now.place < 2 ^ 20 }
+    ensures { OnOk result (all_found findings.new.items ≡ all_found findings.old.items ++ odd_words header.now contents.now.place contents.now.start contents.now.words.now 0 contents.now.relocs.now) }
+{
+    for (number, reloc) in contents.relocs.iter().enumerate() {
         let at = Relocated {
-            address,
-            word: *word,
+            address: contents.start.wrapping_add((2 * number) as u16),
+            word: contents.words[number],
             reloc: *reloc,
+            place: contents.place + 2 * number,
         };
-        find_word(alloc, findings, place, &segments, at)?;
-        address = address.wrapping_add(2);
+        find_word(alloc, findings, header, at)?;
     }
     Ok(())
 }
 
-/// Adds words of the header that are ignored, and bytes after the table.
+/// Adds words of the header that are ignored, and bytes after the table of a file of so many bytes.
 fn find_ignored(
     alloc: Global,
     findings: &mut Vec<Finding>,
-    bytes: &[u8],
     header: &Header,
-) -> Result<(), AllocError> {
+    size: usize,
+) -> Result<(), AllocError>
+    ensures { OnOk result (all_found findings.new.items ≡ all_found findings.old.items ++ odd_header header.now size) }
+{
     let entry = header.entry_point;
     if entry != 0 && header.flag == 0 {
         let text = format!(in alloc; "the entry point of an object, {entry:06o}, is ignored")?;
-        find(findings, 10, text)?;
+        find(findings, 10, FindingKind::IgnoredEntry, text)?;
     }
     let unused = header.unused;
     if unused != 0 {
         let text = format!(in alloc; "the unused word, {unused:06o}, is ignored")?;
-        find(findings, 12, text)?;
+        find(findings, 12, FindingKind::IgnoredWord, text)?;
     }
     let end = Places::of(header).end;
-    let more = bytes.len().saturating_sub(end);
-    if more > 0 {
-        let text = format!(in alloc;
-            "0{more:o} ({more}) bytes after the symbol table are not read"
-        )?;
-        find(findings, end, text)?;
+    if size <= end {
+        return Ok(());
     }
-    Ok(())
+    let more = size - end;
+    let text = format!(in alloc; "0{more:o} ({more}) bytes after the symbol table are not read")?;
+    find(findings, end, FindingKind::BytesAfterTable, text)
 }
 
-/// What is odd of a file, which these bytes begin with.
-pub fn odd_of(alloc: Global, bytes: &[u8], file: &File) -> Result<Vec<Finding>, AllocError> {
+/// What is odd of a file, which these bytes begin with. An error: out of memory.
+pub fn odd_of(alloc: Global, bytes: &[u8], file: &File) -> Result<Vec<Finding>, AllocError>
+    ensures { IfOk result (λ findings. all_found findings.items ≡ odd bytes.now file.now) }
+{
     let mut findings = Vec::new(alloc);
     let header = file.header();
-    find_ignored(alloc, &mut findings, bytes, header)?;
+    let relocation = Places::of(header).relocation;
+    let text_size = usize::from(header.text_size);
+    find_ignored(alloc, &mut findings, header, bytes.len())?;
     let text = Contents {
         start: 0,
         words: file.text_words(),
         relocs: file.text_reloc(),
+        place: relocation,
     };
-    find_words(alloc, &mut findings, header, text)?;
+    find_words(alloc, &mut findings, header, &text)?;
     let data = Contents {
-        start: header.text_size,
+        start: (data_start(header.magic, text_size) % 65536) as u16,
         words: file.data_words(),
         relocs: file.data_reloc(),
+        place: relocation + text_size,
     };
-    find_words(alloc, &mut findings, header, data)?;
-    let source = Source { bytes, file };
-    let firsts = first_alike(alloc, file.symbols())?;
-    for (number, (symbol, first)) in file.symbols().iter().zip(firsts.iter()).enumerate() {
-        find_symbol(alloc, &mut findings, source, number, *first, symbol)?;
-    }
+    find_words(alloc, &mut findings, header, &data)?;
+    find_symbols(alloc, &mut findings, &Source { bytes, file })?;
     Ok(findings)
 }

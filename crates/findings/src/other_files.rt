@@ -1,10 +1,15 @@
 //! What a file is that is not an a.out file of the Seventh Edition.
+ghost use Rattle.std.specs.Prelude.{◌≡◌, if◌then◌else◌, nat_lt, length, None, Some};
+ghost use Rattle.aout_core.specs.Decoding.{header_in};
+
 use aout_core::{Header, is_magic};
 use gnu_objects::{Locals, Options, Refusal, convert};
 use std::alloc::Global;
 
 /// The header that a file begins with, if it is as long.
-pub fn header_of(bytes: &[u8]) -> Option<Header> {
+pub fn header_of(bytes: &[u8]) -> Option<Header>
+    ensures { result ≡ (if nat_lt (length bytes.now) 16 then None else Some (header_in bytes.now)) }
+{
     let mut start = [0u8; 16];
     if bytes.len() < start.len() {
         return None;

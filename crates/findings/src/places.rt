@@ -1,5 +1,10 @@
 //! The places of the parts of a file, by the sizes in its header, and their addresses in memory.
-use aout_core::Header;
+ghost use Rattle.std.specs.Prelude.{◌≡◌, ◌+◌, ◌^◌, ◌<◌, ◌&&◌, nat_le};
+ghost use Rattle.aout_core.specs.Encoding.{relocation_at, symbols_at, file_length};
+ghost use Rattle.findings.specs.Segments.{data_from, data_to, bss_to, has_address};
+ghost use Rattle.findings.specs.Odd.{symbol_at};
+
+use aout_core::{Header, Segment};
 use listings::data_start;
 
 /// The bytes of a file at which its parts begin, and the first after them.
@@ -14,7 +19,14 @@ pub(crate) struct Places {
 
 impl Places {
     /// The places that a header announces.
-    pub(crate) fn of(header: &Header) -> Places {
+    pub(crate) fn of(header: &Header) -> Places
+        ensures second { result.«data» ≡ 16 + header.now.text_size }
+        ensures relocation { result.relocation ≡ relocation_at header.now }
+        ensures symbols { result.symbols ≡ symbols_at header.now }
+        ensures end { result.end ≡ file_length header.now }
+        ensures small { result.end < 2 ^ 20 }
+        ensures before { result.relocation < 2 ^ 18 }
+    {
         let text = 16;
         let data = text + usize::from(header.text_size);
         let relocation = data + usize::from(header.data_size);
@@ -32,16 +44,15 @@ impl Places {
             end: symbols + usize::from(header.symbol_size),
         }
     }
+}
 
-    /// The relocation word of a word, of text first and then of data.
-    pub(crate) fn relocation_of(&self, index: usize) -> usize {
-        self.relocation.saturating_add(index.saturating_mul(2))
-    }
-
-    /// The symbol of a number.
-    pub(crate) fn symbol(&self, number: usize) -> usize {
-        self.symbols.saturating_add(number.saturating_mul(12))
-    }
+/// Where the entry of a symbol begins in a file with this header.
+pub(crate) fn symbol_at(header: &Header, number: usize) -> usize
+    requires { number < 65536 }
+    ensures value { result ≡ symbol_at header.now number }
+    ensures small { result < 2 ^ 21 }
+{
+    Places::of(header).symbols + 12 * number
 }
 
 /// Addresses at which a segment begins and ends.
@@ -53,7 +64,9 @@ pub(crate) struct Range {
 
 impl Range {
     /// Whether an address is in the segment, or at its end.
-    pub(crate) fn has(&self, address: u16) -> bool {
+    fn has(&self, address: u16) -> bool
+        ensures { result ≡ (nat_le self.now.start address && nat_le address self.now.end) }
+    {
         let address = u32::from(address);
         self.start <= address && address <= self.end
     }
@@ -69,11 +82,16 @@ pub(crate) struct Segments {
 
 impl Segments {
     /// The addresses that a header announces.
-    pub(crate) fn of(header: &Header) -> Segments {
+    pub(crate) fn of(header: &Header) -> Segments
+        ensures data_start { result.«data».start ≡ data_from header.now }
+        ensures data_end { result.«data».end ≡ data_to header.now }
+        ensures bss_start { result.bss.start ≡ data_to header.now }
+        ensures bss_end { result.bss.end ≡ bss_to header.now }
+    {
         let text_end = u32::from(header.text_size);
         let data = data_start(header.magic, usize::from(header.text_size)) as u32;
-        let data_end = data.saturating_add(u32::from(header.data_size));
-        let bss_end = data_end.saturating_add(u32::from(header.bss_size));
+        let data_end = data + u32::from(header.data_size);
+        let bss_end = data_end + u32::from(header.bss_size);
         Segments {
             text: Range {
                 start: 0,
@@ -88,5 +106,27 @@ impl Segments {
                 end: bss_end,
             },
         }
+    }
+
+    /// A segment by name, and where it lies, for a note.
+    pub(crate) fn named(&self, segment: Segment) -> (&'static str, Range) {
+        match segment {
+            Segment::DataSeg => ("data", self.data),
+            Segment::BssSeg => ("bss", self.bss),
+            _ => ("text", self.text),
+        }
+    }
+}
+
+/// Whether a segment of a file with this header has an address, or ends at it. Segments other than text, data and bss have all.
+pub(crate) fn has_address(header: &Header, segment: Segment, address: u16) -> bool
+    ensures { result ≡ has_address header.now segment address }
+{
+    let segments = Segments::of(header);
+    match segment {
+        Segment::TextSeg => address <= header.text_size,
+        Segment::DataSeg => segments.data.has(address),
+        Segment::BssSeg => segments.bss.has(address),
+        Segment::Undefined | Segment::Absolute | Segment::Other => true,
     }
 }

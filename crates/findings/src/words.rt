@@ -5,14 +5,6 @@ ghost use Rattle.findings.specs.Words.{meant};
 
 use aout_core::{Reloc, Segment, Symbol};
 
-/// The words of a segment, of which the first has this address, and their relocation words.
-#[derive(Clone, Copy)]
-pub(crate) struct Contents<'a> {
-    pub(crate) start: u16,
-    pub(crate) words: &'a [u16],
-    pub(crate) relocs: &'a [Reloc],
-}
-
 /// Whether a word may refer to a symbol: it is external and undefined, or a common.
 pub fn is_wanted(symbol: &Symbol) -> bool
     ensures { result ≡ is_wanted (Some symbol.now) }

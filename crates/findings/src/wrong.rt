@@ -1,5 +1,13 @@
 //! What is damaged in a file.
-use crate::finding::{Finding, find};
+ghost use Rattle.std.specs.Prelude.{◌≡◌, ℕ, ◌+◌, ◌*◌, ◌%◌, ◌^◌, ◌<◌, ◌++◌, true, not, eqb, nat_lt, length, IfOk, OnOk};
+ghost use Rattle.aout_core.specs.Encoding.{relocation_at};
+ghost use Rattle.aout_core.specs.WellFormed.{word_fault};
+ghost use Rattle.findings.specs.declared.finding.FindingKind.TheVariants.{OddSize, MoreBadWords};
+ghost use Rattle.findings.specs.Found.{all_found, found_if};
+ghost use Rattle.findings.specs.Wrong.{odd_sizes, wrong_bytes, fault_kind, bad_words, all_bad_words, wrong_words};
+ghost use Rattle.findings.specs.internal.BadWords.{all_bad};
+
+use crate::finding::{Finding, FindingKind, find};
 use crate::other_files::header_of;
 use crate::places::Places;
 use crate::text::shown;
@@ -9,7 +17,7 @@ use disassemblies::{line_start, line_starts, put_line_text};
 use std::alloc::{AllocError, Global};
 
 /// How many bad relocation words are shown one by one.
-const MOST: u32 = 16;
+const MOST: usize = 16;
 
 /// Adds a size that is odd.
 fn find_odd_size(
@@ -18,22 +26,22 @@ fn find_odd_size(
     place: usize,
     part: &str,
     size: u16,
-) -> Result<(), AllocError> {
+) -> Result<(), AllocError>
+    ensures { OnOk result (all_found findings.new.items ≡ all_found findings.old.items ++ found_if (not (eqb (size % 2) 0)) place OddSize) }
+{
     if size % 2 == 0 {
         return Ok(());
     }
     let text = format!(in alloc;
         "odd size: {part} has 0{size:o} ({size}) bytes, which are no whole words"
     )?;
-    find(findings, place, text)
+    find(findings, place, FindingKind::OddSize, text)
 }
 
 /// Adds the sizes that are not whole.
-fn find_sizes(
-    alloc: Global,
-    findings: &mut Vec<Finding>,
-    header: &Header,
-) -> Result<(), AllocError> {
+fn find_sizes(alloc: Global, findings: &mut Vec<Finding>, header: &Header) -> Result<(), AllocError>
+    ensures { OnOk result (all_found findings.new.items ≡ all_found findings.old.items ++ odd_sizes header.now) }
+{
     find_odd_size(alloc, findings, 2, "text", header.text_size)?;
     find_odd_size(alloc, findings, 4, "data", header.data_size)?;
     find_odd_size(alloc, findings, 6, "bss", header.bss_size)?;
@@ -44,7 +52,7 @@ fn find_sizes(
     let text = format!(in alloc;
         "odd size: the symbol table has 0{size:o} ({size}) bytes, and a symbol 12"
     )?;
-    find(findings, 8, text)
+    find(findings, 8, FindingKind::OddSize, text)
 }
 
 /// The part of a file in which a byte lies.
@@ -70,12 +78,14 @@ fn truncated_text(alloc: Global, header: &Header, size: usize) -> Result<String,
     )
 }
 
-/// What is wrong with bytes that are not a file.
+/// What is wrong with bytes that are not a file, for this reason. An error: out of memory.
 pub fn wrong_bytes(
     alloc: Global,
     bytes: &[u8],
     fault: ReadFault,
-) -> Result<Vec<Finding>, AllocError> {
+) -> Result<Vec<Finding>, AllocError>
+    ensures { IfOk result (λ findings. all_found findings.items ≡ wrong_bytes fault bytes.now) }
+{
     let mut findings = Vec::new(alloc);
     let size = bytes.len();
     let Some(header) = header_of(bytes) else {
@@ -83,7 +93,7 @@ pub fn wrong_bytes(
             alloc,
             "short header: the file ends here, and a header has 16 bytes",
         )?;
-        find(&mut findings, size, text)?;
+        find(&mut findings, size, FindingKind::ShortHeader, text)?;
         return Ok(findings);
     };
     match fault {
@@ -92,12 +102,12 @@ pub fn wrong_bytes(
             let text = format!(in alloc;
                 "bad magic number: {magic:06o}, and not 000405, 000407, 000410 or 000411"
             )?;
-            find(&mut findings, 0, text)?;
+            find(&mut findings, 0, FindingKind::BadMagic, text)?;
         }
         ReadFault::OddSize => find_sizes(alloc, &mut findings, &header)?,
         _ => {
             let text = truncated_text(alloc, &header, size)?;
-            find(&mut findings, size, text)?;
+            find(&mut findings, size, FindingKind::Truncated, text)?;
         }
     }
     Ok(findings)
@@ -118,36 +128,88 @@ fn unwanted_text(alloc: Global, symbols: &[Symbol], number: u16) -> Result<Strin
     }
 }
 
-/// What is wrong with a relocation word, if anything is.
-fn word_text(
-    alloc: Global,
-    symbols: &[Symbol],
-    index: u32,
+/// A relocation word that makes `ld` refuse an object, its place in the file, and the number of its word: of text first, and then of
+/// data.
+#[derive(Clone, Copy)]
+struct BadWord {
+    index: usize,
+    place: usize,
     reloc: Reloc,
-) -> Result<Option<String>, AllocError> {
-    let bits = reloc.0;
-    let number = reloc.number();
+    kind: FindingKind,
+}
+
+/// What is wrong with a relocation word, if anything is.
+fn bad_kind(symbols: &[Symbol], reloc: Reloc) -> Option<FindingKind>
+    ensures { result ≡ fault_kind (word_fault symbols.now 0 reloc) }
+{
     match reloc.kind() {
-        None => {
-            let text = format!(in alloc;
-                "bad relocation at word {index}: {bits:o} has none of the kinds 0, 2, 4, 6 and 10"
-            )?;
-            Ok(Some(text))
-        }
-        Some(Kind::External) => {
-            if let Some(symbol) = symbols.get(usize::from(number))
-                && is_wanted(symbol)
-            {
-                return Ok(None);
-            }
-            let why = unwanted_text(alloc, symbols, number)?;
-            let text = format!(in alloc;
-                "bad symbol number at word {index}: {bits:o} refers to {why}"
-            )?;
-            Ok(Some(text))
-        }
-        Some(_) => Ok(None),
+        None => Some(FindingKind::BadRelocation),
+        Some(Kind::External) => match symbols.get(usize::from(reloc.number())) {
+            Some(symbol) if is_wanted(symbol) => None,
+            _ => Some(FindingKind::BadSymbolNumber),
+        },
+        Some(_) => None,
     }
+}
+
+/// Appends the bad ones of these words, of which the first has this number. That of word 0 has this place in the file.
+fn put_bad(
+    list: &mut Vec<BadWord>,
+    symbols: &[Symbol],
+    place: usize,
+    first: usize,
+    relocs: &[Reloc],
+) -> Result<(), AllocError>
+    requires near { place < 2 ^ 20 }
+    requires few { first < 2 ^ 20 }
+    requires short { length relocs.now < 2 ^ 20 }
+    ensures { OnOk result (all_bad list.new.items ≡ all_bad list.old.items ++ bad_words symbols.now place first relocs.now) }
+{
+    let mut index = first;
+    for reloc in relocs {
+        if let Some(kind) = bad_kind(symbols, *reloc) {
+            list.push(BadWord {
+                index,
+                place: place + 2 * index,
+                reloc: *reloc,
+                kind,
+            })?;
+        }
+        index += 1;
+    }
+    Ok(())
+}
+
+/// The bad relocation words of a file.
+#[tactic(auto, using(crate::proofs::BadWordLemmas::bad_words_joined))]
+fn bad_words_of(alloc: Global, file: &File) -> Result<Vec<BadWord>, AllocError>
+    ensures { IfOk result (λ list. all_bad list.items ≡ all_bad_words file.now) }
+{
+    let mut list = Vec::new(alloc);
+    let place = Places::of(file.header()).relocation;
+    let text = file.text_reloc();
+    put_bad(&mut list, file.symbols(), place, 0, text)?;
+    put_bad(
+        &mut list,
+        file.symbols(),
+        place,
+        text.len(),
+        file.data_reloc(),
+    )?;
+    Ok(list)
+}
+
+/// What is wrong with a relocation word.
+fn word_text(alloc: Global, symbols: &[Symbol], bad: BadWord) -> Result<String, AllocError> {
+    let index = bad.index;
+    let bits = bad.reloc.0;
+    if bad.kind == FindingKind::BadRelocation {
+        return format!(in alloc;
+            "bad relocation at word {index}: {bits:o} has none of the kinds 0, 2, 4, 6 and 10"
+        );
+    }
+    let why = unwanted_text(alloc, symbols, bad.reloc.number())?;
+    format!(in alloc; "bad symbol number at word {index}: {bits:o} refers to {why}")
 }
 
 /// Adds the instruction that has a word of text as an operand word, if it is one.
@@ -171,51 +233,75 @@ fn put_owner(
     put_line_text(text, file, place)
 }
 
-/// Where bad relocation words are looked for: in a file, at the words of whose text lines begin as told.
+/// A file, whose lines of text begin at the words as told.
 #[derive(Clone, Copy)]
-struct Search<'a> {
+struct Lined<'a> {
     file: &'a File,
     starts: &'a [bool],
 }
 
-/// Adds the bad words among these, and returns how many there were of text and data so far, and how many bad ones.
-fn find_words(
+/// Adds a bad relocation word.
+fn find_bad(
     alloc: Global,
     findings: &mut Vec<Finding>,
-    search: Search<'_>,
-    relocs: &[Reloc],
-    so_far: (u32, u32),
-) -> Result<(u32, u32), AllocError> {
-    let Search { file, starts } = search;
-    let places = Places::of(file.header());
-    let (mut index, mut bad) = so_far;
-    for reloc in relocs {
-        if let Some(mut text) = word_text(alloc, file.symbols(), index, *reloc)? {
-            bad = bad.saturating_add(1);
-            if bad <= MOST {
-                put_owner(alloc, &mut text, file, starts, index as usize)?;
-                find(findings, places.relocation_of(index as usize), text)?;
-            }
-        }
-        index = index.saturating_add(1);
-    }
-    Ok((index, bad))
+    lined: &Lined<'_>,
+    bad: BadWord,
+) -> Result<(), AllocError>
+    ensures { OnOk result (all_found findings.new.items ≡ all_found findings.old.items ++ found_if true bad.place bad.kind) }
+{
+    let file = lined.file;
+    let mut text = word_text(alloc, file.symbols(), bad)?;
+    put_owner(alloc, &mut text, file, lined.starts, bad.index)?;
+    find(findings, bad.place, bad.kind, text)
 }
 
-/// The bad relocation words of a file, the first of them one by one.
-pub fn wrong_words(alloc: Global, file: &File) -> Result<Vec<Finding>, AllocError> {
+/// Adds bad relocation words.
+fn find_each(
+    alloc: Global,
+    findings: &mut Vec<Finding>,
+    lined: &Lined<'_>,
+    bad: &[BadWord],
+) -> Result<(), AllocError>
+    ensures { OnOk result (all_found findings.new.items ≡ all_found findings.old.items ++ all_bad bad.now) }
+{
+    for word in bad {
+        find_bad(alloc, findings, lined, *word)?;
+    }
+    Ok(())
+}
+
+/// Adds that there are more bad relocation words than are shown, if there are, of so many.
+fn find_more(
+    alloc: Global,
+    findings: &mut Vec<Finding>,
+    header: &Header,
+    count: usize,
+) -> Result<(), AllocError>
+    ensures { OnOk result (all_found findings.new.items ≡ all_found findings.old.items ++ found_if (nat_lt 16 count) (relocation_at header.now) MoreBadWords) }
+{
+    if count <= MOST {
+        return Ok(());
+    }
+    let more = count - MOST;
+    let text = format!(in alloc; "and {more} more such relocation words")?;
+    let place = Places::of(header).relocation;
+    find(findings, place, FindingKind::MoreBadWords, text)
+}
+
+/// The bad relocation words of a file, the first of them one by one. An error: out of memory.
+pub fn wrong_words(alloc: Global, file: &File) -> Result<Vec<Finding>, AllocError>
+    ensures { IfOk result (λ findings. all_found findings.items ≡ wrong_words file.now) }
+{
     let mut findings = Vec::new(alloc);
     let starts = line_starts(alloc, file)?;
-    let search = Search {
+    let lined = Lined {
         file,
         starts: &starts,
     };
-    let so_far = find_words(alloc, &mut findings, search, file.text_reloc(), (0, 0))?;
-    let (_, bad) = find_words(alloc, &mut findings, search, file.data_reloc(), so_far)?;
-    if bad > MOST {
-        let more = bad - MOST;
-        let text = format!(in alloc; "and {more} more such relocation words")?;
-        find(&mut findings, Places::of(file.header()).relocation, text)?;
-    }
+    let bad = bad_words_of(alloc, file)?;
+    let bad = bad.as_slice();
+    let shown = &bad[..MOST.min(bad.len())];
+    find_each(alloc, &mut findings, &lined, shown)?;
+    find_more(alloc, &mut findings, file.header(), bad.len())?;
     Ok(findings)
 }

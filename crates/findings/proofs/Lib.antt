@@ -1,0 +1,2 @@
+pub mod BadWordLemmas
+pub mod SymbolLemmas

@@ -1,0 +1,10 @@
+use Rattle.std.proofs.Common.{◌≡◌, ◌+◌, ◌++◌, drop}
+use Rattle.findings.specs.Wrong.{bad_words}
+use Rattle.findings.specs.internal.BadWords.{all_bad}
+use Rattle.findings.proofs.wrong.put_bad.Given as goal
+
+-- the bad words so far, and those that are left
+abbrev pub invariant-loop-reloc : goal.invariant-loop-reloc
+invariant-loop-reloc l =
+    (all_bad l.list.items ++ bad_words l.symbols l.place l.index (drop l.reloc-index l.relocs) ≡ all_bad l.initial.list.items ++ bad_words l.symbols l.place l.first l.relocs)
+    × (l.index ≡ l.first + l.reloc-index)

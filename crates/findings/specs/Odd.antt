@@ -1,0 +1,95 @@
+-- What is odd in a file, and not refused. (a.out(5), ld(1); what counts as odd: own choice)
+--
+-- The header comes first, then the relocation words of text and of data, and then the symbols. Each finding has the byte of the file
+-- where the odd field begins.
+use Rattle.std.specs.Prelude.{ℕ, ◌+◌, ◌-◌, ◌*◌, ◌%◌, Bool, true, false, not, ◌&&◌, ◌||◌, eqb, nat_lt, nat_le, if◌then◌else◌, List, [], ◌∷◌, ◌++◌, take, drop, length, slice_index, bytes_eq, Option, Some, None}
+use Rattle.std.specs.List.{list_any}
+use Rattle.aout_core.specs.declared.header.Header.{Header}
+use Rattle.aout_core.specs.declared.symbol.Symbol.{Symbol}
+use Rattle.aout_core.specs.declared.reloc.Reloc.{Reloc}
+use Rattle.aout_core.specs.declared.reloc.Kind.{Kind}
+use Rattle.aout_core.specs.declared.reloc.Kind.TheVariants.{External}
+use Rattle.aout_core.specs.Contents.{Contents}
+use Rattle.aout_core.specs.Encoding.{relocation_at, symbols_at, file_length}
+use Rattle.aout_core.specs.WellFormed.{is_wanted, kind_of, masked_type, segment_of}
+use Rattle.aout_core.specs.Words.{plus}
+use Rattle.findings.specs.declared.finding.FindingKind.TheVariants.{IgnoredEntry, IgnoredWord, BytesAfterTable, IgnoredRelocationBits, OutsideReference, EmptyName, UnprintableName, BytesAfterName, RepeatedName, IgnoredTypeBits, UnknownType, OddCommon, OutsideValue}
+use Rattle.findings.specs.Found.{Found, found_if}
+use Rattle.findings.specs.Segments.{data_from, has_address, segment_meant}
+use Rattle.findings.specs.Words.{meant}
+
+-- the entry point of a file with relocation, the unused word, and bytes after the table
+abbrev pub odd_header : Header → ℕ → List Found
+odd_header h size =
+    found_if (not (eqb h.entry_point 0) && eqb h.flag 0) 10 IgnoredEntry
+    ++ found_if (not (eqb h.unused 0)) 12 IgnoredWord
+    ++ found_if (nat_lt (file_length h) size) (file_length h) BytesAfterTable
+
+-- the bits above 17 count for an external alone
+abbrev pub ignores_number : Option Kind → Bool
+ignores_number None = false
+ignores_number (Some External) = false
+ignores_number (Some _) = true
+
+-- a word at an address, whose relocation word is at this byte
+abbrev pub odd_word : Header → ℕ → ℕ → ℕ → Reloc → List Found
+odd_word h place address word r =
+    found_if (nat_le 0o20 r.0 && ignores_number (kind_of r)) place IgnoredRelocationBits
+    ++ found_if (not (has_address h (segment_meant (kind_of r)) (meant address word r))) place OutsideReference
+
+-- the words of a segment from number n on, by their relocation words; number 0 has this address, and its relocation word this byte
+abbrev pub odd_words : Header → ℕ → ℕ → List ℕ → ℕ → List Reloc → List Found
+odd_words h place address words n [] = []
+odd_words h place address words n (r ∷ rs) =
+    odd_word h (place + 2 * n) (plus address (2 * n)) (slice_index words n) r ++ odd_words h place address words (n + 1) rs
+
+-- the byte does not print: a blank does not, since it is not seen in a name
+abbrev pub is_hidden : ℕ → Bool
+is_hidden byte = nat_le byte 32 || nat_le 127 byte
+
+-- the bytes of a name's field after the name; none if the bytes end before the field does
+abbrev pub after_name : List ℕ → ℕ → Symbol → List ℕ
+after_name bytes place s = if nat_lt (length bytes) (place + 8) then [] else take (8 - length s.name) (drop (place + length s.name) bytes)
+
+-- types 0 to 4, a register and a file name
+abbrev pub has_type : Symbol → Bool
+has_type s = nat_lt (masked_type s) 5 || (eqb (masked_type s) 0o24 || eqb (masked_type s) 0o37)
+
+-- the name of a symbol whose entry begins at this byte, where an earlier symbol has the name or not
+abbrev pub odd_name : List ℕ → Bool → ℕ → Symbol → List Found
+odd_name bytes is_repeated place s =
+    found_if (eqb (length s.name) 0) place EmptyName
+    ++ found_if (list_any is_hidden s.name) place UnprintableName
+    ++ found_if (list_any (λ (b : ℕ). not (eqb b 0)) (after_name bytes place s)) place BytesAfterName
+    ++ found_if is_repeated place RepeatedName
+
+-- its type word and its value
+abbrev pub odd_fields : Header → ℕ → Symbol → List Found
+odd_fields h place s =
+    found_if (nat_le 0o100 s.type_bits) (place + 8) IgnoredTypeBits
+    ++ found_if (not (has_type s)) (place + 8) UnknownType
+    ++ found_if (is_wanted (Some s) && eqb (s.value % 2) 1) (place + 10) OddCommon
+    ++ found_if (not (has_address h (segment_of s) s.value)) (place + 10) OutsideValue
+
+-- names are equal in eight bytes
+abbrev pub is_repeated : List ℕ → List Symbol → Bool
+is_repeated name earlier = list_any (λ (e : Symbol). bytes_eq e.name name) earlier
+
+-- a symbol whose entry begins at this byte, and which follows these in the table
+abbrev pub odd_symbol : Header → List ℕ → List Symbol → ℕ → Symbol → List Found
+odd_symbol h bytes earlier place s = odd_name bytes (is_repeated s.name earlier) place s ++ odd_fields h place s
+
+abbrev pub symbol_at : Header → ℕ → ℕ
+symbol_at h n = symbols_at h + 12 * n
+
+-- the symbols from number n on
+abbrev pub odd_symbols : Contents → List ℕ → ℕ → List Symbol → List Found
+odd_symbols c bytes n [] = []
+odd_symbols c bytes n (s ∷ ss) = odd_symbol c.header bytes (take n c.symbols) (symbol_at c.header n) s ++ odd_symbols c bytes (n + 1) ss
+
+abbrev pub odd : List ℕ → Contents → List Found
+odd bytes c =
+    odd_header c.header (length bytes)
+    ++ odd_words c.header (relocation_at c.header) 0 c.text_words 0 c.text_reloc
+    ++ odd_words c.header (relocation_at c.header + c.header.text_size) (data_from c.header % 65536) c.data_words 0 c.data_reloc
+    ++ odd_symbols c bytes 0 c.symbols

@@ -1,0 +1,10 @@
+-- Bad relocation words that were collected, as findings.
+use Rattle.std.specs.Prelude.{List, map}
+use Rattle.findings.specs.declared.wrong.BadWord.{BadWord}
+use Rattle.findings.specs.Found.{Found}
+
+abbrev pub bad_found : BadWord → Found
+bad_found b = record { place = b.place; kind = b.kind }
+
+abbrev pub all_bad : List BadWord → List Found
+all_bad bad = map bad_found bad
