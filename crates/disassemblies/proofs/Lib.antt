@@ -1,3 +1,5 @@
+pub mod ChainLemmas
+pub mod BlockLemmas
 pub mod StartLemmas
 pub mod LabelLemmas
 pub mod PlainLemmas

@@ -4,3 +4,4 @@ pub mod Lines
 pub mod Labels
 pub mod Starts
 pub mod Columns
+pub mod internal

@@ -7,6 +7,7 @@ ghost use Rattle.disassemblies.specs.Columns.{word_column, columns, row, labelle
 
 use crate::label::put_labels;
 use crate::line::{line_in, put_line_text};
+use crate::named::NamedFile;
 use aout_core::File;
 use instructions::{Line, decode, put_six_digits};
 use std::alloc::AllocError;
@@ -48,13 +49,18 @@ fn put_columns(text: &mut String, address: u16, words: &[u16]) -> Result<(), All
 }
 
 /// Appends the line of so many words at a place, in columns.
-fn put_row(text: &mut String, file: &File, place: usize, count: usize) -> Result<(), AllocError>
+fn put_row(
+    text: &mut String,
+    file: &NamedFile<'_>,
+    place: usize,
+    count: usize,
+) -> Result<(), AllocError>
     requires within { place + count ≤ length file.now.text_words }
     requires some { 1 ≤ count }
     requires short { count ≤ 3 }
     ensures { OnOk result (string_bytes text.new ≡ string_bytes text.old ++ row file.now place count) }
 {
-    let words = file.text_words();
+    let words = file.file().text_words();
     put_columns(text, (2 * place) as u16, &words[place..place + count])?;
     put_line_text(text, file, place)?;
     text.push_str("\n")
@@ -63,7 +69,7 @@ fn put_row(text: &mut String, file: &File, place: usize, count: usize) -> Result
 /// Appends the labels and the line of so many words at a place.
 fn put_labelled_row(
     text: &mut String,
-    file: &File,
+    file: &NamedFile<'_>,
     place: usize,
     count: usize,
 ) -> Result<(), AllocError>
@@ -72,17 +78,17 @@ fn put_labelled_row(
     requires short { count ≤ 3 }
     ensures { OnOk result (string_bytes text.new ≡ string_bytes text.old ++ labelled_row file.now place count) }
 {
-    let _words = file.text_words();
-    put_labels(text, file.symbols(), (2 * place) as u16, count as u8)?;
+    let _words = file.file().text_words();
+    put_labels(text, file, (2 * place) as u16, count as u8)?;
     put_row(text, file, place, count)
 }
 
 /// Appends the labels of the end of the text.
-fn put_end_labels(text: &mut String, file: &File) -> Result<(), AllocError>
+fn put_end_labels(text: &mut String, file: &NamedFile<'_>) -> Result<(), AllocError>
     ensures { OnOk result (string_bytes text.new ≡ string_bytes text.old ++ labels file.now.symbols (2 * length file.now.text_words) 0) }
 {
-    let end = file.text_words().len();
-    put_labels(text, file.symbols(), (2 * end) as u16, 0)
+    let end = file.file().text_words().len();
+    put_labels(text, file, (2 * end) as u16, 0)
 }
 
 /// Appends the lines of a file's text in columns: the address, two blanks, one to three words in 20 columns, two blanks, and
@@ -90,14 +96,15 @@ fn put_end_labels(text: &mut String, file: &File) -> Result<(), AllocError>
 pub fn put_disassembly(text: &mut String, file: &File) -> Result<(), AllocError>
     ensures { OnOk result (string_bytes text.new ≡ string_bytes text.old ++ disassembly file.now) }
 {
+    let named = NamedFile::new(*text.allocator(), file)?;
     let end = file.text_words().len();
     let mut place = 0;
     while place < end {
         let count = line_in(file, place).length();
-        put_labelled_row(text, file, place, count)?;
+        put_labelled_row(text, &named, place, count)?;
         place += count;
     }
-    put_end_labels(text, file)
+    put_end_labels(text, &named)
 }
 
 /// Appends the line of these words at an address, in columns.

@@ -2,8 +2,11 @@
 ghost use Rattle.std.specs.Prelude.{◌≡◌, ◌<◌, ◌≤◌, ◌*◌, ◌+◌, ◌++◌, OnOk, string_bytes};
 ghost use Rattle.std.specs.List.{flat_map};
 ghost use Rattle.listings.specs.Listing.{text_of};
+ghost use Rattle.disassemblies.specs.internal.Blocks.{block};
 ghost use Rattle.disassemblies.specs.Labels.{label_at, is_within, label_within, labels};
 
+use crate::chains::Chains;
+use crate::named::{Blocks, NamedFile};
 use crate::naming::is_at;
 use aout_core::{Segment, Symbol};
 use instructions::{put_name, put_octal};
@@ -47,16 +50,38 @@ fn put_label_within(
     text.push_str("\n")
 }
 
-fn put_labels_at(text: &mut String, symbols: &[Symbol], address: u16) -> Result<(), AllocError>
-    ensures { OnOk result (string_bytes text.new ≡ string_bytes text.old ++ flat_map (λ s. text_of (label_at address s)) symbols.now) }
+/// Appends the labels of an address.
+fn put_labels_at(text: &mut String, chains: &Chains<'_>, address: u16) -> Result<(), AllocError>
+    ensures { OnOk result (string_bytes text.new ≡ string_bytes text.old ++ flat_map (λ s. text_of (label_at address s)) chains.now.symbols.now) }
 {
-    for symbol in symbols {
+    let mut place = chains.first(address);
+    while let Some(symbol) = chains.symbols.get(place) {
         put_label_at(text, address, symbol)?;
+        place = chains.after(place);
     }
     Ok(())
 }
 
-fn put_labels_within(
+/// Appends the labels within a line that is in one block.
+fn put_block_labels(
+    text: &mut String,
+    chains: &Chains<'_>,
+    address: u16,
+    length: u8,
+) -> Result<(), AllocError>
+    requires { block chains.now.shift address ≡ block chains.now.shift (address + 2 * length) }
+    ensures { OnOk result (string_bytes text.new ≡ string_bytes text.old ++ flat_map (λ s. text_of (label_within address length s)) chains.now.symbols.now) }
+{
+    let mut place = chains.first(address);
+    while let Some(symbol) = chains.symbols.get(place) {
+        put_label_within(text, address, length, symbol)?;
+        place = chains.after(place);
+    }
+    Ok(())
+}
+
+/// Appends the labels within a line, by all symbols.
+fn put_all_labels(
     text: &mut String,
     symbols: &[Symbol],
     address: u16,
@@ -70,17 +95,36 @@ fn put_labels_within(
     Ok(())
 }
 
+/// Appends the labels within a line.
+fn put_labels_within(
+    text: &mut String,
+    blocks: &Blocks<'_>,
+    address: u16,
+    length: u8,
+) -> Result<(), AllocError>
+    ensures { OnOk result (string_bytes text.new ≡ string_bytes text.old ++ flat_map (λ s. text_of (label_within address length s)) blocks.now.whole.symbols.now) }
+{
+    if blocks.whole.is_in_block(address, length) {
+        return put_block_labels(text, &blocks.whole, address, length);
+    }
+    if blocks.half.is_in_block(address, length) {
+        return put_block_labels(text, &blocks.half, address, length);
+    }
+    put_all_labels(text, blocks.whole.symbols, address, length)
+}
+
 /// Appends the labels of a line of so many words at an address, 0 for the end of the text: a line `NAME:` for each symbol of
 /// text with this address, and then a line `NAME = .+K` for each with an address within the line, K from 1 to 5. Both are in
 /// the order of the table. (as(1); labels within a line: own choice)
 pub fn put_labels(
     text: &mut String,
-    symbols: &[Symbol],
+    file: &NamedFile<'_>,
     address: u16,
     length: u8,
 ) -> Result<(), AllocError>
-    ensures { OnOk result (string_bytes text.new ≡ string_bytes text.old ++ labels symbols.now address length) }
+    ensures { OnOk result (string_bytes text.new ≡ string_bytes text.old ++ labels file.now.symbols address length) }
 {
-    put_labels_at(text, symbols, address)?;
-    put_labels_within(text, symbols, address, length)
+    let blocks = file.blocks();
+    put_labels_at(text, &blocks.whole, address)?;
+    put_labels_within(text, blocks, address, length)
 }

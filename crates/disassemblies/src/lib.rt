@@ -11,6 +11,7 @@
 //!
 //! Functions:
 //!
+//! - `NamedFile`: a file whose symbols are found by their addresses, made once for all its lines
 //! - `put_disassembly`: appends the whole text of a file, in columns
 //! - `put_plain_disassembly`: appends words at an address in these columns, without names
 //! - `line_in`: the line at a place of a file's text
@@ -23,10 +24,13 @@
 //! name the addresses. Addresses are in bytes from the start of the text, which is at 0.
 #![tactic(auto)]
 
+mod chains;
 mod columns;
 mod label;
 mod line;
 mod linked;
+mod named;
+mod names;
 mod naming;
 mod relocated;
 mod starts;
@@ -34,4 +38,5 @@ mod starts;
 pub use columns::{put_disassembly, put_plain_disassembly};
 pub use label::put_labels;
 pub use line::{line_in, put_line_text};
+pub use named::NamedFile;
 pub use starts::{is_start, line_start, line_starts};

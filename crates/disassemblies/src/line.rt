@@ -4,6 +4,7 @@ ghost use Rattle.std.specs.Prelude.{◌≡◌, ◌≤◌, ◌<◌, ◌*◌, ◌+
 ghost use Rattle.disassemblies.specs.Lines.{line_in, word_reference, general_reference, branch_reference, operand_reference, references, decoded_text, line_text_in};
 
 use crate::linked::{linked_reference, located};
+use crate::named::NamedFile;
 use crate::naming::reference_at;
 use crate::relocated::{object_reference, put_relocated};
 use aout_core::{File, Reloc, Segment};
@@ -47,17 +48,22 @@ struct Spot {
 }
 
 /// What an operand word refers to.
-fn word_reference(file: &File, spot: Spot, word: u16, addressing: Addressing) -> Option<Reference>
+fn word_reference(
+    file: &NamedFile<'_>,
+    spot: Spot,
+    word: u16,
+    addressing: Addressing,
+) -> Option<Reference>
     requires { spot.next < 0o400000 }
     ensures { result ≡ word_reference file.now spot.operation spot.next (slice_get file.now.text_reloc spot.place) word addressing }
 {
-    match reloc_at(file, spot.place) {
-        Some(reloc) => object_reference(file.symbols(), reloc, word, spot.next, addressing),
+    match reloc_at(file.file(), spot.place) {
+        Some(reloc) => object_reference(file.names(), reloc, word, spot.next, addressing),
         None => {
-            let header = file.header();
+            let header = file.file().header();
             linked_reference(
                 header,
-                file.symbols(),
+                file.names(),
                 spot.operation,
                 word,
                 spot.next,
@@ -68,19 +74,19 @@ fn word_reference(file: &File, spot: Spot, word: u16, addressing: Addressing) ->
 }
 
 /// What the target of a branch is.
-fn branch_reference(file: &File, target: u16) -> Option<Reference>
+fn branch_reference(file: &NamedFile<'_>, target: u16) -> Option<Reference>
     ensures { result ≡ branch_reference file.now target }
 {
-    let header = file.header();
+    let header = file.file().header();
     if header.flag == 0 {
-        return reference_at(file.symbols(), Segment::TextSeg, target);
+        return reference_at(file.names(), Segment::TextSeg, target);
     }
-    located(header, file.symbols(), true, target)
+    located(header, file.names(), true, target)
 }
 
 /// What an operand refers to, if a name is known for it.
 fn operand_reference(
-    file: &File,
+    file: &NamedFile<'_>,
     spot: Spot,
     operand: Option<Operand>,
     word: Option<u16>,
@@ -102,7 +108,7 @@ fn operand_reference(
 }
 
 /// What the operands of the line at a place refer to.
-fn references(file: &File, place: usize, line: &Line) -> References
+fn references(file: &NamedFile<'_>, place: usize, line: &Line) -> References
     requires { 2 * place < 65536 }
     ensures { result ≡ references file.now place line.now }
 {
@@ -132,11 +138,11 @@ fn references(file: &File, place: usize, line: &Line) -> References
 }
 
 /// Appends the text of an instruction or a plain word that is not relocated.
-fn put_decoded(text: &mut String, file: &File, place: usize) -> Result<(), AllocError>
+fn put_decoded(text: &mut String, file: &NamedFile<'_>, place: usize) -> Result<(), AllocError>
     requires { place < length file.now.text_words }
     ensures { OnOk result (string_bytes text.new ≡ string_bytes text.old ++ decoded_text file.now place) }
 {
-    let words = file.text_words();
+    let words = file.file().text_words();
     let line = decode(words, place);
     let references = references(file, place, &line);
     line.put_text_with((2 * place) as u16, &references, text)
@@ -145,20 +151,18 @@ fn put_decoded(text: &mut String, file: &File, place: usize) -> Result<(), Alloc
 /// Appends the text of the line at a place of a file's text, which counts words. Where a name is known, it is in place of the
 /// number. A relocated word that begins a line is followed by what it refers to, as `000002 / _x+2`. (as(1); names and
 /// relocated words: own choice)
-pub fn put_line_text(text: &mut String, file: &File, place: usize) -> Result<(), AllocError>
+pub fn put_line_text(
+    text: &mut String,
+    file: &NamedFile<'_>,
+    place: usize,
+) -> Result<(), AllocError>
     requires { place < length file.now.text_words }
     ensures { OnOk result (string_bytes text.new ≡ string_bytes text.old ++ line_text_in file.now place) }
 {
-    let words = file.text_words();
-    match reloc_at(file, place) {
+    let words = file.file().text_words();
+    match reloc_at(file.file(), place) {
         Some(reloc) if is_relocated(Some(reloc)) => {
-            put_relocated(
-                text,
-                file.symbols(),
-                reloc,
-                words[place],
-                (2 * place) as u16,
-            )
+            put_relocated(text, file.names(), reloc, words[place], (2 * place) as u16)
         }
         _ => put_decoded(text, file, place),
     }

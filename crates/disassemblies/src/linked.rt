@@ -2,8 +2,9 @@
 ghost use Rattle.std.specs.Prelude.{◌≡◌, ◌<◌};
 ghost use Rattle.disassemblies.specs.Linked.{segment_at, located, linked_reference};
 
+use crate::names::Names;
 use crate::naming::{after, reference_at};
-use aout_core::{Header, Segment, Symbol};
+use aout_core::{Header, Segment};
 use instructions::{Addressing, Operation, Reference};
 use listings::data_start;
 
@@ -33,32 +34,32 @@ fn segment_at(header: &Header, fetches: bool, address: u16) -> Option<Segment>
 /// What an address of the space of instructions or of that of data refers to.
 pub(crate) fn located(
     header: &Header,
-    symbols: &[Symbol],
+    names: &Names<'_>,
     fetches: bool,
     address: u16,
 ) -> Option<Reference>
-    ensures { result ≡ located header.now symbols.now fetches address }
+    ensures { result ≡ located header.now names.now.symbols.now fetches address }
 {
-    reference_at(symbols, segment_at(header, fetches, address)?, address)
+    reference_at(names, segment_at(header, fetches, address)?, address)
 }
 
 /// What an operand word refers to in a linked file; `next` is the address after it. Whether an immediate number or an index
 /// is an address is not known.
 pub(crate) fn linked_reference(
     header: &Header,
-    symbols: &[Symbol],
+    names: &Names<'_>,
     operation: Operation,
     word: u16,
     next: u32,
     addressing: Addressing,
 ) -> Option<Reference>
     requires { next < 0o400000 }
-    ensures { result ≡ linked_reference header.now symbols.now operation word next addressing }
+    ensures { result ≡ linked_reference header.now names.now.symbols.now operation word next addressing }
 {
     match addressing {
-        Addressing::Absolute => located(header, symbols, operation.jumps(), word),
-        Addressing::Relative => { located(header, symbols, operation.jumps(), after(next, word)) }
-        Addressing::RelativeDeferred => located(header, symbols, false, after(next, word)),
+        Addressing::Absolute => located(header, names, operation.jumps(), word),
+        Addressing::Relative => { located(header, names, operation.jumps(), after(next, word)) }
+        Addressing::RelativeDeferred => located(header, names, false, after(next, word)),
         Addressing::Immediate | Addressing::Indexed => None,
     }
 }

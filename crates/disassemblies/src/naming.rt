@@ -1,9 +1,9 @@
 //! The symbols that name numbers.
 ghost use Rattle.std.specs.Prelude.{◌≡◌, ◌<◌};
-ghost use Rattle.std.specs.Prelude.{find};
 ghost use Rattle.aout_core.specs.Words.{plus};
-ghost use Rattle.disassemblies.specs.Naming.{is_at, is_external_at, symbol_at, exact, beyond};
+ghost use Rattle.disassemblies.specs.Naming.{is_at, symbol_at, exact, beyond};
 
+use crate::names::Names;
 use aout_core::{Segment, Symbol};
 use instructions::Reference;
 
@@ -22,50 +22,22 @@ pub(crate) fn is_at(segment: Segment, value: u16, symbol: &Symbol) -> bool
     symbol.type_bits % 0o40 == segment.number() && symbol.value == value
 }
 
-/// The first external symbol with this segment and value.
-fn external_at(symbols: &[Symbol], segment: Segment, value: u16) -> Option<Symbol>
-    ensures { result ≡ find (λ s. is_external_at segment value s) symbols.now }
-{
-    let mut left = symbols;
-    while let [symbol, rest @ ..] = left {
-        if symbol.is_external() && is_at(segment, value, symbol) {
-            return Some(*symbol);
-        }
-        left = rest;
-    }
-    None
-}
-
-/// The first symbol with this segment and value.
-fn first_at(symbols: &[Symbol], segment: Segment, value: u16) -> Option<Symbol>
-    ensures { result ≡ find (λ s. is_at segment value s) symbols.now }
-{
-    let mut left = symbols;
-    while let [symbol, rest @ ..] = left {
-        if is_at(segment, value, symbol) {
-            return Some(*symbol);
-        }
-        left = rest;
-    }
-    None
-}
-
 /// The symbol that names an address of a segment, or an absolute number: an external one before the others, and then the
 /// first of the table.
-fn symbol_at(symbols: &[Symbol], segment: Segment, value: u16) -> Option<Symbol>
-    ensures { result ≡ symbol_at symbols.now segment value }
+fn symbol_at(names: &Names<'_>, segment: Segment, value: u16) -> Option<Symbol>
+    ensures { result ≡ symbol_at names.now.symbols.now segment value }
 {
-    match external_at(symbols, segment, value) {
+    match names.external_at(segment, value) {
         Some(symbol) => Some(symbol),
-        None => first_at(symbols, segment, value),
+        None => names.first_at(segment, value),
     }
 }
 
 /// The reference to the symbol that names an address of a segment, or an absolute number.
-pub(crate) fn reference_at(symbols: &[Symbol], segment: Segment, value: u16) -> Option<Reference>
-    ensures { result ≡ exact (symbol_at symbols.now segment value) }
+pub(crate) fn reference_at(names: &Names<'_>, segment: Segment, value: u16) -> Option<Reference>
+    ensures { result ≡ exact (symbol_at names.now.symbols.now segment value) }
 {
-    match symbol_at(symbols, segment, value) {
+    match symbol_at(names, segment, value) {
         Some(symbol) => Some(Reference {
             name: symbol.name,
             offset: 0,

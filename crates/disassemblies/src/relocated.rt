@@ -2,21 +2,25 @@
 ghost use Rattle.std.specs.Prelude.{◌≡◌, ◌<◌, ◌++◌, OnOk, string_bytes};
 ghost use Rattle.disassemblies.specs.Naming.{referred, is_unmoved, object_address, object_reference, meant, segment_word, referred_text, from_the_pc, relocated_text};
 
+use crate::names::Names;
 use crate::naming::{after, reference_at, reference_beyond};
-use aout_core::{Kind, Reloc, Segment, Symbol};
+use aout_core::{Kind, Reloc, Segment};
 use instructions::{Addressing, Reference, put_six_digits};
 use std::alloc::AllocError;
 
 /// What a number refers to by its relocation word.
-fn referred(symbols: &[Symbol], reloc: Reloc, number: u16) -> Option<Reference>
-    ensures { result ≡ referred symbols.now reloc number }
+fn referred(names: &Names<'_>, reloc: Reloc, number: u16) -> Option<Reference>
+    ensures { result ≡ referred names.now.symbols.now reloc number }
 {
     match reloc.kind()? {
-        Kind::Absolute => reference_at(symbols, Segment::Absolute, number),
-        Kind::TextSeg => reference_at(symbols, Segment::TextSeg, number),
-        Kind::DataSeg => reference_at(symbols, Segment::DataSeg, number),
-        Kind::BssSeg => reference_at(symbols, Segment::BssSeg, number),
-        Kind::External => reference_beyond(symbols.get(reloc.number() as usize).copied(), number),
+        Kind::Absolute => reference_at(names, Segment::Absolute, number),
+        Kind::TextSeg => reference_at(names, Segment::TextSeg, number),
+        Kind::DataSeg => reference_at(names, Segment::DataSeg, number),
+        Kind::BssSeg => reference_at(names, Segment::BssSeg, number),
+        Kind::External => reference_beyond(
+            names.symbols.get(reloc.number() as usize).copied(),
+            number,
+        ),
     }
 }
 
@@ -28,36 +32,36 @@ fn is_unmoved(reloc: Reloc) -> bool
 }
 
 /// What an address refers to that an instruction reaches from the pc.
-fn object_address(symbols: &[Symbol], reloc: Reloc, address: u16) -> Option<Reference>
-    ensures { result ≡ object_address symbols.now reloc address }
+fn object_address(names: &Names<'_>, reloc: Reloc, address: u16) -> Option<Reference>
+    ensures { result ≡ object_address names.now.symbols.now reloc address }
 {
     if reloc.is_pc() {
-        return referred(symbols, reloc, address);
+        return referred(names, reloc, address);
     }
     if is_unmoved(reloc) {
-        return reference_at(symbols, Segment::TextSeg, address);
+        return reference_at(names, Segment::TextSeg, address);
     }
     None
 }
 
 /// What an operand word refers to in an object; `next` is the address after it.
 pub(crate) fn object_reference(
-    symbols: &[Symbol],
+    names: &Names<'_>,
     reloc: Reloc,
     word: u16,
     next: u32,
     addressing: Addressing,
 ) -> Option<Reference>
     requires { next < 0o400000 }
-    ensures { result ≡ object_reference symbols.now reloc word next addressing }
+    ensures { result ≡ object_reference names.now.symbols.now reloc word next addressing }
 {
     match addressing {
         Addressing::Relative | Addressing::RelativeDeferred => {
-            object_address(symbols, reloc, after(next, word))
+            object_address(names, reloc, after(next, word))
         }
-        Addressing::Absolute if !reloc.is_pc() => referred(symbols, reloc, word),
+        Addressing::Absolute if !reloc.is_pc() => referred(names, reloc, word),
         Addressing::Immediate | Addressing::Indexed if !reloc.is_pc() && !is_unmoved(reloc) => {
-            referred(symbols, reloc, word)
+            referred(names, reloc, word)
         }
         _ => None,
     }
@@ -106,17 +110,17 @@ fn put_referred(
 /// Appends a word at an address that is relocated and begins a line.
 pub(crate) fn put_relocated(
     text: &mut String,
-    symbols: &[Symbol],
+    names: &Names<'_>,
     reloc: Reloc,
     word: u16,
     address: u16,
 ) -> Result<(), AllocError>
-    ensures { OnOk result (string_bytes text.new ≡ string_bytes text.old ++ relocated_text symbols.now reloc word address) }
+    ensures { OnOk result (string_bytes text.new ≡ string_bytes text.old ++ relocated_text names.now.symbols.now reloc word address) }
 {
     let number = meant(reloc, word, address);
     put_six_digits(text, word)?;
     text.push_str(" / ")?;
-    put_referred(text, referred(symbols, reloc, number), reloc, number)?;
+    put_referred(text, referred(names, reloc, number), reloc, number)?;
     if reloc.is_pc() {
         text.push_str(", from the pc")?;
     }

@@ -13,7 +13,7 @@ use crate::places::Places;
 use crate::text::shown;
 use crate::words::is_wanted;
 use aout_core::{File, Header, Kind, ReadFault, Reloc, Symbol};
-use disassemblies::{line_start, line_starts, put_line_text};
+use disassemblies::{NamedFile, line_start, line_starts, put_line_text};
 use std::alloc::{AllocError, Global};
 
 /// How many bad relocation words are shown one by one.
@@ -230,7 +230,7 @@ fn put_owner(
     let address = place.saturating_mul(2);
     let before = format!(in alloc; "; the instruction at {address:06o} is ")?;
     text.push_str(before.as_str())?;
-    put_line_text(text, file, place)
+    put_line_text(text, &NamedFile::new(alloc, file)?, place)
 }
 
 /// A file, whose lines of text begin at the words as told.

@@ -1,18 +1,19 @@
 //! The instructions of the objects' texts.
 use aout_core::File;
-use disassemblies::{line_in, line_starts, put_line_text};
+use disassemblies::{NamedFile, line_in, line_starts, put_line_text};
 use instructions::Line;
 use reports::JsonWriter;
 use std::alloc::{AllocError, Global};
 
 /// For each word of a file's text the instruction that begins there; an empty text if none does.
 pub(crate) fn instructions_of(alloc: Global, file: &File) -> Result<Vec<String>, AllocError> {
+    let named = NamedFile::new(alloc, file)?;
     let mut texts = Vec::new(alloc);
     for (place, is_start) in line_starts(alloc, file)?.iter().enumerate() {
         let mut text = String::new(alloc);
         if *is_start && place < file.text_words().len() {
             if let Line::Decoded(..) = line_in(file, place) {
-                put_line_text(&mut text, file, place)?;
+                put_line_text(&mut text, &named, place)?;
             }
         }
         texts.push(text)?;

@@ -4,7 +4,7 @@ ghost use Rattle.link_session.specs.Starts.{own};
 ghost use Rattle.link_maps.specs.References.{segment_of_part, relocs_of, is_label, is_nearer, nearer, nearest, label_before, line_of, text_of_line, before_line, refers_to, reference_by, references_of, references_to};
 
 use aout_core::{File, Kind, Name, Reloc, Segment, Symbol};
-use disassemblies::{line_start, put_line_text};
+use disassemblies::{NamedFile, line_start, put_line_text};
 use std::alloc::{AllocError, Global};
 
 /// A part of a file that has words.
@@ -145,12 +145,16 @@ fn before_line(file: &File, part: Part, line: u16) -> Option<Before>
 
 /// Appends the text of the line that has a word of text: an instruction or a plain word, with the names of the object. For a
 /// word of data it appends nothing. An error: out of memory.
-pub fn put_line_of(text: &mut String, file: &File, reference: &Reference) -> Result<(), AllocError>
-    ensures { OnOk result (string_bytes text.new ≡ string_bytes text.old ++ text_of_line file.now reference.now.part reference.now.line) }
+pub fn put_line_of(
+    text: &mut String,
+    named: &NamedFile<'_>,
+    reference: &Reference,
+) -> Result<(), AllocError>
+    ensures { OnOk result (string_bytes text.new ≡ string_bytes text.old ++ text_of_line named.now reference.now.part reference.now.line) }
 {
     let place = usize::from(reference.line / 2);
     match reference.part {
-        Part::Text if place < file.text_words().len() => put_line_text(text, file, place),
+        Part::Text if place < named.file().text_words().len() => put_line_text(text, named, place),
         _ => Ok(()),
     }
 }

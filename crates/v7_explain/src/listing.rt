@@ -7,7 +7,7 @@ ghost use Rattle.v7_explain.specs.Said.{explained};
 
 use crate::remarks::Explained;
 use aout_core::File;
-use disassemblies::line_starts;
+use disassemblies::{NamedFile, line_starts};
 use listings::write_listing;
 use std::alloc::{AllocError, Global};
 
@@ -22,9 +22,10 @@ pub(crate) fn listing_of(
     ensures again { IfOk result (λ v. read v.items ≡ Ok file.now) }
 {
     let starts = line_starts(alloc, file)?;
+    let named = NamedFile::new(alloc, file)?;
     let remarks = Explained {
         alloc,
-        file,
+        file: &named,
         starts: &starts,
         notes,
         findings,

@@ -4,6 +4,7 @@ use crate::map_names::{Names, put_externals, put_faults};
 use crate::map_objects::read_objects;
 use crate::output::Output;
 use command_words::Call;
+use disassemblies::NamedFile;
 use findings::put_name;
 use link_maps::{LinkMap, Member, Objects, Places, Refused, map_of};
 use link_out::{Bases, Linked, Options};
@@ -135,6 +136,22 @@ fn put_sizes(
     Ok(())
 }
 
+/// The objects of a map, each with its symbols found by their values.
+fn files_of<'a>(
+    alloc: Global,
+    objects: &'a Objects,
+    count: usize,
+) -> Result<Vec<NamedFile<'a>>, AllocError> {
+    let mut files = Vec::new(alloc);
+    for number in 0..count {
+        let Some(object) = objects.object(number) else {
+            return Ok(files);
+        };
+        files.push(NamedFile::new(alloc, object.file())?)?;
+    }
+    Ok(files)
+}
+
 /// Adds the whole map.
 fn put_map(
     alloc: Global,
@@ -143,7 +160,12 @@ fn put_map(
     map: &LinkMap,
     options: &Options,
 ) -> Result<(), AllocError> {
-    let names = Names { map, objects };
+    let files = files_of(alloc, objects, map.places.len())?;
+    let names = Names {
+        map,
+        objects,
+        files: &files,
+    };
     put_head(text, map, objects)?;
     put_sizes(alloc, text, &names, options)?;
     put_faults(text, &names)?;

@@ -1,6 +1,7 @@
 //! Names of the map: who defines a name, who makes it a common, and who refers to it.
 use crate::map_text::{put_front, put_item};
-use aout_core::{File, Name, Symbol};
+use aout_core::{Name, Symbol};
+use disassemblies::NamedFile;
 use findings::put_name;
 use link_maps::{
     Before, LinkMap, Objects, Part, Places, Reference, Use, put_line_of, row_of, stays_undefined,
@@ -14,6 +15,8 @@ use std::fmt::Write;
 pub(crate) struct Names<'a> {
     pub(crate) map: &'a LinkMap,
     pub(crate) objects: &'a Objects,
+    /// The objects, each with its symbols found by their values.
+    pub(crate) files: &'a [NamedFile<'a>],
 }
 
 /// The path of an object; none for a forced name.
@@ -60,7 +63,7 @@ fn put_before(text: &mut String, before: &Before) -> Result<(), AllocError> {
 /// Adds where the instruction is that has a word of text, by the label before it or else by its address, and the instruction.
 fn put_instruction(
     text: &mut String,
-    file: &File,
+    file: &NamedFile<'_>,
     places: &Places,
     reference: &Reference,
 ) -> Result<(), AllocError> {
@@ -75,7 +78,7 @@ fn put_instruction(
 /// Adds the line of a word that refers to a name: its address, the label before it, and of text the instruction.
 fn put_reference(
     text: &mut String,
-    file: &File,
+    file: &NamedFile<'_>,
     places: &Places,
     reference: &Reference,
 ) -> Result<(), AllocError> {
@@ -97,12 +100,9 @@ fn put_reference(
 /// Adds the lines of the words of an object that refer to a name.
 fn put_references(text: &mut String, names: &Names<'_>, used: &Use) -> Result<(), AllocError> {
     let number = used.object.unwrap_or(0);
-    if let (Some(places), Some(object)) = (
-        names.map.places.get(number),
-        names.objects.object(number),
-    ) {
+    if let (Some(places), Some(file)) = (names.map.places.get(number), names.files.get(number)) {
         for reference in &used.references {
-            put_reference(text, object.file(), places, reference)?;
+            put_reference(text, file, places, reference)?;
         }
     }
     Ok(())

@@ -8,7 +8,7 @@ ghost use Rattle.v7_explain.specs.Said.{printed_byte, printed, is_plain, word_sa
 
 use crate::words_in::put_word_text;
 use aout_core::{File, Reloc, Symbol};
-use disassemblies::{is_start, line_in, put_labels, put_line_text};
+use disassemblies::{NamedFile, is_start, line_in, put_labels, put_line_text};
 use listings::{Part, Remark, data_start};
 use std::alloc::{AllocError, Global};
 use symtools::letter;
@@ -17,7 +17,7 @@ use symtools::letter;
 #[derive(Clone, Copy)]
 pub(crate) struct Explained<'a> {
     pub(crate) alloc: Global,
-    pub(crate) file: &'a File,
+    pub(crate) file: &'a NamedFile<'a>,
     /// For each word of the text, whether a line of instructions begins there.
     pub(crate) starts: &'a [bool],
     /// Lines before the file, each without its slash.
@@ -163,7 +163,7 @@ fn data_spot(file: &File, place: usize) -> Spot
 fn put_instruction(
     alloc: Global,
     text: &mut Vec<u8>,
-    file: &File,
+    file: &NamedFile<'_>,
     place: usize,
 ) -> Result<(), AllocError>
     requires { place < length file.now.text_words }
@@ -178,13 +178,18 @@ fn put_instruction(
 fn put_text_remark(x: &Explained<'_>, text: &mut Vec<u8>, place: usize) -> Result<(), AllocError>
     ensures { OnOk result (text.new.items ≡ text.old.items ++ remarked (printed (text_said x.now.starts.now x.now.file.now place))) }
 {
-    if place >= x.file.text_words().len() {
+    if place >= x.file.file().text_words().len() {
         return Ok(());
     }
     if is_start(x.starts, place) {
         put_instruction(x.alloc, text, x.file, place)
     } else {
-        put_reloc(x.alloc, text, x.file.symbols(), text_spot(x.file, place))
+        put_reloc(
+            x.alloc,
+            text,
+            x.file.file().symbols(),
+            text_spot(x.file.file(), place),
+        )
     }
 }
 
@@ -192,25 +197,30 @@ fn put_text_remark(x: &Explained<'_>, text: &mut Vec<u8>, place: usize) -> Resul
 fn put_data_remark(x: &Explained<'_>, text: &mut Vec<u8>, place: usize) -> Result<(), AllocError>
     ensures { OnOk result (text.new.items ≡ text.old.items ++ remarked (printed (data_said x.now.file.now place))) }
 {
-    if place >= x.file.data_words().len() {
+    if place >= x.file.file().data_words().len() {
         return Ok(());
     }
-    put_reloc(x.alloc, text, x.file.symbols(), data_spot(x.file, place))
+    put_reloc(
+        x.alloc,
+        text,
+        x.file.file().symbols(),
+        data_spot(x.file.file(), place),
+    )
 }
 
 /// Appends the labels of a line of so many words at a place of the text, 0 for its end.
 fn put_line_labels(
     alloc: Global,
     text: &mut Vec<u8>,
-    symbols: &[Symbol],
+    file: &NamedFile<'_>,
     place: usize,
     length: u8,
 ) -> Result<(), AllocError>
     requires { place < 32768 }
-    ensures { OnOk result (text.new.items ≡ text.old.items ++ text_of (label_lines symbols.now (2 * place) length)) }
+    ensures { OnOk result (text.new.items ≡ text.old.items ++ text_of (label_lines file.now.symbols (2 * place) length)) }
 {
     let mut lines = String::new(alloc);
-    put_labels(&mut lines, symbols, (2 * place) as u16, length)?;
+    put_labels(&mut lines, file, (2 * place) as u16, length)?;
     text.extend_from_slice(lines.as_bytes())
 }
 
@@ -218,13 +228,13 @@ fn put_line_labels(
 fn put_text_labels(x: &Explained<'_>, text: &mut Vec<u8>, place: usize) -> Result<(), AllocError>
     ensures { OnOk result (text.new.items ≡ text.old.items ++ text_of (labels_said x.now.starts.now x.now.file.now place)) }
 {
-    let end = x.file.text_words().len();
+    let end = x.file.file().text_words().len();
     if place == end {
-        return put_line_labels(x.alloc, text, x.file.symbols(), place, 0);
+        return put_line_labels(x.alloc, text, x.file, place, 0);
     }
     if place < end && is_start(x.starts, place) {
-        let length = line_in(x.file, place).length() as u8;
-        return put_line_labels(x.alloc, text, x.file.symbols(), place, length);
+        let length = line_in(x.file.file(), place).length() as u8;
+        return put_line_labels(x.alloc, text, x.file, place, length);
     }
     Ok(())
 }

@@ -3,7 +3,7 @@ use Rattle.std.specs.Prelude.{string_bytes}
 use Rattle.std.specs.List.{flat_map}
 use Rattle.listings.specs.Listing.{text_of}
 use Rattle.disassemblies.specs.Labels.{label_within}
-use Rattle.disassemblies.proofs.label.put_labels_within.Given as goal
+use Rattle.disassemblies.proofs.label.put_all_labels.Given as goal
 
 abbrev pub invariant-loop-symbol : goal.invariant-loop-symbol
 invariant-loop-symbol l =
