@@ -14,13 +14,13 @@
  * buffers of size 0 asks for the sizes. With any other fault nothing is written either, and the sizes are 0.
  *
  * Each call returns a status as the program v7 does: 2 if there is a fault, and so no result, 1 if a link was made and there is
- * something to report, and otherwise 0. *ANSWER is always filled. docs/LINK.md has all limits.
+ * something to report, or if an edit was not made, and otherwise 0. *ANSWER is always filled. docs/LINK.md has all limits.
  *
  * V7_NO_MEMORY comes only at a stage at which nothing is refused. A call takes memory after it has accepted the options, the
- * form, the names and the sizes of parts, and for a file only if it is whole. So V7_NO_MEMORY never comes in place of 1 to 6, or
- * of 11 to 14 for a file or for the first edit. v7_link enters forced names before it reads an object: without them,
- * V7_NO_MEMORY never comes in place of 11 to 14 for the first object either. Once an object or an edit is accepted, memory may
- * run out there, and V7_NO_MEMORY may come in place of any later fault: the answer does not say which request failed.
+ * form, the names and the sizes of parts, and for a file only if it is whole. So V7_NO_MEMORY never hides 1 to 6, 11 to 14 of a
+ * file, or 7 and 11 to 14 of the first edit. v7_link enters forced names before it reads an object: without them, V7_NO_MEMORY
+ * never hides 11 to 14 of the first object either. Once an object or an edit is accepted, memory may run out there, and
+ * V7_NO_MEMORY may come in place of any later fault: the answer does not say which request failed.
  */
 #ifndef V7_H
 #define V7_H
