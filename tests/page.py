@@ -1,7 +1,7 @@
 #!/usr/bin/env python3
 """Opens the page of the lesson in Chromium, from the disk, and compares what it shows, in every state, with what `v7-lesson`
 prints for the same objects, and the addresses with what `v7 ld` and `v7 nm` say. Then it looks at the layout in many sizes, in
-Firefox too if it is installed, and takes the tour and the lessons by keys alone. Pictures of five states go to docs/pictures.
+Firefox too if it is installed, and takes the tour and the lessons by keys alone. Pictures of three states go to docs/pictures.
 
 usage: tests/page.py LESSON V7 PAGE QUESTIONS FILE...     PAGE is the folder with the scripts and the styles; five FILEs
 """
@@ -283,9 +283,9 @@ def by_keyboard(tools, page, files):
 
 
 def pictures(page):
-    """Pictures of five states."""
+    """Pictures of three states."""
     os.makedirs(PICTURES, exist_ok=True)
-    states = {"first": "", "waits": "objects=1", "bound": "objects=1,2", "withdrawn": "objects=1&withdrawn=2", "addresses": "objects=1,2,3,4&addresses=-n"}
+    states = {"first": "", "bound": "objects=1,2", "addresses": "objects=1,2,3,4&addresses=-n"}
     for name, address in states.items():
         page.open("#" + address)
         page.picture(f"{PICTURES}/{name}.png")

@@ -129,7 +129,7 @@ impl Block {
         Ok(())
     }
 
-    /// Fills an empty block with the next `n` bytes, or with `BLOCK_SIZE` where that is less; fewer come only at
+    /// Fills an empty block with the next `n` bytes, or with `BLOCK_SIZE` if that is less; fewer come only at
     /// the end of the device.
     pub(crate) fn fill<R: Read>(&mut self, n: usize, wire: &mut Wire<R>) -> Result<(), DeviceFault>
         requires { self.old ≡ [] }

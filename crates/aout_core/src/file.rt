@@ -140,7 +140,7 @@ impl File {
         &self.parts.data_words
     }
 
-    /// The relocation words of the text; none where the header's flag is not 0. (a.out(5))
+    /// The relocation words of the text; none if the header's flag is not 0. (a.out(5))
     pub fn text_reloc(&self) -> &[Reloc]
         ensures value { result.now ≡ self.now.text_reloc }
         ensures short { 2 * length result.now < 2 ^ 16 }
@@ -149,7 +149,7 @@ impl File {
         &self.parts.text_reloc
     }
 
-    /// The relocation words of the data; none where the header's flag is not 0. (a.out(5))
+    /// The relocation words of the data; none if the header's flag is not 0. (a.out(5))
     pub fn data_reloc(&self) -> &[Reloc]
         ensures value { result.now ≡ self.now.data_reloc }
         ensures short { 2 * length result.now < 2 ^ 16 }

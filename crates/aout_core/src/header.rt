@@ -23,7 +23,7 @@ pub struct Header {
     pub entry_point: u16,
     /// A word without a meaning.
     pub unused: u16,
-    /// 0 where relocation words are present; any other word says that they were stripped.
+    /// 0 if relocation words are present; any other word says that they were stripped.
     pub flag: u16,
 }
 

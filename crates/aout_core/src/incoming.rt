@@ -54,7 +54,7 @@ impl Incoming {
         self.block.pass(n);
     }
 
-    /// Reads the next block, or what is missing where that is less.
+    /// Reads the next block, or what is missing if that is less.
     fn refill<R: Read>(&mut self, wire: &mut Wire<R>) -> Result<(), ReadFault>
         requires works { wire.old.has_failed ≡ false }
         requires empty { self.old.waiting ≡ [] }

@@ -15,7 +15,7 @@ pub fn spelling_law()
     ensures { EncodingLaw }
 {}
 
-/// What is read is what the bytes encode: where bytes begin with a file, the first of them encode it, as many as its
+/// What is read is what the bytes encode: if bytes begin with a file, the first of them encode it, as many as its
 /// header says; they differ from what is written for it at most after the first NUL of a name. And the same bytes
 /// encode one file at most, which is read of them, whatever follows. (a.out(5))
 pub fn reading_law()

@@ -8,7 +8,7 @@ use crate::symbol::{Segment, Symbol};
 use std::marker::Model;
 use thiserror::Error;
 
-/// A well-formed file: magic 0407, with relocation, and each relocation word has a kind and, where it is that of an
+/// A well-formed file: magic 0407, with relocation, and each relocation word has a kind and, if it is that of an
 /// external, the number of a symbol that is external and of type 0. Contracts see it as the file. (a.out(5); that
 /// such a file alone is an object: own choice)
 #[derive(Debug, Drop)]
@@ -91,7 +91,7 @@ impl Object {
     ///
     /// Errors, the first that applies, and the file is handed back: `NotAnObject`, 1, if the magic is not 0407, or
     /// `NoRelocation`, 2, if the flag is not 0. Then, for the first bad word, text before data: `BadRelocation`, 3,
-    /// if its kind is 012, 014 or 016, or `BadSymbolNumber`, 4, where its kind is 010 and its number not that of
+    /// if its kind is 012, 014 or 016, or `BadSymbolNumber`, 4, if its kind is 010 and its number not that of
     /// an external symbol of type 0.
     pub fn from_file(file: File) -> Result<Object, (File, ObjectFault)>
         ensures object { IfOk result (λ object. object ≡ file) }

@@ -29,7 +29,7 @@ pub trait BufferedWrite: Write {
 
 /// A reader or a writer, and a latch: whether the device has failed.
 ///
-/// The latch goes on where a call of the device returns an error of any kind, or where a write of some bytes takes
+/// The latch goes on if a call of the device returns an error of any kind, or if a write of some bytes takes
 /// none of them. A wire whose latch is on touches its device no more: each use of it returns `DeviceFault`. (own
 /// choice)
 #[derive(Drop)]
@@ -79,8 +79,8 @@ impl<D> Wire<D> {
 
 impl<R: Read> Wire<R> {
     /// Reads some bytes to the beginning of `buf`, by one call of the device; 0 are read only at its end, or if
-    /// `buf` is empty. What else `buf` holds afterwards is not said, but that a latch that was on leaves it as it
-    /// was. (own choice)
+    /// `buf` is empty. The rest of `buf` may change, unless the latch was on: then all of `buf` is as it was. (own
+    /// choice)
     pub fn read(&mut self, buf: &mut [u8]) -> Result<usize, DeviceFault>
         ensures fault { IsErr result ↔ IsTrue self.new.has_failed }
         ensures latched { IsTrue self.old.has_failed → (self.new ≡ self.old) }
@@ -100,8 +100,8 @@ impl<R: Read> Wire<R> {
         }
     }
 
-    /// Reads until `buf` is full or the device is at its end, and returns how many bytes were read. What else
-    /// `buf` holds afterwards is not said, but that a latch that was on leaves it as it was.
+    /// Reads until `buf` is full or the device is at its end, and returns how many bytes were read. The rest of
+    /// `buf` may change, unless the latch was on: then all of `buf` is as it was.
     pub(crate) fn fill(&mut self, buf: &mut [u8]) -> Result<usize, DeviceFault>
         ensures fault { IsErr result ↔ IsTrue self.new.has_failed }
         ensures latched { IsTrue self.old.has_failed → (self.new ≡ self.old) }
@@ -126,7 +126,7 @@ impl<R: Read> Wire<R> {
 }
 
 impl<W: Write> Wire<W> {
-    /// Writes all the bytes, or on a fault a prefix of them. To write no bytes leaves the wire as it was; where the
+    /// Writes all the bytes, or on a fault a prefix of them. To write no bytes leaves the wire as it was; if the
     /// latch is on, it is a fault too. (own choice)
     pub fn put(&mut self, bytes: &[u8]) -> Result<(), DeviceFault>
         ensures writes { Writes W.contents result self.old self.new bytes.now }

@@ -7,7 +7,7 @@ use std::io::{ErrorKind, Write};
 use std::marker::Model;
 
 /// A device, and at most `BLOCK_SIZE` bytes that wait for it. The device is written to once a block is full and more
-/// bytes come, and by a flush; bytes that wait when nobody flushes are lost. Where a call of the device fails, what it
+/// bytes come, and by a flush; bytes that wait when nobody flushes are lost. If a call of the device fails, what it
 /// did not take still waits. It takes no memory. (own choice)
 #[derive(Drop)]
 pub struct BlockWriter<W> {

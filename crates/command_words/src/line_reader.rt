@@ -142,7 +142,7 @@ impl<R> Model for LineReader<R> {
 impl<R: Read + Drop> LineReader<R> {
     /// A script of which no line was read. It requests memory for a line. (own choice)
     ///
-    /// Errors: `AllocError` where memory runs out for a line.
+    /// Errors: `AllocError` if memory runs out for a line.
     pub fn new(alloc: Global, wire: Wire<R>) -> Result<LineReader<R>, AllocError>
         ensures { IfOk result (λ script. script ≡ begun wire) }
     {
@@ -161,8 +161,8 @@ impl<R: Read + Drop> LineReader<R> {
     /// settle the result: no whole line, at most 4,096 bytes of one, and no byte after the last line that may be given.
     /// What a read gives is used at once. (own choice)
     ///
-    /// Errors: `End` at the end; `LongLine` for more than 4,096 bytes before a newline; `ManyLines` where there is
-    /// anything after 1,000,000 lines; `ReadFailed` where the device failed; `Memory` where memory runs out for a path.
+    /// Errors: `End` at the end; `LongLine` for more than 4,096 bytes before a newline; `ManyLines` if there is
+    /// anything after 1,000,000 lines; `ReadFailed` if the device failed; `Memory` if memory runs out for a path.
     /// Every later call returns the same again.
     pub fn next_line(&mut self) -> Result<Line, Stop>
         ensures next { GivesNext R.remaining self.old self.new result }

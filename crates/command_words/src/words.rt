@@ -76,7 +76,7 @@ const REVERSE: &str = "reverse";
 const UNDEFINED: &str = "undefined";
 /// The files.
 const FILE: &str = "file";
-/// The file that ld writes, and nm and size look into, where none is named.
+/// The file that ld writes, and nm and size look into, if none is named.
 const PROGRAM: &str = "a.out";
 
 /// The flags of nm, each with its letter.
@@ -182,7 +182,7 @@ fn owned_files(alloc: Global, matches: &ArgMatches<'_>) -> Result<Vec<String>, W
     Ok(owned)
 }
 
-/// The files, or the program where none is named.
+/// The files, or the program if none is named.
 fn files_or_program(alloc: Global, mut files: Vec<String>) -> Result<Vec<String>, WordsFault>
     ensures whole { IfOk result (λ files. 0 < vec_len files) }
     ensures value { IfOk result (λ given. map string_bytes given.items ≡ or_program (map string_bytes files.items)) }
@@ -287,7 +287,7 @@ fn dashes(words: &[String]) -> usize
 ///
 /// - `ld [-rsxXnid] [-u NAME]... [-e NAME] [-o FILE] FILE...`, where the output is `a.out` unless `-o` names it. `-s`
 ///   wins over `-x`, and that over `-X`. A name is cut at 8 bytes.
-/// - `nm [-gnopru] [FILE...]` and `size [FILE...]`, which take `a.out` where no file is named.
+/// - `nm [-gnopru] [FILE...]` and `size [FILE...]`, which take `a.out` if no file is named.
 /// - `strip FILE...`.
 /// - `session [-rsxXnid] [-u NAME]... [-e NAME]`.
 ///
@@ -297,7 +297,7 @@ fn dashes(words: &[String]) -> usize
 /// (ld(1), nm(1), size(1), strip(1); the session and the limit are an own choice)
 ///
 /// Errors: `Usage`, 1, for all other words, `-r` with `-s`, `-n` or `-i`, `-n` with `-i`, and more than 64 different
-/// names after `-u`; `Memory`, 9, where memory runs out for what the words ask for.
+/// names after `-u`; `Memory`, 9, if memory runs out for what the words ask for.
 pub fn parse(alloc: Global, words: Vec<String>) -> Result<Call, WordsFault>
     ensures whole { IfOk result IsWhole }
     ensures asked { IfOk result (IsAsked (map string_bytes words.items)) }

@@ -70,7 +70,7 @@ pub fn place_of(bytes: &[u8], refusal: Refusal) -> usize
     }
 }
 
-/// The whole name of symbol `n`; no bytes where the file is refused for its header or its strings, or has no such
+/// The whole name of symbol `n`; no bytes if the file is refused for its header or its strings, or has no such
 /// symbol. (own choice)
 pub fn whole_name(bytes: &[u8], n: u16) -> &[u8]
     ensures name { HasSymbol bytes.now n → (result.now ≡ whole_name bytes.now n) }

@@ -41,7 +41,7 @@ fn words_alone(alloc: Global, values: &[u16]) -> Result<Vec<ObjectWord>, AllocEr
         .collect(alloc)
 }
 
-/// Each word with its relocation word, or with 0 where relocation was stripped.
+/// Each word with its relocation word, or with 0 if relocation was stripped.
 fn words_of(
     alloc: Global,
     header: &Header,

@@ -22,7 +22,7 @@ pub enum LongPart {
     Symbols,
 }
 
-/// Why a call has no answer. Where memory runs out it is `Memory`, whatever was being done. (own choice)
+/// Why a call has no answer. If memory runs out it is `Memory`, whatever was being done. (own choice)
 #[derive(Clone, Copy, Debug, PartialEq, Eq)]
 pub enum Cause {
     /// 1: a bit of the options stands for none.
@@ -56,7 +56,7 @@ pub enum Cause {
 pub struct Refusal {
     /// Why there is no answer.
     pub cause: Cause,
-    /// The number of the object that is not taken, of the forced name, or of the edit, from 0; and 0 where the cause lies
+    /// The number of the object that is not taken, of the forced name, or of the edit, from 0; and 0 if the cause lies
     /// in none of these.
     pub place: usize,
 }

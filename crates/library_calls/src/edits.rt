@@ -65,7 +65,7 @@ pub(crate) fn read_edits(alloc: Global, letters: &[u8], bytes: &[u8]) -> Result<
     Ok(edits)
 }
 
-/// The number of a reply: 0 where the edit was made, else that of the limit that the object passes, or 35 where there was
+/// The number of a reply: 0 if the edit was made, else that of the limit that the object passes, or 35 if there was
 /// nothing to withdraw.
 fn reply_number(reply: &Reply) -> u8
     ensures { result ≡ reply_number (answer_of reply.now) }
@@ -104,7 +104,7 @@ pub(crate) fn make_edits(
     Ok(numbers)
 }
 
-/// The status of a session, by that of its link: 1 where an edit was not made.
+/// The status of a session, by that of its link: 1 if an edit was not made.
 #[tactic(auto, using(crate::proofs::EditLemmas::by_reply))]
 pub(crate) fn session_status(replies: &[u8], status: u8) -> u8
     ensures { result ≡ session_status replies.now status }

@@ -27,7 +27,7 @@ pub struct Finding {
 /// A linked file, and what is reported of it as a list. (ld(1))
 #[derive(Debug, Drop)]
 pub struct Found {
-    /// 0 where there is nothing to report, else 1.
+    /// 0 if there is nothing to report, else 1.
     pub status: u8,
     /// The bytes of the file.
     pub file: Vec<u8>,

@@ -23,7 +23,7 @@ use std::alloc::Global;
 pub struct LinkRequest<'a> {
     /// The options, a bit each: 1 for `-r`, 2 `-s`, 4 `-x`, 8 `-X`, 16 `-n`, 32 `-i`, 64 `-d`.
     pub options: u32,
-    /// The name of the entry point, at most 8 bytes; none where it is empty.
+    /// The name of the entry point, at most 8 bytes; none if it is empty.
     pub entry: &'a [u8],
     /// The forced names, 8 bytes each, filled up with NULs.
     pub forced: &'a [u8],
@@ -32,7 +32,7 @@ pub struct LinkRequest<'a> {
 /// A linked file, and what is reported of it. (ld(1))
 #[derive(Debug, Drop)]
 pub struct Program {
-    /// 0 where there is nothing to report, else 1.
+    /// 0 if there is nothing to report, else 1.
     pub status: u8,
     /// The bytes of the file.
     pub file: Vec<u8>,

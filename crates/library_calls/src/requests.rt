@@ -33,7 +33,7 @@ fn flags_in(bits: u32) -> Flags
     }
 }
 
-/// The name of the entry point, where there are bytes of one.
+/// The name of the entry point, if there are bytes of one.
 fn entry(bytes: &[u8]) -> Option<Name>
     ensures { result ≡ entry_of bytes.now }
 {

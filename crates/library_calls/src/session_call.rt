@@ -19,10 +19,10 @@ use std::alloc::Global;
 /// What a session gives: the replies to its edits, and the link of what is left. (ld(1); edits: own choice)
 #[derive(Debug, Drop)]
 pub struct Ran {
-    /// For each edit 0 where it was made, 31 to 34 where the object passes a limit, and 35 where there was none to
+    /// For each edit 0 if it was made, 31 to 34 if the object passes a limit, and 35 if there was none to
     /// withdraw.
     pub replies: Vec<u8>,
-    /// The link. Its status is 1 also where an edit was not made.
+    /// The link. Its status is 1 also if an edit was not made.
     pub program: Program,
 }
 

@@ -26,7 +26,7 @@ pub enum Form {
 /// What a session shows: the replies to its edits, and the state that they leave. (own choice)
 #[derive(Debug, Drop)]
 pub struct Shown {
-    /// 1 where an edit was not made, else 0.
+    /// 1 if an edit was not made, else 0.
     pub status: u8,
     /// A number for each edit, as in `Ran`.
     pub replies: Vec<u8>,

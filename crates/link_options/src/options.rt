@@ -9,9 +9,9 @@ use thiserror::Error;
 /// Where data lies. (ld(1))
 #[derive(Clone, Copy, Debug, PartialEq, Eq)]
 pub enum Layout {
-    /// Behind text. Magic 0407.
+    /// After text. Magic 0407.
     Plain,
-    /// Behind text at the next multiple of 020000, so that text can be shared (the option `-n`). Magic 0410.
+    /// After text at the next multiple of 020000, so that text can be shared (the option `-n`). Magic 0410.
     Pure,
     /// At 0 of a space of its own (the option `-i`). Magic 0411.
     Split,
@@ -87,8 +87,8 @@ impl Options {
     /// These options, without `-d`; `relocatable` is the option `-r`, and `entry` the name after `-e`. (ld(1); what
     /// excludes what: own choice)
     ///
-    /// Errors, the first that applies: `RelocStrip`, 1, where relocation is kept and no symbols; `RelocLayout`, 2,
-    /// where it is kept in another layout than the plain one.
+    /// Errors, the first that applies: `RelocStrip`, 1, if relocation is kept and no symbols; `RelocLayout`, 2,
+    /// if it is kept in another layout than the plain one.
     pub fn new(
         layout: Layout,
         relocatable: bool,
@@ -143,7 +143,7 @@ impl Options {
         self.keep
     }
 
-    /// The name of the entry point, where one is asked for. (ld(1))
+    /// The name of the entry point, if one is asked for. (ld(1))
     pub fn entry(&self) -> Option<Name>
         ensures { result ≡ self.now.entry }
     {

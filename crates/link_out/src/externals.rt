@@ -15,8 +15,8 @@ use std::alloc::{AllocError, Global};
 
 /// The externals of the link of the objects that a session keeps, by first mention: each as the symbol table of `finish` has it,
 /// with its type and its address, or its size if it is not bound. The symbols that the options keep make no difference, and
-/// neither does a table or a symbol number that `finish` refuses. There is no address, and so no list, if the end of bss would pass
-/// 65,535. (ld(1))
+/// neither does a table or a symbol number that `finish` refuses. `None` if the end of bss would pass 65,535: then there are no
+/// addresses. (ld(1))
 ///
 /// An error: out of memory.
 pub fn link_externals(

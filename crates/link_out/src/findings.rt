@@ -22,7 +22,7 @@ use std::alloc::{AllocError, Global};
 pub(crate) struct EntryPoint {
     /// The address of the name that is asked for, if that is in text, and else 0.
     pub(crate) address: u16,
-    /// The name that is asked for, where it is not in text.
+    /// The name that is asked for, if it is not in text.
     pub(crate) bad: Option<Name>,
 }
 
@@ -37,7 +37,7 @@ fn missing(alloc: Global, session: &Session) -> Result<Vec<Name>, AllocError>
         .collect(alloc)
 }
 
-/// The undefined names that are reported: none where relocation is kept. An error: out of memory.
+/// The undefined names that are reported: none if relocation is kept. An error: out of memory.
 fn undefined_names(
     alloc: Global,
     session: &Session,

@@ -50,7 +50,7 @@ fn count_kept(keep: Keep, symbols: &[Symbol]) -> usize
         .count()
 }
 
-/// How many locals of the objects are kept; `None` where these and the externals are too many for a table.
+/// How many locals of the objects are kept; `None` if these and the externals are too many for a table.
 fn count_locals(entries: &[Entry], keep: Keep, externals: u16) -> Option<u16>
     ensures many { IsNone result ↔ IsTrue (nat_lt 5461 (kept_count keep (objects entries.now) + externals)) }
     ensures count { IfSome result (λ n. n ≡ kept_count keep (objects entries.now)) }
@@ -68,7 +68,7 @@ fn count_locals(entries: &[Entry], keep: Keep, externals: u16) -> Option<u16>
     Some(count as u16)
 }
 
-/// How many locals the table of a link has; `None` where the table would have more than 5,461 rows.
+/// How many locals the table of a link has; `None` if the table would have more than 5,461 rows.
 pub(crate) fn locals_within(session: &Session, options: &Options) -> Option<u16>
     ensures many { IsNone result ↔ IsTrue (nat_lt 5461 (length (table (plan_of session.now options.now) (objects session.now.entries)))) }
     ensures count { IfSome result (λ n. n ≡ length (local_rows (plan_of session.now options.now) (objects session.now.entries))) }

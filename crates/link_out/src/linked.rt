@@ -28,9 +28,9 @@ pub struct Report {
     pub multiples: Vec<Name>,
     /// Those of `_etext`, `_edata` and `_end` that the objects define, or make commons.
     pub reserved: Vec<Name>,
-    /// The name of the entry point, where it is not in text.
+    /// The name of the entry point, if it is not in text.
     pub entry_bad: Option<Name>,
-    /// The names that nothing defines, but for commons and those three; none where relocation is kept.
+    /// The names that nothing defines, but for commons and those three; none if relocation is kept.
     pub undefined: Vec<Name>,
 }
 
@@ -73,7 +73,7 @@ fn put_names<W: Write>(names: &[Name], text: &[u8], out: &mut Wire<W>) -> Result
 }
 
 impl Report {
-    /// The status that a program ends with: 0 where there is nothing to report, else 1. (own choice)
+    /// The status that a program ends with: 0 if there is nothing to report, else 1. (own choice)
     pub fn status(&self) -> u8
         ensures { result ≡ status_of (findings_of self.now) }
     {

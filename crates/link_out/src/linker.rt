@@ -75,7 +75,7 @@ fn header_for(options: &Options, bases: &Bases, rows: usize, entry: u16) -> Head
     }
 }
 
-/// The relocation words of the cells where relocation is kept, and else none. An error: out of memory.
+/// The relocation words of the cells if relocation is kept, and else none. An error: out of memory.
 fn kept_relocs(
     alloc: Global,
     options: &Options,
@@ -203,9 +203,9 @@ fn locals_unless_refused(
 /// The link of the objects that a session keeps: the file, and what is reported of it. With relocation the file is an
 /// object, which can be linked again. The session is only read. (ld(1) and a.out(5); the limits are an own choice)
 ///
-/// Errors, the first that applies: `DoesNotFit`, 1, where the end of bss would pass 65,535; `TooManySymbols`, 2,
-/// where more than 5,461 symbols would be written; `SymbolNumber`, 3, where a relocation word would need a number
-/// over 4,095; `Memory`, 4, where memory runs out for file and report.
+/// Errors, the first that applies: `DoesNotFit`, 1, if the end of bss would pass 65,535; `TooManySymbols`, 2,
+/// if more than 5,461 symbols would be written; `SymbolNumber`, 3, if a relocation word would need a number
+/// over 4,095; `Memory`, 4, if memory runs out for file and report.
 pub fn finish(alloc: Global, session: &Session, options: &Options) -> Result<Linked, LinkFault>
     ensures value { IsLinkOf result (link session.now.forced (objects session.now.entries) options.now) }
     ensures object { options.now.relocatable ≡ true → IfOk result (λ linked. IsWellFormed linked.file) }

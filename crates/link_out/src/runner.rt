@@ -45,7 +45,7 @@ fn withdraw_last(session: &mut Session) -> Reply
     }
 }
 
-/// Makes an edit of a session, and replies to it. An addition that is refused changes nothing, nor does a withdrawal where
+/// Makes an edit of a session, and replies to it. An addition that is refused changes nothing, nor does a withdrawal if
 /// nothing is kept. (own choice)
 ///
 /// Errors: `AllocError` if memory runs out for an addition that is accepted. The session is then as it was.
@@ -133,8 +133,8 @@ fn run_on(
 /// Does the edits in order, from a session with these forced names and no objects, and links what is left: the
 /// replies, one to each edit, and the link. (ld(1); edits are an own choice)
 ///
-/// Memory may run out for the forced names, for an addition that is accepted, or for the link. The result does not reveal
-/// which.
+/// Memory may run out for the forced names, for an addition that is accepted, for the replies, or for the link. The result
+/// does not reveal which.
 ///
 /// Errors: `Memory`, 1, if memory runs out; `Link`, 2, if the link is refused for another cause.
 pub fn run(

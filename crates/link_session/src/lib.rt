@@ -5,6 +5,8 @@
 //! session.add(label, object)?;
 //! let after = session.external_count();
 //! session.withdraw().unwrap();
+//! withdraw_law();
+//! Ok(after.saturating_sub(before))
 //! ```
 //!
 //! Types:

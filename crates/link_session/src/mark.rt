@@ -2,15 +2,15 @@
 use crate::cell::Cell;
 use crate::state::State;
 
-/// Where a cell stands: the index of its word in the merged text or data, from 0. (own choice)
+/// The place of a cell: the index of its word in the merged text or data, from 0. (own choice)
 #[derive(Clone, Copy, Debug, PartialEq, Eq)]
 pub enum Place {
     InText(u16),
     InData(u16),
 }
 
-/// What was at a place before it was overwritten. The first mark of a place has what was there before the addition, and
-/// each later one of the same place what the change before it led to. (own choice)
+/// What an addition overwrote. A cell has at most one mark. A name has one for each change of its state: the first has
+/// the state before the addition, and each later one the state that the change before it led to. (own choice)
 #[derive(Clone, Copy, Debug, PartialEq, Eq)]
 pub enum Mark {
     /// A cell that was bound.

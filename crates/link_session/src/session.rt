@@ -123,7 +123,7 @@ impl Session {
     /// A session of no objects, whose first externals are the forced names, each wanted at size 0. (ld(1), the option
     /// `-u`)
     ///
-    /// Errors: `Memory`, where memory runs out for the names.
+    /// Errors: `Memory`, if memory runs out for the names.
     pub fn with_forced(alloc: Global, forced: &Forced) -> Result<Session, Memory>
         ensures kept { IfOk result (λ session. session ≡ nothing_kept forced.now) }
         ensures none { forced.now ≡ [] → IsOk result }
@@ -151,8 +151,8 @@ impl Session {
     /// Appends an object, and joins it to the merged image: words that refer to names which are defined, before or
     /// now, are bound. (ld(1); the limits are an own choice)
     ///
-    /// Errors, the first that applies: `TextFull`, 1, `DataFull`, 2, and `BssFull`, 3, where that segment would pass
-    /// 65,534 bytes in all; `NamesFull`, 4, where there would be more than 65,535 externals; `Memory`, 5, where memory
+    /// Errors, the first that applies: `TextFull`, 1, `DataFull`, 2, and `BssFull`, 3, if that segment would pass
+    /// 65,534 bytes in all; `NamesFull`, 4, if there would be more than 65,535 externals; `Memory`, 5, if memory
     /// runs out for the object's cells, names and marks. Then nothing changes, and label and object are handed back.
     pub fn add(&mut self, label: String, object: Object) -> Result<(), AddRefused>
         ensures fits { OnOk result (refusal self.old.forced (objects self.old.entries) object ≡ None) }
@@ -194,7 +194,7 @@ impl Session {
     }
 
     /// Takes the object added last out again, and returns its label and the object: the image is then that of the
-    /// others. `None` where no object is there. (own choice)
+    /// others. `None` if no object is there. (own choice)
     pub fn withdraw(&mut self) -> Option<(String, Object)>
         ensures none { IsNone result → (self.old.entries ≡ []) × (self.new ≡ self.old) }
         ensures last { IfSome result (λ last. Withdraws self.old self.new (labelled last.0 last.1)) }
@@ -238,7 +238,7 @@ impl Session {
         self.image.bss_total
     }
 
-    /// The external with this index, by first mention: its name, and what is known of it; `None` where there are fewer.
+    /// The external with this index, by first mention: its name, and what is known of it; `None` if there are fewer.
     /// (ld(1))
     pub fn external(&self, index: u16) -> Option<(Name, State)>
         ensures { result ≡ slice_get (image_of self.now).externals index }
@@ -265,7 +265,7 @@ impl Session {
         self.image.externals.len() as u16
     }
 
-    /// The index of an external name; `None` where nothing mentions it. (ld(1))
+    /// The index of an external name; `None` if nothing mentions it. (ld(1))
     pub fn find(&self, name: &Name) -> Option<u16>
         ensures { result ≡ position (bytes_eq name.now) (externals self.now.forced (objects self.now.entries)) }
     {
@@ -283,9 +283,9 @@ impl Session {
         &self.image.multiples
     }
 
-    /// What the addition of the last object overwrote, and nothing else; empty without objects. A place may appear more
-    /// than once, as a common that grows several times: its first mark has what was there before the addition, and each
-    /// later one what the change before it led to. (own choice)
+    /// What the addition of the last object overwrote, and nothing else; empty without objects. A name may have several
+    /// marks, as a common that grows several times: the first has its state before the addition, and each later one the
+    /// state that the change before it led to. A cell has at most one. (own choice)
     pub fn last_marks(&self) -> &[Mark]
         ensures value { result.now ≡ newest self.now.journal }
         ensures journal { IsJournal self.now.forced (objects self.now.entries) self.now.journal }

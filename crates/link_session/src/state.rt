@@ -11,7 +11,7 @@ pub enum State {
     /// The first definition: absolute, text, data or bss, and the offset in bytes from the start of that merged
     /// segment; for an absolute name its value.
     Defined(Segment, u16),
-    /// No definition: the size of a common in bytes, the largest that was mentioned, or 0 where the name is undefined.
+    /// No definition: the size of a common in bytes, the largest that was mentioned, or 0 if the name is undefined.
     Wanted(u16),
 }
 

@@ -36,7 +36,7 @@ fn pc_text(pc: bool) -> &'static [u8]
     if pc { b" pc  " } else { b"     " }
 }
 
-/// Appends a word, `pc` where it is relative to that, and what it refers to.
+/// Appends a word, `pc` if it is relative to that, and what it refers to.
 fn push_cell(text: &mut Vec<u8>, session: &Session, cell: Cell) -> Result<(), AllocError>
     ensures { OnOk result (text.new.items ≡ text.old.items ++ cell_text (image_of session.now).externals cell) }
 {
@@ -123,7 +123,7 @@ fn push_cells(
     Ok(())
 }
 
-/// Appends the line of bss, where there is some.
+/// Appends the line of bss, if there is some.
 fn push_bss(text: &mut Vec<u8>, size: u16) -> Result<(), AllocError>
     ensures { OnOk result (text.new.items ≡ text.old.items ++ bss_line size) }
 {

@@ -33,7 +33,7 @@ pub(crate) fn push_shown_name(text: &mut Vec<u8>, name: &Name) -> Result<(), All
     Ok(())
 }
 
-/// The name of the external of this index; the empty name where there are fewer.
+/// The name of the external of this index; the empty name if there are fewer.
 pub(crate) fn name_at(session: &Session, index: u16) -> Name
     ensures { result ≡ name_at (image_of session.now).externals index }
 {

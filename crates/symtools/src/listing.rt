@@ -19,7 +19,7 @@ use std::io::Write;
 /// for; the files stay in the order given. With several files, a line with the file's path and `:` stands above its
 /// lines, unless the options want the path before each line. (nm(1))
 ///
-/// Errors: `Memory`, 1, where memory runs out for the symbols of a file; `Device`, 2, where the device failed, in
+/// Errors: `Memory`, 1, if memory runs out for the symbols of a file; `Device`, 2, if the device failed, in
 /// this call or before it.
 pub fn nm<W: Write>(
     alloc: Global,
@@ -132,7 +132,7 @@ fn sort_by_name(list: &mut Vec<Symbol>) -> Result<(), AllocError>
     list.sort_by_key(|symbol| symbol.name)
 }
 
-/// Sorts by value, and by name where values are equal; symbols of one value and name keep their order.
+/// Sorts by value, and by name if values are equal; symbols of one value and name keep their order.
 fn sort_by_value(list: &mut Vec<Symbol>) -> Result<(), AllocError>
     ensures sorted { OnOk result (list.new.items ≡ in_order value_before list.old.items) }
     ensures succeeds { list.old.items ≡ [] → IsOk result }

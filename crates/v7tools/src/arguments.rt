@@ -19,7 +19,7 @@ fn gathered(alloc: Global, rest: Args) -> Result<Vec<String>, AllocError>
 /// The arguments of a command: of those that the system gives the program all after its name, in order, empty ones
 /// too. (own choice)
 ///
-/// Errors: `AllocError` where memory runs out.
+/// Errors: `AllocError` if memory runs out.
 pub fn words(alloc: Global, arguments: Args) -> Result<Vec<String>, AllocError>
     ensures { IfOk result (λ words. words.items ≡ drop 1 (into_iter_items arguments)) }
 {

@@ -20,7 +20,7 @@ use std::fmt::{Display, Formatter};
 use std::io::Write;
 use symtools::ToolFault;
 
-/// Why a command failed. Where memory runs out it is `Memory`, whatever was being done. (own choice)
+/// Why a command failed. If memory runs out it is `Memory`, whatever was being done. (own choice)
 #[derive(Debug, Drop)]
 pub enum CliFault {
     /// 1: the words ask for nothing that there is.

@@ -24,7 +24,7 @@ pub trait Office {
 
     ghost history: { Self → Option (List Event) } = { λ _. None };
 
-    /// Opens the file at a path; `None` where it can't be opened. (own choice)
+    /// Opens the file at a path; `None` if it can't be opened. (own choice)
     fn open(&mut self, path: &str) -> Option<Self::Source>
         ensures { Extends (history self.old) (history self.new) (opened path.now (option_map Self.Source.remaining result) ∷ []) };
 

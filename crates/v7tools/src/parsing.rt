@@ -11,7 +11,7 @@ use std::alloc::Global;
 ///
 /// - `ld [-rsxXnid] [-u NAME]... [-e NAME] [-o FILE] FILE...`, where the output is `a.out` unless `-o` names it. `-s`
 ///   wins over `-x`, and that over `-X`. A name is cut at 8 bytes.
-/// - `nm [-gnopru] [FILE...]` and `size [FILE...]`, which take `a.out` where no file is named.
+/// - `nm [-gnopru] [FILE...]` and `size [FILE...]`, which take `a.out` if no file is named.
 /// - `strip FILE...`.
 /// - `session [-rsxXnid] [-u NAME]... [-e NAME]`.
 ///
@@ -21,7 +21,7 @@ use std::alloc::Global;
 /// (ld(1), nm(1), size(1), strip(1); the session and the limit are an own choice)
 ///
 /// Errors: `Usage`, 1, for all other words, `-r` with `-s`, `-n` or `-i`, `-n` with `-i`, and more than 64 different
-/// names after `-u`; `Memory`, 9, where memory runs out for what the words ask for.
+/// names after `-u`; `Memory`, 9, if memory runs out for what the words ask for.
 pub fn parse(alloc: Global, words: Vec<String>) -> Result<Call, CliFault>
     ensures whole { IfOk result IsWhole }
     ensures asked { IfOk result (IsAsked (map string_bytes words.items)) }

@@ -86,9 +86,9 @@ pub struct Outputs<W, E> {
 }
 
 /// Does what the arguments ask for, over any `Office` and any streams: a session's script, standard
-/// output and standard error. It returns the status of the program: 0, or 1 where there was something to report or a
+/// output and standard error. It returns the status of the program: 0, or 1 if there was something to report or a
 /// session refused a line or could not store a link, or 2 for a fault, whose line goes to standard error; without a
-/// fault nothing goes there. Where nothing waited on standard output before, nothing waits at the end either, unless it
+/// fault nothing goes there. If nothing waited on standard output before, nothing waits at the end either, unless it
 /// has failed. (own choice)
 pub fn perform<O: Office, R: Read + Drop, W: BufferedWrite, E: Write>(
     alloc: Global,

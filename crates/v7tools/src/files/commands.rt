@@ -108,7 +108,7 @@ pub(crate) fn size_files<O: Office, W: BufferedWrite>(
     put_sizes(&loaded, output)
 }
 
-/// The fault where a file is not stored.
+/// The fault if a file is not stored.
 fn check_stored(path: String, stored: Stored) -> Result<(), CliFault>
     ensures { IsStored path stored result }
 {

@@ -11,7 +11,7 @@ use std::io::Read;
 
 /// Reads the file at a path, as `read_file` does, and gives the path back with it. (own choice)
 ///
-/// Errors: `BadFile`, 3, with the path and the fault of the reader; `Memory`, 9, where memory runs out.
+/// Errors: `BadFile`, 3, with the path and the fault of the reader; `Memory`, 9, if memory runs out.
 pub fn load<R: Read>(
     alloc: Global,
     path: String,

@@ -14,8 +14,8 @@ use std::io::Write;
 /// Writes the whole file to the first wire and then the report to the second, and returns the report's status. It
 /// takes no memory. (own choice)
 ///
-/// Errors: `WriteFailed`, 8, where one of the wires failed, now or before: a prefix of its bytes then went out, and
-/// where it was the file's wire, the report's is not touched.
+/// Errors: `WriteFailed`, 8, if one of the wires failed, now or before: a prefix of its bytes then went out, and
+/// if it was the file's wire, the report's is not touched.
 pub fn emit<W: Write, V: Write>(
     linked: &Linked,
     file: &mut Wire<W>,

@@ -94,7 +94,7 @@ fn answer_link<O: Office, W: Write>(
     }
 }
 
-/// Does what a line asks for and answers it, and returns the status of that: 0, or 1 where it was refused or its link had
+/// Does what a line asks for and answers it, and returns the status of that: 0, or 1 if it was refused or its link had
 /// something to report.
 fn answer_line<O: Office, W: Write>(
     setting: &Setting<'_>,

@@ -10,7 +10,7 @@ use link_session::{Session, State};
 use std::io::Write;
 use symtools::line;
 
-/// An external as a symbol of a table: with the merged offset where it is defined, else with the size that is
+/// An external as a symbol of a table: with the merged offset if it is defined, else with the size that is
 /// wanted.
 fn entry_of(name: Name, state: State) -> Symbol
     ensures { result ≡ entry_of name state }

@@ -63,10 +63,10 @@ fn put_link_answer<W: Write>(
 }
 
 /// Writes the answer to a link, once it is known what became of its file: the report and `linked PATH STATUS`, or
-/// `PATH: cannot create`, or `PATH: write error`. It returns the status of the link: the report's, or 1 where the
+/// `PATH: cannot create`, or `PATH: write error`. It returns the status of the link: the report's, or 1 if the
 /// file is not stored. It takes no memory. (own choice)
 ///
-/// Errors: `WriteFailed`, 8, where the wire failed, now or before: a prefix of the answer then went out.
+/// Errors: `WriteFailed`, 8, if the wire failed, now or before: a prefix of the answer then went out.
 pub fn link_answer<W: Write>(
     linked: &Linked,
     path: &str,

@@ -43,7 +43,7 @@ impl<R> Model for Script<R> {
 impl<R: Read + Drop> Script<R> {
     /// A script of which no line was read. It requests memory for a line. (own choice)
     ///
-    /// Errors: `Memory`, 9, where memory runs out for a line.
+    /// Errors: `Memory`, 9, if memory runs out for a line.
     pub fn new(alloc: Global, wire: Wire<R>) -> Result<Script<R>, CliFault>
         ensures ok { IfOk result (λ script. script ≡ begun wire) }
         ensures err { IfErr result (λ fault. fault ≡ Memory) }
@@ -57,8 +57,8 @@ impl<R: Read + Drop> Script<R> {
     /// read at a time, only while what the script holds does not settle the result: no whole line, at most 4,096 bytes
     /// of one, and no byte after the last line that it may give. What a read gives is used at once. (own choice)
     ///
-    /// Errors: `LongLine`, 11, for more than 4,096 bytes before a newline; `ManyLines`, 12, where there is anything
-    /// after 1,000,000 lines; `ScriptFailed`, 13, where the device failed; `Memory`, 9, where memory runs out for a
+    /// Errors: `LongLine`, 11, for more than 4,096 bytes before a newline; `ManyLines`, 12, if there is anything
+    /// after 1,000,000 lines; `ScriptFailed`, 13, if the device failed; `Memory`, 9, if memory runs out for a
     /// path. Every later call returns the fault again.
     pub fn next_line(&mut self) -> Result<Option<Line>, CliFault>
         ensures next { ReturnsNext R.remaining self.old self.new result }

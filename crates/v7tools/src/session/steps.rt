@@ -127,7 +127,7 @@ pub(crate) fn make_link<W: Write>(
 /// For a link that is made nothing is written; with relocation its file is an object. A step that is `Refused` leaves the
 /// session as it was, also without memory, which answers `no memory`. Only adding and linking request memory.
 ///
-/// Errors: `WriteFailed`, 8, where the answers' wire failed, now or before, but for a link that is made, which writes
+/// Errors: `WriteFailed`, 8, if the answers' wire failed, now or before, but for a link that is made, which writes
 /// nothing: a prefix of the answer went out, and the session is as after the command.
 pub fn step<R: Read + Drop, W: Write>(
     alloc: Global,
