@@ -17,7 +17,9 @@ fn wants_sizes(rt: &HostRuntime) -> io::Result<bool> {
 }
 
 fn main(rt: HostRuntime) -> io::Result<ExitCode> {
+    // before the calls, since one of the requests after them may be refused
+    let wants_sizes = wants_sizes(&rt)?;
     refusals::call_all(&rt)?;
-    let is_right = !wants_sizes(&rt)? || sizes::are_right(&rt)?;
+    let is_right = !wants_sizes || sizes::are_right(&rt)?;
     Ok(ExitCode::from(u8::from(!is_right)))
 }
