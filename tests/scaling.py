@@ -134,6 +134,14 @@ class Work:
         """Maps the link of so many objects of 100 words and 10 names."""
         return [self.explain, "-m", *self.of_words(size)], ""
 
+    def mapped(self, size):
+        """Maps the link of one object of so many words and as many symbols: every other one is a label, and each word refers to one
+        of the others, of the first 4,096, since a relocation word has a number of 12 bits."""
+        most = min(size, 4096) // 2
+        words = [reference(2 * (7 * number % most) + 1) for number in range(size)]
+        symbols = [(name, *((WANTED, 0) if number % 2 else (DEFINED, 2 * number))) for number, (name, _, _) in enumerate(names(0, size))]
+        return [self.explain, "-m", self.object("mapped.o", words, symbols)], ""
+
 
 KINDS = {
     "objects": [20, 80, 160, 320],
@@ -147,9 +155,10 @@ KINDS = {
     "texts": [2047, 8191, 16383, MOST_WORDS],
     "labels": [341, 1365, 2730, MOST_SYMBOLS],
     "maps": [20, 80, 160, 320],
+    "mapped": [341, 1365, 2730, MOST_SYMBOLS],
 }
-# their status is 1 once an addition is refused
-REFUSES = ("refused",)
+# their status is 1: an addition is refused, or names stay undefined
+REPORTS = ("refused", "mapped")
 
 
 def count(programs, kind, size):
@@ -158,7 +167,7 @@ def count(programs, kind, size):
         command, script = getattr(Work(*programs, folder), kind)(size)
         words = ["valgrind", "--tool=callgrind", "--callgrind-out-file=counts", *command]
         run = subprocess.run(words, input=script, cwd=folder, capture_output=True, text=True, check=False)
-        if run.returncode != (1 if kind in REFUSES and size > 0 else 0):
+        if run.returncode != (1 if kind in REPORTS and size > 0 else 0):
             sys.exit(f"{kind} of size {size} ended with status {run.returncode}: {run.stderr}")
         with open(f"{folder}/counts", encoding="utf-8") as file:
             return int(re.search(r"^summary: (\d+)", file.read(), re.M)[1])

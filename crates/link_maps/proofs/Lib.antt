@@ -1,3 +1,5 @@
+pub mod LabelLemmas
+pub mod ListLemmas
 pub mod MemberLemmas
 pub mod RowLemmas
 pub mod UseLemmas

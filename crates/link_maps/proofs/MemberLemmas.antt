@@ -1,9 +1,9 @@
 -- The object with a number, among those that a session took and those that are left.
-use Rattle.std.proofs.Common.{◌≡◌, ℕ, zero, suc, ◌+◌, ◌<◌, ◌≤◌, List, [], ◌∷◌, ◌++◌, length, get_or, slice_get, Option, Some, None, sym, ◌∙◌, ap, arith}
+use Rattle.std.proofs.Common.{◌≡◌, ℕ, zero, suc, ◌+◌, ◌<◌, ◌≤◌, List, [], ◌∷◌, ◌++◌, length, get_or, slice_get, Some, None, sym, ◌∙◌, ap, arith}
 use Rattle.std.proofs.lemmas.List.{map-append, length-map}
 use Rattle.std.proofs.lemmas.Option.{slice_get_past}
 use Rattle.aout_core.specs.Contents.{Contents}
-use Rattle.aout_core.proofs.AlikeLemmas.{slice_get_front, slice_get_behind}
+use Rattle.aout_core.proofs.AlikeLemmas.{slice_get_behind}
 use Rattle.link_session.specs.Labelled.{Labelled, objects}
 
 object_at : (es : List Labelled) (i : ℕ) (e : Labelled) → i < length es → e ≡ get_or es i e → slice_get (objects es) i ≡ Some e.object
@@ -13,13 +13,6 @@ object_at (x ∷ es) (suc i) e inside is = object_at es i e (omega arith) is
 
 both : (es ls : List Labelled) (i : ℕ) → slice_get (objects (es ++ ls)) i ≡ slice_get (objects es ++ objects ls) i
 both es ls i = ap (λ (os : List Contents). slice_get os i) (map-append (λ (e : Labelled). e.object) es ls)
-
--- one that the session took
-pub object_taken : (es ls : List Labelled) (i : ℕ) (e : Labelled) → i < length es → e ≡ get_or es i e → Some e.object ≡ slice_get (objects (es ++ ls)) i
-object_taken es ls i e inside is =
-    sym (both es ls i
-    ∙ slice_get_front (objects es) (objects ls) i (omega (arith, inside, length-map es (λ (x : Labelled). x.object)))
-    ∙ object_at es i e inside is)
 
 behind : (es ls : List Labelled) (i k : ℕ) → i ≡ length es + k → slice_get (objects (es ++ ls)) i ≡ slice_get (objects ls) k
 behind es ls i k at =

@@ -1,5 +1,5 @@
 -- The row of a name among the rows of the externals.
-use Rattle.std.proofs.Common.{◌≡◌, Bool, true, false, cond, ℕ, List, Option, Some, None, refl, ◌∙◌, ap}
+use Rattle.std.proofs.Common.{◌≡◌, Bool, true, false, cond, ℕ, List, Some, None, refl, ◌∙◌, ap}
 use Rattle.std.specs.Prelude.{bytes_eq, position}
 use Rattle.aout_core.specs.declared.symbol.Symbol.{Symbol}
 use Rattle.link_session.specs.Mentions.{is_among, names_by_first_mention, place_of}

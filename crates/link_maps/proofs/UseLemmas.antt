@@ -3,7 +3,7 @@ use Rattle.std.proofs.Common.{◌≡◌, ℕ, ◌+◌, ◌<◌, List, [], ◌∷
 use Rattle.std.proofs.lemmas.List.{drop_more, map-append, length-map}
 use Rattle.aout_core.specs.Contents.{Contents}
 use Rattle.link_session.specs.Labelled.{Labelled, objects}
-use Rattle.link_maps.specs.Members.{Member, member_of}
+use Rattle.link_maps.specs.Members.{Member}
 use Rattle.link_maps.specs.Uses.{Use, uses_in, uses_from, forced_use, uses}
 
 -- one more object

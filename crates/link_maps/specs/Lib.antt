@@ -3,3 +3,4 @@ pub mod References
 pub mod Uses
 pub mod Members
 pub mod Rows
+pub mod internal

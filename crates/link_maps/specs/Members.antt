@@ -1,11 +1,10 @@
 -- The objects of a link, and where their segments lie. (ld(1))
 --
 -- A session takes the objects in order, up to the first that passes a limit. That one and those after it are left, but the map shows them too.
-use Rattle.std.specs.Prelude.{ℕ, ◌+◌, ◌-◌, ◌^◌, min, List, [], ◌∷◌, ◌++◌, map, length, Option, Some, None}
+use Rattle.std.specs.Prelude.{ℕ, ◌+◌, ◌-◌, ◌^◌, min, List, [], ◌∷◌, ◌++◌, length, Option, Some, None}
 use Rattle.aout_core.specs.declared.header.Header.{Header}
-use Rattle.aout_core.specs.Contents.{Contents}
 use Rattle.link_session.specs.declared.entry.AddFault.{AddFault}
-use Rattle.link_session.specs.Labelled.{Labelled, objects}
+use Rattle.link_session.specs.Labelled.{Labelled}
 use Rattle.link_out.specs.Layouts.{Bases}
 use Rattle.link_maps.specs.declared.members.Refused.{Refused}
 use Rattle.link_maps.specs.declared.members.Objects.{Objects}

@@ -1,5 +1,5 @@
 -- What becomes of a link, and the row that its table has for a name. (ld(1))
-use Rattle.std.specs.Prelude.{◌≡◌, ◌≢◌, ◌↔◌, ℕ, ◌<◌, max, cond, List, [], ◌∷◌, Option, Some, None, Err, slice_get, position, bytes_eq, IfSome, IsNone}
+use Rattle.std.specs.Prelude.{◌≡◌, ◌≢◌, ◌↔◌, ℕ, ◌<◌, max, cond, List, [], ◌∷◌, Option, Some, None, Err, slice_get, IfSome, IsNone}
 use Rattle.aout_core.specs.declared.symbol.Symbol.{Symbol}
 use Rattle.aout_core.specs.declared.reloc.Reloc.{Reloc}
 use Rattle.aout_core.specs.declared.reloc.Kind.{Kind}

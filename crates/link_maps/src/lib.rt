@@ -19,6 +19,7 @@
 #![tactic(auto)]
 
 mod gather;
+mod labels;
 mod map;
 mod members;
 mod names;

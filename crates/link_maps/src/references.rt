@@ -1,9 +1,14 @@
 //! The words of an object that refer to a symbol, each with its line and the label before that.
-ghost use Rattle.std.specs.Prelude.{◌≡◌, ◌++◌, None, IfOk, OnOk, string_bytes};
+ghost use Rattle.std.specs.Prelude.{◌≡◌, ◌++◌, [], length, replicate, IfOk, OnOk, string_bytes};
+ghost use Rattle.std.specs.List.Sorted.{IsSortedBy};
+ghost use Rattle.aout_core.specs.WellFormed.{kind_of};
 ghost use Rattle.link_session.specs.Starts.{own};
-ghost use Rattle.link_maps.specs.References.{segment_of_part, relocs_of, is_label, is_nearer, nearer, nearest, label_before, line_of, text_of_line, before_line, refers_to, reference_by, references_of, references_to};
+ghost use Rattle.link_maps.specs.References.{segment_of_part, relocs_of, before, line_of, text_of_line, before_line, is_external_kind, reference_by, references_of};
+ghost use Rattle.link_maps.specs.internal.Labels.{is_higher, first_from, AreSorted};
+ghost use Rattle.link_maps.specs.internal.Lists.{lists_of, each_more, by_symbol};
 
-use aout_core::{File, Kind, Name, Reloc, Segment, Symbol};
+use crate::labels::nearest;
+use aout_core::{File, Kind, Name, Reloc, Symbol};
 use disassemblies::{NamedFile, line_start, put_line_text};
 use std::alloc::{AllocError, Global};
 
@@ -12,18 +17,6 @@ use std::alloc::{AllocError, Global};
 pub enum Part {
     Text,
     Data,
-}
-
-impl Part {
-    /// The segment that the part becomes.
-    fn segment(self) -> Segment
-        ensures { result ≡ segment_of_part self }
-    {
-        match self {
-            Part::Text => Segment::TextSeg,
-            Part::Data => Segment::DataSeg,
-        }
-    }
 }
 
 /// The label before a line.
@@ -46,57 +39,21 @@ pub struct Reference {
     pub before: Option<Before>,
 }
 
-/// An object, and for each word of its text, whether a line begins there.
+/// An object, for each word of its text, whether a line begins there, and its labels, the highest address first.
 #[derive(Clone, Copy)]
 pub(crate) struct Lined<'a> {
     pub(crate) file: &'a File,
     pub(crate) starts: &'a [bool],
+    pub(crate) text_labels: &'a [Symbol],
+    pub(crate) data_labels: &'a [Symbol],
 }
 
-/// Whether a symbol is a label of a segment, at an address or before it.
-fn is_label(segment: Segment, address: u16, symbol: &Symbol) -> bool
-    ensures { result ≡ is_label segment address symbol.now }
+/// The label before an address, among the labels of a segment.
+fn label_before(labels: &[Symbol], address: u16) -> Option<Before>
+    requires { IsSortedBy is_higher labels.now }
+    ensures { result ≡ before address (first_from address labels.now) }
 {
-    symbol.segment().number() == segment.number() && symbol.value <= address
-}
-
-/// Whether a label is nearer than the nearest so far. Of several at one address the first stays.
-fn is_nearer(best: &Option<Symbol>, symbol: &Symbol) -> bool
-    ensures { result ≡ is_nearer best.now symbol.now }
-{
-    match best {
-        Some(best) => best.value < symbol.value,
-        None => true,
-    }
-}
-
-/// The nearest label so far, with one more symbol.
-fn nearer(segment: Segment, address: u16, best: Option<Symbol>, symbol: &Symbol) -> Option<Symbol>
-    ensures { result ≡ nearer segment address best symbol.now }
-{
-    if is_label(segment, address, symbol) && is_nearer(&best, symbol) {
-        Some(*symbol)
-    } else {
-        best
-    }
-}
-
-/// The nearest label of a segment at an address or before it.
-fn nearest(segment: Segment, address: u16, symbols: &[Symbol]) -> Option<Symbol>
-    ensures { result ≡ nearest segment address None symbols.now }
-{
-    let mut best = None;
-    for symbol in symbols {
-        best = nearer(segment, address, best, symbol);
-    }
-    best
-}
-
-/// The label before an address of a segment, if there is one.
-fn label_before(symbols: &[Symbol], segment: Segment, address: u16) -> Option<Before>
-    ensures { result ≡ label_before symbols.now segment address }
-{
-    match nearest(segment, address, symbols) {
+    match nearest(labels, address) {
         Some(label) => Some(Before {
             name: label.name,
             bytes: address.saturating_sub(label.value),
@@ -136,11 +93,15 @@ fn line_of(starts: &[bool], part: Part, offset: u16) -> u16
 }
 
 /// The label before a line.
-fn before_line(file: &File, part: Part, line: u16) -> Option<Before>
-    ensures { result ≡ before_line file.now part line }
+fn before_line(lined: &Lined<'_>, part: Part, line: u16) -> Option<Before>
+    requires { AreSorted lined.now.file.now.symbols lined.now.text_labels.now lined.now.data_labels.now }
+    ensures { result ≡ before_line lined.now.file.now part line }
 {
-    let address = line.wrapping_add(start_of(file, part));
-    label_before(file.symbols(), part.segment(), address)
+    let address = line.wrapping_add(start_of(lined.file, part));
+    match part {
+        Part::Text => label_before(lined.text_labels, address),
+        Part::Data => label_before(lined.data_labels, address),
+    }
 }
 
 /// Appends the text of the line that has a word of text: an instruction or a plain word, with the names of the object. For a
@@ -159,68 +120,81 @@ pub fn put_line_of(
     }
 }
 
-/// Whether a word with this relocation word refers to the symbol of a number.
-fn refers_to(number: usize, reloc: Reloc) -> bool
-    ensures { result ≡ refers_to number reloc }
+/// An empty list for each of so many symbols.
+fn empty_lists(alloc: Global, count: usize) -> Result<Vec<Vec<Reference>>, AllocError>
+    ensures { IfOk result (λ lists. lists_of lists.items ≡ replicate count []) }
 {
-    matches!(reloc.kind(), Some(Kind::External)) && usize::from(reloc.number()) == number
+    let mut lists = Vec::new(alloc);
+    for _ in 0..count {
+        lists.push(Vec::new(alloc))?;
+    }
+    Ok(lists)
 }
 
-/// Appends a word, if it refers to the symbol of a number.
-fn put_reference(
-    list: &mut Vec<Reference>,
+/// Whether a word with this relocation word refers to a symbol.
+fn has_symbol(reloc: Reloc) -> bool
+    ensures { result ≡ is_external_kind (kind_of reloc) }
+{
+    matches!(reloc.kind(), Some(Kind::External))
+}
+
+/// Appends a word to the list of the symbol that it refers to, if it refers to one of these.
+fn put_word(
+    lists: &mut Vec<Vec<Reference>>,
     lined: &Lined<'_>,
     part: Part,
-    number: usize,
     offset: u16,
     reloc: Reloc,
 ) -> Result<(), AllocError>
-    ensures { OnOk result (list.new.items ≡ list.old.items ++ reference_by lined.now.starts.now lined.now.file.now part number offset reloc) }
+    requires { AreSorted lined.now.file.now.symbols lined.now.text_labels.now lined.now.data_labels.now }
+    ensures { OnOk result (lists_of lists.new.items ≡ each_more (λ n. reference_by lined.now.starts.now lined.now.file.now part n offset reloc) 0 (lists_of lists.old.items)) }
 {
-    if !refers_to(number, reloc) {
+    if !has_symbol(reloc) {
         return Ok(());
     }
     let line = line_of(lined.starts, part, offset);
-    let before = before_line(lined.file, part, line);
-    list.push(Reference {
-        part,
-        offset,
-        line,
-        before,
-    })?;
+    let before = before_line(lined, part, line);
+    if let Some(list) = lists.get_mut(usize::from(reloc.number())) {
+        list.push(Reference {
+            part,
+            offset,
+            line,
+            before,
+        })?;
+    }
     Ok(())
 }
 
-/// Appends the words of a part that refer to the symbol of a number.
-fn put_references(
-    list: &mut Vec<Reference>,
+/// Appends the words of a part, each to the list of the symbol that it refers to.
+fn put_words(
+    lists: &mut Vec<Vec<Reference>>,
     lined: &Lined<'_>,
     part: Part,
-    number: usize,
 ) -> Result<(), AllocError>
-    ensures { OnOk result (list.new.items ≡ list.old.items ++ references_of lined.now.starts.now lined.now.file.now part number) }
+    requires { AreSorted lined.now.file.now.symbols lined.now.text_labels.now lined.now.data_labels.now }
+    ensures { OnOk result (lists_of lists.new.items ≡ each_more (λ n. references_of lined.now.starts.now lined.now.file.now part n) 0 (lists_of lists.old.items)) }
 {
     let relocs = relocs_of(lined.file, part);
     let mut offset = 0u16;
     for reloc in relocs {
-        put_reference(list, lined, part, number, offset, *reloc)?;
+        put_word(lists, lined, part, offset, *reloc)?;
         offset = offset.wrapping_add(2);
     }
     Ok(())
 }
 
-/// The words of an object that refer to the symbol of a number, in the order of their places, text before data.
+/// For each symbol of an object the words that refer to it, in the order of their places, text before data.
 ///
 /// An error: out of memory.
-pub(crate) fn references_to(
+pub(crate) fn references_by_symbol(
     alloc: Global,
     lined: &Lined<'_>,
-    number: usize,
-) -> Result<Vec<Reference>, AllocError>
-    ensures { IfOk result (λ list. list.items ≡ references_to lined.now.starts.now lined.now.file.now number) }
+) -> Result<Vec<Vec<Reference>>, AllocError>
+    requires { AreSorted lined.now.file.now.symbols lined.now.text_labels.now lined.now.data_labels.now }
+    ensures { IfOk result (λ lists. lists_of lists.items ≡ by_symbol lined.now.starts.now lined.now.file.now 0 (length lined.now.file.now.symbols)) }
 {
-    let mut list = Vec::new(alloc);
-    put_references(&mut list, lined, Part::Text, number)?;
-    put_references(&mut list, lined, Part::Data, number)?;
-    Ok(list)
+    let mut lists = empty_lists(alloc, lined.file.symbols().len())?;
+    put_words(&mut lists, lined, Part::Text)?;
+    put_words(&mut lists, lined, Part::Data)?;
+    Ok(lists)
 }

@@ -1,10 +1,12 @@
 //! The uses of names: the symbols that define a name or want it, and the words that refer to it.
-ghost use Rattle.std.specs.Prelude.{◌≡◌, ◌++◌, map, OnOk};
+ghost use Rattle.std.specs.Prelude.{◌≡◌, ◌++◌, length, map, OnOk};
 ghost use Rattle.symtools.specs.NmLists.{in_order};
-ghost use Rattle.link_maps.specs.Uses.{use_by, uses_by, uses_in, forced_use, is_before};
+ghost use Rattle.link_maps.specs.Uses.{uses_in, forced_use, is_before};
+ghost use Rattle.link_maps.specs.internal.Lists.{lists_of, use_with, uses_with};
 
-use crate::references::{Lined, Reference, references_to};
-use aout_core::{File, Name, Symbol};
+use crate::labels::labels_of;
+use crate::references::{Lined, Reference, references_by_symbol};
+use aout_core::{File, Name, Segment, Symbol};
 use disassemblies::line_starts;
 use std::alloc::{AllocError, Global};
 use std::marker::Model;
@@ -61,19 +63,16 @@ pub(crate) fn put_forced(
 
 /// Appends the use by a symbol, if it is external.
 fn put_use(
-    alloc: Global,
     uses: &mut Vec<Use>,
     object: usize,
-    lined: &Lined<'_>,
-    number: usize,
     symbol: &Symbol,
+    references: Vec<Reference>,
 ) -> Result<(), AllocError>
-    ensures { OnOk result (uses.new.items ≡ uses.old.items ++ use_by object lined.now.starts.now lined.now.file.now number symbol.now) }
+    ensures { OnOk result (uses.new.items ≡ uses.old.items ++ use_with object symbol.now references.items) }
 {
     if !symbol.is_external() {
         return Ok(());
     }
-    let references = references_to(alloc, lined, number)?;
     uses.push(Use {
         object: Some(object),
         symbol: *symbol,
@@ -82,18 +81,18 @@ fn put_use(
     Ok(())
 }
 
-/// Appends the uses by the symbols of an object.
+/// Appends the uses by the symbols of an object, each with its list of words.
 fn put_symbols(
-    alloc: Global,
     uses: &mut Vec<Use>,
     object: usize,
-    lined: &Lined<'_>,
+    symbols: &[Symbol],
+    lists: Vec<Vec<Reference>>,
 ) -> Result<(), AllocError>
-    ensures { OnOk result (uses.new.items ≡ uses.old.items ++ uses_by object lined.now.starts.now lined.now.file.now 0 lined.now.file.now.symbols) }
+    requires { length lists.items ≡ length symbols.now }
+    ensures { OnOk result (uses.new.items ≡ uses.old.items ++ uses_with object symbols.now (lists_of lists.items)) }
 {
-    let symbols = lined.file.symbols();
-    for (number, symbol) in symbols.iter().enumerate() {
-        put_use(alloc, uses, object, lined, number, symbol)?;
+    for (number, references) in lists.into_iter().enumerate() {
+        put_use(uses, object, &symbols[number], references)?;
     }
     Ok(())
 }
@@ -108,11 +107,16 @@ pub(crate) fn put_uses(
     ensures { OnOk result (uses.new.items ≡ uses.old.items ++ uses_in object file.now) }
 {
     let starts = line_starts(alloc, file)?;
+    let text_labels = labels_of(alloc, file.symbols(), Segment::TextSeg)?;
+    let data_labels = labels_of(alloc, file.symbols(), Segment::DataSeg)?;
     let lined = Lined {
         file,
         starts: &starts,
+        text_labels: &text_labels,
+        data_labels: &data_labels,
     };
-    put_symbols(alloc, uses, object, &lined)
+    let lists = references_by_symbol(alloc, &lined)?;
+    put_symbols(uses, object, file.symbols(), lists)
 }
 
 /// Sorts by name; uses of one name keep their order.

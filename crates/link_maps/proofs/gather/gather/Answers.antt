@@ -1,4 +1,4 @@
-use Rattle.std.proofs.Common.{◌≡◌, ℕ, List, [], ◌++◌, map, length, ◌∙◌, ap}
+use Rattle.std.proofs.Common.{◌≡◌, List, [], ◌++◌, map, length, ◌∙◌, ap}
 use Rattle.std.proofs.lemmas.List.{length-map}
 use Rattle.link_session.specs.Labelled.{Labelled, objects}
 use Rattle.symtools.specs.NmLists.{in_order}

@@ -1,8 +1,6 @@
-use Rattle.std.proofs.Common.{◌≡◌, ◌+◌, ◌∷◌, [], length, arith, length-append, ◌∙◌, ap, rules}
+use Rattle.std.proofs.Common.{length, arith}
 use Rattle.std.proofs.lemmas.Grind.{common_steps}
-use Rattle.link_session.specs.Labelled.{objects}
-use Rattle.link_maps.specs.Members.{Member, member_of}
-use Rattle.link_maps.specs.Uses.{uses_from}
+use Rattle.link_maps.specs.Members.{member_of}
 use Rattle.link_maps.proofs.UseLemmas.{uses_more, one_longer}
 use Rattle.link_maps.proofs.gather.put_left.Goals as goal
 

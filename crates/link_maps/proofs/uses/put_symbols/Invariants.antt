@@ -1,9 +1,11 @@
-use Rattle.std.proofs.Common.{◌≡◌, ◌++◌, drop}
-use Rattle.link_maps.specs.Uses.{uses_by}
+use Rattle.std.proofs.Common.{◌≡◌, ◌++◌, ◌+◌, drop, length}
+use Rattle.std.specs.Vec.Iter.{into_iter_items}
+use Rattle.link_maps.specs.internal.Lists.{lists_of, uses_with}
 use Rattle.link_maps.proofs.uses.put_symbols.Given as goal
 
 -- the uses so far, and those by the symbols that are left
 abbrev pub invariant-loop-number : goal.invariant-loop-number
 invariant-loop-number l =
-    l.uses.items ++ uses_by l.object l.lined.starts.now l.lined.file.now l.number (drop l.number l.symbols)
-    ≡ l.initial.uses.items ++ uses_by l.object l.lined.starts.now l.lined.file.now 0 l.symbols
+    (length (into_iter_items l.number-iterator.iter) + l.number-iterator.count ≡ length l.symbols)
+    × (l.uses.items ++ uses_with l.object (drop l.number-iterator.count l.symbols) (lists_of (into_iter_items l.number-iterator.iter))
+    ≡ l.initial.uses.items ++ uses_with l.object l.symbols (lists_of l.fn.lists.items))
