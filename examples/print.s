@@ -20,7 +20,7 @@ putc:				/ the byte in r0, and waits until it is out
 
 _number:			/ the number in r0, in decimal
 	mov	r0, left
-	mov	$_digits+5, r2	/ behind the last digit stands a NUL
+	mov	$_digits+5, r2	/ a NUL follows the last digit
 3:	mov	left, r1
 	clr	r0
 	div	$10., r0

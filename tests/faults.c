@@ -249,7 +249,7 @@ static void put_symbol(unsigned char *at, unsigned number, unsigned type)
     put_word(at + 10, 0);
 }
 
-/* the bytes behind the object, whose names count on from *NAMES */
+/* the bytes after the object, whose names count on from *NAMES */
 static unsigned char *put_object(const struct made *m, unsigned char *at, unsigned *names)
 {
     const unsigned header[8] = {0407, 2 * m->text, 2 * m->data, m->bss, 12 * m->symbols, 0, 0, 0};

@@ -55,7 +55,7 @@ expect 'an empty tool' 2 'v7: usage'
 "$v7" nm '  ' >answers 2>fault; status=$?
 expect 'a file of blanks' 2 'v7:   : cannot open'
 "$v7" ' nm' main.o >answers 2>fault; status=$?
-expect 'a tool behind a blank' 2 'v7: usage'
+expect 'a tool after a blank' 2 'v7: usage'
 same answers /dev/null
 "$v7" ld -o ' ' main.o twice.o count.o >answers 2>fault; status=$?
 expect 'an output of a blank' 0 ''

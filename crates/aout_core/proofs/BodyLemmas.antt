@@ -1,4 +1,4 @@
--- The bytes behind a header, cut into the parts of a file.
+-- The bytes after a header, cut into the parts of a file.
 use Rattle.std.proofs.Common.{zero, suc, ◌*◌, length-append, take_at, ◌≡◌, ℕ, ◌+◌, ◌/◌, ◌%◌, ◌≤◌, List, [], ◌∷◌, ◌++◌, take, drop, length, refl, sym, ◌∙◌, ap, arith, length-drop, drop-drop, drop_at, ◌&&◌, eqb, eqb-true}
 use Rattle.std.proofs.lemmas.List.{take-append-le, drop-append-le}
 use Rattle.std.proofs.lemmas.Bool.{and_parts}
@@ -14,19 +14,19 @@ use Rattle.aout_core.proofs.EncodingLemmas.{with_relocation-add}
 use Rattle.aout_core.proofs.DecodingLemmas.{with_relocation-even}
 use Rattle.aout_core.proofs.EncodesLemmas.{symbols_front}
 
--- a part of the whole is a part of the bytes behind the header
-behind : (start body rest : List ℕ) (from : ℕ) → length start ≡ 16 → from ≤ length body → drop (16 + from) (start ++ (body ++ rest)) ≡ drop from body ++ rest
-behind start body rest from long within =
+-- a part of the whole is a part of the bytes after the header
+after : (start body rest : List ℕ) (from : ℕ) → length start ≡ 16 → from ≤ length body → drop (16 + from) (start ++ (body ++ rest)) ≡ drop from body ++ rest
+after start body rest from long within =
     sym (drop-drop from 16 (start ++ (body ++ rest))) ∙ ap (drop from) (drop_at start (body ++ rest) 16 long) ∙ drop-append-le from body rest within
 
-part_behind : (start body rest : List ℕ) (at from size : ℕ) → length start ≡ 16 → at ≡ 16 + from → from + size ≤ length body →
+part_after : (start body rest : List ℕ) (at from size : ℕ) → length start ≡ 16 → at ≡ 16 + from → from + size ≤ length body →
     part at size (start ++ (body ++ rest)) ≡ take size (drop from body)
-part_behind start body rest at from size long e within =
+part_after start body rest at from size long e within =
     ap (λ n. part n size (start ++ (body ++ rest))) e
-    ∙ ap (take size) (behind start body rest from long (omega arith))
+    ∙ ap (take size) (after start body rest from long (omega arith))
     ∙ take-append-le size (drop from body) rest (omega (arith, length-drop from body))
 
--- the parts as they are cut off, one behind the other
+-- the parts as they are cut off, one after the other
 record IsCut (h : Header) (body text words first second table : List ℕ) : Type 0 where
   pub is_text : text ≡ take h.text_size body
   pub is_words : words ≡ take h.data_size (drop h.text_size body)
@@ -34,11 +34,11 @@ record IsCut (h : Header) (body text words first second table : List ℕ) : Type
   pub is_second : second ≡ take (with_relocation h h.data_size) (drop (with_relocation h h.text_size) (drop h.data_size (drop h.text_size body)))
   pub is_table : table ≡ drop (with_relocation h h.data_size) (drop (with_relocation h h.text_size) (drop h.data_size (drop h.text_size body)))
 
-table_behind : (start body rest : List ℕ) (at from n : ℕ) → length start ≡ 16 → at ≡ 16 + from → from + 12 * n ≤ length body →
+table_after : (start body rest : List ℕ) (at from n : ℕ) → length start ≡ 16 → at ≡ 16 + from → from + 12 * n ≤ length body →
     symbols_in n (drop at (start ++ (body ++ rest))) ≡ symbols_in n (drop from body)
-table_behind start body rest at from n long e within =
+table_after start body rest at from n long e within =
     ap (λ k. symbols_in n (drop k (start ++ (body ++ rest)))) e
-    ∙ ap (symbols_in n) (behind start body rest from long (omega arith))
+    ∙ ap (symbols_in n) (after start body rest from long (omega arith))
     ∙ symbols_front n (drop from body) rest (omega (arith, length-drop from body))
 
 contents_in-cut : (h : Header) (start body rest text words first second table : List ℕ) → length start ≡ 16 → 16 + length body ≡ file_length h →
@@ -53,15 +53,15 @@ contents_in-cut h start body rest text words first second table long whole cut =
     let all : drop (with_relocation h h.data_size) (drop (with_relocation h h.text_size) (drop h.data_size (drop h.text_size body))) ≡ drop (h.text_size + h.data_size + with_relocation h h.text_size + with_relocation h h.data_size) body =
     ap (drop (with_relocation h h.data_size)) thrice ∙ drop-drop (with_relocation h h.data_size) (h.text_size + h.data_size + with_relocation h h.text_size) body in
     let a : words_in text ≡ words_in (part 16 h.text_size (start ++ (body ++ rest))) =
-    ap words_in (cut.is_text ∙ sym (part_behind start body rest 16 0 h.text_size long (omega arith) (omega arith))) in
+    ap words_in (cut.is_text ∙ sym (part_after start body rest 16 0 h.text_size long (omega arith) (omega arith))) in
     let b : words_in words ≡ words_in (part (16 + h.text_size) h.data_size (start ++ (body ++ rest))) =
-    ap words_in (cut.is_words ∙ sym (part_behind start body rest (16 + h.text_size) h.text_size h.data_size long (omega arith) (omega arith))) in
+    ap words_in (cut.is_words ∙ sym (part_after start body rest (16 + h.text_size) h.text_size h.data_size long (omega arith) (omega arith))) in
     let c : relocs_in first ≡ relocs_in (part (relocation_at h) (with_relocation h h.text_size) (start ++ (body ++ rest))) =
-    ap relocs_in (cut.is_first ∙ ap (take (with_relocation h h.text_size)) twice ∙ sym (part_behind start body rest (relocation_at h) (h.text_size + h.data_size) (with_relocation h h.text_size) long (omega arith) (omega arith))) in
+    ap relocs_in (cut.is_first ∙ ap (take (with_relocation h h.text_size)) twice ∙ sym (part_after start body rest (relocation_at h) (h.text_size + h.data_size) (with_relocation h h.text_size) long (omega arith) (omega arith))) in
     let d : relocs_in second ≡ relocs_in (part (relocation_at h + with_relocation h h.text_size) (with_relocation h h.data_size) (start ++ (body ++ rest))) =
-    ap relocs_in (cut.is_second ∙ ap (take (with_relocation h h.data_size)) thrice ∙ sym (part_behind start body rest (relocation_at h + with_relocation h h.text_size) (h.text_size + h.data_size + with_relocation h h.text_size) (with_relocation h h.data_size) long (omega arith) (omega arith))) in
+    ap relocs_in (cut.is_second ∙ ap (take (with_relocation h h.data_size)) thrice ∙ sym (part_after start body rest (relocation_at h + with_relocation h h.text_size) (h.text_size + h.data_size + with_relocation h h.text_size) (with_relocation h h.data_size) long (omega arith) (omega arith))) in
     let e : symbols_in (h.symbol_size / 12) table ≡ symbols_in (h.symbol_size / 12) (drop (symbols_at h) (start ++ (body ++ rest))) =
-    ap (symbols_in (h.symbol_size / 12)) (cut.is_table ∙ all) ∙ sym (table_behind start body rest (symbols_at h) (h.text_size + h.data_size + with_relocation h h.text_size + with_relocation h h.data_size) (h.symbol_size / 12) long (omega arith) (omega arith)) in
+    ap (symbols_in (h.symbol_size / 12)) (cut.is_table ∙ all) ∙ sym (table_after start body rest (symbols_at h) (h.text_size + h.data_size + with_relocation h h.text_size + with_relocation h h.data_size) (h.symbol_size / 12) long (omega arith) (omega arith)) in
     λ i. record { header = h; text_words = a i; data_words = b i; text_reloc = c i; data_reloc = d i; symbols = e i }
 
 -- a row of things as it was read, one by one
@@ -130,24 +130,24 @@ rows_cut h text words first second table t d f s =
     let from_second = second ++ table in
     let from_first = first ++ from_second in
     let from_words = words ++ from_first in
-    let behind_text : drop h.text_size (text ++ from_words) ≡ from_words = drop_at text from_words h.text_size t in
-    let behind_words : drop h.data_size (drop h.text_size (text ++ from_words)) ≡ from_first = ap (drop h.data_size) behind_text ∙ drop_at words from_first h.data_size d in
+    let after_text : drop h.text_size (text ++ from_words) ≡ from_words = drop_at text from_words h.text_size t in
+    let after_words : drop h.data_size (drop h.text_size (text ++ from_words)) ≡ from_first = ap (drop h.data_size) after_text ∙ drop_at words from_first h.data_size d in
     let a = with_relocation h h.text_size in
     let b = with_relocation h h.data_size in
-    let behind_first : drop a (drop h.data_size (drop h.text_size (text ++ from_words))) ≡ from_second = ap (drop a) behind_words ∙ drop_at first from_second a f in
+    let after_first : drop a (drop h.data_size (drop h.text_size (text ++ from_words))) ≡ from_second = ap (drop a) after_words ∙ drop_at first from_second a f in
     record {
       is_text = sym (take_at text from_words h.text_size t);
-      is_words = sym (ap (take h.data_size) behind_text ∙ take_at words from_first h.data_size d);
-      is_first = sym (ap (take a) behind_words ∙ take_at first from_second a f);
-      is_second = sym (ap (take b) behind_first ∙ take_at second table b s);
-      is_table = sym (ap (drop b) behind_first ∙ drop_at second table b s);
+      is_words = sym (ap (take h.data_size) after_text ∙ take_at words from_first h.data_size d);
+      is_first = sym (ap (take a) after_words ∙ take_at first from_second a f);
+      is_second = sym (ap (take b) after_first ∙ take_at second table b s);
+      is_table = sym (ap (drop b) after_first ∙ drop_at second table b s);
     }
 
 length-all_rows : (text words first second table : List ℕ) → length (all_rows text words first second table) ≡ length text + (length words + (length first + (length second + length table)))
 length-all_rows text words first second table =
     omega (arith, length-append text (words ++ (first ++ (second ++ table))), length-append words (first ++ (second ++ table)), length-append first (second ++ table), length-append second table)
 
--- a file whose lists were read so is the one that the bytes encode behind their header
+-- a file whose lists were read so is the one that the bytes encode after their header
 pub rows_are_body : (h : Header) (text words first second table : List ℕ) (c : Contents) → IsTrue (has_whole_sizes h) → AreRows h text words first second table c →
     (16 + length (all_rows text words first second table) ≡ file_length h) × ((start rest : List ℕ) → length start ≡ 16 → c ≡ contents_in h (start ++ (all_rows text words first second table ++ rest)))
 rows_are_body h text words first second table c sizes rows =

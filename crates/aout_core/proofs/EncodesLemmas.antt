@@ -13,9 +13,9 @@ use Rattle.aout_core.specs.Words.{AreBytes, word_bytes, all_word_bytes, words_in
 use Rattle.aout_core.specs.Names.{before_nul, padded, IsName}
 use Rattle.aout_core.specs.Contents.{Contents, with_relocation, Fits, IsWord, IsSymbol, IsSound}
 use Rattle.aout_core.specs.Encoding.{header_words, header_encoding, reloc_encoding, symbol_encoding, relocation_at, symbols_at, file_length, encoding}
-use Rattle.aout_core.specs.Encodes.{IsBehindNul, Encodes}
+use Rattle.aout_core.specs.Encodes.{IsAfterNul, Encodes}
 use Rattle.aout_core.specs.Decoding.{part, header_of, header_in, relocs_in, symbol_in, symbols_in, contents_in, decode_with, decode}
-use Rattle.aout_core.proofs.AlikeLemmas.{AreAlike, slice_get_front, slice_get_behind, alike_front, alike_back, alike_both, alike_more, alike_self, alike_same}
+use Rattle.aout_core.proofs.AlikeLemmas.{AreAlike, slice_get_front, slice_get_after, alike_front, alike_back, alike_both, alike_more, alike_self, alike_same}
 use Rattle.aout_core.proofs.EncodingLemmas.{decode-encoding, nul_free_head, word_back, with_relocation-add, length-all_word_bytes, length-reloc_encoding, length-header_encoding, length-padded, length-symbol_encoding, length-symbols_encoding}
 use Rattle.aout_core.proofs.DecodingLemmas.{Passed, decoded_passed, decoded_fits}
 
@@ -111,84 +111,84 @@ four_encoded (a ∷ (b ∷ (c ∷ (d ∷ [])))) e h = rw (low_back a b h.0, high
 four_encoded _ e h = absurd (omega arith)
 
 -- a NUL in the first bytes, seen in all of them
-nul_in_front : (x : List ℕ) (i : ℕ) → i < 8 → HasNulBefore (take 8 x) i → IsBehindNul 0 x i
+nul_in_front : (x : List ℕ) (i : ℕ) → i < 8 → HasNulBefore (take 8 x) i → IsAfterNul 0 x i
 nul_in_front x i lt k =
     let before = k.before in
     let is : slice_get x k.nul ≡ Some 0 =
     ap (λ (xs : List ℕ). slice_get xs k.nul) (sym (take-append-drop 8 x)) ∙ slice_get_front (take 8 x) (drop 8 x) k.nul (in_front (take 8 x) k.nul k.is_nul) ∙ k.is_nul in
-    record { entry = 0; nul = k.nul; from_name = omega arith; is_nul = is; behind = before; in_name = omega arith }
+    record { entry = 0; nul = k.nul; from_name = omega arith; is_nul = is; past_nul = before; in_name = omega arith }
   where
     in_front : (xs : List ℕ) (n : ℕ) → slice_get xs n ≡ Some 0 → n < length xs
     in_front xs n e = slice_get_within xs n 0 e
 
-front_nul : (x : List ℕ) (i : ℕ) → length x ≡ 12 → i < 8 → IsBehindNul 0 x i → HasNulBefore (take 8 x) i
+front_nul : (x : List ℕ) (i : ℕ) → length x ≡ 12 → i < 8 → IsAfterNul 0 x i → HasNulBefore (take 8 x) i
 front_nul x i len lt k =
     let a = k.from_name in
-    let b = k.behind in
+    let b = k.past_nul in
     let c = k.in_name in
     let is : slice_get (take 8 x) k.nul ≡ Some 0 =
     sym (slice_get_front (take 8 x) (drop 8 x) k.nul (omega (arith, length-take 8 x))) ∙ ap (λ (xs : List ℕ). slice_get xs k.nul) (take-append-drop 8 x) ∙ k.is_nul in
     record { nul = k.nul; is_nul = is; before = b }
 
-symbol_alike : (x : List ℕ) → length x ≡ 12 → AreBytes x → AreAlike x (symbol_encoding (symbol_in x)) (IsBehindNul 0 x)
+symbol_alike : (x : List ℕ) → length x ≡ 12 → AreBytes x → AreAlike x (symbol_encoding (symbol_in x)) (IsAfterNul 0 x)
 symbol_alike x len h =
     let eight : length (take 8 x) ≡ 8 = omega (arith, length-take 8 x) in
     let four : length (drop 8 x) ≡ 4 = omega (arith, length-drop 8 x) in
     let all : part 8 4 x ≡ drop 8 x = take_all 4 (drop 8 x) (omega arith) in
     let words : drop 8 x ≡ word_bytes (symbol_in x).type_bits ++ word_bytes (symbol_in x).value =
     sym all ∙ sym (four_encoded (part 8 4 x) (rw all four) (bytes_take 4 (drop 8 x) (bytes_drop 8 x h))) in
-    subst (λ (xs : List ℕ). AreAlike xs (symbol_encoding (symbol_in x)) (IsBehindNul 0 x)) (take-append-drop 8 x)
-    (alike_both (take 8 x) (drop 8 x) (padded (symbol_in x).name) (word_bytes (symbol_in x).type_bits ++ word_bytes (symbol_in x).value) (IsBehindNul 0 x) 8 eight (length-padded (symbol_in x).name)
-    (alike_more (take 8 x) (padded (symbol_in x).name) (HasNulBefore (take 8 x)) (IsBehindNul 0 x) (λ i lt k. nul_in_front x i (omega arith) k) (name_encoded 8 8 (take 8 x) eight (omega arith)))
-    (alike_self (drop 8 x) (word_bytes (symbol_in x).type_bits ++ word_bytes (symbol_in x).value) (λ i. IsBehindNul 0 x (8 + i)) words))
+    subst (λ (xs : List ℕ). AreAlike xs (symbol_encoding (symbol_in x)) (IsAfterNul 0 x)) (take-append-drop 8 x)
+    (alike_both (take 8 x) (drop 8 x) (padded (symbol_in x).name) (word_bytes (symbol_in x).type_bits ++ word_bytes (symbol_in x).value) (IsAfterNul 0 x) 8 eight (length-padded (symbol_in x).name)
+    (alike_more (take 8 x) (padded (symbol_in x).name) (HasNulBefore (take 8 x)) (IsAfterNul 0 x) (λ i lt k. nul_in_front x i (omega arith) k) (name_encoded 8 8 (take 8 x) eight (omega arith)))
+    (alike_self (drop 8 x) (word_bytes (symbol_in x).type_bits ++ word_bytes (symbol_in x).value) (λ i. IsAfterNul 0 x (8 + i)) words))
 
-symbol_read : (s : Symbol) (x : List ℕ) → length x ≡ 12 → IsName s.name → AreAlike x (symbol_encoding s) (IsBehindNul 0 x) → symbol_in x ≡ s
+symbol_read : (s : Symbol) (x : List ℕ) → length x ≡ 12 → IsName s.name → AreAlike x (symbol_encoding s) (IsAfterNul 0 x) → symbol_in x ≡ s
 symbol_read s x len n h =
     let eight : length (take 8 x) ≡ 8 = omega (arith, length-take 8 x) in
     let four : length (drop 8 x) ≡ 4 = omega (arith, length-drop 8 x) in
     let bytes = word_bytes s.type_bits ++ word_bytes s.value in
-    let split : AreAlike (take 8 x ++ drop 8 x) (padded s.name ++ bytes) (IsBehindNul 0 x) =
-    subst (λ (xs : List ℕ). AreAlike xs (symbol_encoding s) (IsBehindNul 0 x)) (sym (take-append-drop 8 x)) h in
-    let front = alike_front (take 8 x) (drop 8 x) (padded s.name) bytes (IsBehindNul 0 x) (eight ∙ sym (length-padded s.name)) split in
-    let back = alike_back (take 8 x) (drop 8 x) (padded s.name) bytes (IsBehindNul 0 x) 8 eight (length-padded s.name) split in
+    let split : AreAlike (take 8 x ++ drop 8 x) (padded s.name ++ bytes) (IsAfterNul 0 x) =
+    subst (λ (xs : List ℕ). AreAlike xs (symbol_encoding s) (IsAfterNul 0 x)) (sym (take-append-drop 8 x)) h in
+    let front = alike_front (take 8 x) (drop 8 x) (padded s.name) bytes (IsAfterNul 0 x) (eight ∙ sym (length-padded s.name)) split in
+    let back = alike_back (take 8 x) (drop 8 x) (padded s.name) bytes (IsAfterNul 0 x) 8 eight (length-padded s.name) split in
     let name : before_nul (take 8 x) ≡ s.name =
     name_read 8 8 (take 8 x) s.name eight n.short (omega arith) n.no_nul
-    (alike_more (take 8 x) (padded s.name) (IsBehindNul 0 x) (HasNulBefore (take 8 x)) (λ i lt k. front_nul x i len (omega arith) k) front) in
-    let words : drop 8 x ≡ bytes = alike_same (drop 8 x) bytes (λ i. IsBehindNul 0 x (8 + i)) four (λ i lt k. not_in_name i (omega arith) k) back in
+    (alike_more (take 8 x) (padded s.name) (IsAfterNul 0 x) (HasNulBefore (take 8 x)) (λ i lt k. front_nul x i len (omega arith) k) front) in
+    let words : drop 8 x ≡ bytes = alike_same (drop 8 x) bytes (λ i. IsAfterNul 0 x (8 + i)) four (λ i lt k. not_in_name i (omega arith) k) back in
     let all : part 8 4 x ≡ bytes = take_all 4 (drop 8 x) (omega arith) ∙ words in
     rw (name, all, word_back s.type_bits, word_back s.value) refl
   where
-    not_in_name : (i : ℕ) → i < 4 → IsBehindNul 0 x (8 + i) → ⊥
-    not_in_name i lt k = let a = k.from_name in let b = k.behind in let c = k.in_name in omega arith
+    not_in_name : (i : ℕ) → i < 4 → IsAfterNul 0 x (8 + i) → ⊥
+    not_in_name i lt k = let a = k.from_name in let b = k.past_nul in let c = k.in_name in omega arith
 
 -- the places of one entry among those of the whole table
-head_places : (x y : List ℕ) (i : ℕ) → i < length x → IsBehindNul 0 x i → IsBehindNul 0 (x ++ y) i
+head_places : (x y : List ℕ) (i : ℕ) → i < length x → IsAfterNul 0 x i → IsAfterNul 0 (x ++ y) i
 head_places x y i lt k =
-    let b = k.behind in
-    record { entry = k.entry; nul = k.nul; from_name = k.from_name; is_nul = slice_get_front x y k.nul (omega arith) ∙ k.is_nul; behind = b; in_name = k.in_name }
+    let b = k.past_nul in
+    record { entry = k.entry; nul = k.nul; from_name = k.from_name; is_nul = slice_get_front x y k.nul (omega arith) ∙ k.is_nul; past_nul = b; in_name = k.in_name }
 
-head_places_back : (x y : List ℕ) (i : ℕ) → i < length x → IsBehindNul 0 (x ++ y) i → IsBehindNul 0 x i
+head_places_back : (x y : List ℕ) (i : ℕ) → i < length x → IsAfterNul 0 (x ++ y) i → IsAfterNul 0 x i
 head_places_back x y i lt k =
-    let b = k.behind in
-    record { entry = k.entry; nul = k.nul; from_name = k.from_name; is_nul = sym (slice_get_front x y k.nul (omega arith)) ∙ k.is_nul; behind = b; in_name = k.in_name }
+    let b = k.past_nul in
+    record { entry = k.entry; nul = k.nul; from_name = k.from_name; is_nul = sym (slice_get_front x y k.nul (omega arith)) ∙ k.is_nul; past_nul = b; in_name = k.in_name }
 
-tail_places : (x y : List ℕ) (i : ℕ) → length x ≡ 12 → IsBehindNul 0 y i → IsBehindNul 0 (x ++ y) (12 + i)
+tail_places : (x y : List ℕ) (i : ℕ) → length x ≡ 12 → IsAfterNul 0 y i → IsAfterNul 0 (x ++ y) (12 + i)
 tail_places x y i len k =
     let a = k.from_name in
-    let b = k.behind in
+    let b = k.past_nul in
     let c = k.in_name in
-    record { entry = k.entry + 1; nul = 12 + k.nul; from_name = omega arith; is_nul = slice_get_behind x y 12 k.nul len ∙ k.is_nul; behind = omega arith; in_name = omega arith }
+    record { entry = k.entry + 1; nul = 12 + k.nul; from_name = omega arith; is_nul = slice_get_after x y 12 k.nul len ∙ k.is_nul; past_nul = omega arith; in_name = omega arith }
 
-tail_places_back : (x y : List ℕ) (i : ℕ) → length x ≡ 12 → IsBehindNul 0 (x ++ y) (12 + i) → IsBehindNul 0 y i
+tail_places_back : (x y : List ℕ) (i : ℕ) → length x ≡ 12 → IsAfterNul 0 (x ++ y) (12 + i) → IsAfterNul 0 y i
 tail_places_back x y i len k =
     let a = k.from_name in
-    let b = k.behind in
+    let b = k.past_nul in
     let c = k.in_name in
     let place : 12 + (k.nul - 12) ≡ k.nul = omega arith in
-    let is : slice_get y (k.nul - 12) ≡ Some 0 = sym (slice_get_behind x y 12 (k.nul - 12) len) ∙ ap (λ (n : ℕ). slice_get (x ++ y) n) place ∙ k.is_nul in
-    record { entry = k.entry - 1; nul = k.nul - 12; from_name = omega arith; is_nul = is; behind = omega arith; in_name = omega arith }
+    let is : slice_get y (k.nul - 12) ≡ Some 0 = sym (slice_get_after x y 12 (k.nul - 12) len) ∙ ap (λ (n : ℕ). slice_get (x ++ y) n) place ∙ k.is_nul in
+    record { entry = k.entry - 1; nul = k.nul - 12; from_name = omega arith; is_nul = is; past_nul = omega arith; in_name = omega arith }
 
-table_alike : (n : ℕ) (bytes : List ℕ) → length bytes ≡ 12 * n → AreBytes bytes → AreAlike bytes (flat_map symbol_encoding (symbols_in n bytes)) (IsBehindNul 0 bytes)
+table_alike : (n : ℕ) (bytes : List ℕ) → length bytes ≡ 12 * n → AreBytes bytes → AreAlike bytes (flat_map symbol_encoding (symbols_in n bytes)) (IsAfterNul 0 bytes)
 table_alike zero bytes len h = λ i lt. absurd (omega arith)
 table_alike (suc n) bytes len h =
     let x = take 12 bytes in
@@ -197,26 +197,26 @@ table_alike (suc n) bytes len h =
     let ly : length y ≡ 12 * n = omega (arith, length-drop 12 bytes) in
     let rest = table_alike n y ly (bytes_drop 12 bytes h) in
     let first = symbol_alike x lx (bytes_take 12 bytes h) in
-    subst (λ (xs : List ℕ). AreAlike xs (symbol_encoding (symbol_in x) ++ flat_map symbol_encoding (symbols_in n y)) (IsBehindNul 0 xs)) (take-append-drop 12 bytes)
-    (alike_both x y (symbol_encoding (symbol_in x)) (flat_map symbol_encoding (symbols_in n y)) (IsBehindNul 0 (x ++ y)) 12 lx (length-symbol_encoding (symbol_in x))
-    (alike_more x (symbol_encoding (symbol_in x)) (IsBehindNul 0 x) (IsBehindNul 0 (x ++ y)) (λ i lt k. head_places x y i lt k) first)
-    (alike_more y (flat_map symbol_encoding (symbols_in n y)) (IsBehindNul 0 y) (λ i. IsBehindNul 0 (x ++ y) (12 + i)) (λ i lt k. tail_places x y i lx k) rest))
+    subst (λ (xs : List ℕ). AreAlike xs (symbol_encoding (symbol_in x) ++ flat_map symbol_encoding (symbols_in n y)) (IsAfterNul 0 xs)) (take-append-drop 12 bytes)
+    (alike_both x y (symbol_encoding (symbol_in x)) (flat_map symbol_encoding (symbols_in n y)) (IsAfterNul 0 (x ++ y)) 12 lx (length-symbol_encoding (symbol_in x))
+    (alike_more x (symbol_encoding (symbol_in x)) (IsAfterNul 0 x) (IsAfterNul 0 (x ++ y)) (λ i lt k. head_places x y i lt k) first)
+    (alike_more y (flat_map symbol_encoding (symbols_in n y)) (IsAfterNul 0 y) (λ i. IsAfterNul 0 (x ++ y) (12 + i)) (λ i lt k. tail_places x y i lx k) rest))
 
-table_read : (ss : List Symbol) (bytes : List ℕ) → length bytes ≡ 12 * length ss → AllByRecursion IsSymbol ss → AreAlike bytes (flat_map symbol_encoding ss) (IsBehindNul 0 bytes) → symbols_in (length ss) bytes ≡ ss
+table_read : (ss : List Symbol) (bytes : List ℕ) → length bytes ≡ 12 * length ss → AllByRecursion IsSymbol ss → AreAlike bytes (flat_map symbol_encoding ss) (IsAfterNul 0 bytes) → symbols_in (length ss) bytes ≡ ss
 table_read [] bytes len h k = refl
 table_read (s ∷ ss) bytes len h k =
     let x = take 12 bytes in
     let y = drop 12 bytes in
     let lx : length x ≡ 12 = omega (arith, length-take 12 bytes) in
     let ly : length y ≡ 12 * length ss = omega (arith, length-drop 12 bytes) in
-    let split : AreAlike (x ++ y) (symbol_encoding s ++ flat_map symbol_encoding ss) (IsBehindNul 0 (x ++ y)) =
-    subst (λ (xs : List ℕ). AreAlike xs (symbol_encoding s ++ flat_map symbol_encoding ss) (IsBehindNul 0 xs)) (sym (take-append-drop 12 bytes)) k in
+    let split : AreAlike (x ++ y) (symbol_encoding s ++ flat_map symbol_encoding ss) (IsAfterNul 0 (x ++ y)) =
+    subst (λ (xs : List ℕ). AreAlike xs (symbol_encoding s ++ flat_map symbol_encoding ss) (IsAfterNul 0 xs)) (sym (take-append-drop 12 bytes)) k in
     let first : symbol_in x ≡ s = symbol_read s x lx h.0.name
-    (alike_more x (symbol_encoding s) (IsBehindNul 0 (x ++ y)) (IsBehindNul 0 x) (λ i lt k. head_places_back x y i lt k)
-    (alike_front x y (symbol_encoding s) (flat_map symbol_encoding ss) (IsBehindNul 0 (x ++ y)) (lx ∙ sym (length-symbol_encoding s)) split)) in
+    (alike_more x (symbol_encoding s) (IsAfterNul 0 (x ++ y)) (IsAfterNul 0 x) (λ i lt k. head_places_back x y i lt k)
+    (alike_front x y (symbol_encoding s) (flat_map symbol_encoding ss) (IsAfterNul 0 (x ++ y)) (lx ∙ sym (length-symbol_encoding s)) split)) in
     let rest : symbols_in (length ss) y ≡ ss = table_read ss y ly h.1
-    (alike_more y (flat_map symbol_encoding ss) (λ i. IsBehindNul 0 (x ++ y) (12 + i)) (IsBehindNul 0 y) (λ i lt k. tail_places_back x y i lx k)
-    (alike_back x y (symbol_encoding s) (flat_map symbol_encoding ss) (IsBehindNul 0 (x ++ y)) 12 lx (length-symbol_encoding s) split)) in
+    (alike_more y (flat_map symbol_encoding ss) (λ i. IsAfterNul 0 (x ++ y) (12 + i)) (IsAfterNul 0 y) (λ i lt k. tail_places_back x y i lx k)
+    (alike_back x y (symbol_encoding s) (flat_map symbol_encoding ss) (IsAfterNul 0 (x ++ y)) 12 lx (length-symbol_encoding s) split)) in
     ap (λ (t : Symbol). t ∷ symbols_in (length ss) y) first ∙ ap (λ (ts : List Symbol). s ∷ ts) rest
 
 -- symbols are read from the first bytes alone
@@ -305,21 +305,21 @@ fore_read bytes h f long =
     (λ i. H i ++ (T i ++ (D i ++ (R i ++ Q i)))) ∙ sym (five_parts bytes hd.text_size hd.data_size r q) ∙ ap (λ (n : ℕ). take n bytes) at
 
 -- places of the table, seen in the whole text
-whole_places : (xs ys : List ℕ) (table i : ℕ) → length xs ≡ table → IsBehindNul 0 ys i → IsBehindNul table (xs ++ ys) (table + i)
+whole_places : (xs ys : List ℕ) (table i : ℕ) → length xs ≡ table → IsAfterNul 0 ys i → IsAfterNul table (xs ++ ys) (table + i)
 whole_places xs ys table i len k =
     let a = k.from_name in
-    let b = k.behind in
+    let b = k.past_nul in
     let c = k.in_name in
-    record { entry = k.entry; nul = table + k.nul; from_name = omega arith; is_nul = slice_get_behind xs ys table k.nul len ∙ k.is_nul; behind = omega arith; in_name = omega arith }
+    record { entry = k.entry; nul = table + k.nul; from_name = omega arith; is_nul = slice_get_after xs ys table k.nul len ∙ k.is_nul; past_nul = omega arith; in_name = omega arith }
 
-whole_places_back : (xs ys : List ℕ) (table i : ℕ) → length xs ≡ table → IsBehindNul table (xs ++ ys) (table + i) → IsBehindNul 0 ys i
+whole_places_back : (xs ys : List ℕ) (table i : ℕ) → length xs ≡ table → IsAfterNul table (xs ++ ys) (table + i) → IsAfterNul 0 ys i
 whole_places_back xs ys table i len k =
     let a = k.from_name in
-    let b = k.behind in
+    let b = k.past_nul in
     let c = k.in_name in
     let place : table + (k.nul - table) ≡ k.nul = omega arith in
-    let is : slice_get ys (k.nul - table) ≡ Some 0 = sym (slice_get_behind xs ys table (k.nul - table) len) ∙ ap (λ (n : ℕ). slice_get (xs ++ ys) n) place ∙ k.is_nul in
-    record { entry = k.entry; nul = k.nul - table; from_name = omega arith; is_nul = is; behind = omega arith; in_name = omega arith }
+    let is : slice_get ys (k.nul - table) ≡ Some 0 = sym (slice_get_after xs ys table (k.nul - table) len) ∙ ap (λ (n : ℕ). slice_get (xs ++ ys) n) place ∙ k.is_nul in
+    record { entry = k.entry; nul = k.nul - table; from_name = omega arith; is_nul = is; past_nul = omega arith; in_name = omega arith }
 
 -- the law, one way: the bytes that are read as a file encode it
 pub decoded_is_encoded : (bytes : List ℕ) (c : Contents) → AreBytes bytes → decode bytes ≡ Ok c → Encodes (take (file_length c.header) bytes) c
@@ -342,14 +342,14 @@ decoded_is_encoded bytes c h e =
         let ly : length ys ≡ hd.symbol_size = omega (arith, length-take hd.symbol_size (drop at bytes), length-drop at bytes) in
         let same : symbols_in n ys ≡ made.symbols = sym (symbols_front n ys zs (omega arith)) ∙ ap (λ (bs : List ℕ). symbols_in n bs) (take-append-drop hd.symbol_size (drop at bytes)) in
         let front : xs ≡ fore made = sym (fore_read bytes h f (omega arith)) in
-        let table : AreAlike ys (flat_map symbol_encoding made.symbols) (IsBehindNul 0 ys) =
-        subst (λ (ss : List Symbol). AreAlike ys (flat_map symbol_encoding ss) (IsBehindNul 0 ys)) same (table_alike n ys (ly ∙ sym count) (bytes_take hd.symbol_size (drop at bytes) (bytes_drop at bytes h))) in
-        let alike : AreAlike (xs ++ ys) (fore made ++ flat_map symbol_encoding made.symbols) (IsBehindNul at (xs ++ ys)) =
-        alike_both xs ys (fore made) (flat_map symbol_encoding made.symbols) (IsBehindNul at (xs ++ ys)) at lx (length_fore made f)
-        (alike_self xs (fore made) (IsBehindNul at (xs ++ ys)) front)
-        (alike_more ys (flat_map symbol_encoding made.symbols) (IsBehindNul 0 ys) (λ i. IsBehindNul at (xs ++ ys) (at + i)) (λ i lt k. whole_places xs ys at i lx k) table) in
-        let encoded : AreAlike (xs ++ ys) (encoding made) (IsBehindNul at (xs ++ ys)) =
-        subst (λ (bs : List ℕ). AreAlike (xs ++ ys) bs (IsBehindNul at (xs ++ ys))) (sym (encoding_split made)) alike in
+        let table : AreAlike ys (flat_map symbol_encoding made.symbols) (IsAfterNul 0 ys) =
+        subst (λ (ss : List Symbol). AreAlike ys (flat_map symbol_encoding ss) (IsAfterNul 0 ys)) same (table_alike n ys (ly ∙ sym count) (bytes_take hd.symbol_size (drop at bytes) (bytes_drop at bytes h))) in
+        let alike : AreAlike (xs ++ ys) (fore made ++ flat_map symbol_encoding made.symbols) (IsAfterNul at (xs ++ ys)) =
+        alike_both xs ys (fore made) (flat_map symbol_encoding made.symbols) (IsAfterNul at (xs ++ ys)) at lx (length_fore made f)
+        (alike_self xs (fore made) (IsAfterNul at (xs ++ ys)) front)
+        (alike_more ys (flat_map symbol_encoding made.symbols) (IsAfterNul 0 ys) (λ i. IsAfterNul at (xs ++ ys) (at + i)) (λ i lt k. whole_places xs ys at i lx k) table) in
+        let encoded : AreAlike (xs ++ ys) (encoding made) (IsAfterNul at (xs ++ ys)) =
+        subst (λ (bs : List ℕ). AreAlike (xs ++ ys) bs (IsAfterNul at (xs ++ ys))) (sym (encoding_split made)) alike in
         let len : length (xs ++ ys) ≡ length (encoding made) =
         ap (λ (bs : List ℕ). length bs) (ap (λ (bs : List ℕ). bs ++ ys) front) ∙ omega (arith, length-append (fore made) ys, length-append (fore made) (flat_map symbol_encoding made.symbols), ap (λ (bs : List ℕ). length bs) (encoding_split made), length-symbols_encoding made.symbols, f.table) in
         subst (λ (bs : List ℕ). Encodes bs made) (sym whole) (record { same_length = len; same_bytes = encoded })
@@ -394,13 +394,13 @@ encoded_is_decoded bytes rest c s e =
     let lb : length bytes ≡ at + 12 * length c.symbols = e.same_length ∙ omega (arith, ap (λ (bs : List ℕ). length bs) (encoding_split c), length-append P S) in
     let lx : length xs ≡ at = omega (arith, length-take at bytes) in
     let ly : length ys ≡ 12 * length c.symbols = omega (arith, length-drop at bytes) in
-    let alike : AreAlike bytes (P ++ S) (IsBehindNul at bytes) = subst (λ (bs : List ℕ). AreAlike bytes bs (IsBehindNul at bytes)) (encoding_split c) e.same_bytes in
-    let split : AreAlike (xs ++ ys) (P ++ S) (IsBehindNul at (xs ++ ys)) =
-    subst (λ (bs : List ℕ). AreAlike bs (P ++ S) (IsBehindNul at bs)) (sym (take-append-drop at bytes)) alike in
-    let front_same : xs ≡ P = alike_same xs P (IsBehindNul at (xs ++ ys)) (lx ∙ sym lp) (λ i lt k. not_before_table (xs ++ ys) i (omega arith) k) (alike_front xs ys P S (IsBehindNul at (xs ++ ys)) (lx ∙ sym lp) split) in
+    let alike : AreAlike bytes (P ++ S) (IsAfterNul at bytes) = subst (λ (bs : List ℕ). AreAlike bytes bs (IsAfterNul at bytes)) (encoding_split c) e.same_bytes in
+    let split : AreAlike (xs ++ ys) (P ++ S) (IsAfterNul at (xs ++ ys)) =
+    subst (λ (bs : List ℕ). AreAlike bs (P ++ S) (IsAfterNul at bs)) (sym (take-append-drop at bytes)) alike in
+    let front_same : xs ≡ P = alike_same xs P (IsAfterNul at (xs ++ ys)) (lx ∙ sym lp) (λ i lt k. not_before_table (xs ++ ys) i (omega arith) k) (alike_front xs ys P S (IsAfterNul at (xs ++ ys)) (lx ∙ sym lp) split) in
     let table : symbols_in (length c.symbols) ys ≡ c.symbols = table_read c.symbols ys ly s.symbols
-    (alike_more ys S (λ i. IsBehindNul at (xs ++ ys) (at + i)) (IsBehindNul 0 ys) (λ i lt k. whole_places_back xs ys at i lx k)
-    (alike_back xs ys P S (IsBehindNul at (xs ++ ys)) at lx lp split)) in
+    (alike_more ys S (λ i. IsAfterNul at (xs ++ ys) (at + i)) (IsAfterNul 0 ys) (λ i lt k. whole_places_back xs ys at i lx k)
+    (alike_back xs ys P S (IsAfterNul at (xs ++ ys)) at lx lp split)) in
     let text : bytes ++ rest ≡ P ++ (ys ++ rest) = ap (λ (bs : List ℕ). bs ++ rest) (sym (take-append-drop at bytes)) ∙ append_assoc xs ys rest ∙ ap (λ (bs : List ℕ). bs ++ (ys ++ rest)) front_same in
     let own : encoding c ++ rest ≡ P ++ (S ++ rest) = ap (λ (bs : List ℕ). bs ++ rest) (encoding_split c) ∙ append_assoc P S rest in
     let passed : Passed (P ++ (S ++ rest)) c = subst (λ (bs : List ℕ). Passed bs c) own (decoded_passed (encoding c ++ rest) c (decode-encoding c rest s)) in
@@ -416,8 +416,8 @@ encoded_is_decoded bytes rest c s e =
     let made : contents_in hd (P ++ (ys ++ rest)) ≡ c = read_alike P (S ++ rest) c hd (sym lp) is (ys ++ rest) ∙ ap (λ (ss : List Symbol). record c { symbols = ss }) symbols in
     rw text (decode_by (P ++ (ys ++ rest)) c again s.fits (omega (arith, s.fits.table, length-append P (ys ++ rest), length-append ys rest)) made)
   where
-    not_before_table : (bs : List ℕ) (i : ℕ) → i < symbols_at c.header → IsBehindNul (symbols_at c.header) bs i → ⊥
-    not_before_table bs i lt k = let a = k.from_name in let b = k.behind in omega arith
+    not_before_table : (bs : List ℕ) (i : ℕ) → i < symbols_at c.header → IsAfterNul (symbols_at c.header) bs i → ⊥
+    not_before_table bs i lt k = let a = k.from_name in let b = k.past_nul in omega arith
 
 -- what is read of bytes are words and names
 words_below : (bytes : List ℕ) → AreBytes bytes → AllByRecursion IsWord (words_in bytes)

@@ -26,8 +26,8 @@ taken_with_block (Some x) (Some y) waiting block out rest read e =
     ap (λ l. waiting ++ l) (read ∙ ap (λ l. l ++ y) e ∙ append_assoc out rest y) ∙ sym (append_assoc waiting out (rest ++ y))
 
 -- the end came before all that was announced
-pub ends_behind : (a b : Option (List ℕ)) (w : Awaited) → EndsEarly a b 0 w.missing → EndsEarly (prepend_known w.waiting a) b 0 (awaited w)
-ends_behind a b w e =
+pub ends_after : (a b : Option (List ℕ)) (w : Awaited) → EndsEarly a b 0 w.missing → EndsEarly (prepend_known w.waiting a) b 0 (awaited w)
+ends_after a b w e =
     record {
       bytes = w.waiting ++ e.bytes;
       short = let s = e.short in omega (arith, length-append w.waiting e.bytes);
@@ -65,9 +65,9 @@ taken_in_two a b w read old_out out second all rest n m count more taken reads a
     let first : take n w.waiting ≡ w.waiting = take_all n w.waiting (omega arith) in
     let out_is : out ≡ w.waiting ++ drop n old_out = taken ∙ ap (λ l. l ++ drop n old_out) first in
     let front : take n out ≡ w.waiting = ap (take n) out_is ∙ take_at w.waiting (drop n old_out) n (sym every) in
-    let behind : drop n out ≡ drop n old_out = ap (drop n) out_is ∙ drop_at w.waiting (drop n old_out) n (sym every) in
+    let after : drop n out ≡ drop n old_out = ap (drop n) out_is ∙ drop_at w.waiting (drop n old_out) n (sym every) in
     let last : m ≡ length old_out - n = omega arith in
-    let none : drop m (drop n out) ≡ [] = drop_all m (drop n out) (omega (arith, ap length behind, length-drop n old_out)) in
+    let none : drop m (drop n out) ≡ [] = drop_all m (drop n out) (omega (arith, ap length after, length-drop n old_out)) in
     let second_is : second ≡ take m read.waiting = taken_again ∙ ap (λ l. take m read.waiting ++ l) none ∙ append-nil (take m read.waiting) in
     let split : read.waiting ≡ second ++ rest = sym (take-append-drop m read.waiting) ∙ ap (λ l. l ++ drop m read.waiting) (sym second_is) ∙ ap (λ l. second ++ l) (sym left) in
     let all_is : all ≡ w.waiting ++ second = joined ∙ ap (λ l. l ++ second) front in
@@ -79,13 +79,13 @@ taken_in_two a b w read old_out out second all rest n m count more taken reads a
     }
 
 -- the end came, or the device failed, where more was to be read
-pub ends_behind_waiting : (e : ReadFault) (w : Awaited) (a b : Option (List ℕ)) → EndsBefore e a b w.missing → EndsBefore e (prepend_known w.waiting a) b (awaited w)
-ends_behind_waiting Truncated w a b r = ends_behind a b w r
-ends_behind_waiting Device w a b r = tt
-ends_behind_waiting ShortHeader w a b r = absurd r
-ends_behind_waiting BadMagic w a b r = absurd r
-ends_behind_waiting OddSize w a b r = absurd r
-ends_behind_waiting Memory w a b r = absurd r
+pub ends_after_waiting : (e : ReadFault) (w : Awaited) (a b : Option (List ℕ)) → EndsBefore e a b w.missing → EndsBefore e (prepend_known w.waiting a) b (awaited w)
+ends_after_waiting Truncated w a b r = ends_after a b w r
+ends_after_waiting Device w a b r = tt
+ends_after_waiting ShortHeader w a b r = absurd r
+ends_after_waiting BadMagic w a b r = absurd r
+ends_after_waiting OddSize w a b r = absurd r
+ends_after_waiting Memory w a b r = absurd r
 
 -- bytes were taken, and then more
 pub takes_more : (w v u : Awaited) (a b d : Option (List ℕ)) (first second : List ℕ) → Takes w a v b first → Takes v b u d second → Takes w a u d (first ++ second)
@@ -111,7 +111,7 @@ ends_later BadMagic w v a b d first p e = absurd e
 ends_later OddSize w v a b d first p e = absurd e
 ends_later Memory w v a b d first p e = absurd e
 
--- one more item behind a row
+-- one more item after a row
 row_in-more : {A : Type 0} (item_in : List ℕ → A) (width count : ℕ) (front back : List ℕ) → length front ≡ width * count → length back ≡ width →
     row_in item_in width (count + 1) (front ++ back) ≡ row_in item_in width count front ++ item_in back ∷ []
 row_in-more item_in width zero [] back whole one = ap (λ k. row_in item_in width k back) (zero-add 1) ∙ ap (λ l. item_in l ∷ []) (take_all width back (omega arith))
@@ -129,7 +129,7 @@ row_in-more item_in width (suc n) front back whole one =
     mul-suc : (x n : ℕ) → x * suc n ≡ x * n + x
     mul-suc x n = omega arith
 
--- an item behind those that were taken
+-- an item after those that were taken
 pub row_taken : {A : Type 0} (item_in : List ℕ → A) (width count : ℕ) (w v u : Awaited) (a b d : Option (List ℕ)) (items more all : List A) (item : A) →
     TakesRow item_in width count w a v b items more → TakesItem item_in width v b u d item → all ≡ more ++ item ∷ [] → TakesRow item_in width (count + 1) w a u d items all
 row_taken item_in width count w v u a b d items more all item row one pushed =
@@ -155,7 +155,7 @@ untaken (Some x) (Some y) bytes t = t
 abbrev pub unread : ℕ → Awaited
 unread n = record { waiting = []; missing = n }
 
--- some bytes behind the header were taken, and then the end came
+-- some bytes after the header were taken, and then the end came
 pub ends_in_body : (e : ReadFault) (h : Header) (n : ℕ) (v : Awaited) (a b d : Option (List ℕ)) (taken : List ℕ) → 16 + n ≡ file_length h → Takes (unread n) a v b taken →
     EndsBefore e (prepend_known v.waiting b) d (awaited v) → IsBodyRead h a d (Err e)
 ends_in_body Truncated h n v a b d taken size takes ends =
@@ -168,7 +168,7 @@ ends_in_body BadMagic h n v a b d taken size takes ends = absurd ends
 ends_in_body OddSize h n v a b d taken size takes ends = absurd ends
 ends_in_body Memory h n v a b d taken size takes ends = absurd ends
 
--- all bytes behind the header were taken
+-- all bytes after the header were taken
 pub took_body : (h : Header) (n : ℕ) (u : Awaited) (a b : Option (List ℕ)) (body : List ℕ) → 16 + n ≡ file_length h → 16 + length body ≡ file_length h → Takes (unread n) a u b body → Consumes a b body
 took_body h n u a b body size long takes = by u.waiting none b (untaken a (prepend_known u.waiting b) body takes.taken)
   where

@@ -12,7 +12,7 @@ use Rattle.aout_core.specs.internal.Rows.{row_in, TakesRow}
 use Rattle.aout_core.proofs.IncomingLemmas.{taken_waiting, takes_more}
 use Rattle.aout_core.proofs.OutgoingLemmas.{appends_but_more, broke_before, broke_more}
 
--- two rows, one behind the other
+-- two rows, one after the other
 row_in-append : {A : Type 0} (item_in : List ℕ → A) (width m n : ℕ) (front back : List ℕ) → length front ≡ width * m →
     row_in item_in width (m + n) (front ++ back) ≡ row_in item_in width m front ++ row_in item_in width n back
 row_in-append item_in width zero n [] back whole = ap (λ k. row_in item_in width k back) (zero-add n)
@@ -41,23 +41,23 @@ row_in-front item_in width n bytes within =
     ∙ append-nil (row_in item_in width n front)
 
 -- one of those that are left was read: how many are left then, and what they are
-pub item_read : {A : Type 0} (item_in : List ℕ → A) (width left : ℕ) (rest chunk behind : List ℕ) (items more all : List A) (item : A) →
-    0 < width → rest ≡ chunk ++ behind → length chunk ≡ width → length rest ≡ width * left → item ≡ item_in chunk → more ≡ items ++ item ∷ [] →
+pub item_read : {A : Type 0} (item_in : List ℕ → A) (width left : ℕ) (rest chunk after : List ℕ) (items more all : List A) (item : A) →
+    0 < width → rest ≡ chunk ++ after → length chunk ≡ width → length rest ≡ width * left → item ≡ item_in chunk → more ≡ items ++ item ∷ [] →
     items ++ row_in item_in width left rest ≡ all →
-    (k : ℕ) × (left ≡ k + 1) × (length behind ≡ width * k) × (more ++ row_in item_in width k behind ≡ all)
-item_read item_in width zero rest chunk behind items more all item wide split one size is pushed so_far =
-    absurd (omega (arith, ap length split, length-append chunk behind))
-item_read item_in width (suc k) rest chunk behind items more all item wide split one size is pushed so_far =
+    (k : ℕ) × (left ≡ k + 1) × (length after ≡ width * k) × (more ++ row_in item_in width k after ≡ all)
+item_read item_in width zero rest chunk after items more all item wide split one size is pushed so_far =
+    absurd (omega (arith, ap length split, length-append chunk after))
+item_read item_in width (suc k) rest chunk after items more all item wide split one size is pushed so_far =
     let next : width * suc k ≡ width * k + width = mul-suc width k in
-    let front : take width rest ≡ chunk = ap (take width) split ∙ take_at chunk behind width one in
-    let back : drop width rest ≡ behind = ap (drop width) split ∙ drop_at chunk behind width one in (
+    let front : take width rest ≡ chunk = ap (take width) split ∙ take_at chunk after width one in
+    let back : drop width rest ≡ after = ap (drop width) split ∙ drop_at chunk after width one in (
       k,
       omega arith,
-      omega (arith, ap length split, length-append chunk behind),
-      ap (λ l. l ++ row_in item_in width k behind) pushed
-          ∙ append_assoc items (item ∷ []) (row_in item_in width k behind)
-          ∙ ap (λ x. items ++ x ∷ row_in item_in width k behind) is
-          ∙ ap (λ l. items ++ item_in l ∷ row_in item_in width k behind) (sym front)
+      omega (arith, ap length split, length-append chunk after),
+      ap (λ l. l ++ row_in item_in width k after) pushed
+          ∙ append_assoc items (item ∷ []) (row_in item_in width k after)
+          ∙ ap (λ x. items ++ x ∷ row_in item_in width k after) is
+          ∙ ap (λ l. items ++ item_in l ∷ row_in item_in width k after) (sym front)
           ∙ ap (λ l. items ++ item_in (take width rest) ∷ row_in item_in width k l) (sym back)
           ∙ so_far,
     )
@@ -97,7 +97,7 @@ waiting_taken item_in width n w reader items more within read =
       encoded = read ∙ ap (λ l. items ++ l) (row_in-front item_in width n w.waiting within);
     }
 
--- a row behind a row
+-- a row after a row
 pub rows_taken : {A : Type 0} (item_in : List ℕ → A) (width m n : ℕ) (w v u : Awaited) (a b d : Option (List ℕ)) (items more all : List A) →
     TakesRow item_in width m w a v b items more → TakesRow item_in width n v b u d more all → TakesRow item_in width (m + n) w a u d items all
 rows_taken item_in width m n w v u a b d items more all first second =
@@ -141,11 +141,11 @@ one_missing item_in width m count w u a b items more row fewer within =
     mul-one-more : (x n : ℕ) → x * (n + 1) ≡ x * n + x
     mul-one-more x n = omega arith
 
--- a part of a list of texts, and what stands behind it
-parts_encoded : {A : Type 0} (encoding : A → List ℕ) (rest few behind : List A) (done all : List ℕ) → rest ≡ few ++ behind → all ≡ done ++ flat_map encoding rest →
-    all ≡ (done ++ flat_map encoding few) ++ flat_map encoding behind
-parts_encoded encoding rest few behind done all split so_far =
-    so_far ∙ ap (λ l. done ++ flat_map encoding l) split ∙ ap (λ l. done ++ l) (flat_map-append encoding few behind) ∙ sym (append_assoc done (flat_map encoding few) (flat_map encoding behind))
+-- a part of a list of texts, and what stands after it
+parts_encoded : {A : Type 0} (encoding : A → List ℕ) (rest few after : List A) (done all : List ℕ) → rest ≡ few ++ after → all ≡ done ++ flat_map encoding rest →
+    all ≡ (done ++ flat_map encoding few) ++ flat_map encoding after
+parts_encoded encoding rest few after done all split so_far =
+    so_far ∙ ap (λ l. done ++ flat_map encoding l) split ∙ ap (λ l. done ++ l) (flat_map-append encoding few after) ∙ sym (append_assoc done (flat_map encoding few) (flat_map encoding after))
 
 -- what went out but for what waits, and what is still to be put
 pub record IsPutBut {A : Type 0} (encoding : A → List ℕ) (old new : Option (List ℕ)) (waiting all : List ℕ) (rest : List A) : Type 0 where
@@ -153,19 +153,19 @@ pub record IsPutBut {A : Type 0} (encoding : A → List ℕ) (old new : Option (
   pub sent : AppendsBut old new waiting done
   pub split : all ≡ done ++ flat_map encoding rest
 
-pub few_put : {A : Type 0} (encoding : A → List ℕ) (a b d : Option (List ℕ)) (waiting left all : List ℕ) (rest few behind : List A) → rest ≡ few ++ behind →
-    IsPutBut encoding a b waiting all rest → AppendsBut b d left (waiting ++ flat_map encoding few) → IsPutBut encoding a d left all behind
-few_put encoding a b d waiting left all rest few behind split put more =
+pub few_put : {A : Type 0} (encoding : A → List ℕ) (a b d : Option (List ℕ)) (waiting left all : List ℕ) (rest few after : List A) → rest ≡ few ++ after →
+    IsPutBut encoding a b waiting all rest → AppendsBut b d left (waiting ++ flat_map encoding few) → IsPutBut encoding a d left all after
+few_put encoding a b d waiting left all rest few after split put more =
     record {
       done = put.done ++ flat_map encoding few;
       sent = appends_but_more a b d waiting left put.done (flat_map encoding few) put.sent more;
-      split = parts_encoded encoding rest few behind put.done all split put.split;
+      split = parts_encoded encoding rest few after put.done all split put.split;
     }
 
-pub few_broke : {A : Type 0} (encoding : A → List ℕ) (a b d : Option (List ℕ)) (waiting all : List ℕ) (rest few behind : List A) → rest ≡ few ++ behind →
+pub few_broke : {A : Type 0} (encoding : A → List ℕ) (a b d : Option (List ℕ)) (waiting all : List ℕ) (rest few after : List A) → rest ≡ few ++ after →
     IsPutBut encoding a b waiting all rest → AppendsPrefix b d (waiting ++ flat_map encoding few) → AppendsPrefix a d all
-few_broke encoding a b d waiting all rest few behind split put broke =
-    broke_before a d all (put.done ++ flat_map encoding few) (flat_map encoding behind) (parts_encoded encoding rest few behind put.done all split put.split)
+few_broke encoding a b d waiting all rest few after split put broke =
+    broke_before a d all (put.done ++ flat_map encoding few) (flat_map encoding after) (parts_encoded encoding rest few after put.done all split put.split)
     (broke_more a b d waiting put.done (flat_map encoding few) put.sent broke)
 
 pub all_put : {A : Type 0} (encoding : A → List ℕ) (a b : Option (List ℕ)) (waiting all : List ℕ) (rest : List A) → length rest ≡ 0 →

@@ -7,7 +7,7 @@ use Rattle.aout_core.specs.Wires.{AppendsPrefix, Puts}
 use Rattle.aout_core.specs.internal.Blocks.{AppendsBut, PutsBut}
 use Rattle.aout_core.proofs.PutsLemmas.{front_before}
 
--- the text behind a text that broke off
+-- the text after a text that broke off
 pub broke_before : (a b : Option (List ℕ)) (all first second : List ℕ) → all ≡ first ++ second → AppendsPrefix a b first → AppendsPrefix a b all
 broke_before a b all first second e broke = subst (AppendsPrefix a b) (sym e) (front_before a b first second broke)
 

@@ -1,4 +1,4 @@
--- A header and the bytes behind it, put together again.
+-- A header and the bytes after it, put together again.
 use Rattle.std.proofs.Common.{◌≡◌, ℕ, ◌+◌, ◌<◌, ◌≤◌, true, false, List, [], ◌++◌, take, drop, length, replicate, Option, Some, None, IfSome, refl, sym, ◌∙◌, ap, subst, arith, append_assoc, append-nil, length-append, take_at, drop_at, take_all, le-ltb, lt-ltb}
 use Rattle.std.specs.Prelude.{Result, Ok, Err, nat_lt}
 use Rattle.aout_core.specs.declared.header.Header.{Header}
@@ -25,7 +25,7 @@ header_front start rest long =
     let all : take 16 start ≡ start = take_all 16 start (omega arith) in
     ap (λ (bytes : List ℕ). header_of (words_in bytes)) (take_at start rest 16 long ∙ sym all)
 
--- the text begins with sixteen bytes that encode this header, and the rest stands behind them
+-- the text begins with sixteen bytes that encode this header, and the rest stands after them
 record Begins (bytes rest : List ℕ) (h : Header) : Type 0 where
   start : List ℕ
   long : length start ≡ 16
@@ -40,8 +40,8 @@ begins bytes rest h t = record {
   encoded = ap header_in t.taken ∙ header_front t.start rest t.long ∙ sym t.encoded;
 }
 
-rest_behind : (bytes rest : List ℕ) (h : Header) → Begins bytes rest h → rest ≡ drop 16 bytes
-rest_behind bytes rest h b = sym (ap (drop 16) b.whole ∙ drop_at b.start rest 16 b.long)
+rest_after : (bytes rest : List ℕ) (h : Header) → Begins bytes rest h → rest ≡ drop 16 bytes
+rest_after bytes rest h b = sym (ap (drop 16) b.whole ∙ drop_at b.start rest 16 b.long)
 
 length-begins : (bytes rest : List ℕ) (h : Header) → Begins bytes rest h → length bytes ≡ 16 + length rest
 length-begins bytes rest h b = ap length b.whole ∙ length-append b.start rest ∙ ap (λ n. n + length rest) b.long
@@ -84,45 +84,45 @@ pub refused_header : (e : ReadFault) (bytes : List ℕ) (left : Option (List ℕ
 refused_header ShortHeader bytes left r = let end = early_end bytes left 0 16 r in (short_header bytes (omega arith), end.1)
 refused_header BadMagic bytes None (h, t, bad) = absurd t.taken
 refused_header BadMagic bytes (Some rest) (h, t, bad) =
-    let b = begins bytes rest h t in (bad_magic bytes rest h b bad, ap Some (rest_behind bytes rest h b))
+    let b = begins bytes rest h t in (bad_magic bytes rest h b bad, ap Some (rest_after bytes rest h b))
 refused_header OddSize bytes None (h, t, magic, bad) = absurd t.taken
 refused_header OddSize bytes (Some rest) (h, t, magic, bad) =
-    let b = begins bytes rest h t in (odd_size bytes rest h b magic bad, ap Some (rest_behind bytes rest h b))
+    let b = begins bytes rest h t in (odd_size bytes rest h b magic bad, ap Some (rest_after bytes rest h b))
 refused_header Memory bytes left r = absurd r
 refused_header Truncated bytes left r = absurd r
 refused_header Device bytes left r = (tt, tt)
 
-file_behind : (c : Contents) (bytes rest : List ℕ) (left : Option (List ℕ)) (h : Header) → Begins bytes rest h → IsFileHeader h → TakesBody h (Some rest) left c →
+file_after : (c : Contents) (bytes rest : List ℕ) (left : Option (List ℕ)) (h : Header) → Begins bytes rest h → IsFileHeader h → TakesBody h (Some rest) left c →
     IsReadOf (Ok c) bytes × LeavesAfter (Ok c) bytes left
-file_behind c bytes rest None h b good t = absurd t.taken
-file_behind c bytes rest (Some more) h b good t =
+file_after c bytes rest None h b good t = absurd t.taken
+file_after c bytes rest (Some more) h b good t =
     let whole : bytes ≡ b.start ++ (t.body ++ more) = b.whole ∙ ap (λ l. b.start ++ l) t.taken in
     let header : c.header ≡ h = ap (λ (x : Contents). x.header) (t.encoded b.start more b.long) in
     let long : length rest ≡ length t.body + length more = ap length t.taken ∙ length-append t.body more in
     let same : contents_in h bytes ≡ c = ap (contents_in h) whole ∙ sym (t.encoded b.start more b.long) in
     let size : length (b.start ++ t.body) ≡ file_length c.header = length-append b.start t.body ∙ ap (λ n. n + length t.body) b.long ∙ t.long ∙ ap file_length (sym header) in
-    let behind : drop (file_length c.header) bytes ≡ more =
+    let after : drop (file_length c.header) bytes ≡ more =
     ap (drop (file_length c.header)) (whole ∙ sym (append_assoc b.start t.body more)) ∙ drop_at (b.start ++ t.body) more (file_length c.header) size in
-    (whole_file bytes rest h b good (omega (arith, t.long)) ∙ ap (λ (x : Contents). let r : Result Contents ReadFault = Ok x in r) same, ap Some (sym behind))
+    (whole_file bytes rest h b good (omega (arith, t.long)) ∙ ap (λ (x : Contents). let r : Result Contents ReadFault = Ok x in r) same, ap Some (sym after))
 
--- what was read behind the header is what the text begins with
-pub read_behind : (r : Result Contents ReadFault) (bytes : List ℕ) (mid left : Option (List ℕ)) (h : Header) → TakesHeader (Some bytes) mid h → IsFileHeader h → IsBodyRead h mid left r →
+-- what was read after the header is what the text begins with
+pub read_after : (r : Result Contents ReadFault) (bytes : List ℕ) (mid left : Option (List ℕ)) (h : Header) → TakesHeader (Some bytes) mid h → IsFileHeader h → IsBodyRead h mid left r →
     IsReadOf r bytes × LeavesAfter r bytes left
-read_behind r bytes None left h t good body = absurd t.taken
-read_behind (Ok c) bytes (Some rest) left h t good body = file_behind c bytes rest left h (begins bytes rest h t) good body
-read_behind (Err ShortHeader) bytes (Some rest) left h t good body = absurd body
-read_behind (Err BadMagic) bytes (Some rest) left h t good body = absurd body
-read_behind (Err OddSize) bytes (Some rest) left h t good body = absurd body
-read_behind (Err Memory) bytes (Some rest) None h t good body = absurd body.0
-read_behind (Err Memory) bytes (Some rest) (Some more) h t good body =
+read_after r bytes None left h t good body = absurd t.taken
+read_after (Ok c) bytes (Some rest) left h t good body = file_after c bytes rest left h (begins bytes rest h t) good body
+read_after (Err ShortHeader) bytes (Some rest) left h t good body = absurd body
+read_after (Err BadMagic) bytes (Some rest) left h t good body = absurd body
+read_after (Err OddSize) bytes (Some rest) left h t good body = absurd body
+read_after (Err Memory) bytes (Some rest) None h t good body = absurd body.0
+read_after (Err Memory) bytes (Some rest) (Some more) h t good body =
     let b = begins bytes rest h t in
     let size = length-begins bytes rest h b in
     let header : HasHeader bytes = record { long = omega arith; header = subst IsFileHeader (sym b.encoded) good } in
-    ((header, subst (λ (x : Header). 16 < file_length x) (sym b.encoded) body.1), ap Some (body.0 ∙ rest_behind bytes rest h b))
-read_behind (Err Truncated) bytes (Some rest) left h t good body =
+    ((header, subst (λ (x : Header). 16 < file_length x) (sym b.encoded) body.1), ap Some (body.0 ∙ rest_after bytes rest h b))
+read_after (Err Truncated) bytes (Some rest) left h t good body =
     let end = early_end rest left 16 (file_length h) body in
     (truncated bytes rest h (begins bytes rest h t) good end.0, end.1)
-read_behind (Err Device) bytes (Some rest) left h t good body = (tt, tt)
+read_after (Err Device) bytes (Some rest) left h t good body = (tt, tt)
 
 -- the same where the reader may not tell its bytes
 pub refused_if_told : (e : ReadFault) (old left : Option (List ℕ)) → IsHeaderRead old left (Err e) → IfSome old (λ bytes. IsReadOf (Err e) bytes × LeavesAfter (Err e) bytes left)
@@ -132,4 +132,4 @@ refused_if_told e (Some bytes) left r = refused_header e bytes left r
 pub read_if_told : (r : Result Contents ReadFault) (old mid left : Option (List ℕ)) (h : Header) → TakesHeader old mid h → IsFileHeader h → IsBodyRead h mid left r →
     IfSome old (λ bytes. IsReadOf r bytes × LeavesAfter r bytes left)
 read_if_told r None mid left h t good body = tt
-read_if_told r (Some bytes) mid left h t good body = read_behind r bytes mid left h t good body
+read_if_told r (Some bytes) mid left h t good body = read_after r bytes mid left h t good body

@@ -18,7 +18,7 @@ path_without_word word line lacks =
     and_left (bytes_eq (take (length word) line) word) (nat_lt (length word) (length line))
     (false_from_ne_true (bytes_eq (take (length word) line) word) (λ e. lacks (drop (length word) line) (sym (take-append-drop (length word) line) ∙ ap (λ (l : List ℕ). l ++ drop (length word) line) ((bytes_eq-Decides (take (length word) line) word).0 e))))
 
--- something stands behind it
+-- something stands after it
 pub path_of_some : (word line rest : List ℕ) → line ≡ word ++ rest → (length rest == 0) ≡ false → has_path word line ≡ true
 path_of_some word line rest is some =
     let more : length rest ≡ 0 → ⊥ = eqb-false (length rest) 0 some in

@@ -7,26 +7,26 @@ use Rattle.std.proofs.lemmas.Bool.{ne_eqb, lt-leb, lt-ltb, le-ltb}
 use Rattle.command_words.specs.declared.lines.Line.{Line}
 use Rattle.command_words.specs.declared.line_reader.Stop.{Stop}
 use Rattle.command_words.specs.declared.line_reader.Stop.TheVariants as stops
-use Rattle.command_words.specs.Scripts.{asked, lines_in, on_first, long_line, many_lines, and_given, ends_with_fault, given_behind}
-use Rattle.command_words.specs.ScriptAnswers.{Answer, asked_by, HasLine, HasNone, NamesPath, behind_line, WhereKnown, IsNextOf}
+use Rattle.command_words.specs.Scripts.{asked, lines_in, on_first, long_line, many_lines, and_given, ends_with_fault, given_after}
+use Rattle.command_words.specs.ScriptAnswers.{Answer, asked_by, HasLine, HasNone, NamesPath, after_line, WhereKnown, IsNextOf}
 use Rattle.command_words.specs.internal.LineParts.{IsStopOf, IsTakenOf}
 
 pub has_none_push : (line : List ℕ) (b : ℕ) → HasNone line → b ≢ 10 → HasNone (line ++ b ∷ [])
 has_none_push [] b h n = (n, tt)
 has_none_push (x ∷ line) b h n = (h.0, has_none_push line b h.1 n)
 
--- a line whose newline is not among these bytes goes on behind them
+-- a line whose newline is not among these bytes goes on after them
 pub goes_on : (all line held : List ℕ) → HasNone line → all ≡ line ++ held → HasLine all → held ≡ [] → ⊥
 goes_on all line held none split whole empty = whole (subst HasNone (sym (split ∙ ap (λ (l : List ℕ). line ++ l) empty ∙ append-nil line)) none)
 
--- where a line goes on behind the bytes that were taken, some are held, and its reader is not asked
+-- where a line goes on after the bytes that were taken, some are held, and its reader is not asked
 pub not_asked : {A : Type 0} {before now after : A} (all line held : List ℕ) → HasNone line → (HasLine all → (all ≡ line ++ held) × (now ≡ before)) → ((held ≡ [] → ⊥) → after ≡ now) →
     HasLine all → after ≡ before
 not_asked all line held none begun kept whole =
     let (split, same) = begun whole in
     kept (goes_on all line held none split whole) ∙ same
 
--- nothing was left behind the bytes that were taken
+-- nothing was left after the bytes that were taken
 pub taken_to_end : (a b c : Option (List ℕ)) (bs : List ℕ) → HasNone bs → Consumes a b bs → Consumes b c [] × IsAtEnd c → HasNone bs × Consumes a c bs × IsAtEnd c
 taken_to_end a b c bs none taken end = (none, subst (Consumes a c) (append-nil bs) (Consumes-trans a b c bs [] taken end.0), end.1)
 
@@ -38,9 +38,9 @@ lines_of_line [] rest h = refl
 lines_of_line (x ∷ line) rest h =
     ap (λ (c : Bool). cond c ([] ∷ lines_in (line ++ 10 ∷ rest)) (on_first x (lines_in (line ++ 10 ∷ rest)))) (ne_eqb x 10 h.0) ∙ ap (on_first x) (lines_of_line line rest h.1)
 
-behind_whole_line : (line rest : List ℕ) → HasNone line → behind_line (line ++ 10 ∷ rest) ≡ rest
-behind_whole_line [] rest h = refl
-behind_whole_line (x ∷ line) rest h = ap (λ (c : Bool). cond c (line ++ 10 ∷ rest) (behind_line (line ++ 10 ∷ rest))) (ne_eqb x 10 h.0) ∙ behind_whole_line line rest h.1
+after_whole_line : (line rest : List ℕ) → HasNone line → after_line (line ++ 10 ∷ rest) ≡ rest
+after_whole_line [] rest h = refl
+after_whole_line (x ∷ line) rest h = ap (λ (c : Bool). cond c (line ++ 10 ∷ rest) (after_line (line ++ 10 ∷ rest))) (ne_eqb x 10 h.0) ∙ after_whole_line line rest h.1
 
 newline_inside : (line rest : List ℕ) → HasNone (line ++ 10 ∷ rest) → ⊥
 newline_inside [] rest h = h.0 refl
@@ -51,9 +51,9 @@ lines_of_last : (x : ℕ) (line : List ℕ) → HasNone (x ∷ line) → lines_i
 lines_of_last x [] h = ap (λ (c : Bool). cond c ([] ∷ []) (on_first x [])) (ne_eqb x 10 h.0)
 lines_of_last x (y ∷ line) h = ap (λ (c : Bool). cond c ([] ∷ lines_in (y ∷ line)) (on_first x (lines_in (y ∷ line)))) (ne_eqb x 10 h.0) ∙ ap (on_first x) (lines_of_last y line h.1)
 
-pub behind_last_line : (line : List ℕ) → HasNone line → behind_line line ≡ []
-behind_last_line [] h = refl
-behind_last_line (x ∷ line) h = ap (λ (c : Bool). cond c line (behind_line line)) (ne_eqb x 10 h.0) ∙ behind_last_line line h.1
+pub after_last_line : (line : List ℕ) → HasNone line → after_line line ≡ []
+after_last_line [] h = refl
+after_last_line (x ∷ line) h = ap (λ (c : Bool). cond c line (after_line line)) (ne_eqb x 10 h.0) ∙ after_last_line line h.1
 
 -- a line begins with these bytes
 first_line : (x : ℕ) (ls : List (List ℕ)) → (more : List ℕ) × (others : List (List ℕ)) × (on_first x ls ≡ (x ∷ more) ∷ others)
@@ -70,15 +70,15 @@ starts_line x (y ∷ front) rest h =
 
 -- ---- what they give
 
-given_line : (n : ℕ) (l : List ℕ) (ls : List (List ℕ)) → n < 1000000 → length l ≤ 4096 → given_behind n (l ∷ ls) ≡ and_given (asked l) (given_behind (n + 1) ls)
+given_line : (n : ℕ) (l : List ℕ) (ls : List (List ℕ)) → n < 1000000 → length l ≤ 4096 → given_after n (l ∷ ls) ≡ and_given (asked l) (given_after (n + 1) ls)
 given_line n l ls few short =
-    ap (λ (c : Bool). if c then ends_with_fault many_lines else (if nat_lt 4096 (length l) then ends_with_fault long_line else and_given (asked l) (given_behind (n + 1) ls))) (lt-leb 1000000 n few)
-    ∙ ap (λ (c : Bool). if c then ends_with_fault long_line else and_given (asked l) (given_behind (n + 1) ls)) (le-ltb 4096 (length l) short)
+    ap (λ (c : Bool). if c then ends_with_fault many_lines else (if nat_lt 4096 (length l) then ends_with_fault long_line else and_given (asked l) (given_after (n + 1) ls))) (lt-leb 1000000 n few)
+    ∙ ap (λ (c : Bool). if c then ends_with_fault long_line else and_given (asked l) (given_after (n + 1) ls)) (le-ltb 4096 (length l) short)
 
-given_long : (n : ℕ) (l : List ℕ) (ls : List (List ℕ)) → n < 1000000 → 4096 < length l → given_behind n (l ∷ ls) ≡ ends_with_fault long_line
+given_long : (n : ℕ) (l : List ℕ) (ls : List (List ℕ)) → n < 1000000 → 4096 < length l → given_after n (l ∷ ls) ≡ ends_with_fault long_line
 given_long n l ls few long =
-    ap (λ (c : Bool). if c then ends_with_fault many_lines else (if nat_lt 4096 (length l) then ends_with_fault long_line else and_given (asked l) (given_behind (n + 1) ls))) (lt-leb 1000000 n few)
-    ∙ ap (λ (c : Bool). if c then ends_with_fault long_line else and_given (asked l) (given_behind (n + 1) ls)) (lt-ltb 4096 (length l) long)
+    ap (λ (c : Bool). if c then ends_with_fault many_lines else (if nat_lt 4096 (length l) then ends_with_fault long_line else and_given (asked l) (given_after (n + 1) ls))) (lt-leb 1000000 n few)
+    ∙ ap (λ (c : Bool). if c then ends_with_fault long_line else and_given (asked l) (given_after (n + 1) ls)) (lt-ltb 4096 (length l) long)
 
 -- ---- the same of a reader that tells its bytes
 
@@ -87,11 +87,11 @@ told_map None new P Q f h = tt
 told_map (Some bytes) None P Q f h = absurd h
 told_map (Some bytes) (Some left) P Q f h = f bytes left h
 
-long_lines : (n : ℕ) (front rest : List ℕ) → n < 1000000 → 4096 < length front → HasNone front → given_behind n (lines_in (front ++ rest)) ≡ ends_with_fault long_line
+long_lines : (n : ℕ) (front rest : List ℕ) → n < 1000000 → 4096 < length front → HasNone front → given_after n (lines_in (front ++ rest)) ≡ ends_with_fault long_line
 long_lines n [] rest few long h = absurd (omega arith)
 long_lines n (x ∷ front) rest few long h =
     let (more, others, same) = starts_line x front rest h in
-    ap (given_behind n) same ∙ given_long n (x ∷ (front ++ more)) others few (omega (arith, length-append front more))
+    ap (given_after n) same ∙ given_long n (x ∷ (front ++ more)) others few (omega (arith, length-append front more))
 
 pub long_told : (n : ℕ) (old new : Option (List ℕ)) (line : List ℕ) (b : ℕ) → n < 1000000 → length line ≡ 4096 → HasNone (line ++ b ∷ []) → Consumes old new (line ++ b ∷ []) →
     WhereKnown old new (λ bytes left. IsStopOf n bytes left stops.LongLine)
@@ -100,7 +100,7 @@ long_told n (Some bytes) None line b few long none taken = absurd taken
 long_told n (Some bytes) (Some left) line b few long none taken =
     let size : length (line ++ b ∷ []) ≡ 4097 = length-append line (b ∷ []) ∙ ap (λ (k : ℕ). k + 1) long in (
       sym (ap (drop 4097) taken ∙ drop_at (line ++ b ∷ []) left 4097 size),
-      ap (λ (x : List ℕ). given_behind n (lines_in x)) taken ∙ long_lines n (line ++ b ∷ []) left few (omega (arith, size)) none,
+      ap (λ (x : List ℕ). given_after n (lines_in x)) taken ∙ long_lines n (line ++ b ∷ []) left few (omega (arith, size)) none,
     )
 
 pub line_told : (n : ℕ) (old new : Option (List ℕ)) (line : List ℕ) → n < 1000000 → length line ≤ 4096 → HasNone line → Consumes old new (line ++ 10 ∷ []) →
@@ -110,15 +110,15 @@ line_told n (Some bytes) None line few short none taken = absurd taken
 line_told n (Some bytes) (Some left) line few short none taken =
     let whole : bytes ≡ line ++ 10 ∷ left = taken ∙ append_assoc line (10 ∷ []) left in (
       (
-        sym (ap behind_line whole ∙ behind_whole_line line left none),
-        ap (given_behind n) (ap lines_in whole ∙ lines_of_line line left none) ∙ given_line n line (lines_in left) few short,
+        sym (ap after_line whole ∙ after_whole_line line left none),
+        ap (given_after n) (ap lines_in whole ∙ lines_of_line line left none) ∙ given_line n line (lines_in left) few short,
       ),
       (λ never. absurd (cc), λ h. absurd (newline_inside line left (subst HasNone whole h))),
     )
 
-last_lines : (n : ℕ) (line : List ℕ) → n < 1000000 → length line ≤ 4096 → (length line ≡ 0 → ⊥) → HasNone line → given_behind n (lines_in line) ≡ and_given (asked line) (given_behind (n + 1) [])
+last_lines : (n : ℕ) (line : List ℕ) → n < 1000000 → length line ≤ 4096 → (length line ≡ 0 → ⊥) → HasNone line → given_after n (lines_in line) ≡ and_given (asked line) (given_after (n + 1) [])
 last_lines n [] few short some none = absurd (some refl)
-last_lines n (x ∷ line) few short some none = ap (given_behind n) (lines_of_last x line none) ∙ given_line n (x ∷ line) [] few short
+last_lines n (x ∷ line) few short some none = ap (given_after n) (lines_of_last x line none) ∙ given_line n (x ∷ line) [] few short
 
 pub last_told : (n : ℕ) (old new : Option (List ℕ)) (line : List ℕ) → n < 1000000 → length line ≤ 4096 → (length line ≡ 0 → ⊥) → HasNone line → Consumes old new line → IsAtEnd new →
     WhereKnown old new (λ bytes left. IsTakenOf n bytes left line (Ok true))
@@ -127,8 +127,8 @@ last_told n (Some bytes) None line few short some none taken end = absurd taken
 last_told n (Some bytes) (Some left) line few short some none taken end =
     let whole : bytes ≡ line = taken ∙ ap (λ (l : List ℕ). line ++ l) end ∙ append-nil line in (
       (
-        end ∙ sym (ap behind_line whole ∙ behind_last_line line none),
-        ap (λ (b : List ℕ). given_behind n (lines_in b)) whole ∙ last_lines n line few short some none ∙ ap (λ (l : List ℕ). and_given (asked line) (given_behind (n + 1) (lines_in l))) (sym end),
+        end ∙ sym (ap after_line whole ∙ after_last_line line none),
+        ap (λ (b : List ℕ). given_after n (lines_in b)) whole ∙ last_lines n line few short some none ∙ ap (λ (l : List ℕ). and_given (asked line) (given_after (n + 1) (lines_in l))) (sym end),
       ),
       (λ _. subst HasNone (sym whole) none, λ _. refl),
     )
@@ -138,7 +138,7 @@ last_told n (Some bytes) (Some left) line few short some none taken end =
 pub line_answered : (n : ℕ) (settled : Option Stop) (line : List ℕ) (is_last : Bool) (it : Line) (bytes left : List ℕ) → asked_by it ≡ asked line → (IsSome settled ↔ is_last ≡ true) →
     IsTakenOf n bytes left line (Ok is_last) → IsNextOf n bytes left settled (Ok it)
 line_answered n settled line is_last it bytes left same last h =
-    ((h.0.0, h.0.1 ∙ ap (λ a. and_given a (given_behind (n + 1) (lines_in left))) (sym same)), (λ some. h.1.0 (last.0 some), λ none. last.1 (h.1.1 none)))
+    ((h.0.0, h.0.1 ∙ ap (λ a. and_given a (given_after (n + 1) (lines_in left))) (sym same)), (λ some. h.1.0 (last.0 some), λ none. last.1 (h.1.1 none)))
 
 -- no memory for the line that was taken
 pub lost_told : (n : ℕ) (old new : Option (List ℕ)) (settled : Option Stop) (line : List ℕ) (is_last : Bool) → NamesPath (asked line) →

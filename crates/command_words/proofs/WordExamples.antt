@@ -35,9 +35,9 @@ values_in_both_places : seen (STRIP.now ∷ []) (OUT.now ∷ ENTRY.now ∷ FORCE
 unfolding clap_on_literals
 values_in_both_places = refl
 
-options_behind_files : seen (STRIP.now ∷ []) (FILE.now ∷ []) (codes "ld" ∷ codes "a.o" ∷ codes "-s" ∷ codes "b.o" ∷ []) ≡ Some (codes "ld", true ∷ [], (codes "a.o" ∷ codes "b.o" ∷ []) ∷ [])
+options_after_files : seen (STRIP.now ∷ []) (FILE.now ∷ []) (codes "ld" ∷ codes "a.o" ∷ codes "-s" ∷ codes "b.o" ∷ []) ≡ Some (codes "ld", true ∷ [], (codes "a.o" ∷ codes "b.o" ∷ []) ∷ [])
 unfolding clap_on_literals
-options_behind_files = refl
+options_after_files = refl
 
 options_ended : seen (STRIP.now ∷ []) (FILE.now ∷ []) (codes "ld" ∷ codes "--" ∷ codes "-s" ∷ []) ≡ Some (codes "ld", false ∷ [], (codes "-s" ∷ []) ∷ [])
 unfolding clap_on_literals
@@ -63,9 +63,9 @@ file_of_a_session : fault_of v7_app (codes "session" ∷ codes "a.o" ∷ []) ≡
 unfolding clap_on_literals
 file_of_a_session = refl
 
-output_behind_sign : seen [] (OUT.now ∷ FILE.now ∷ []) (codes "ld" ∷ codes "-o=out" ∷ codes "a.o" ∷ []) ≡ Some (codes "ld", [], (codes "out" ∷ []) ∷ (codes "a.o" ∷ []) ∷ [])
+output_after_sign : seen [] (OUT.now ∷ FILE.now ∷ []) (codes "ld" ∷ codes "-o=out" ∷ codes "a.o" ∷ []) ≡ Some (codes "ld", [], (codes "out" ∷ []) ∷ (codes "a.o" ∷ []) ∷ [])
 unfolding clap_on_literals
-output_behind_sign = refl
+output_after_sign = refl
 
 dash_alone : seen [] (FILE.now ∷ []) (codes "strip" ∷ codes "-" ∷ []) ≡ Some (codes "strip", [], (codes "-" ∷ []) ∷ [])
 unfolding clap_on_literals

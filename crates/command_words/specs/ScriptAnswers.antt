@@ -9,7 +9,7 @@ use Rattle.command_words.specs.declared.lines.Line.{Line}
 use Rattle.command_words.specs.declared.lines.Line.TheVariants as lines
 use Rattle.command_words.specs.declared.line_reader.Stop.{Stop}
 use Rattle.command_words.specs.declared.line_reader.Stop.TheVariants as stops
-use Rattle.command_words.specs.Scripts.{Asked, to_add, to_withdraw, for_externals, for_undefined, to_link, for_nothing, lines_in, ScriptFault, long_line, many_lines, and_given, given_behind}
+use Rattle.command_words.specs.Scripts.{Asked, to_add, to_withdraw, for_externals, for_undefined, to_link, for_nothing, lines_in, ScriptFault, long_line, many_lines, and_given, given_after}
 
 -- what a line that was given asks for
 abbrev pub asked_by : Line → Asked
@@ -57,9 +57,9 @@ WhereKnown (Some xs) None holds = ⊥
 WhereKnown (Some xs) (Some ys) holds = holds xs ys
 
 -- what comes after the first newline
-abbrev pub behind_line : List ℕ → List ℕ
-behind_line [] = []
-behind_line (b ∷ bs) = cond (eqb b 10) bs (behind_line bs)
+abbrev pub after_line : List ℕ → List ℕ
+after_line [] = []
+after_line (b ∷ bs) = cond (eqb b 10) bs (after_line bs)
 
 -- none of the bytes is a newline
 abbrev pub HasNone : List ℕ → Type 0
@@ -76,7 +76,7 @@ NeedsNoMore n bytes = HasLine bytes ⊎ ((n ≡ 1000000) × (bytes ≢ []))
 
 -- after so many lines there is one more, which asks for this, and it was taken with its newline
 abbrev pub TakesLine : ℕ → List ℕ → List ℕ → Asked → Type 0
-TakesLine n bytes left asks = (left ≡ behind_line bytes) × (given_behind n (lines_in bytes) ≡ and_given asks (given_behind (n + 1) (lines_in left)))
+TakesLine n bytes left asks = (left ≡ after_line bytes) × (given_after n (lines_in bytes) ≡ and_given asks (given_after (n + 1) (lines_in left)))
 
 -- a line that names a path, for which room is needed
 abbrev pub NamesPath : Asked → Type 0
@@ -86,7 +86,7 @@ NamesPath _ = ⊥
 
 -- after so many lines there is none, because of this fault or since the script is at its end
 abbrev pub GivesNone : ℕ → List ℕ → Option ScriptFault → Type 0
-GivesNone n bytes fault = given_behind n (lines_in bytes) ≡ record { lines = []; fault = fault }
+GivesNone n bytes fault = given_after n (lines_in bytes) ≡ record { lines = []; fault = fault }
 
 -- the reader failed within a line, of which these bytes were taken
 abbrev pub FailsInLine : List ℕ → List ℕ → Type 0

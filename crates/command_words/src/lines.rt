@@ -26,7 +26,7 @@ pub enum Line {
 }
 
 /// The path after a word that a line begins with, if there is one.
-fn path_behind<'a>(word: &str, line: &'a str) -> Option<&'a str>
+fn path_after<'a>(word: &str, line: &'a str) -> Option<&'a str>
     ensures { MatchOption result (has_path word.now line.now ≡ false)
         (λ path. (has_path word.now line.now ≡ true) × (path.now ≡ drop (length word.now) line.now)) }
 {
@@ -39,7 +39,7 @@ fn asked_in(alloc: Global, line: &str) -> Result<Line, AllocError>
     ensures value { IfOk result (λ it. asked_by it ≡ asked line.now) }
     ensures room { IfErr result (λ _. NamesPath (asked line.now)) }
 {
-    if let Some(path) = path_behind("add ", line) {
+    if let Some(path) = path_after("add ", line) {
         return Ok(Line::Add(String::from_str(alloc, path)?));
     }
     match line {
@@ -48,7 +48,7 @@ fn asked_in(alloc: Global, line: &str) -> Result<Line, AllocError>
         "undefined" => return Ok(Line::Undefined),
         _ => {}
     }
-    match path_behind("link ", line) {
+    match path_after("link ", line) {
         Some(path) => Ok(Line::Link(String::from_str(alloc, path)?)),
         None => Ok(Line::Bad),
     }

@@ -53,7 +53,7 @@ among_multiples_part = refl
 among_multiples_all : (outcome_of (link [] (d_o ∷ c_o ∷ d2_o ∷ []) plain)).file.text_words ≡ 160 ∷ 135 ∷ 2551 ∷ 65530 ∷ 135 ∷ []
 among_multiples_all = refl
 
--- a name with bytes behind its NUL
+-- a name with bytes after its NUL
 abbrev one_name : Contents
 one_name = object [] [] [] [] 0 (sym _f 32 0 ∷ [])
 

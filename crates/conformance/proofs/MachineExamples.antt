@@ -24,7 +24,7 @@ forward = main_o ∷ twice_o ∷ count_o ∷ []
 abbrev back : List Contents
 back = twice_o ∷ main_o ∷ count_o ∷ []
 
--- the bytes of the operand of `mov _count,r0` and of the number behind text, and none behind that
+-- the bytes of the operand of `mov _count,r0` and of the number after text, and none after that
 plain_bytes : map (λ (n : ℕ). core (file_of forward plain) of_instructions n) (2 ∷ 3 ∷ 14 ∷ 15 ∷ 16 ∷ []) ≡ Some 10 ∷ Some 0 ∷ Some 21 ∷ Some 0 ∷ None ∷ []
 plain_bytes = refl
 
@@ -43,7 +43,7 @@ split_text = refl
 split_data : map (λ (n : ℕ). core (file_of forward (with_layout Split plain)) of_data n) (0 ∷ 1 ∷ 2 ∷ []) ≡ Some 21 ∷ Some 0 ∷ None ∷ []
 split_data = refl
 
--- zeros for a common of 3 bytes, rounded up, and 2 bytes of bss, behind 6 of text and 4 of data
+-- zeros for a common of 3 bytes, rounded up, and 2 bytes of bss, after 6 of text and 4 of data
 zero_bytes : map (λ (n : ℕ). core (file_of (i_o ∷ []) plain) of_data n) (9 ∷ 10 ∷ 13 ∷ 14 ∷ 15 ∷ 16 ∷ []) ≡ Some 0 ∷ Some 0 ∷ Some 0 ∷ Some 0 ∷ Some 0 ∷ None ∷ []
 zero_bytes = refl
 
@@ -89,10 +89,10 @@ back_call =
 
 -- it arrives at 012 in the one link, and at 0 in the other
 forward_target : forward_call.target ≡ 10
-forward_target = forward_call.there.behind
+forward_target = forward_call.there.sum
 
 back_target : back_call.target ≡ 0
-back_target = back_call.there.behind
+back_target = back_call.there.sum
 
 -- with split spaces the call arrives too, and the number is found in the space of data alone
 split_call : Arrives (file_of forward (with_layout Split plain)) of_instructions forward [] main_o TextSeg 3 (main_o ∷ []) twice_o TextSeg 0
@@ -112,7 +112,7 @@ split_fetch =
     [] main_o (twice_o ∷ count_o ∷ []) refl (main_o ∷ twice_o ∷ []) count_o [] refl TextSeg DataSeg 1 0 _count main_fetches count_defined of_data refl
 
 split_target : split_fetch.target ≡ 0
-split_target = split_fetch.there.behind
+split_target = split_fetch.there.sum
 
 found_in_data_alone : map (λ (space : Space). is_usable_in 0o411 DataSeg space) (of_instructions ∷ of_data ∷ []) ≡ false ∷ true ∷ []
 found_in_data_alone = refl

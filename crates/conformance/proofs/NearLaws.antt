@@ -102,7 +102,7 @@ layouts_differ_in_words : LayoutsGive (λ os x y. x.file.text_words ≡ y.file.t
 layouts_differ_in_words law =
     different 5572 5568 refl (ap (λ ws. sum_by (λ (w : ℕ). w) ws) (law [] (a_o ∷ []) plain Split (plain_link (a_o ∷ [])) (split_link (a_o ∷ [])) refl refl))
 
--- a link is refused where it ends behind this address, has more than so many entries, or needs a number over this one
+-- a link is refused where it ends after this address, has more than so many entries, or needs a number over this one
 abbrev IsRefusedAbove : ℕ → ℕ → ℕ → List (List ℕ) → List Contents → Choices → LinkFault → Type 0
 IsRefusedAbove last most number forced os o DoesNotFit = (end : ℕ) × EndsAt forced os o end × (last < end)
 IsRefusedAbove last most number forced os o TooManySymbols = (end : ℕ) × EndsAt forced os o end × (end ≤ last) × (most < entry_count forced os o)
@@ -161,7 +161,7 @@ refused_at_5462 law =
     let bad : 5462 < 5462 = h.3 in
     absurd (omega arith)
 
--- a word that refers to an undefined name behind so many locals; the number 4,095 may be needed, and 4,096 may not
+-- a word that refers to an undefined name after so many locals; the number 4,095 may be needed, and 4,096 may not
 
 abbrev far_o : ℕ → Contents
 far_o locals = object (0 ∷ []) (0o10 ∷ []) [] [] 0 (entry_of _f 0o40 0 ∷ replicate locals (entry_of L1 2 0))

@@ -51,7 +51,7 @@ outcome os o = outcome_of (link [] os o)
 abbrev split : Choices
 split = with_layout Split plain
 
--- segments apart: in two spaces, and with the address behind each
+-- segments apart: in two spaces, and with the address after each
 
 apart_in_two_spaces : ((h : Header) (space other : Space) (one two : Segment) (address : ℕ) → is_in h space one address ≡ true → is_in h other two address ≡ true → one ≡ two) → ⊥
 apart_in_two_spaces law = let bad : TextSeg ≡ DataSeg = law (file_of forward split).header of_instructions of_data TextSeg DataSeg 0 refl refl in cc
@@ -116,27 +116,27 @@ not_moved : ((forced : List (List ℕ)) (before : List Contents) (k : Contents) 
 not_moved law =
     let l : IsLoaded (file_of (main_o ∷ twice_o ∷ []) plain) (file_of (main_o ∷ twice_o ∷ []) plain).symbols (main_o ∷ twice_o ∷ []) (main_o ∷ []) twice_o TextSeg 0 3264 (record { 0 = 0 }) =
     words_loaded [] (main_o ∷ []) twice_o [] plain (outcome (main_o ∷ twice_o ∷ []) plain) (main_good, (twice_good, tt)) all_kept refl TextSeg 0 3264 (record { 0 = 0 }) refl refl in
-    different 0 10 refl (law [] (main_o ∷ []) twice_o [] plain (outcome (main_o ∷ twice_o ∷ []) plain) (main_good, (twice_good, tt)) all_kept refl TextSeg 0 3264 (record { 0 = 0 }) refl refl l ∙ l.place.behind)
+    different 0 10 refl (law [] (main_o ∷ []) twice_o [] plain (outcome (main_o ∷ twice_o ∷ []) plain) (main_good, (twice_good, tt)) all_kept refl TextSeg 0 3264 (record { 0 = 0 }) refl refl l ∙ l.place.sum)
 
 -- stripping: whatever the magic
 
 any_magic : ((file : Contents) (magic : ℕ) (space : Space) (address : ℕ) → core (record file { header = record file.header { magic = magic } }) space address ≡ core file space address) → ⊥
 any_magic law = no_byte 192 (law (file_of forward plain) 261 of_instructions 0)
 
--- bss and commons: the byte behind them, and commons that wait
+-- bss and commons: the byte after them, and commons that wait
 
 abbrev two_zeros : Contents
 two_zeros = sized 0 0 2 []
 
-zero_behind_bss : ((forced : List (List ℕ)) (before : List Contents) (k : Contents) (after : List Contents) (o : Choices) (x : Outcome) →
+zero_after_bss : ((forced : List (List ℕ)) (before : List Contents) (k : Contents) (after : List Contents) (o : Choices) (x : Outcome) →
     AllByRecursion IsObject (before ++ k ∷ after) → link forced (before ++ k ∷ after) o ≡ Ok x → (n : ℕ) → n ≤ k.header.bss_size → IsZero x.file (before ++ k ∷ after) before k n) → ⊥
-zero_behind_bss law =
+zero_after_bss law =
     let l = law [] [] two_zeros [] plain (outcome (two_zeros ∷ []) plain) (as_object two_zeros refl refl refl refl refl refl refl refl, tt) refl 2 (omega arith) in
-    no_byte 0 (ap (λ (a : ℕ). core (file_of (two_zeros ∷ []) plain) of_data a) (sym l.place.behind) ∙ l.zero)
+    no_byte 0 (ap (λ (a : ℕ). core (file_of (two_zeros ∷ []) plain) of_data a) (sym l.place.sum) ∙ l.zero)
 
-zero_behind_common : ((forced : List (List ℕ)) (os : List Contents) (o : Choices) (x : Outcome) → o.keep ≢ Nothing → lays_commons o ≡ true → link forced os o ≡ Ok x →
+zero_after_common : ((forced : List (List ℕ)) (os : List Contents) (o : Choices) (x : Outcome) → o.keep ≢ Nothing → lays_commons o ≡ true → link forced os o ≡ Ok x →
     (name : List ℕ) (size : ℕ) → IsCommon forced os name size → (row : Symbol) → entry_of x.file.symbols name ≡ Some row → (n : ℕ) → n ≤ size → core x.file of_data (row.value + n) ≡ Some 0) → ⊥
-zero_behind_common law =
+zero_after_common law =
     no_byte 0 (law [] (x4_o ∷ []) plain (outcome (x4_o ∷ []) plain) all_kept refl refl _x 4 (record { wanted = only_wanted _x 4; sized = refl }) (entry _x 36 0) refl 4 (omega arith))
 
 zero_in_waiting : ((forced : List (List ℕ)) (os : List Contents) (o : Choices) (x : Outcome) → o.keep ≢ Nothing → link forced os o ≡ Ok x →
@@ -280,7 +280,7 @@ names_with_relocation law =
     let symbol : entry _x 32 4 ≡ h.symbol = cc in
     let found : Some (entry _x 32 4) ≡ Some h.row = ap (λ (s : Symbol). entry_of f.symbols s.name) symbol ∙ h.found in
     let row : entry _x 32 4 ≡ h.row = cc in
-    let at : h.more.address ≡ 0 = h.more.place.behind in
+    let at : h.more.address ≡ 0 = h.more.place.sum in
     let word : h.more.word ≡ 2 + 256 * 0 = word_is 2 0 h.more.word (ap (λ (a : ℕ). core f of_instructions a) (sym at) ∙ h.more.stands.low) (ap (λ (a : ℕ). core f of_instructions (a + 1)) (sym at) ∙ h.more.stands.high) in
     let finds : plus 0 h.more.word ≡ plus h.row.value 2 = h.more.finds in
     different 2 6 refl (ap (λ (n : ℕ). plus 0 n) (sym word) ∙ finds ∙ ap (λ (s : Symbol). plus s.value 2) (sym row))
@@ -314,7 +314,7 @@ segments_stay : ((forced : List (List ℕ)) (before : List Contents) (k : Conten
 segments_stay law =
     let f : Contents = file_of (b_o ∷ a_o ∷ []) plain in
     let h = law [] (b_o ∷ []) a_o [] plain (outcome (b_o ∷ a_o ∷ []) plain) (b_good, (a_good, tt)) refl TextSeg 1 4 (record { 0 = 4 }) refl refl kinds.DataSeg DataSeg refl refl in
-    let at : h.address ≡ 4 = h.place.behind in
+    let at : h.address ≡ 4 = h.place.sum in
     let word : h.word ≡ 6 + 256 * 0 = word_is 6 0 h.word (ap (λ (a : ℕ). core f of_instructions a) (sym at) ∙ h.stands.low) (ap (λ (a : ℕ). core f of_instructions (a + 1)) (sym at) ∙ h.stands.high) in
     let finds : plus 0 h.word ≡ 4 = h.finds in
     different 6 4 refl (ap (λ (n : ℕ). plus 0 n) (sym word) ∙ finds)
@@ -337,9 +337,9 @@ calls_of_multiples law =
     let h = law [] os plain (outcome os plain)
     (c_good, (d_good, (as_object d2_o refl refl refl refl refl refl refl refl, tt))) all_kept refl
     [] c_o (d_o ∷ d2_o ∷ []) refl (c_o ∷ d_o ∷ []) d2_o [] refl TextSeg TextSeg 1 0 _f c_calls d2_defines of_instructions refl in
-    let at : h.address ≡ 2 = h.place.behind in
+    let at : h.address ≡ 2 = h.place.sum in
     let word : h.word ≡ 2 + 256 * 0 = word_is 2 0 h.word (ap (λ (a : ℕ). core f of_instructions a) (sym at) ∙ h.stands.low) (ap (λ (a : ℕ). core f of_instructions (a + 1)) (sym at) ∙ h.stands.high) in
-    let target : h.target ≡ 8 = h.there.behind in
+    let target : h.target ≡ 8 = h.there.sum in
     let arrives : plus (h.address + 2) h.word ≡ h.target % 65536 = h.arrives in
     different 6 8 refl ((λ i. plus (sym at i + 2) (sym word i)) ∙ arrives ∙ ap (λ (t : ℕ). t % 65536) target)
 
@@ -393,7 +393,7 @@ calls_past_the_end : CallsGive Defines IsUsable (λ file space os before k from 
 calls_past_the_end law =
     let os : List Contents = c_o ∷ text_and at_end ∷ [] in
     let a = call_of at_end TextSeg 2 end_good end_defined of_instructions (outcome os plain) refl refl refl in
-    let at : a.target ≡ 6 = a.there.behind in
+    let at : a.target ≡ 6 = a.there.sum in
     let bad : false ≡ true =
     ap (λ (n : ℕ). is_in (file_of os plain).header of_instructions TextSeg n) (sym at)
     ∙ law [] os plain (outcome os plain) (c_good, (end_good, tt)) all_kept refl refl [] c_o (text_and at_end ∷ []) refl (c_o ∷ []) (text_and at_end) [] refl TextSeg TextSeg 1 2 _f c_calls end_defined of_instructions refl a (at_most_so 2 2 refl) in
@@ -412,7 +412,7 @@ absolute_moved : CallsGive Defines IsUsable (λ file space os before k from i fr
 absolute_moved law =
     let os : List Contents = c_o ∷ text_and absolute ∷ [] in
     let a = call_of absolute Absolute 64 absolute_good absolute_defined of_data (outcome os plain) refl refl refl in
-    let at : a.target ≡ 64 = a.there.behind in
+    let at : a.target ≡ 64 = a.there.sum in
     different 64 68 refl (sym at ∙ law [] os plain (outcome os plain) (c_good, (absolute_good, tt)) all_kept refl refl [] c_o (text_and absolute ∷ []) refl (c_o ∷ []) (text_and absolute) [] refl TextSeg Absolute 1 64 _f c_calls absolute_defined of_data refl a)
 
 -- a symbol that may be of no type
@@ -433,9 +433,9 @@ calls_of_references law =
     let h = law [] os plain (outcome os plain) (c_good, (as_object (text_and wanted) refl refl refl refl refl refl refl refl, tt)) all_kept refl refl
     [] c_o (text_and wanted ∷ []) refl (c_o ∷ []) (text_and wanted) [] refl TextSeg Undefined 1 10 _f c_calls
     (record { number = 0; symbol = wanted; stands = refl; outer = refl; names = refl; is = refl; value = refl }) of_data refl in
-    let at : h.address ≡ 2 = h.place.behind in
+    let at : h.address ≡ 2 = h.place.sum in
     let word : h.word ≡ 2 + 256 * 0 = word_is 2 0 h.word (ap (λ (a : ℕ). core f of_instructions a) (sym at) ∙ h.stands.low) (ap (λ (a : ℕ). core f of_instructions (a + 1)) (sym at) ∙ h.stands.high) in
-    let target : h.target ≡ 10 = h.there.behind in
+    let target : h.target ≡ 10 = h.there.sum in
     let arrives : plus (h.address + 2) h.word ≡ h.target % 65536 = h.arrives in
     different 6 10 refl ((λ i. plus (sym at i + 2) (sym word i)) ∙ arrives ∙ ap (λ (t : ℕ). t % 65536) target)
 

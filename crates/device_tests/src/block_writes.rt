@@ -63,7 +63,7 @@ fn blocks_taken_in_pieces(rt: HostRuntime) -> Result<(), Fail> {
 }
 
 /// Whether a text of 2,000 bytes fails after 600 of them, which the device then has, with 3 calls.
-fn fails_behind_600(alloc: Global, bytes: &[u8], failure: Failing) -> bool {
+fn fails_after_600(alloc: Global, bytes: &[u8], failure: Failing) -> bool {
     let mut device = TestWriter::new(Vec::new(alloc), usize::MAX, 600, failure);
     put_lines(bytes, &mut device).is_err()
         && Some(device.taken()) == bytes.get(..600)
@@ -74,7 +74,7 @@ fn fails_behind_600(alloc: Global, bytes: &[u8], failure: Failing) -> bool {
 fn blocks_to_a_device_that_fails(rt: HostRuntime) -> Result<(), Fail> {
     let bytes = text(rt.alloc(), 2_000)?;
     for failure in [Failing::Fails(ErrorKind::Other), Failing::TakesNothing] {
-        assert!(rt; fails_behind_600(rt.alloc(), &bytes, failure));
+        assert!(rt; fails_after_600(rt.alloc(), &bytes, failure));
     }
     Ok(())
 }

@@ -11,8 +11,8 @@ fn memory_refused_reading(rt: HostRuntime) {
 fn memory_refused_adding(rt: HostRuntime) {
     assert!(rt; sessions::adding(rt.alloc()) == Outcome::Done);
     assert!(rt; sessions::adding_a_name(rt.alloc()) == Outcome::Done);
-    assert!(rt; sessions::adding_behind_forced(rt.alloc()) == Outcome::Done);
-    assert!(rt; sessions::adding_a_name_behind_forced(rt.alloc()) == Outcome::Done);
+    assert!(rt; sessions::adding_after_forced(rt.alloc()) == Outcome::Done);
+    assert!(rt; sessions::adding_a_name_after_forced(rt.alloc()) == Outcome::Done);
 }
 
 #[test]
@@ -40,7 +40,7 @@ fn memory_refused_commands(rt: HostRuntime) {
 fn memory_refused_listing(rt: HostRuntime) {
     assert!(rt; commands::listing(rt.alloc()) == Outcome::Done);
     assert!(rt; commands::listing_by_value(rt.alloc()) == Outcome::Done);
-    assert!(rt; programs::listing_behind(rt.alloc()) == Outcome::Done);
+    assert!(rt; programs::listing_after(rt.alloc()) == Outcome::Done);
 }
 
 #[test]
@@ -51,7 +51,7 @@ fn memory_refused_script(rt: HostRuntime) {
 #[test]
 fn memory_refused_steps(rt: HostRuntime) {
     assert!(rt; script_steps::adding_by_a_step(rt.alloc()) == Outcome::Done);
-    assert!(rt; script_steps::adding_behind_by_a_step(rt.alloc()) == Outcome::Done);
+    assert!(rt; script_steps::adding_after_by_a_step(rt.alloc()) == Outcome::Done);
     assert!(rt; script_steps::linking_by_a_step(rt.alloc()) == Outcome::Done);
 }
 
@@ -59,7 +59,7 @@ fn memory_refused_steps(rt: HostRuntime) {
 fn no_memory_needed(rt: HostRuntime) {
     assert!(rt; files::handling(rt.alloc()) == Outcome::Done);
     assert!(rt; sessions::withdrawing(rt.alloc()) == Outcome::Done);
-    assert!(rt; sessions::asking_behind_withdrawals(rt.alloc()) == Outcome::Done);
+    assert!(rt; sessions::asking_after_withdrawals(rt.alloc()) == Outcome::Done);
     assert!(rt; sessions::looking(rt.alloc()) == Outcome::Done);
     assert!(rt; links::forcing_commons(rt.alloc()) == Outcome::Done);
     assert!(rt; links::reporting(rt.alloc()) == Outcome::Done);

@@ -137,18 +137,18 @@ fn are_alike(alloc: Global, failing: &mut Asked) -> bool {
 }
 
 /// Whether answers failed after `n` bytes, which are those of `session_script`.
-fn failed_behind(answers: Wire<TestWriter>, n: usize) -> bool {
+fn failed_after(answers: Wire<TestWriter>, n: usize) -> bool {
     let has_failed = answers.failed();
     let writer = answers.into_inner();
     has_failed && Some(writer.taken()) == ANSWERS.as_bytes().get(..n)
 }
 
 /// Whether the steps of `session_script` do what they should with answers that fail after `n` bytes.
-fn fails_behind(alloc: Global, n: usize, failing: Failing) -> bool {
+fn fails_after(alloc: Global, n: usize, failing: Failing) -> bool {
     let answers = TestWriter::new(Vec::new(alloc), usize::MAX, n, failing);
     let mut short = Asked::new(alloc, answers);
     let are_alike = are_alike(alloc, &mut short);
-    let has_failed = failed_behind(short.answers, n);
+    let has_failed = failed_after(short.answers, n);
     are_alike && has_failed
 }
 
@@ -156,8 +156,8 @@ fn fails_behind(alloc: Global, n: usize, failing: Failing) -> bool {
 fn answers_fail_everywhere(rt: HostRuntime) -> Result<(), Fail> {
     let alloc = rt.alloc();
     for n in 0..ANSWERS.len() {
-        assert!(rt; fails_behind(alloc, n, Failing::Fails(ErrorKind::Interrupted)));
-        assert!(rt; fails_behind(alloc, n, Failing::TakesNothing));
+        assert!(rt; fails_after(alloc, n, Failing::Fails(ErrorKind::Interrupted)));
+        assert!(rt; fails_after(alloc, n, Failing::TakesNothing));
     }
     Ok(())
 }

@@ -65,7 +65,7 @@ fn failed_writes_and_flushes_are_latched(rt: HostRuntime) {
 }
 
 /// Whether a read without room takes nothing and does not fail, and the next one has the bytes.
-fn reads_behind_no_room() -> bool {
+fn reads_after_no_room() -> bool {
     let mut wire = Wire::new(TestReader::whole(b"ab"));
     let mut room = [0; 4];
     let is_nothing = wire.read(&mut []).ok() == Some(0) && !wire.failed();
@@ -74,7 +74,7 @@ fn reads_behind_no_room() -> bool {
 
 #[test]
 fn read_without_room(rt: HostRuntime) {
-    assert!(rt; reads_behind_no_room());
+    assert!(rt; reads_after_no_room());
 }
 
 /// How often a writer that takes at most `most` bytes a call is written to for these bytes, where it then has them all.

@@ -1,4 +1,4 @@
--- The bytes of words, one behind another.
+-- The bytes of words, one after another.
 use Rattle.std.proofs.Common.{◌≡◌, ℕ, zero, suc, ◌+◌, ◌*◌, ◌/◌, ◌%◌, List, [], ◌∷◌, Option, Some, ◌∙◌, ap, arith}
 use Rattle.std.specs.Prelude.{slice_get}
 use Rattle.aout_core.specs.Words.{all_word_bytes}

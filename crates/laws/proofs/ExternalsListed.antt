@@ -245,8 +245,8 @@ module _ (forced : List (List ℕ)) (os : List Contents) (o : Choices) (x : Outc
   passed n u = ap (filter (is_shown n)) symbols_are ∙ all_apart n locals l.rows inner outer u
 
   -- locals before the rows change nothing for a name
-  named_behind : (ss : List Symbol) (name : List ℕ) → filter is_external ss ≡ [] → filter (is_named name) (ss ++ l.rows) ≡ filter (is_named name) l.rows
-  named_behind ss name none = filter-append (is_named name) ss l.rows ∙ ap (λ (ls : List Symbol). ls ++ filter (is_named name) l.rows) (no_local (λ s. bytes_eq name s.name) ss none)
+  named_after : (ss : List Symbol) (name : List ℕ) → filter is_external ss ≡ [] → filter (is_named name) (ss ++ l.rows) ≡ filter (is_named name) l.rows
+  named_after ss name none = filter-append (is_named name) ss l.rows ∙ ap (λ (ls : List Symbol). ls ++ filter (is_named name) l.rows) (no_local (λ s. bytes_eq name s.name) ss none)
 
   listed_inner : (e : Bool) → filter is_external (cond e [] locals) ≡ []
   listed_inner true = refl
@@ -257,8 +257,8 @@ module _ (forced : List (List ℕ)) (os : List Contents) (o : Choices) (x : Outc
       let r = one_row x.file.header bss o (mentions forced os) l.rows at end l.are_rows (subst AreApart (sym l.names) (new_apart [] (names_of (mentions forced os)))) name (ap (λ (ns : List (List ℕ)). is_among ns name) l.names ∙ known) in
       record {
         row = r.row;
-        found = entry_first x.file.symbols name r.row (ap (filter (is_named name)) symbols_are ∙ named_behind locals name inner ∙ r.once);
-        once = arranged_one n (filter (is_shown n) x.file.symbols) (is_named name) r.row (ap (filter (is_named name)) (passed n u) ∙ named_behind (listed_locals n locals) name (listed_inner n.external) ∙ r.once);
+        found = entry_first x.file.symbols name r.row (ap (filter (is_named name)) symbols_are ∙ named_after locals name inner ∙ r.once);
+        once = arranged_one n (filter (is_shown n) x.file.symbols) (is_named name) r.row (ap (filter (is_named name)) (passed n u) ∙ named_after (listed_locals n locals) name (listed_inner n.external) ∙ r.once);
         state = r.state;
         has = r.has;
         at = at + r.taken;

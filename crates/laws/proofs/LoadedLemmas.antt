@@ -59,9 +59,9 @@ module _ (h : Header) (os before : List Contents) (k : Contents) where
   address_of segment n = base_in h (total BssSeg os) segment + total segment before + n
 
   pub place_at : (segment : Segment) → HasPlace segment → (n : ℕ) → IsPlace h os before k segment n (address_of segment n)
-  place_at TextSeg has n = record { behind = refl; symbol = place_sum (own k TextSeg) n (base_in h (total BssSeg os) TextSeg + total TextSeg before) }
-  place_at DataSeg has n = record { behind = refl; symbol = place_sum (own k DataSeg) n (base_in h (total BssSeg os) DataSeg + total DataSeg before) }
-  place_at BssSeg has n = record { behind = refl; symbol = place_sum (own k BssSeg) n (base_in h (total BssSeg os) BssSeg + total BssSeg before) }
+  place_at TextSeg has n = record { sum = refl; symbol = place_sum (own k TextSeg) n (base_in h (total BssSeg os) TextSeg + total TextSeg before) }
+  place_at DataSeg has n = record { sum = refl; symbol = place_sum (own k DataSeg) n (base_in h (total BssSeg os) DataSeg + total DataSeg before) }
+  place_at BssSeg has n = record { sum = refl; symbol = place_sum (own k BssSeg) n (base_in h (total BssSeg os) BssSeg + total BssSeg before) }
   place_at Undefined has n = absurd has
   place_at Absolute has n = absurd has
   place_at Other has n = absurd has
@@ -257,15 +257,15 @@ part_at segment (k ∷ ks) n h = by_test (nat_lt n (size_of segment k)) refl (pa
     by_test : (t : Bool) → nat_lt n (size_of segment k) ≡ t → (n - size_of segment k < total segment ks → IsPart segment ks (n - size_of segment k)) → IsPart segment (k ∷ ks) n
     by_test true e more = record { before = []; k = k; after = ks; all = refl; j = n; place = omega arith; inside = ltb-true n (size_of segment k) e }
     by_test false e more =
-        let behind : size_of segment k ≤ n = ltb-false n (size_of segment k) e in
-        let p = more (rest n (size_of segment k) (total segment ks) (total segment (k ∷ ks)) whole h behind) in
+        let beyond : size_of segment k ≤ n = ltb-false n (size_of segment k) e in
+        let p = more (rest n (size_of segment k) (total segment ks) (total segment (k ∷ ks)) whole h beyond) in
         record {
           before = k ∷ p.before;
           k = p.k;
           after = p.after;
           all = ap (λ (ys : List Contents). k ∷ ys) p.all;
           j = p.j;
-          place = sums n (size_of segment k) (total segment p.before) p.j (total segment (k ∷ p.before)) behind p.place (sum_by-append (size_of segment) (k ∷ []) p.before);
+          place = sums n (size_of segment k) (total segment p.before) p.j (total segment (k ∷ p.before)) beyond p.place (sum_by-append (size_of segment) (k ∷ []) p.before);
           inside = p.inside;
         }
 
@@ -339,7 +339,7 @@ nothing_else forced os o x good linked space address byte e = by_case (core_back
         same : Some 0 ≡ Some byte → byte ≡ 0
         same f = cc
 
--- no address is behind the last
+-- no address is after the last
 
 file_short : (forced : List (List ℕ)) (os : List Contents) (o : Choices) (x : Outcome) → link forced os o ≡ Ok x → data_base_in x.file.header + x.file.header.data_size + x.file.header.bss_size ≤ 65535
 file_short forced os o x linked =

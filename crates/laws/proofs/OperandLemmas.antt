@@ -63,7 +63,7 @@ module _ (file : Contents) (rows : List Symbol) (os before : List Contents) (k :
     place = l.place;
     word = minus (plus w l.added) (cond (is_pc_relative r) (move_in file.header os before k TextSeg) 0);
     stands = l.word;
-    finds = ap (λ (a : ℕ). operand (is_pc_relative r) a (minus (plus w l.added) (cond (is_pc_relative r) (move_in file.header os before k TextSeg) 0))) l.place.behind
+    finds = ap (λ (a : ℕ). operand (is_pc_relative r) a (minus (plus w l.added) (cond (is_pc_relative r) (move_in file.header os before k TextSeg) 0))) l.place.sum
         ∙ by_pc (is_pc_relative r) (base_in file.header (total BssSeg os) TextSeg + total TextSeg before) (own k TextSeg) (2 * i) w l.added;
   }
   loaded_finds DataSeg has i w r l = record {
@@ -71,7 +71,7 @@ module _ (file : Contents) (rows : List Symbol) (os before : List Contents) (k :
     place = l.place;
     word = minus (plus w l.added) (cond (is_pc_relative r) (move_in file.header os before k DataSeg) 0);
     stands = l.word;
-    finds = ap (λ (a : ℕ). operand (is_pc_relative r) a (minus (plus w l.added) (cond (is_pc_relative r) (move_in file.header os before k DataSeg) 0))) l.place.behind
+    finds = ap (λ (a : ℕ). operand (is_pc_relative r) a (minus (plus w l.added) (cond (is_pc_relative r) (move_in file.header os before k DataSeg) 0))) l.place.sum
         ∙ by_pc (is_pc_relative r) (base_in file.header (total BssSeg os) DataSeg + total DataSeg before) (own k DataSeg) (2 * i) w l.added;
   }
   loaded_finds Undefined has i w r l = absurd has
@@ -198,9 +198,9 @@ module _ (h : Header) (os before : List Contents) (k : Contents) where
   any_place TextSeg n = place_at h os before k TextSeg tt n
   any_place DataSeg n = place_at h os before k DataSeg tt n
   any_place BssSeg n = place_at h os before k BssSeg tt n
-  any_place Undefined n = record { behind = refl; symbol = unmoved (total Undefined before) n (no_room Undefined (λ c. refl) before) }
-  any_place Absolute n = record { behind = refl; symbol = unmoved (total Absolute before) n (no_room Absolute (λ c. refl) before) }
-  any_place Other n = record { behind = refl; symbol = unmoved (total Other before) n (no_room Other (λ c. refl) before) }
+  any_place Undefined n = record { sum = refl; symbol = unmoved (total Undefined before) n (no_room Undefined (λ c. refl) before) }
+  any_place Absolute n = record { sum = refl; symbol = unmoved (total Absolute before) n (no_room Absolute (λ c. refl) before) }
+  any_place Other n = record { sum = refl; symbol = unmoved (total Other before) n (no_room Other (λ c. refl) before) }
 
 -- a definition gives its value
 defined_address : (row : Symbol) (segment : Segment) → row.type_bits ≡ external_type segment → address_in row ≡ row.value

@@ -1,4 +1,4 @@
--- Additions of the same objects in two orders, and the links behind them.
+-- Additions of the same objects in two orders, and the links after them.
 use Rattle.std.proofs.Common.{◌≡◌, ◌↔◌, ℕ, false, cond, List, [], ◌∷◌, ◌++◌, length, Option, Some, None, refl, sym, ◌∙◌, ap, subst, append_assoc, append-nil, arith}
 use Rattle.std.specs.Prelude.{nat_lt, Result, Ok, Err}
 use Rattle.std.specs.List.{AllByRecursion}

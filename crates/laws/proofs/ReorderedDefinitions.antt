@@ -10,7 +10,7 @@ use Rattle.aout_core.specs.declared.symbol.Segment.TheVariants.{Undefined, Absol
 use Rattle.aout_core.specs.Contents.{Contents}
 use Rattle.aout_core.specs.Words.{plus}
 use Rattle.aout_core.specs.WellFormed.{is_external, masked_type, segment_of, segment_numbered}
-use Rattle.aout_core.proofs.AlikeLemmas.{slice_get_behind}
+use Rattle.aout_core.proofs.AlikeLemmas.{slice_get_after}
 use Rattle.link_session.specs.declared.state.State.{State}
 use Rattle.link_session.specs.declared.state.State.TheVariants.{Defined, Wanted}
 use Rattle.link_session.specs.Starts.{shift}
@@ -40,15 +40,15 @@ first_in_front [] ns name g n f = absurd f
 first_in_front (m ∷ ms) ns name g n (inl f) = inl f
 first_in_front (m ∷ ms) ns name g n (inr f) = inr (f.0, first_in_front ms ns name g n f.1)
 
-first_behind : (ms ns : List Mention) (name : List ℕ) (g : Segment) (n : ℕ) → AllByRecursion (LeavesOpen name) ms → IsFirst ns name g n → IsFirst (ms ++ ns) name g n
-first_behind [] ns name g n h f = f
-first_behind (m ∷ ms) ns name g n h f = inr (h.0, first_behind ms ns name g n h.1 f)
+first_after : (ms ns : List Mention) (name : List ℕ) (g : Segment) (n : ℕ) → AllByRecursion (LeavesOpen name) ms → IsFirst ns name g n → IsFirst (ms ++ ns) name g n
+first_after [] ns name g n h f = f
+first_after (m ∷ ms) ns name g n h f = inr (h.0, first_after ms ns name g n h.1 f)
 
 module _ (os : List Contents) (name : List ℕ) where
   -- what is found in one of two lists, or in neither
   searched_both : (ms ns : List Mention) → Searched os name ms → Searched os name ns → Searched os name (ms ++ ns)
   searched_both ms ns (inl h) (inl k) = inl (all_append (LeavesOpen name) ms ns h k)
-  searched_both ms ns (inl h) (inr d) = inr (record { segment = d.segment; offset = d.offset; said = d.said; first = first_behind ms ns name d.segment d.offset h d.first })
+  searched_both ms ns (inl h) (inr d) = inr (record { segment = d.segment; offset = d.offset; said = d.said; first = first_after ms ns name d.segment d.offset h d.first })
   searched_both ms ns (inr d) rest = inr (record { segment = d.segment; offset = d.offset; said = d.said; first = first_in_front ms ns name d.segment d.offset d.first })
 
   search_symbols : (before : List Contents) (k : Contents) (after : List Contents) → os ≡ before ++ k ∷ after → (done ss : List Symbol) → k.symbols ≡ done ++ ss → Searched os name (map (mention before k) (filter is_external ss))
@@ -69,7 +69,7 @@ module _ (os : List Contents) (name : List ℕ) where
           all = all;
           number = length done + 0;
           symbol = s;
-          stands = ap (λ (xs : List Symbol). slice_get xs (length done + 0)) e ∙ slice_get_behind done (s ∷ ss) (length done) 0 refl;
+          stands = ap (λ (xs : List Symbol). slice_get xs (length done + 0)) e ∙ slice_get_after done (s ∷ ss) (length done) 0 refl;
           outer = te;
           names = (bytes_eq-Decides name s.name).0 ue;
           is = se;

@@ -12,7 +12,7 @@ use Rattle.aout_core.specs.declared.symbol.Segment.TheVariants.{Undefined, Absol
 use Rattle.aout_core.specs.Contents.{Contents}
 use Rattle.aout_core.specs.Words.{plus}
 use Rattle.aout_core.specs.WellFormed.{is_external, segment_of}
-use Rattle.aout_core.proofs.AlikeLemmas.{slice_get_behind}
+use Rattle.aout_core.proofs.AlikeLemmas.{slice_get_after}
 use Rattle.link_session.specs.declared.state.State.{State}
 use Rattle.link_session.specs.declared.state.State.TheVariants.{Defined, Wanted}
 use Rattle.link_session.specs.Starts.{size_of, total, shift}
@@ -48,7 +48,7 @@ placed_again os ps same before k after all =
     let there : Contains ps k = Contains-permutation os ps k same here in
     placed ps k there.0 there.1 there.2
 
--- what each external symbol of an object, behind these, says
+-- what each external symbol of an object, after these, says
 abbrev pub OfEach : (Mention → Type 0) → List Contents → Contents → Type 0
 OfEach P before k = (j : ℕ) (s : Symbol) → slice_get k.symbols j ≡ Some s → is_external s ≡ true → P (mention before k s)
 
@@ -58,7 +58,7 @@ of_symbols P before k each done (s ∷ ss) e = by_test (is_external s) refl (of_
   where
     by_test : (t : Bool) → is_external s ≡ t → AllByRecursion P (map (mention before k) (filter is_external ss)) → AllByRecursion P (map (mention before k) (cond t (s ∷ filter is_external ss) (filter is_external ss)))
     by_test false te rest = rest
-    by_test true te rest = (each (length done + 0) s (ap (λ (xs : List Symbol). slice_get xs (length done + 0)) e ∙ slice_get_behind done (s ∷ ss) (length done) 0 refl) te, rest)
+    by_test true te rest = (each (length done + 0) s (ap (λ (xs : List Symbol). slice_get xs (length done + 0)) e ∙ slice_get_after done (s ∷ ss) (length done) 0 refl) te, rest)
 
 of_objects : (P : Mention → Type 0) (os : List Contents) → ((before : List Contents) (k : Contents) (after : List Contents) → os ≡ before ++ k ∷ after → OfEach P before k) →
     (before rest : List Contents) → os ≡ before ++ rest → AllByRecursion P (blocks mentions_in before rest)

@@ -18,7 +18,7 @@ use Rattle.v7tools.specs.LinkRuns.{inputs_opened, IsLinkOfFiles, IsLinkRun, Repo
 use Rattle.v7tools.specs.declared.fault.CliFault.{CliFault}
 use Rattle.v7tools.specs.declared.office.Stored.{Stored}
 use Rattle.v7tools.specs.declared.office.Stored.TheVariants.{Kept, NotCreated, Failed}
-use Rattle.v7tools.proofs.EventLemmas.{asked_behind}
+use Rattle.v7tools.proofs.EventLemmas.{asked_after}
 use Rattle.laws.specs.Disks.{Run, Writes}
 use Rattle.laws.specs.StepsByCommands.{Links, Strips}
 use Rattle.laws.proofs.CallLemmas.{IsLink, IsStrip, same_link, same_strip}
@@ -129,7 +129,7 @@ module _ {W E : Type 0} (path : List ℕ) (r : Run W E) (status : ℕ) (is : r.s
       let reads = h.2 in
       let stripping = h.3 in
       by_loaded reads.1.found h.0 (ap (map string_bytes) (sym reads.0) ∙ at) reads.1.read
-      (events_asked r.earlier r.events _ (asked_behind (Some r.earlier) h.1 (Some (r.earlier ++ r.events)) _ _ reads.1.asked stripping.1)) stripping.0
+      (events_asked r.earlier r.events _ (asked_after (Some r.earlier) h.1 (Some (r.earlier ++ r.events)) _ _ reads.1.asked stripping.1)) stripping.0
 
   strip_by_call : {W : Type 0} (contents : W → Option (List ℕ)) (before after : Latched W) (call : Call) → IsStrip (path ∷ []) call →
       IsCallRun contents r.script call (Some r.earlier) (Some (r.earlier ++ r.events)) (Ok status) before after → StripDone path r

@@ -50,7 +50,7 @@ space_of _ = of_data
 -- byte n of a segment of k comes after that segment of the objects before k; there, modulo 65,536, is what a symbol of k at
 -- that byte is: its value in k, moved
 pub record IsPlace (h : Header) (os before : List Contents) (k : Contents) (segment : Segment) (n address : ℕ) : Type 0 where
-  pub behind : address ≡ base_in h (total BssSeg os) segment + total segment before + n
+  pub sum : address ≡ base_in h (total BssSeg os) segment + total segment before + n
   pub symbol : plus (own k segment + n) (move_in h os before k segment) ≡ address % 65536
 
 -- word i of a segment of k, which is w with relocation word r, is loaded at its place, relocated

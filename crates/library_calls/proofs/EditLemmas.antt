@@ -17,20 +17,20 @@ use Rattle.link_out.specs.Runs.{link_after}
 use Rattle.library_calls.specs.declared.session_call.Ran.{Ran}
 use Rattle.library_calls.specs.LinkAnswers.{output_of}
 use Rattle.library_calls.specs.MemoryWanted.{MayRunOutForEdit, MayRunOutInEdits, MayRunOutInRun}
-use Rattle.library_calls.specs.SessionAnswers.{behind_edit, change_in, output_with, reply_number, run_of, session_status, sessions_of, with_edit, with_edits}
+use Rattle.library_calls.specs.SessionAnswers.{after_edit, change_in, output_with, reply_number, run_of, session_status, sessions_of, with_edit, with_edits}
 use Rattle.library_calls.specs.internal.Edited.{AreEdited, edited_link}
 
 module _ (whole : Result (List Change) Refusal) (number : ℕ) (before : List Change) (letters rest : List ℕ) (letter : ℕ) where
-  -- the letter of this number, and those behind it
+  -- the letter of this number, and those after it
   at_letter : number < length letters → letter ≡ get_or letters number 0 → drop number letters ≡ letter ∷ drop (number + 1) letters
   at_letter inside is = drop-cons letters number 0 inside ∙ ap (λ x. x ∷ drop (suc number) letters) (sym is) ∙ ap (λ n. letter ∷ drop n letters) (sym (add-one number))
 
-  pub one_more_edit : (more : List Change) (behind : List ℕ) → number < length letters → letter ≡ get_or letters number 0 → whole ≡ with_edits number before (drop number letters) rest →
-      with_edit letter rest before ≡ Ok more → behind ≡ behind_edit letter rest → whole ≡ with_edits (number + 1) more (drop (number + 1) letters) behind
-  one_more_edit more behind inside is so_far taken left =
+  pub one_more_edit : (more : List Change) (beyond : List ℕ) → number < length letters → letter ≡ get_or letters number 0 → whole ≡ with_edits number before (drop number letters) rest →
+      with_edit letter rest before ≡ Ok more → beyond ≡ after_edit letter rest → whole ≡ with_edits (number + 1) more (drop (number + 1) letters) beyond
+  one_more_edit more beyond inside is so_far taken left =
       so_far
       ∙ ap (λ ls. with_edits number before ls rest) (at_letter inside is)
-      ∙ ap (λ r. and_then (at number r) (λ next. with_edits (number + 1) next (drop (number + 1) letters) (behind_edit letter rest))) taken
+      ∙ ap (λ r. and_then (at number r) (λ next. with_edits (number + 1) next (drop (number + 1) letters) (after_edit letter rest))) taken
       ∙ ap (with_edits (number + 1) more (drop (number + 1) letters)) (sym left)
 
   pub one_edit_refused : (cause : Cause) → number < length letters → letter ≡ get_or letters number 0 → whole ≡ with_edits number before (drop number letters) rest →
@@ -38,7 +38,7 @@ module _ (whole : Result (List Change) Refusal) (number : ℕ) (before : List Ch
   one_edit_refused cause inside is so_far refused =
       so_far
       ∙ ap (λ ls. with_edits number before ls rest) (at_letter inside is)
-      ∙ ap (λ r. and_then (at number r) (λ next. with_edits (number + 1) next (drop (number + 1) letters) (behind_edit letter rest))) refused
+      ∙ ap (λ r. and_then (at number r) (λ next. with_edits (number + 1) next (drop (number + 1) letters) (after_edit letter rest))) refused
 
 is_read : (r : Result Change Cause) (before more : List Change) → and_then r (λ c. Ok (before ++ c ∷ [])) ≡ Ok more → IsOk r
 is_read (Ok c) before more h = refl
@@ -46,7 +46,7 @@ is_read (Err cause) before more h = absurd (cc)
 
 module _ (number : ℕ) (letters rest : List ℕ) (letter place : ℕ) where
   -- memory may run out for an edit after this one, which is read
-  pub out_later_edit : (before more : List Change) (after : List ℕ) → number < length letters → letter ≡ get_or letters number 0 → with_edit letter rest before ≡ Ok more → after ≡ behind_edit letter rest →
+  pub out_later_edit : (before more : List Change) (after : List ℕ) → number < length letters → letter ≡ get_or letters number 0 → with_edit letter rest before ≡ Ok more → after ≡ after_edit letter rest →
       MayRunOutInEdits (number + 1) (drop (number + 1) letters) after place → MayRunOutInEdits number (drop number letters) rest place
   out_later_edit before more after inside is taken left h =
       subst (λ (ls : List ℕ). MayRunOutInEdits number ls rest place) (sym (at_letter (Ok before) number before letters rest letter inside is))

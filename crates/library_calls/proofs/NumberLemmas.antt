@@ -36,11 +36,11 @@ use Rattle.aout_core.specs.Strip.{stripped}
 use Rattle.symtools.specs.NmLists.{nm_text}
 use Rattle.symtools.specs.SizeLines.{size_text}
 use Rattle.disassemblies.specs.Columns.{disassembly}
-use Rattle.library_calls.specs.FileAnswers.{behind_file, checked_in, disassembled_in, file_in, has_bit, names_in, nm_options_in, nm_options_of, object_in, object_of, sizes_in, stripped_in}
+use Rattle.library_calls.specs.FileAnswers.{after_file, checked_in, disassembled_in, file_in, has_bit, names_in, nm_options_in, nm_options_of, object_in, object_of, sizes_in, stripped_in}
 use Rattle.library_calls.specs.LinkAnswers.{found_each, found_of, linked_each, linked_in, objects_in, outcome_each, output_each, output_in, output_of, with_each, with_first, with_most, with_object}
 use Rattle.library_calls.specs.LinkRequests.{choices_in, entry_of, flags_in, forced_in, name_of, unless_long, with_names}
 use Rattle.library_calls.specs.ObjectParts.{Pieces, contents_for, file_for, header_for, header_of, made_of, parts_in, pieces_of, whole_in}
-use Rattle.library_calls.specs.SessionAnswers.{behind_edit, change_in, changes_in, output_with, reply_number, run_of, session_in, with_edit, with_edits}
+use Rattle.library_calls.specs.SessionAnswers.{after_edit, change_in, changes_in, output_with, reply_number, run_of, session_in, with_edit, with_edits}
 use Rattle.library_calls.specs.declared.state_call.Form.{Form}
 use Rattle.library_calls.specs.StateAnswers.{Asked, asked_in, form_in}
 
@@ -204,8 +204,8 @@ not_memory_most : (n : ℕ) (forced : List (List ℕ)) (os : List Contents) (byt
 not_memory_most zero forced os bytes = tt
 not_memory_most (suc n) forced os [] = tt
 not_memory_most (suc n) forced os (b ∷ bs) =
-    is_not_memory_then (at (length os) (with_first forced os (b ∷ bs))) (λ more. with_most n forced more (behind_file (b ∷ bs)))
-    (is_not_memory_at (length os) (with_first forced os (b ∷ bs)) (not_memory_first forced os (b ∷ bs))) (λ more. not_memory_most n forced more (behind_file (b ∷ bs)))
+    is_not_memory_then (at (length os) (with_first forced os (b ∷ bs))) (λ more. with_most n forced more (after_file (b ∷ bs)))
+    (is_not_memory_at (length os) (with_first forced os (b ∷ bs)) (not_memory_first forced os (b ∷ bs))) (λ more. not_memory_most n forced more (after_file (b ∷ bs)))
 
 not_memory_link_by : (long many far : Bool) (x : Outcome) →
     CauseIsNotMemory (refused_as NotLinked (if long then Err links.DoesNotFit else (if many then Err links.TooManySymbols else (if far then Err links.SymbolNumber else Ok x))))
@@ -270,8 +270,8 @@ not_memory_edit letter bytes before =
 not_memory_edits : (number : ℕ) (before : List Change) (letters bytes : List ℕ) → IsNotMemory (with_edits number before letters bytes)
 not_memory_edits number before [] bytes = tt
 not_memory_edits number before (letter ∷ letters) bytes =
-    is_not_memory_then (at number (with_edit letter bytes before)) (λ more. with_edits (number + 1) more letters (behind_edit letter bytes))
-    (is_not_memory_at number (with_edit letter bytes before) (not_memory_edit letter bytes before)) (λ more. not_memory_edits (number + 1) more letters (behind_edit letter bytes))
+    is_not_memory_then (at number (with_edit letter bytes before)) (λ more. with_edits (number + 1) more letters (after_edit letter bytes))
+    (is_not_memory_at number (with_edit letter bytes before) (not_memory_edit letter bytes before)) (λ more. not_memory_edits (number + 1) more letters (after_edit letter bytes))
 
 not_memory_run : (forced : List (List ℕ)) (o : Choices) (cs : List Change) → CauseIsNotMemory (run_of forced o cs)
 not_memory_run forced o cs =

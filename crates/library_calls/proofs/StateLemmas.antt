@@ -1,4 +1,4 @@
--- Edits that are made one by one, and what a session shows behind them.
+-- Edits that are made one by one, and what a session shows after them.
 use Rattle.std.proofs.Common.{◌≡◌, ◌≢◌, ℕ, Result, Ok, None, List, [], ◌∷◌, ◌++◌, map, length, append_assoc, append-nil, arith, sym, ap, ◌∙◌, subst, String}
 use Rattle.link_session.specs.Edits.{Change, answers_from, survivors_from}
 use Rattle.link_session.specs.Labelled.{Labelled, objects}
@@ -52,9 +52,9 @@ all_edited old now all numbers [] none so_far = record { forced = so_far.forced;
 all_edited old now all numbers (edit ∷ edits) none so_far = absurd (omega (arith, none))
 
 -- what is shown of a session that began without objects
-pub shown_behind : (form : Form) (old new : Kept) (changes : List Change) (numbers state : List ℕ) (status : ℕ) → old.entries ≡ [] → AreEdited old new changes numbers → ShowsFrom form new state →
+pub shown_after : (form : Form) (old new : Kept) (changes : List Change) (numbers state : List ℕ) (status : ℕ) → old.entries ≡ [] → AreEdited old new changes numbers → ShowsFrom form new state →
     status ≡ session_status numbers 0 → Shows (record { form = form; forced = old.forced; changes = changes }) (record { status = status; replies = numbers; state = state })
-shown_behind form old new changes numbers state status none edited shows is =
+shown_after form old new changes numbers state status none edited shows is =
     let kept : new.entries ≡ survivors_from old.forced [] changes = edited.kept ∙ ap (λ es. survivors_from old.forced es changes) none in record {
       replies = edited.replies ∙ ap (λ es. map reply_number (answers_from old.forced es changes)) none;
       status = is;

@@ -11,30 +11,30 @@ use Rattle.library_calls.specs.declared.cause.Cause.{Cause}
 use Rattle.library_calls.specs.declared.cause.Cause.TheVariants.{ManyNames}
 use Rattle.library_calls.specs.declared.cause.Refusal.{Refusal}
 use Rattle.library_calls.specs.Causes.{at}
-use Rattle.library_calls.specs.FileAnswers.{behind_file}
+use Rattle.library_calls.specs.FileAnswers.{after_file}
 use Rattle.library_calls.specs.LinkAnswers.{with_first, with_most}
 use Rattle.library_calls.specs.LinkRequests.{name_of, with_names}
 use Rattle.library_calls.specs.MemoryWanted.{MayRunOutForObject, MayRunOutInMost}
 
 -- one object more was taken
-pub one_more : (n : ℕ) (forced : List (List ℕ)) (os more : List Contents) (bytes behind : List ℕ) → bytes ≢ [] → with_first forced os bytes ≡ Ok more → behind ≡ behind_file bytes →
-    with_most (suc n) forced os bytes ≡ with_most n forced more behind
-one_more n forced os more [] behind some first is = absurd (some refl)
-one_more n forced os more (b ∷ bs) behind some first is =
-    ap (λ r. and_then (at (length os) r) (λ next. with_most n forced next (behind_file (b ∷ bs)))) first ∙ ap (with_most n forced more) (sym is)
+pub one_more : (n : ℕ) (forced : List (List ℕ)) (os more : List Contents) (bytes beyond : List ℕ) → bytes ≢ [] → with_first forced os bytes ≡ Ok more → beyond ≡ after_file bytes →
+    with_most (suc n) forced os bytes ≡ with_most n forced more beyond
+one_more n forced os more [] beyond some first is = absurd (some refl)
+one_more n forced os more (b ∷ bs) beyond some first is =
+    ap (λ r. and_then (at (length os) r) (λ next. with_most n forced next (after_file (b ∷ bs)))) first ∙ ap (with_most n forced more) (sym is)
 
 -- an object was refused
 pub one_refused : (n : ℕ) (forced : List (List ℕ)) (os : List Contents) (bytes : List ℕ) (cause : Cause) → bytes ≢ [] → with_first forced os bytes ≡ Err cause →
     with_most (suc n) forced os bytes ≡ Err (record { cause = cause; place = length os })
 one_refused n forced os [] cause some first = absurd (some refl)
-one_refused n forced os (b ∷ bs) cause some first = ap (λ r. and_then (at (length os) r) (λ next. with_most n forced next (behind_file (b ∷ bs)))) first
+one_refused n forced os (b ∷ bs) cause some first = ap (λ r. and_then (at (length os) r) (λ next. with_most n forced next (after_file (b ∷ bs)))) first
 
 -- memory may run out for an object after the first, which was taken
-out_after : (n : ℕ) (forced : List (List ℕ)) (os more : List Contents) (bytes after : List ℕ) (place : ℕ) → bytes ≢ [] → with_first forced os bytes ≡ Ok more → after ≡ behind_file bytes →
+out_after : (n : ℕ) (forced : List (List ℕ)) (os more : List Contents) (bytes after : List ℕ) (place : ℕ) → bytes ≢ [] → with_first forced os bytes ≡ Ok more → after ≡ after_file bytes →
     MayRunOutInMost n forced more after place → MayRunOutInMost (suc n) forced os bytes place
 out_after n forced os more [] after place some first is h = absurd (some refl)
 out_after n forced os more (b ∷ bs) after place some first is h =
-    inr (subst (λ (r : Result (List Contents) Cause). IsOkAnd r (λ next. MayRunOutInMost n forced next (behind_file (b ∷ bs)) place)) (sym first)
+    inr (subst (λ (r : Result (List Contents) Cause). IsOkAnd r (λ next. MayRunOutInMost n forced next (after_file (b ∷ bs)) place)) (sym first)
     (subst (λ (rest : List ℕ). MayRunOutInMost n forced more rest place) is h))
 
 -- memory may run out for the first object
@@ -56,14 +56,14 @@ not_empty bytes some is = some (ap length is)
 
 module _ (whole : Result (List Contents) Refusal) (n i : ℕ) (k new : Kept) (rest : List ℕ) where
   -- the rest begins with an object that was taken
-  pub more_so_far : (behind : List ℕ) → i < n → (length rest ≡ 0 → ⊥) → whole ≡ with_most (n - i) k.forced (objects k.entries) rest →
-      with_first k.forced (objects k.entries) rest ≡ Ok (objects new.entries) → behind ≡ behind_file rest → new.forced ≡ k.forced →
-      whole ≡ with_most (n - (i + 1)) new.forced (objects new.entries) behind
-  more_so_far behind inside some so_far first is same =
+  pub more_so_far : (beyond : List ℕ) → i < n → (length rest ≡ 0 → ⊥) → whole ≡ with_most (n - i) k.forced (objects k.entries) rest →
+      with_first k.forced (objects k.entries) rest ≡ Ok (objects new.entries) → beyond ≡ after_file rest → new.forced ≡ k.forced →
+      whole ≡ with_most (n - (i + 1)) new.forced (objects new.entries) beyond
+  more_so_far beyond inside some so_far first is same =
       so_far
       ∙ ap (λ m. with_most m k.forced (objects k.entries) rest) (one_step n i inside)
-      ∙ one_more (n - (i + 1)) k.forced (objects k.entries) (objects new.entries) rest behind (not_empty rest some) first is
-      ∙ ap (λ f. with_most (n - (i + 1)) f (objects new.entries) behind) (sym same)
+      ∙ one_more (n - (i + 1)) k.forced (objects k.entries) (objects new.entries) rest beyond (not_empty rest some) first is
+      ∙ ap (λ f. with_most (n - (i + 1)) f (objects new.entries) beyond) (sym same)
 
   -- the rest begins with an object that was refused
   pub refused_so_far : (entries : List Labelled) (cause : Cause) → i < n → (length rest ≡ 0 → ⊥) → whole ≡ with_most (n - i) k.forced (objects k.entries) rest →
@@ -77,7 +77,7 @@ module _ (whole : Result (List Contents) Refusal) (n i : ℕ) (k new : Kept) (re
 
 module _ (n i : ℕ) (k new : Kept) (rest : List ℕ) (place : ℕ) where
   -- memory may run out for an object after that with which the rest begins, which was taken
-  pub out_later : (after : List ℕ) → i < n → (length rest ≡ 0 → ⊥) → with_first k.forced (objects k.entries) rest ≡ Ok (objects new.entries) → after ≡ behind_file rest → new.forced ≡ k.forced →
+  pub out_later : (after : List ℕ) → i < n → (length rest ≡ 0 → ⊥) → with_first k.forced (objects k.entries) rest ≡ Ok (objects new.entries) → after ≡ after_file rest → new.forced ≡ k.forced →
       MayRunOutInMost (n - (i + 1)) new.forced (objects new.entries) after place → MayRunOutInMost (n - i) k.forced (objects k.entries) rest place
   out_later after inside some first is same h =
       subst (λ m. MayRunOutInMost m k.forced (objects k.entries) rest place) (sym (one_step n i inside))
@@ -101,10 +101,10 @@ pub all_so_far : (whole : Result (List Contents) Refusal) (m : ℕ) (forced : Li
 all_so_far whole m forced os rest none so_far = so_far ∙ ap (with_most m forced os) (nil_of rest none) ∙ none_left m forced os
 
 -- a forced name more was taken
-pub one_more_name : (whole : Result (List (List ℕ)) Refusal) (n i : ℕ) (names next : List (List ℕ)) (name rest slot behind : List ℕ) → i < n →
-    whole ≡ with_names (n - i) i names rest → slot ≡ take 8 rest → behind ≡ drop 8 rest → name ≡ name_of slot → takes names name ≡ true → next ≡ with_name names name →
-    whole ≡ with_names (n - (i + 1)) (i + 1) next behind
-one_more_name whole n i names next name rest slot behind inside so_far front back named taken is =
+pub one_more_name : (whole : Result (List (List ℕ)) Refusal) (n i : ℕ) (names next : List (List ℕ)) (name rest slot beyond : List ℕ) → i < n →
+    whole ≡ with_names (n - i) i names rest → slot ≡ take 8 rest → beyond ≡ drop 8 rest → name ≡ name_of slot → takes names name ≡ true → next ≡ with_name names name →
+    whole ≡ with_names (n - (i + 1)) (i + 1) next beyond
+one_more_name whole n i names next name rest slot beyond inside so_far front back named taken is =
     let same : name ≡ name_of (take 8 rest) = named ∙ ap name_of front in
     let fits : takes names (name_of (take 8 rest)) ≡ true = ap (takes names) (sym same) ∙ taken in
     so_far

@@ -20,8 +20,8 @@ abbrev pub file_in : List ℕ → Result Contents Cause
 file_in bytes = refused_as BadFile (decode bytes)
 
 -- the bytes after the file that they begin with
-abbrev pub behind_file : List ℕ → List ℕ
-behind_file bytes = drop (file_length (header_in bytes)) bytes
+abbrev pub after_file : List ℕ → List ℕ
+after_file bytes = drop (file_length (header_in bytes)) bytes
 
 abbrev pub object_of : Contents → Result Contents Cause
 object_of c = unless BadObject (first_object_fault c) c

@@ -20,7 +20,7 @@ use Rattle.library_calls.specs.declared.findings_call.Found.{Found}
 use Rattle.library_calls.specs.declared.link_call.Program.{Program}
 use Rattle.library_calls.specs.declared.parts.ObjectBytes.{ObjectBytes}
 use Rattle.library_calls.specs.Causes.{at}
-use Rattle.library_calls.specs.FileAnswers.{behind_file, object_in}
+use Rattle.library_calls.specs.FileAnswers.{after_file, object_in}
 use Rattle.library_calls.specs.LinkRequests.{choices_in, forced_in}
 
 abbrev pub with_object : List (List ℕ) → List Contents → Contents → Result (List Contents) Cause
@@ -34,7 +34,7 @@ with_first forced os bytes = and_then (object_in bytes) (with_object forced os)
 abbrev pub with_most : ℕ → List (List ℕ) → List Contents → List ℕ → Result (List Contents) Refusal
 with_most zero forced os bytes = Ok os
 with_most (suc n) forced os [] = Ok os
-with_most (suc n) forced os (b ∷ bs) = and_then (at (length os) (with_first forced os (b ∷ bs))) (λ more. with_most n forced more (behind_file (b ∷ bs)))
+with_most (suc n) forced os (b ∷ bs) = and_then (at (length os) (with_first forced os (b ∷ bs))) (λ more. with_most n forced more (after_file (b ∷ bs)))
 
 -- the objects with all those of the bytes, which are fewer than the bytes, since each takes 16 at least
 abbrev pub with_objects : List (List ℕ) → List Contents → List ℕ → Result (List Contents) Refusal

@@ -9,10 +9,10 @@ use Rattle.aout_core.specs.Encoding.{file_length}
 use Rattle.link_session.specs.Edits.{Change}
 use Rattle.link_options.specs.Choices.{Choices}
 use Rattle.link_out.specs.Runs.{link_after}
-use Rattle.library_calls.specs.FileAnswers.{behind_file, file_in}
+use Rattle.library_calls.specs.FileAnswers.{after_file, file_in}
 use Rattle.library_calls.specs.LinkAnswers.{linked_each, linked_in, with_first}
 use Rattle.library_calls.specs.LinkRequests.{choices_in, forced_in}
-use Rattle.library_calls.specs.SessionAnswers.{behind_edit, change_in, changes_in}
+use Rattle.library_calls.specs.SessionAnswers.{after_edit, change_in, changes_in}
 use Rattle.library_calls.specs.StateAnswers.{form_in}
 
 -- the bytes begin with a whole file, and it has more than its header: it is read before its words are checked
@@ -33,7 +33,7 @@ MayRunOutInMost zero forced os bytes place = ⊥
 MayRunOutInMost (suc n) forced os [] place = ⊥
 MayRunOutInMost (suc n) forced os (b ∷ bs) place =
     ((place ≡ length os) × MayRunOutForObject forced os (b ∷ bs))
-    ⊎ IsOkAnd (with_first forced os (b ∷ bs)) (λ more. MayRunOutInMost n forced more (behind_file (b ∷ bs)) place)
+    ⊎ IsOkAnd (with_first forced os (b ∷ bs)) (λ more. MayRunOutInMost n forced more (after_file (b ∷ bs)) place)
 
 abbrev pub MayRunOutInObjects : List (List ℕ) → List Contents → List ℕ → ℕ → Type 0
 MayRunOutInObjects forced os bytes place = MayRunOutInMost (length bytes) forced os bytes place
@@ -73,7 +73,7 @@ abbrev pub MayRunOutInEdits : ℕ → List ℕ → List ℕ → ℕ → Type 0
 MayRunOutInEdits number [] bytes place = ⊥
 MayRunOutInEdits number (letter ∷ letters) bytes place =
     ((place ≡ number) × MayRunOutForEdit letter bytes)
-    ⊎ (IsOk (change_in letter bytes) × MayRunOutInEdits (number + 1) letters (behind_edit letter bytes) place)
+    ⊎ (IsOk (change_in letter bytes) × MayRunOutInEdits (number + 1) letters (after_edit letter bytes) place)
 
 -- memory may run out for forced names, for a change, or for the link of what is left, if there is one
 abbrev pub MayRunOutInRun : List (List ℕ) → Choices → List Change → Type 0

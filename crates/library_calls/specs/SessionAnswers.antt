@@ -13,7 +13,7 @@ use Rattle.library_calls.specs.declared.cause.Cause.TheVariants.{NoEdit, NotAdde
 use Rattle.library_calls.specs.declared.cause.Refusal.{Refusal}
 use Rattle.library_calls.specs.declared.session_call.Ran.{Ran}
 use Rattle.library_calls.specs.Causes.{at, number_of}
-use Rattle.library_calls.specs.FileAnswers.{behind_file, object_in}
+use Rattle.library_calls.specs.FileAnswers.{after_file, object_in}
 use Rattle.library_calls.specs.LinkAnswers.{Output, output_of, outputs_of}
 use Rattle.library_calls.specs.LinkRequests.{choices_in, forced_in}
 
@@ -27,8 +27,8 @@ change_in letter bytes =
     else Err NoEdit)
 
 -- the bytes after the object of an edit
-abbrev pub behind_edit : ℕ → List ℕ → List ℕ
-behind_edit letter bytes = if eqb letter 97 then behind_file bytes else bytes
+abbrev pub after_edit : ℕ → List ℕ → List ℕ
+after_edit letter bytes = if eqb letter 97 then after_file bytes else bytes
 
 -- the changes with that of one edit
 abbrev pub with_edit : ℕ → List ℕ → List Change → Result (List Change) Cause
@@ -38,7 +38,7 @@ with_edit letter bytes before = and_then (change_in letter bytes) (λ c. Ok (bef
 abbrev pub with_edits : ℕ → List Change → List ℕ → List ℕ → Result (List Change) Refusal
 with_edits number before [] bytes = Ok before
 with_edits number before (letter ∷ letters) bytes =
-    and_then (at number (with_edit letter bytes before)) (λ more. with_edits (number + 1) more letters (behind_edit letter bytes))
+    and_then (at number (with_edit letter bytes before)) (λ more. with_edits (number + 1) more letters (after_edit letter bytes))
 
 abbrev pub changes_in : List ℕ → List ℕ → Result (List Change) Refusal
 changes_in letters bytes = with_edits 0 [] letters bytes

@@ -2,7 +2,7 @@
 ghost use Rattle.std.specs.Prelude.{◌≡◌, ◌≢◌, [], map, Ok, Err, IfOk, IfErr, OnErr};
 ghost use Rattle.link_out.specs.Runs.{answer_of, change_of};
 ghost use Rattle.library_calls.specs.MemoryWanted.{HasBody, MayRunOutForEdit, MayRunOutInEdits};
-ghost use Rattle.library_calls.specs.SessionAnswers.{behind_edit, change_in, changes_in, reply_number, session_status, with_edit};
+ghost use Rattle.library_calls.specs.SessionAnswers.{after_edit, change_in, changes_in, reply_number, session_status, with_edit};
 ghost use Rattle.library_calls.specs.internal.Edited.{AreEdited, IsEdited};
 ghost use Rattle.library_calls.specs.declared.cause.Cause.TheVariants.{Memory};
 
@@ -15,7 +15,7 @@ use std::alloc::{AllocError, Global};
 /// The edit that a letter asks for, and the bytes after its object.
 fn first_edit(alloc: Global, letter: u8, bytes: &[u8]) -> Result<(Edit, &[u8]), Cause>
     ensures edit { IfOk result (λ read. change_in letter bytes.now ≡ Ok (change_of read.0)) }
-    ensures after { IfOk result (λ read. read.1.now ≡ behind_edit letter bytes.now) }
+    ensures after { IfOk result (λ read. read.1.now ≡ after_edit letter bytes.now) }
     ensures err { IfErr result (λ cause. cause ≢ Memory → change_in letter bytes.now ≡ Err cause) }
     ensures memory { IfErr result (λ cause. cause ≡ Memory → (letter ≡ 97) × HasBody bytes.now) }
 {
@@ -37,7 +37,7 @@ fn take_edit<'a>(
     bytes: &'a [u8],
 ) -> Result<&'a [u8], Cause>
     ensures ok { IfOk result (λ _. with_edit letter bytes.now (map change_of edits.old.items) ≡ Ok (map change_of edits.new.items)) }
-    ensures after { IfOk result (λ after. after.now ≡ behind_edit letter bytes.now) }
+    ensures after { IfOk result (λ after. after.now ≡ after_edit letter bytes.now) }
     ensures err { IfErr result (λ cause. cause ≢ Memory → with_edit letter bytes.now (map change_of edits.old.items) ≡ Err cause) }
     ensures memory { IfErr result (λ cause. cause ≡ Memory → MayRunOutForEdit letter bytes.now) }
 {

@@ -3,7 +3,7 @@ ghost use Rattle.std.specs.Prelude.{◌≡◌, ◌≢◌, ◌≤◌, ℕ, List, 
 ghost use Rattle.aout_core.specs.Contents.{has_whole_sizes, is_magic};
 ghost use Rattle.aout_core.specs.Decoding.{contents_in, decode, header_in};
 ghost use Rattle.aout_core.specs.Encoding.{file_length};
-ghost use Rattle.library_calls.specs.FileAnswers.{behind_file, file_in, object_in, object_of};
+ghost use Rattle.library_calls.specs.FileAnswers.{after_file, file_in, object_in, object_of};
 ghost use Rattle.library_calls.specs.MemoryWanted.{HasBody};
 ghost use Rattle.library_calls.specs.declared.cause.Cause.TheVariants.{Memory};
 
@@ -90,7 +90,7 @@ fn header_alone(alloc: Global, header: Header) -> File
 /// its header.
 pub(crate) fn first_file(alloc: Global, bytes: &[u8]) -> Result<(File, &[u8]), Cause>
     ensures file { IfOk result (λ read. decode bytes.now ≡ Ok read.0) }
-    ensures after { IfOk result (λ read. read.1.now ≡ behind_file bytes.now) }
+    ensures after { IfOk result (λ read. read.1.now ≡ after_file bytes.now) }
     ensures err { IfErr result (λ cause. cause ≢ Memory → file_in bytes.now ≡ Err cause) }
     ensures memory { IfErr result (λ cause. cause ≡ Memory → HasBody bytes.now) }
 {
@@ -118,7 +118,7 @@ pub(crate) fn object_of(file: File) -> Result<Object, Cause>
 /// The object that the bytes begin with, and the bytes after it.
 pub(crate) fn first_object(alloc: Global, bytes: &[u8]) -> Result<(Object, &[u8]), Cause>
     ensures object { IfOk result (λ read. object_in bytes.now ≡ Ok read.0) }
-    ensures after { IfOk result (λ read. read.1.now ≡ behind_file bytes.now) }
+    ensures after { IfOk result (λ read. read.1.now ≡ after_file bytes.now) }
     ensures err { IfErr result (λ cause. cause ≢ Memory → object_in bytes.now ≡ Err cause) }
     ensures memory { IfErr result (λ cause. cause ≡ Memory → HasBody bytes.now) }
 {

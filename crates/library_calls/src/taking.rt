@@ -2,7 +2,7 @@
 ghost use Rattle.std.specs.Prelude.{◌≡◌, ◌≢◌, None, Ok, Err, IfOk, IfErr, OnErr};
 ghost use Rattle.link_session.specs.Labelled.{objects};
 ghost use Rattle.link_session.specs.Limits.{refusal};
-ghost use Rattle.library_calls.specs.FileAnswers.{behind_file};
+ghost use Rattle.library_calls.specs.FileAnswers.{after_file};
 ghost use Rattle.library_calls.specs.LinkAnswers.{each_of, with_each, with_first, with_object, with_objects};
 ghost use Rattle.library_calls.specs.MemoryWanted.{MayRunOutForObject, MayRunOutInEach, MayRunOutInObjects};
 ghost use Rattle.library_calls.specs.declared.cause.Cause.TheVariants.{Memory};
@@ -32,7 +32,7 @@ fn add(alloc: Global, session: &mut Session, object: Object) -> Result<(), Cause
 fn take_first<'a>(alloc: Global, session: &mut Session, bytes: &'a [u8]) -> Result<&'a [u8], Cause>
     ensures forced { session.new.forced ≡ session.old.forced }
     ensures ok { IfOk result (λ _. with_first session.old.forced (objects session.old.entries) bytes.now ≡ Ok (objects session.new.entries)) }
-    ensures after { IfOk result (λ after. after.now ≡ behind_file bytes.now) }
+    ensures after { IfOk result (λ after. after.now ≡ after_file bytes.now) }
     ensures err { IfErr result (λ cause. cause ≢ Memory → with_first session.old.forced (objects session.old.entries) bytes.now ≡ Err cause) }
     ensures memory { IfErr result (λ cause. cause ≡ Memory → MayRunOutForObject session.old.forced (objects session.old.entries) bytes.now) }
     ensures unchanged { OnErr result (session.new ≡ session.old) }

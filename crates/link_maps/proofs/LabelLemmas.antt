@@ -46,12 +46,12 @@ either_assoc x None (Some c) = refl
 either_assoc None (Some b) (Some c) = either_none (either (Some b) (Some c))
 either_assoc (Some a) (Some b) (Some c) = either_three a b c (nat_lt a.value b.value) (nat_lt b.value c.value) (nat_lt a.value c.value) refl refl refl
 
--- a label goes before or behind one of the labels
-goes_behind : (a b : Bool) (s y : Symbol) (rest more : Option Symbol) → nat_lt s.value y.value ≡ true → more ≡ either (if a then None else Some s) rest →
+-- a label goes before or after one of the labels
+goes_after : (a b : Bool) (s y : Symbol) (rest more : Option Symbol) → nat_lt s.value y.value ≡ true → more ≡ either (if a then None else Some s) rest →
     (if b then more else Some y) ≡ either (if a then None else Some s) (if b then rest else Some y)
-goes_behind a true s y rest more higher is = is
-goes_behind true false s y rest more higher is = refl
-goes_behind false false s y rest more higher is = sym (ap (λ (x : Bool). if x then Some y else Some s) higher)
+goes_after a true s y rest more higher is = is
+goes_after true false s y rest more higher is = refl
+goes_after false false s y rest more higher is = sym (ap (λ (x : Bool). if x then Some y else Some s) higher)
 
 goes_before : (a b : Bool) (s y : Symbol) (rest : Option Symbol) → nat_lt s.value y.value ≡ false → (a ≡ false → b ≡ false) →
     (if a then (if b then rest else Some y) else Some s) ≡ either (if a then None else Some s) (if b then rest else Some y)
@@ -69,7 +69,7 @@ inserted_first address s (y ∷ ys) = by_test (nat_lt s.value y.value) refl (ins
     by_test : (t : Bool) → nat_lt s.value y.value ≡ t → first_from address (inserted is_higher s ys) ≡ either (up_to address s) (first_from address ys) →
         first_from address (cond t (y ∷ inserted is_higher s ys) (s ∷ (y ∷ ys))) ≡ either (up_to address s) (first_from address (y ∷ ys))
     by_test true higher rest =
-        goes_behind (nat_lt address s.value) (nat_lt address y.value) s y (first_from address ys) (first_from address (inserted is_higher s ys)) higher rest
+        goes_after (nat_lt address s.value) (nat_lt address y.value) s y (first_from address ys) (first_from address (inserted is_higher s ys)) higher rest
     by_test false lower rest =
         goes_before (nat_lt address s.value) (nat_lt address y.value) s y (first_from address ys) lower (below_both address s.value y.value lower)
 

@@ -23,9 +23,9 @@ use Rattle.link_out.proofs.RowLemmas.{rows_kept-others}
 use Rattle.link_out.proofs.PartialLemmas.{IsProper, state_is_proper, local_rows_inner, external_row_outer, externals_in_table}
 use Rattle.link_out.proofs.OutcomeLemmas.{made_file}
 
-entry_behind : (xs ys : List Symbol) (name : List ℕ) → filter is_external xs ≡ [] → entry_of (xs ++ ys) name ≡ entry_of ys name
-entry_behind [] ys name h = refl
-entry_behind (s ∷ ss) ys name h = by_test (is_external s) h (entry_behind ss ys name)
+entry_after : (xs ys : List Symbol) (name : List ℕ) → filter is_external xs ≡ [] → entry_of (xs ++ ys) name ≡ entry_of ys name
+entry_after [] ys name h = refl
+entry_after (s ∷ ss) ys name h = by_test (is_external s) h (entry_after ss ys name)
   where
     by_test : (t : Bool) → cond t (s ∷ filter is_external ss) (filter is_external ss) ≡ [] → (filter is_external ss ≡ [] → entry_of (ss ++ ys) name ≡ entry_of ys name) →
         cond (t && bytes_eq name s.name) (Some s) (entry_of (ss ++ ys) name) ≡ entry_of ys name
@@ -44,7 +44,7 @@ entry_among p (n ∷ ns) name = ap (λ (t : Bool). cond (t && bytes_eq name n) (
 pub entry_in_table : (p : Plan) (os : List Contents) (name : List ℕ) → p.choices.keep ≢ Nothing → entry_of (table p os) name ≡ cond (is_among (names_by_first_mention p.mentions) name) (Some (external_row p name)) None
 entry_in_table p os name others =
     ap (λ (rows : List Symbol). entry_of rows name) (rows_kept-others p.choices.keep (local_rows p os ++ external_rows p) others)
-    ∙ entry_behind (local_rows p os) (external_rows p) name (local_rows_inner p os)
+    ∙ entry_after (local_rows p os) (external_rows p) name (local_rows_inner p os)
     ∙ entry_among p (names_by_first_mention p.mentions) name
 
 pub entry_there : (p : Plan) (os : List Contents) (name : List ℕ) → p.choices.keep ≢ Nothing → is_among (names_by_first_mention p.mentions) name ≡ true → entry_of (table p os) name ≡ Some (external_row p name)

@@ -28,10 +28,10 @@ room-named ms (n ∷ ns) = ap (λ (k : ℕ). common_size (state ms n) + k) (room
 pub room-commons : (ms : List Mention) → room_in (named_states ms) ≡ commons_total ms
 room-commons ms = room-named ms (names_by_first_mention ms)
 
--- a name stands behind those that it is not among
-place_behind : (before after : List (List ℕ)) (name : List ℕ) → is_among before name ≡ false → place_of name (before ++ name ∷ after) ≡ length before
-place_behind [] after name h = ap (λ (t : Bool). cond t 0 (place_of name after + 1)) (own_name name)
-place_behind (x ∷ xs) after name h = by_test (bytes_eq name x) h (place_behind xs after name)
+-- a name stands after those that it is not among
+place_after : (before after : List (List ℕ)) (name : List ℕ) → is_among before name ≡ false → place_of name (before ++ name ∷ after) ≡ length before
+place_after [] after name h = ap (λ (t : Bool). cond t 0 (place_of name after + 1)) (own_name name)
+place_after (x ∷ xs) after name h = by_test (bytes_eq name x) h (place_after xs after name)
   where
     by_test : (t : Bool) → (t || is_among xs name) ≡ false → (is_among xs name ≡ false → place_of name (xs ++ name ∷ after) ≡ length xs) →
         cond t 0 (place_of name (xs ++ name ∷ after) + 1) ≡ length (x ∷ xs)
@@ -39,10 +39,10 @@ place_behind (x ∷ xs) after name h = by_test (bytes_eq name x) h (place_behind
     by_test false h rest = let shorter = rest h in omega arith
 
 -- the commons before a name are those of the names before it
-offset_behind : (ms : List Mention) (before after : List (List ℕ)) (name : List ℕ) → is_among before name ≡ false → before ++ name ∷ after ≡ names_by_first_mention ms → common_offset ms name ≡ room_of ms before
-offset_behind ms before after name new all =
+offset_after : (ms : List Mention) (before after : List (List ℕ)) (name : List ℕ) → is_among before name ≡ false → before ++ name ∷ after ≡ names_by_first_mention ms → common_offset ms name ≡ room_of ms before
+offset_after ms before after name new all =
     ap (λ (names : List (List ℕ)). room_of ms (take (place_of name names) names)) (sym all)
-    ∙ ap (λ (k : ℕ). room_of ms (take k (before ++ name ∷ after))) (place_behind before after name new)
+    ∙ ap (λ (k : ℕ). room_of ms (take k (before ++ name ∷ after))) (place_after before after name new)
     ∙ ap (λ (names : List (List ℕ)). room_of ms names) (take-append_seam before (name ∷ after))
 
 room_more : (ms : List Mention) (before : List (List ℕ)) (name : List ℕ) → room_of ms (before ++ name ∷ []) ≡ room_of ms before + common_size (state ms name)
@@ -82,7 +82,7 @@ finals_new p seen before (x ∷ xs) within all =
         finals_from p.choices p.at (room_of p.mentions before) (named_by p.mentions (cond t rest (x ∷ rest))) ≡ map (final p) (cond t rest (x ∷ rest))
     by_test true e all same more = same all
     by_test false e all same more =
-        let offset = offset_behind p.mentions before rest x (not_before seen before x (within x) e) all in
+        let offset = offset_after p.mentions before rest x (not_before seen before x (within x) e) all in
         let head : final_at p.choices p.at (room_of p.mentions before) x (state p.mentions x) ≡ final p x =
         ap (λ (k : ℕ). final_at p.choices p.at k x (state p.mentions x)) (sym offset) in
         let tail : finals_from p.choices p.at (room_of p.mentions before + common_size (state p.mentions x)) (named_by p.mentions rest) ≡ map (final p) rest =

@@ -132,7 +132,7 @@ module _ (h : Header) (bss : ℕ) (o : Choices) (b : Bases) (tells : Tells h bss
       let more = rows_are rs (at + room_for o (state ms r.name)) (offset + common_size (state ms r.name)) (lies_next o b at offset end (room_in (named_by ms (map (λ s. s.name) rs))) (state ms r.name) l) rest in
       λ i. here i ∷ more i
 
--- rows end behind the room of their commons
+-- rows end after the room of their commons
 pub rows_end : (h : Header) (bss : ℕ) (o : Choices) (ms : List Mention) (rs : List Symbol) (at end : ℕ) → AreRows h bss o ms at rs end → at + cond (lays_commons o) (room_in (named_by ms (map (λ s. s.name) rs))) 0 ≡ end
 rows_end h bss o ms [] at end are = nothing at end (lays_commons o) are
   where

@@ -25,16 +25,16 @@ use Rattle.link_out.proofs.PartialLemmas.{partial_file, IsProper, state_is_prope
 use Rattle.link_out.proofs.PartialNames.{HasTable, has_table}
 use Rattle.link_out.proofs.ObjectLemmas.{linked_is_object, allowed_with}
 use Rattle.link_out.proofs.SameLinks.{AreAlike, same_link, with_multiples}
-use Rattle.link_out.proofs.NeighbourMentions.{as_long_append, as_long_self, start, partial_as_long, names_same, states_same, forced_front, new_of_new, names_of_forced, mentions_behind}
+use Rattle.link_out.proofs.NeighbourMentions.{as_long_append, as_long_self, start, partial_as_long, names_same, states_same, forced_front, new_of_new, names_of_forced, mentions_after}
 use Rattle.link_out.proofs.NeighbourCells.{HoldsAmong, cells_said, neighbour_text, neighbour_data}
 use Rattle.link_out.proofs.OutcomeLemmas.{made_file}
 use Rattle.link_out.proofs.NeighbourRows.{same_rows}
 
 -- forced names change no state
 pub other_forced : (a b : List (List ℕ)) (xs : List Contents) (name : List ℕ) → state (mentions a xs) name ≡ state (mentions b xs) name
-other_forced a b xs name = forced_front a (mentions_behind [] xs) name ∙ sym (forced_front b (mentions_behind [] xs) name)
+other_forced a b xs name = forced_front a (mentions_after [] xs) name ∙ sym (forced_front b (mentions_after [] xs) name)
 
--- the names behind forced names that hold others, from the names behind those
+-- the names after forced names that hold others, from the names after those
 more_forced : (own forced xs ys : List (List ℕ)) → IsPart own forced → new_names [] (own ++ xs) ≡ new_names [] (own ++ ys) → new_names [] (forced ++ xs) ≡ new_names [] (forced ++ ys)
 more_forced own forced xs ys part same =
     let inner : new_names own xs ≡ new_names own ys =
@@ -43,14 +43,14 @@ more_forced own forced xs ys part same =
     sym (new_of_new forced own xs part) ∙ ap (λ (ns : List (List ℕ)). new_names forced ns) inner ∙ new_of_new forced own ys part in
     new_names-append [] forced xs ∙ ap (λ (ns : List (List ℕ)). new_names [] forced ++ ns) outer ∙ sym (new_names-append [] forced ys)
 
-names_split : (forced : List (List ℕ)) (xs : List Contents) → names_by_first_mention (mentions forced xs) ≡ new_names [] (forced ++ names_of (mentions_behind [] xs))
-names_split forced xs = ap (λ (ns : List (List ℕ)). new_names [] ns) (names_of-append (map forced_mention forced) (mentions_behind [] xs) ∙ ap (λ (ns : List (List ℕ)). ns ++ names_of (mentions_behind [] xs)) (names_of_forced forced))
+names_split : (forced : List (List ℕ)) (xs : List Contents) → names_by_first_mention (mentions forced xs) ≡ new_names [] (forced ++ names_of (mentions_after [] xs))
+names_split forced xs = ap (λ (ns : List (List ℕ)). new_names [] ns) (names_of-append (map forced_mention forced) (mentions_after [] xs) ∙ ap (λ (ns : List (List ℕ)). ns ++ names_of (mentions_after [] xs)) (names_of_forced forced))
 
 names_forced : (own forced : List (List ℕ)) (xs ys : List Contents) → IsPart own forced → names_by_first_mention (mentions own xs) ≡ names_by_first_mention (mentions own ys) →
     names_by_first_mention (mentions forced xs) ≡ names_by_first_mention (mentions forced ys)
 names_forced own forced xs ys part same =
     names_split forced xs
-    ∙ more_forced own forced (names_of (mentions_behind [] xs)) (names_of (mentions_behind [] ys)) part (sym (names_split own xs) ∙ same ∙ names_split own ys)
+    ∙ more_forced own forced (names_of (mentions_after [] xs)) (names_of (mentions_after [] ys)) part (sym (names_split own xs) ∙ same ∙ names_split own ys)
     ∙ sym (names_split forced ys)
 
 -- the file and the options of a partial link
@@ -92,13 +92,13 @@ module _ (own forced : List (List ℕ)) (part : IsPart own forced) (bs os cs : L
     pub link_alike : (o : Choices) → KeepsNoMore o.keep keep → link forced (bs ++ m ∷ cs) o ≡ with_multiples (multiple_names (mentions forced (bs ++ m ∷ cs))) (link forced (bs ++ (os ++ cs)) o)
     link_alike o less = same_link forced (bs ++ m ∷ cs) (bs ++ (os ++ cs)) links_alike o (λ ms ns at. same_rows own bs os cs keep entry has at o.keep less)
 
-pub start_behind : (bs : List Contents) (segment : Segment) (offset : ℕ) → offset_after bs segment offset ≡ plus (start bs segment) offset
-start_behind bs Undefined offset = refl
-start_behind bs Absolute offset = refl
-start_behind bs Other offset = refl
-start_behind bs TextSeg offset = refl
-start_behind bs DataSeg offset = refl
-start_behind bs BssSeg offset = refl
+pub start_after : (bs : List Contents) (segment : Segment) (offset : ℕ) → offset_after bs segment offset ≡ plus (start bs segment) offset
+start_after bs Undefined offset = refl
+start_after bs Absolute offset = refl
+start_after bs Other offset = refl
+start_after bs TextSeg offset = refl
+start_after bs DataSeg offset = refl
+start_after bs BssSeg offset = refl
 
 -- definitions that stand among all hold there
 pub stand_holds : (own forced : List (List ℕ)) (part : IsPart own forced) (bs os cs : List Contents) (keep : Keep) (entry : Option (List ℕ)) (has : HasTable own os keep entry) →
@@ -106,7 +106,7 @@ pub stand_holds : (own forced : List (List ℕ)) (part : IsPart own forced) (bs 
 stand_holds own forced part bs os cs keep entry has stand name segment offset e =
     states_alike own forced part bs os cs keep entry has name
     ∙ stand name segment offset (other_forced [] own os name ∙ e)
-    ∙ ap (λ (n : ℕ). Defined segment n) (start_behind bs segment offset)
+    ∙ ap (λ (n : ℕ). Defined segment n) (start_after bs segment offset)
 
 pub stands_for : (own forced : List (List ℕ)) (before os after : List Contents) (by o : Choices) (x : Outcome) →
     AllByRecursion IsWellFormed before → AllByRecursion IsWellFormed os → AllByRecursion IsWellFormed after →
@@ -119,7 +119,7 @@ stands_for own forced bs os cs by o x good_bs good_os good_cs p less part stand 
     (ap without_multiples (link_alike own forced part bs os cs by.keep by.entry has good_bs good_os good_cs (stand_holds own forced part bs os cs by.keep by.entry has stand) o less)
     ∙ other_multiples (multiple_names (mentions forced (bs ++ partial_file own os by.keep by.entry ∷ cs))) (link forced (bs ++ (os ++ cs)) o))
 
--- a definition stands where it did behind nothing
+-- a definition stands where it did after nothing
 proper_start : (segment : Segment) (offset : ℕ) → IsProper (Defined segment offset) → Defined segment offset ≡ Defined segment (plus (start [] segment) offset)
 proper_start segment offset h = by_segment segment h
   where
@@ -141,7 +141,7 @@ stand_alone forced os name segment offset e =
     ∙ other_forced forced [] os name
     ∙ e
     ∙ proper_start segment offset (subst IsProper e (state_is_proper [] os name))
-    ∙ ap (λ (n : ℕ). Defined segment n) (sym (start_behind [] segment offset))
+    ∙ ap (λ (n : ℕ). Defined segment n) (sym (start_after [] segment offset))
 
 pub alone_alike : (own forced : List (List ℕ)) → IsPart own forced → (os : List Contents) (keep : Keep) (entry : Option (List ℕ)) (o : Choices) → AllByRecursion IsWellFormed os → keep ≢ Nothing → KeepsNoMore o.keep keep →
     link forced (partial_file own os keep entry ∷ []) o ≡ with_multiples (multiple_names (mentions forced (partial_file own os keep entry ∷ []))) (link forced os o)

@@ -24,9 +24,9 @@ use Rattle.link_out.specs.laws.PartialLinksAmongOthers.{IsPart, DefinitionsStand
 use Rattle.link_out.proofs.PartialLemmas.{partial_file}
 use Rattle.link_out.proofs.PartialNames.{HasTable, has_table, told}
 use Rattle.link_out.proofs.SameLinks.{with_multiples, own_multiples}
-use Rattle.link_out.proofs.NeighbourMentions.{as_long_append, as_long_self, start, partial_as_long, blocks_same, mentions_in_same, raise, raised, whole_said, back_said, front_said, mentions_of_whole, told_behind, state_behind}
+use Rattle.link_out.proofs.NeighbourMentions.{as_long_append, as_long_self, start, partial_as_long, blocks_same, mentions_in_same, raise, raised, whole_said, back_said, front_said, mentions_of_whole, told_after, state_after}
 use Rattle.link_out.proofs.MultipleLemmas.{AgreesIn, not_multiple, one_definition, none_defines, no_definition, of_each_name, none_kept, own_again}
-use Rattle.link_out.proofs.PartialAmong.{other_forced, states_alike, link_alike, start_behind, stand_holds, partial_options}
+use Rattle.link_out.proofs.PartialAmong.{other_forced, states_alike, link_alike, start_after, stand_holds, partial_options}
 
 -- the objects define no multiple of all
 module _ (own forced : List (List ℕ)) (part : IsPart own forced) (bs os cs : List Contents) (keep : Keep) (entry : Option (List ℕ)) (table : keep ≢ Nothing) (single : DefinesNoMultiple forced bs os cs) where
@@ -62,9 +62,9 @@ module _ (own forced : List (List ℕ)) (part : IsPart own forced) (bs os cs : L
       ∙ ap (λ (ms : List Mention). fore ++ (one ++ ms))
       (blocks_same mentions_in mentions_in_same (bs ++ partial_file own os keep entry ∷ []) (bs ++ os) cs (as_long_append bs bs (partial_file own os keep entry ∷ []) os (as_long_self bs) (partial_as_long own bs os cs keep entry has)))
 
-  -- the first definition behind the others
+  -- the first definition after the others
   inner_definition : (name : List ℕ) → first_definition inner name ≡ definition_by (raised bs (state (mentions [] os) name))
-  inner_definition name = definition_of inner name ∙ ap definition_by (state_behind forced bs os cs keep entry later name ∙ ap (λ (s : State). raised bs s) (other_forced forced [] os name))
+  inner_definition name = definition_of inner name ∙ ap definition_by (state_after forced bs os cs keep entry later name ∙ ap (λ (s : State). raised bs s) (other_forced forced [] os name))
 
   not_defined : (s : State) → definition_by s ≡ None → definition_by (raised bs s) ≡ None
   not_defined (Wanted size) h = refl
@@ -105,7 +105,7 @@ module _ (own forced : List (List ℕ)) (part : IsPart own forced) (bs os cs : L
   stand : DefinitionsStand forced bs os cs
   stand name segment offset e =
       ap (λ (x : Option Definition). state_by x (wanted_size all name)) (stands_inside name segment offset e)
-      ∙ ap (λ (n : ℕ). Defined segment n) (sym (start_behind bs segment offset))
+      ∙ ap (λ (n : ℕ). Defined segment n) (sym (start_after bs segment offset))
 
   definitions_alike : (name : List ℕ) → first_definition among name ≡ first_definition all name
   definitions_alike name = definition_of among name ∙ ap definition_by (states_alike own forced part bs os cs keep entry has name) ∙ sym (definition_of all name)
@@ -120,7 +120,7 @@ module _ (own forced : List (List ℕ)) (part : IsPart own forced) (bs os cs : L
           own_again (Defined segment (plus (start bs segment) offset)) (first_definition all n) (stands_inside n segment offset (other_forced [] own os n ∙ e))
 
   one_agrees : AllByRecursion (AgreesIn all) one
-  one_agrees = subst (λ (ms : List Mention). AllByRecursion (AgreesIn all) ms) (sym (told_behind own bs os cs keep entry has)) (told_agree (names_by_first_mention (mentions own os)))
+  one_agrees = subst (λ (ms : List Mention). AllByRecursion (AgreesIn all) ms) (sym (told_after own bs os cs keep entry has)) (told_agree (names_by_first_mention (mentions own os)))
 
   -- the multiples are the same, in the same order
   pub multiples_alike : multiple_names among ≡ multiple_names all

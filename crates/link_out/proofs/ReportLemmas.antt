@@ -16,7 +16,7 @@ counted n h = by_test (eqb n 0) refl
     by_test true e = absurd (let zero : n ≡ 0 = eqb-true n 0 e in omega arith)
     by_test false e = refl
 
--- a line, and what stands behind it
+-- a line, and what stands after it
 line_counts : (name text lines more : List ℕ) → 0 < length (name ++ text ++ 10 ∷ [] ++ lines ++ more)
 line_counts name text lines more =
     omega (arith, length-append (name ++ text ++ 10 ∷ [] ++ lines) more, length-append (name ++ text ++ 10 ∷ []) lines, length-append (name ++ text) (10 ∷ []))
@@ -48,7 +48,7 @@ status_by_silence f = by_parts f.multiples f.reserved f.entry_bad f.undefined
         let known = counted (length (n ∷ ns)) (omega arith) in
         ap status said ∙ sym (ap (λ (b : Bool). status (b && (eqb (length r) 0 && (is_none e && eqb (length u) 0)))) known)
 
--- a line is a name and the text behind it
+-- a line is a name and the text after it
 multiple_line : (names : List (List ℕ)) → flat_map (λ n. n ++ codes ": Multiply defined\n") names ≡ multiple_lines names
 multiple_line [] = refl
 multiple_line (n ∷ ns) = rw (multiple_line ns) (ap (λ l. l ++ multiple_lines ns) (sym (append_assoc n (codes ": Multiply defined") (10 ∷ []))))

@@ -121,7 +121,7 @@ pub if_error : {T E : Type 0} (r : Result T E) (P : Type 0) → P → IfErr r (�
 if_error (Ok x) P h = tt
 if_error (Err e) P h = h
 
--- a list so far, and what is left behind one more of its items
+-- a list so far, and what is left after one more of its items
 pub one_more : {A : Type 0} (all before left later : List A) (x : A) → all ≡ before ++ left → left ≡ x ∷ later → all ≡ (before ++ x ∷ []) ++ later
 one_more {A} all before left later x order split = order ∙ ap (λ (l : List A). before ++ l) split ∙ sym (append_assoc before (x ∷ []) later)
 

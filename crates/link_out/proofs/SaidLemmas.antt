@@ -7,7 +7,7 @@ use Rattle.aout_core.specs.declared.symbol.Symbol.{Symbol}
 use Rattle.aout_core.specs.declared.symbol.Segment.{Segment}
 use Rattle.aout_core.specs.Contents.{Contents}
 use Rattle.aout_core.specs.WellFormed.{is_external, segment_of, first_of}
-use Rattle.aout_core.proofs.AlikeLemmas.{slice_get_behind}
+use Rattle.aout_core.proofs.AlikeLemmas.{slice_get_after}
 use Rattle.link_session.specs.declared.state.State.{State}
 use Rattle.link_session.specs.declared.state.State.TheVariants.{Defined, Wanted}
 use Rattle.link_session.specs.Mentions.{Mention, mention, mentions, mentions_in, forced_mention, statement, is_among}
@@ -54,7 +54,7 @@ entries_say os before k after all done (s ∷ ss) e = by_test (is_external s) re
         all = all;
         number = length done + 0;
         symbol = s;
-        stands = ap (λ (xs : List Symbol). slice_get xs (length done + 0)) e ∙ slice_get_behind done (s ∷ ss) (length done) 0 refl;
+        stands = ap (λ (xs : List Symbol). slice_get xs (length done + 0)) e ∙ slice_get_after done (s ∷ ss) (length done) 0 refl;
         outer = te;
         names = refl;
         is = h;

@@ -1,4 +1,4 @@
--- The words of a segment of the objects, one behind another, and what is made of each.
+-- The words of a segment of the objects, one after another, and what is made of each.
 use Rattle.std.proofs.Common.{◌≡◌, ℕ, zero, suc, ◌+◌, ◌*◌, ◌/◌, List, [], ◌∷◌, ◌++◌, map, length, Option, Some, None, refl, sym, ◌∙◌, ap, subst, arith, length-append, append_assoc, append-nil, inl, inr, ◌⊎◌}
 use Rattle.std.specs.Prelude.{slice_get}
 use Rattle.std.specs.List.{AllByRecursion}
@@ -11,7 +11,7 @@ use Rattle.aout_core.specs.declared.reloc.Reloc.{Reloc}
 use Rattle.aout_core.specs.declared.object.ObjectFault.{ObjectFault}
 use Rattle.aout_core.specs.Contents.{Contents}
 use Rattle.aout_core.specs.WellFormed.{word_fault, first_of, first_bad_word}
-use Rattle.aout_core.proofs.AlikeLemmas.{slice_get_behind}
+use Rattle.aout_core.proofs.AlikeLemmas.{slice_get_after}
 use Rattle.link_session.specs.Starts.{size_of, total}
 use Rattle.link_session.specs.Sessions.{IsObject}
 use Rattle.link_session.specs.Mentions.{mentions, names_of}
@@ -48,7 +48,7 @@ object_words Other has o h = absurd has
 half : (n t : ℕ) → 2 * n ≡ t → n ≡ t / 2
 half n t e = omega arith
 
--- what is made of each word of each object, one behind another
+-- what is made of each word of each object, one after another
 module _ {A : Type 0} (g : List Contents → Contents → ℕ → Reloc → A) (segment : Segment) where
   abbrev pub made : List Contents → Contents → List A
   made earlier o = map (λ wr. g earlier o wr.0 wr.1) (words_of segment o)
@@ -66,13 +66,13 @@ module _ {A : Type 0} (g : List Contents → Contents → ℕ → Reloc → A) (
       sums : (n a w b s t : ℕ) → n ≡ a + b → a ≡ w → 2 * w ≡ s → 2 * b ≡ t → 2 * n ≡ (0 + s) + t
       sums n a w b s t e f g h = omega arith
 
-  -- what is made of a word stands behind what is made of those of the objects before
+  -- what is made of a word stands after what is made of those of the objects before
   pub made_found : HasWords segment → (before : List Contents) (k : Contents) (after : List Contents) → AllByRecursion IsObject before → (i w : ℕ) (r : Reloc) → slice_get (words_of segment k) i ≡ Some (w, r) →
       slice_get (blocks made [] (before ++ k ∷ after)) (total segment before / 2 + i) ≡ Some (g before k w r)
   made_found has before k after good i w r e =
       let n : length (blocks made [] before) ≡ total segment before / 2 = half (length (blocks made [] before)) (total segment before) (made_length has [] before good) in
       ap (λ (ws : List A). slice_get ws (total segment before / 2 + i)) (blocks-append made [] before (k ∷ after))
-      ∙ slice_get_behind (blocks made [] before) (blocks made before (k ∷ after)) (total segment before / 2) i n
+      ∙ slice_get_after (blocks made [] before) (blocks made before (k ∷ after)) (total segment before / 2) i n
       ∙ get_append (made before k) (blocks made (before ++ k ∷ []) after) i (g before k w r)
       (get_mapped (λ wr. g before k wr.0 wr.1) (words_of segment k) i (w, r) e)
 
@@ -189,5 +189,5 @@ module _ (forced : List (List ℕ)) (os before : List Contents) (k : Contents) (
       record { stands = stands; number = fault.0; fine = fault.1; known = refers TextSeg i w r stands }
   word_at DataSeg i w r ew er =
       let stands = zip_get k.data_words k.data_reloc i w r ew er in
-      let fault = no_fault k.symbols 0 (k.text_reloc ++ k.data_reloc) (length k.text_reloc + i) r (well_formed_parts k object.well).1 (slice_get_behind k.text_reloc k.data_reloc (length k.text_reloc) i refl ∙ er) in
+      let fault = no_fault k.symbols 0 (k.text_reloc ++ k.data_reloc) (length k.text_reloc + i) r (well_formed_parts k object.well).1 (slice_get_after k.text_reloc k.data_reloc (length k.text_reloc) i refl ∙ er) in
       record { stands = stands; number = fault.0; fine = fault.1; known = refers DataSeg i w r stands }

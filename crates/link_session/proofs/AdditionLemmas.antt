@@ -107,7 +107,7 @@ pub cells_settled : (ms ns : List Mention) (segment : Segment) (os : List Conten
     map (settled_cell (named_states (ms ++ ns))) (cells ms segment os) ≡ cells (ms ++ ns) segment os
 cells_settled ms ns segment os h = all_settled ms ns (cells ms segment os) (cells_wait ms segment os h) ∙ sym (cells_more ms ns segment os h)
 
--- what is added to the addresses of an object behind these
+-- what is added to the addresses of an object after these
 abbrev shifts_after : List Contents → Contents → Shifts
 shifts_after os o = record { text = shift os o segments.TextSeg; «data» = shift os o segments.DataSeg; bss = shift os o segments.BssSeg }
 

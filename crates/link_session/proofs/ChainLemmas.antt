@@ -129,12 +129,12 @@ apart_from (q ∷ ps) qs h p e = by_test (same_place p q) refl e (apart_from ps 
     by_test true s x rest = ap (is_on qs) (same_is p q s) ∙ (or_parts (is_on ps q) (is_on qs q) (sym (on_either ps qs q) ∙ h.0)).1
     by_test false s x rest = rest x
 
--- the place behind a prefix of a chain is not in that prefix
-pub not_behind : (done rest : List Place) (p : Place) → AreApart (done ++ p ∷ rest) → is_on done p ≡ false
-not_behind [] rest p h = refl
-not_behind (q ∷ done) rest p h =
+-- the place after a prefix of a chain is not in that prefix
+pub not_after : (done rest : List Place) (p : Place) → AreApart (done ++ p ∷ rest) → is_on done p ≡ false
+not_after [] rest p h = refl
+not_after (q ∷ done) rest p h =
     let here : same_place q p ≡ false = on_middle done h.0 in
-    rw (same_sym p q ∙ here) (not_behind done rest p h.1)
+    rw (same_sym p q ∙ here) (not_after done rest p h.1)
   where
     on_middle : (ps : List Place) → is_on (ps ++ p ∷ rest) q ≡ false → same_place q p ≡ false
     on_middle [] e = (or_parts (same_place q p) (is_on rest q) e).0

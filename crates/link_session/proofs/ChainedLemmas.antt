@@ -45,9 +45,9 @@ index_more [] (suc k) d = refl
 index_more (y ∷ xs) zero d = refl
 index_more (y ∷ xs) (suc k) d = index_more xs k d
 
-nothing_behind : (done rest : List Place) → done ++ rest ≡ [] → rest ≡ []
-nothing_behind [] rest e = e
-nothing_behind (p ∷ done) rest e = absurd (cc)
+nothing_after : (done rest : List Place) → done ++ rest ≡ [] → rest ≡ []
+nothing_after [] rest e = e
+nothing_after (p ∷ done) rest e = absurd (cc)
 
 module _ (texts datas : List Cell) (ts ds heads : List Link) (a : AreChained texts datas ts ds heads) where
   -- the first part of the chain of a name is bound, and the chain begins after it
@@ -105,7 +105,7 @@ module _ (texts datas : List Cell) (ts ds heads : List Link) (a : AreChained tex
     head_set : slice_index_or (slice_set heads k next) k None ≡ next
     head_set = index_set_link heads k next (λ e.
         let none : w.done ++ w.rest ≡ [] = none_ahead ts ds (slice_index_or heads k None) (w.done ++ w.rest) w.visits e in
-        subst (IsChain ts ds next) (nothing_behind w.done w.rest none) w.ahead)
+        subst (IsChain ts ds next) (nothing_after w.done w.rest none) w.ahead)
 
     by_order : (j : ℕ) → (k ≡ j) ⊎ (k ≡ j → ⊥) → Waits ts ds (slice_index_or (slice_set heads k next) j None) bound_texts bound_datas j
     by_order j (inl same) =

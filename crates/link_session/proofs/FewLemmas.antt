@@ -57,7 +57,7 @@ defined_noted_ok (Ok x) es k segment offset at texts datas new_texts new_datas o
     settles : (cs : List Cell) → map (bound_if k segment offset) cs ≡ map (settled_at es k) cs
     settles cs = ap (λ (s : State). map (λ (c : Cell). cond (waits_at k c.target) (bound_or (bound_by s c) c) c) cs) (sym at)
 
--- marks behind marks
+-- marks after marks
 pub noted_then : (es : Named) (texts datas mid_texts mid_datas new_texts new_datas : List Cell) (old mid new : List Mark) →
     NotesBound es texts datas mid_texts mid_datas old mid → NotesBound es mid_texts mid_datas new_texts new_datas mid new → NotesBound es texts datas new_texts new_datas old new
 noted_then es texts datas mid_texts mid_datas new_texts new_datas old mid new a b = omega (arith, a, b)

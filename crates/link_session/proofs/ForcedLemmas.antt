@@ -1,4 +1,4 @@
--- A name put behind the names in the slots.
+-- A name put after the names in the slots.
 use Rattle.std.proofs.Common.{◌≡◌, ℕ, zero, suc, ◌+◌, ◌<◌, ◌≤◌, true, false, cond, List, [], ◌∷◌, ◌++◌, take, replicate, length, refl, sym, ◌∙◌, ap, arith, add-one, length-take, length-append}
 use Rattle.std.specs.Prelude.{slice_set, nat_lt}
 use Rattle.std.proofs.lemmas.Bool.{lt-ltb}

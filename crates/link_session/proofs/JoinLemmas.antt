@@ -23,7 +23,7 @@ use Rattle.link_session.proofs.MentionedLemmas.{length-with_mentions}
 use Rattle.link_session.proofs.LimitLemmas.{new_count-le}
 use Rattle.link_session.proofs.TotalLemmas.{within_limit}
 use Rattle.link_session.proofs.TakenBackLemmas.{taken_back, bound_alone}
-use Rattle.link_session.proofs.WithdrawalLemmas.{heads_back-behind_states, heads_alone_back}
+use Rattle.link_session.proofs.WithdrawalLemmas.{heads_back-after_states, heads_alone_back}
 use Rattle.link_session.proofs.MentionLemmas.{names_of-map}
 
 -- the fields once the mentions are entered
@@ -108,7 +108,7 @@ module _ (m n b : Image) (o : Contents) (t u v : Threads) (h : IsThreaded m t) (
         ∙ bound_alone m o t.heads v.heads b.text_cells b.data_cells back.marks restores tl dl,
     (λ i. undo_threads (marks i) b m (threads i))
         ∙ heads_alone_back m o t h b v.heads (state_marks (length m.externals) m.externals (next_mentions m o) ++ back.marks) tl dl
-        (heads_back-behind_states (length m.externals) m.externals (next_mentions m o) back.marks v.heads ∙ restores.heads_are),
+        (heads_back-after_states (length m.externals) m.externals (next_mentions m o) back.marks v.heads ∙ restores.heads_are),
   )
     where
       marks : new ≡ state_marks (length m.externals) m.externals (next_mentions m o) ++ back.marks

@@ -18,7 +18,7 @@ pub put_all_back-append : (ks ls : List Mark) (m : Image) → put_all_back (ks +
 put_all_back-append [] ls m = refl
 put_all_back-append (k ∷ ks) ls m = ap (λ (n : Image). put_back k n) (put_all_back-append ks ls m)
 
--- a list that grows, or whose states change, behind its first n elements
+-- a list that grows, or whose states change, after its first n elements
 pub take_grown : {A : Type 0} (xs ys : List A) (n : ℕ) → n ≤ length xs → take n (xs ++ ys) ≡ take n xs
 take_grown xs ys zero h = refl
 take_grown [] ys (suc n) h = absurd (omega arith)

@@ -86,9 +86,9 @@ keys-named_states ms = keys-beside (state ms) (names_by_first_mention ms)
 at_place : (f : List ℕ → State) (ns : List (List ℕ)) (name : List ℕ) → is_among ns name ≡ true → state_at (map {B = List ℕ × State} (λ n. (n, f n)) ns) (place_of name ns) ≡ f name
 at_place f ns name h = ap state_in (get_mapped {B = List ℕ × State} (λ n. (n, f n)) ns (place_of name ns) name (get_place ns name h))
 
-behind_place : (f : List ℕ → State) (ns : List (List ℕ)) (name : List ℕ) → is_among ns name ≡ false → state_at (map {B = List ℕ × State} (λ n. (n, f n)) ns) (place_of name ns) ≡ Wanted 0
-behind_place f [] name h = refl
-behind_place f (n ∷ ns) name h = by_test (bytes_eq name n) h (behind_place f ns name)
+after_place : (f : List ℕ → State) (ns : List (List ℕ)) (name : List ℕ) → is_among ns name ≡ false → state_at (map {B = List ℕ × State} (λ n. (n, f n)) ns) (place_of name ns) ≡ Wanted 0
+after_place f [] name h = refl
+after_place f (n ∷ ns) name h = by_test (bytes_eq name n) h (after_place f ns name)
   where
     by_test : (t : Bool) → (t || is_among ns name) ≡ false → (is_among ns name ≡ false → state_at (map {B = List ℕ × State} (λ k. (k, f k)) ns) (place_of name ns) ≡ Wanted 0) →
         state_at ((n, f n) ∷ map {B = List ℕ × State} (λ k. (k, f k)) ns) (cond t 0 (place_of name ns + 1)) ≡ Wanted 0
@@ -102,7 +102,7 @@ state_for-named_states ms name =
   where
     by_test : (t : Bool) → is_among (names_by_first_mention ms) name ≡ t → state_at (named_states ms) (place_of name (names_by_first_mention ms)) ≡ state ms name
     by_test true h = at_place (state ms) (names_by_first_mention ms) name h
-    by_test false h = behind_place (state ms) (names_by_first_mention ms) name h ∙ sym (unmentioned ms name (sym (is_among-externals ms name) ∙ h))
+    by_test false h = after_place (state ms) (names_by_first_mention ms) name h ∙ sym (unmentioned ms name (sym (is_among-externals ms name) ∙ h))
 
 abbrev one : List ℕ → State → Named
 one name s = (name, s) ∷ []

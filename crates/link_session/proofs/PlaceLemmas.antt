@@ -55,16 +55,16 @@ missing name names e = by_order (cases_lt (position_or_len (bytes_eq name) names
 pub found_place : (es : Named) (name : List ℕ) (i : ℕ) → Some i ≡ position (bytes_eq name) (keys_of es) → i ≡ place_in es name
 found_place es name i e = sym (found name (keys_of es) i (sym e))
 
-behind : (es : Named) → slice_get es (length es) ≡ None
-behind [] = refl
-behind (e ∷ es) = behind es
+after : (es : Named) → slice_get es (length es) ≡ None
+after [] = refl
+after (e ∷ es) = after es
 
 -- a name that is not found would stand last
 pub missing_place : (es : Named) (name : List ℕ) → None ≡ position (bytes_eq name) (keys_of es) → length es ≡ place_in es name
 missing_place es name e = sym (missing name (keys_of es) (sym e) ∙ length-map es (λ p. p.0))
 
 pub missing_state : (es : Named) (name : List ℕ) → None ≡ position (bytes_eq name) (keys_of es) → Wanted 0 ≡ state_for es name
-missing_state es name e = ap state_in (sym (behind es)) ∙ ap (state_at es) (missing_place es name e)
+missing_state es name e = ap state_in (sym (after es)) ∙ ap (state_at es) (missing_place es name e)
 
 -- a name with a state stands at its place
 pub known_state : (es : Named) (name : List ℕ) (was : State) → lookup (bytes_eq name) es ≡ Some was → was ≡ state_for es name
@@ -96,10 +96,10 @@ written_again (e ∷ es) name first then = by_test (bytes_eq name e.0) (written_
     by_test true h = refl
     by_test false h = rw add-one (ap (λ (l : Named). e ∷ l) h)
 
-pub with_state-behind : (es : Named) (i : ℕ) (s : State) → length es ≤ i → with_state es i s ≡ es
-with_state-behind [] i s h = refl
-with_state-behind (e ∷ es) zero s h = absurd (omega arith)
-with_state-behind (e ∷ es) (suc i) s h = ap (λ (l : Named). e ∷ l) (with_state-behind es i s (omega arith))
+pub with_state-after : (es : Named) (i : ℕ) (s : State) → length es ≤ i → with_state es i s ≡ es
+with_state-after [] i s h = refl
+with_state-after (e ∷ es) zero s h = absurd (omega arith)
+with_state-after (e ∷ es) (suc i) s h = ap (λ (l : Named). e ∷ l) (with_state-after es i s (omega arith))
 
 pub filter_le : {A : Type 0} (p : A → Bool) (xs : List A) → length (filter p xs) ≤ length xs
 filter_le p [] = omega arith

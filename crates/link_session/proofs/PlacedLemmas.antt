@@ -42,7 +42,7 @@ kept : (es : Named) (ms : List Mention) (name : List ℕ) → is_among (keys_of 
 kept es [] name h = refl
 kept es (m ∷ ms) name h = kept (with_mention es m) ms name (still_among es m name h) ∙ kept_once es m name h
 
--- a name that is not there gets the place behind the last
+-- a name that is not there gets the place after the last
 place_last : (ns : List (List ℕ)) (name : List ℕ) → is_among ns name ≡ false → place_of name (ns ++ name ∷ []) ≡ place_of name ns
 place_last [] name h = ap (λ (t : Bool). cond t 0 1) (own_name name)
 place_last (n ∷ ns) name h = by_test (bytes_eq name n) h (place_last ns name)
@@ -87,16 +87,16 @@ noted-all shifts es (s ∷ ss) = by_test (is_external s) (noted-all shifts (with
         λ i. here i ∷ next i
     by_test false next same = ap (λ (l : List ℕ). no_place ∷ l) same
 
--- behind the last name no state is known
-pub behind_last : (es : Named) (k : ℕ) → length es ≤ k → state_at es k ≡ Wanted 0
-behind_last [] k h = refl
-behind_last (e ∷ es) zero h = absurd (omega arith)
-behind_last (e ∷ es) (suc k) h = behind_last es k (omega arith)
+-- after the last name no state is known
+pub after_last : (es : Named) (k : ℕ) → length es ≤ k → state_at es k ≡ Wanted 0
+after_last [] k h = refl
+after_last (e ∷ es) zero h = absurd (omega arith)
+after_last (e ∷ es) (suc k) h = after_last es k (omega arith)
 
 -- to bind at the places of all symbols is to bind at those of the external ones
 module _ (es : Named) (few : length es ≤ 65535) where
   nowhere : state_at es no_place ≡ Wanted 0
-  nowhere = behind_last es no_place few
+  nowhere = after_last es no_place few
 
   pub settled_places : (ss : List Symbol) (cs : List Cell) → map (settled_over es (all_places es ss)) cs ≡ map (settled_over es (places_of es ss)) cs
   settled_places [] cs = refl

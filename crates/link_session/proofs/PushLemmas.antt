@@ -51,7 +51,7 @@ none_tells k (c ∷ cs) h = (sym h.0, none_tells k cs h.1)
 pub new_chain : (ts ds : List Link) (texts datas : List Cell) (k : ℕ) → NoneWaits k texts → NoneWaits k datas → Waits ts ds None texts datas k
 new_chain ts ds texts datas k t d = record { places = []; visits = refl; apart = tt; inside = tt; text = none_tells k texts t; «data» = none_tells k datas d }
 
--- Places behind the last cell.
+-- Places after the last cell.
 
 new_text : (t d : ℕ) (ps : List Place) → AllByRecursion (IsWithin t d) ps → is_on ps (InText t) ≡ false
 new_text t d [] h = refl

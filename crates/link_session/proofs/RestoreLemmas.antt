@@ -76,7 +76,7 @@ module _ (ts ds : List Link) (texts datas : List Cell) (heads : List Link) (a : 
   pub all_marks : next ≡ None → new_marks ≡ marks ++ marks_of texts datas (a.each k).places
   all_marks e = w.marked ∙ ap (λ (ps : List Place). marks ++ marks_of texts datas ps) (all_done e)
 
--- marks behind marks
+-- marks after marks
 pub restores_then : (texts datas mid_texts mid_datas new_texts new_datas : List Cell) (heads mid_heads new_heads : List Link) (ks ls : List Mark) → length mid_texts ≡ length texts → length mid_datas ≡ length datas →
     Restores texts datas heads mid_texts mid_datas mid_heads ks → Restores mid_texts mid_datas mid_heads new_texts new_datas new_heads ls → Restores texts datas heads new_texts new_datas new_heads (ks ++ ls)
 restores_then texts datas mid_texts mid_datas new_texts new_datas heads mid_heads new_heads ks ls lt ld r s = record {

@@ -21,7 +21,7 @@ use Rattle.link_session.proofs.ListLemmas.{all_append}
 use Rattle.link_session.proofs.MarkedLemmas.{cells_marked-append, states_marked-append, no_cells}
 use Rattle.link_session.proofs.MarkLemmas.{put_all_back-append, cut_front}
 use Rattle.link_session.proofs.BackLemmas.{mentions_back, states_inside, states_few}
-use Rattle.link_session.proofs.WithdrawalLemmas.{heads_back-behind_states}
+use Rattle.link_session.proofs.WithdrawalLemmas.{heads_back-after_states}
 
 module _ (m : Image) (o : Contents) where
   abbrev at : List Cell → List Cell → Named → Image
@@ -63,7 +63,7 @@ module _ (m : Image) (o : Contents) where
       });
       heads_are =
           (λ i. heads_back (e i) (sym hs i))
-          ∙ heads_back-behind_states (length m.externals) m.externals (next_mentions m o) ks new_heads
+          ∙ heads_back-after_states (length m.externals) m.externals (next_mentions m o) ks new_heads
           ∙ r.heads_are;
       inside = subst (λ (l : List Mark). AllByRecursion (IsInside m) l) (sym e) (all_append (IsInside m) states ks (states_inside m m.externals (next_mentions m o)) (r.inside m refl refl));
       few = omega (arith, few, states_few (length m.externals) m.externals (next_mentions m o), length-map (externals_in o) (mention_by (next_shifts m o)));

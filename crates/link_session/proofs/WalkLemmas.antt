@@ -10,7 +10,7 @@ use Rattle.link_session.specs.declared.mark.Place.{Place}
 use Rattle.link_session.specs.declared.mark.Place.TheVariants.{InText, InData}
 use Rattle.link_session.specs.internal.Chains.{Link, link_at, IsChain, is_on, AreApart, IsWithin, EndsWithin, IsBoundTo, bound_to, bound_where, text_bound_at, data_bound_at, bound_one, walk, cell_at, nowhere, marks_of}
 use Rattle.link_session.proofs.ListLemmas.{all_split}
-use Rattle.link_session.proofs.ChainLemmas.{none_bound, length-bound_where, index_where, bound_where-one, on_inside, on_last, own_number, other_number, or_false, or_true, not_behind, next_ahead, none_ahead, chain-unique, walk-is, few_places}
+use Rattle.link_session.proofs.ChainLemmas.{none_bound, length-bound_where, index_where, bound_where-one, on_inside, on_last, own_number, other_number, or_false, or_true, not_after, next_ahead, none_ahead, chain-unique, walk-is, few_places}
 
 module _ (ts ds : List Link) (head : Link) (segment : Segment) (offset : ℕ) (texts datas : List Cell) (marks : List Mark) where
   pub begun : EndsWithin ts ds head (length texts) (length datas) → IsBoundTo ts ds head head segment offset texts datas marks texts datas marks
@@ -31,7 +31,7 @@ module _ (ts ds : List Link) (head : Link) (segment : Segment) (offset : ℕ) (t
     moved tail p e = ap (λ (l : List Place). w.done ++ l) e ∙ sym (append_assoc w.done (p ∷ []) tail)
 
     fresh : (tail : List Place) (p : Place) → w.rest ≡ p ∷ tail → is_on w.done p ≡ false
-    fresh tail p e = not_behind w.done tail p (subst (λ (l : List Place). AreApart (w.done ++ l)) e w.apart)
+    fresh tail p e = not_after w.done tail p (subst (λ (l : List Place). AreApart (w.done ++ l)) e w.apart)
 
     -- the place that comes next lies within the cells
     pub next_inside : (p : Place) → next ≡ Some p → IsWithin (length new_texts) (length new_datas) p
@@ -95,7 +95,7 @@ module _ (ts ds : List Link) (head : Link) (segment : Segment) (offset : ℕ) (t
               ∙ ap (λ (ks : List Mark). marks ++ ks) (sym (map-append (λ (q : Place). CellWas q (cell_at texts datas q)) w.done (p ∷ [])));
         }
 
-    -- what is ahead is at most as long as there are cells, and shorter behind its first place
+    -- what is ahead is at most as long as there are cells, and shorter after its first place
     few_ahead : length w.rest ≤ length texts + length datas
     few_ahead = omega (arith, few_places (length texts) (length datas) (w.done ++ w.rest) w.apart w.inside, length-append w.done w.rest)
 

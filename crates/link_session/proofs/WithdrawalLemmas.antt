@@ -40,8 +40,8 @@ heads_back-states kept es (m ∷ ms) heads =
     by_tests true = refl
     by_tests false = refl
 
-pub heads_back-behind_states : (kept : ℕ) (es : Named) (ms : List Mention) (ks : List Mark) (heads : List Link) → heads_back (state_marks kept es ms ++ ks) heads ≡ heads_back ks heads
-heads_back-behind_states kept es ms ks heads = heads_back-append (state_marks kept es ms) ks heads ∙ heads_back-states kept es ms (heads_back ks heads)
+pub heads_back-after_states : (kept : ℕ) (es : Named) (ms : List Mention) (ks : List Mark) (heads : List Link) → heads_back (state_marks kept es ms ++ ks) heads ≡ heads_back ks heads
+heads_back-after_states kept es ms ks heads = heads_back-append (state_marks kept es ms) ks heads ∙ heads_back-states kept es ms (heads_back ks heads)
 
 module _ (m : Image) (o : Contents) (t : Threads) (h : IsThreaded m t) where
   abbrev es : Named

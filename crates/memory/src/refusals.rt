@@ -22,11 +22,11 @@ fn call_files_and_sessions(rt: &HostRuntime) -> io::Result<()> {
     report(rt, "with_forced", sessions::forcing(alloc))?;
     report(rt, "add", sessions::adding(alloc))?;
     report(rt, "add, a name", sessions::adding_a_name(alloc))?;
-    report(rt, "add, forced", sessions::adding_behind_forced(alloc))?;
-    let outcome = sessions::adding_a_name_behind_forced(alloc);
+    report(rt, "add, forced", sessions::adding_after_forced(alloc))?;
+    let outcome = sessions::adding_a_name_after_forced(alloc);
     report(rt, "add, a name and forced", outcome)?;
     report(rt, "withdraw", sessions::withdrawing(alloc))?;
-    let outcome = sessions::asking_behind_withdrawals(alloc);
+    let outcome = sessions::asking_after_withdrawals(alloc);
     report(rt, "request after withdrawals", outcome)?;
     report(rt, "views", sessions::looking(alloc))
 }
@@ -46,7 +46,7 @@ fn call_commands(rt: &HostRuntime) -> io::Result<()> {
     report(rt, "ld", commands::linking_inputs(alloc))?;
     report(rt, "nm", commands::listing(alloc))?;
     report(rt, "nm, by value", commands::listing_by_value(alloc))?;
-    report(rt, "nm, second list", programs::listing_behind(alloc))?;
+    report(rt, "nm, second list", programs::listing_after(alloc))?;
     report(rt, "size", commands::sizing(alloc))?;
     report(rt, "line", commands::showing(alloc))
 }
@@ -55,7 +55,7 @@ fn call_scripts(rt: &HostRuntime) -> io::Result<()> {
     let alloc = rt.alloc();
     report(rt, "next_line", script_steps::reading_lines(alloc))?;
     report(rt, "step, add", script_steps::adding_by_a_step(alloc))?;
-    let outcome = script_steps::adding_behind_by_a_step(alloc);
+    let outcome = script_steps::adding_after_by_a_step(alloc);
     report(rt, "step, add after another", outcome)?;
     report(rt, "step, link", script_steps::linking_by_a_step(alloc))?;
     report(rt, "steps otherwise", script_steps::other_steps(alloc))

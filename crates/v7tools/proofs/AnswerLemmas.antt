@@ -109,16 +109,16 @@ known_bytes : (known : Option (List ℕ)) (bytes : List ℕ) (P : List ℕ → T
 known_bytes known bytes P e h = subst (λ (k : Option (List ℕ)). IfSome k P) e h
 
 module _ (forced : List (List ℕ)) where
-  -- the inputs behind the first
-  abbrev behind : List (List ℕ × List ℕ) → List Labelled → Result (List Labelled) Refusal
-  behind later kept = with_inputs forced kept later
+  -- the inputs after the first
+  abbrev after : List (List ℕ × List ℕ) → List Labelled → Result (List Labelled) Refusal
+  after later kept = with_inputs forced kept later
 
   took : (kept more : List Labelled) (i : Input) (bytes : List ℕ) → i.known ≡ Some bytes → Takes forced kept i more → with_input forced kept i.path bytes ≡ Ok more
   took kept more i bytes known h = ap (kept_with forced kept i.path) (sym (known_bytes i.known bytes (λ bytes. Ok h.object ≡ object_in (decode bytes)) known h.is_found)) ∙ h.accepts
 
   took_first : (kept more : List Labelled) (i : Input) (is : List Input) (all : List (List ℕ × List ℕ)) (f : FirstKnown i is all) → Takes forced kept i more → with_inputs forced kept all ≡ with_inputs forced more f.later
   took_first kept more i is all f h =
-      ap (with_inputs forced kept) f.split ∙ ap (λ (x : Result (List Labelled) Cause). and_then (at_path i.path x) (behind f.later)) (took kept more i f.bytes f.known h)
+      ap (with_inputs forced kept) f.split ∙ ap (λ (x : Result (List Labelled) Cause). and_then (at_path i.path x) (after f.later)) (took kept more i f.bytes f.known h)
 
   takes_bytes : (is : List Input) (kept more : List Labelled) (all : List (List ℕ × List ℕ)) → known_inputs is ≡ Some all → TakesAll forced kept is more → with_inputs forced kept all ≡ Ok more
   takes_bytes [] kept more all e same = (let none : all ≡ [] = (let f : Some [] ≡ Some all = e in cc) in ap (with_inputs forced kept) none) ∙ ap (λ (x : List Labelled). Ok x) (sym same)
@@ -146,7 +146,7 @@ module _ (forced : List (List ℕ)) where
   stops_bytes (i ∷ is) kept all said e (inl h) =
       let f = first_known i is all e in
       subst (λ (bytes : List (List ℕ × List ℕ)). IsTrueOf said (with_inputs forced kept bytes)) (sym f.split)
-      (said_of_whole said (at_path i.path (with_input forced kept i.path f.bytes)) (behind f.later) (said_at kept i f.bytes said f.known h))
+      (said_of_whole said (at_path i.path (with_input forced kept i.path f.bytes)) (after f.later) (said_at kept i f.bytes said f.known h))
   stops_bytes (i ∷ is) kept all said e (inr (next, takes, rest)) =
       let f = first_known i is all e in
       subst (IsTrueOf said) (sym (took_first kept next i is all f takes)) (stops_bytes is next f.later said f.others rest)

@@ -16,19 +16,19 @@ pub nothing_asked : (a : History) → Extends a a []
 nothing_asked None = tt
 nothing_asked (Some xs) = sym (append-nil xs)
 
-pub asked_behind : (a b c : History) (first then : List Event) → Extends a b first → Extends b c then → Extends a c (first ++ then)
-asked_behind None b c first then h k = tt
-asked_behind (Some xs) None c first then h k = absurd h
-asked_behind (Some xs) (Some ys) None first then h k = absurd k
-asked_behind (Some xs) (Some ys) (Some zs) first then h k = k ∙ ap (λ (l : List Event). l ++ then) h ∙ append_assoc xs first then
+pub asked_after : (a b c : History) (first then : List Event) → Extends a b first → Extends b c then → Extends a c (first ++ then)
+asked_after None b c first then h k = tt
+asked_after (Some xs) None c first then h k = absurd h
+asked_after (Some xs) (Some ys) None first then h k = absurd k
+asked_after (Some xs) (Some ys) (Some zs) first then h k = k ∙ ap (λ (l : List Event). l ++ then) h ∙ append_assoc xs first then
 
 pub map-append : {A B : Type 0} (f : A → B) (xs ys : List A) → map f (xs ++ ys) ≡ map f xs ++ map f ys
 map-append f [] ys = refl
 map-append {A} {B} f (x ∷ xs) ys = ap (λ (l : List B). f x ∷ l) (map-append f xs ys)
 
-pub all_behind : {A : Type 0} (P : A → Type 0) (xs : List A) (x : A) → AllByRecursion P xs → P x → AllByRecursion P (xs ++ x ∷ [])
-all_behind P [] x h p = (p, tt)
-all_behind P (y ∷ ys) x h p = (h.0, all_behind P ys x h.1 p)
+pub all_after : {A : Type 0} (P : A → Type 0) (xs : List A) (x : A) → AllByRecursion P xs → P x → AllByRecursion P (xs ++ x ∷ [])
+all_after P [] x h p = (p, tt)
+all_after P (y ∷ ys) x h p = (h.0, all_after P ys x h.1 p)
 
 -- none are left
 pub no_more : {A : Type 0} (all before left : List A) → all ≡ before ++ left → left ≡ [] → all ≡ before
@@ -39,7 +39,7 @@ module _ {R : Type 0} (remaining : R → Option (List ℕ)) where
   pub opens_more : (a b c : History) (inputs : List (String Global × Latched R)) (i : String Global × Latched R) → Extends a b (opens (sources remaining inputs)) →
       Extends b c (opened (string_bytes i.0) (Some (remaining i.1.device)) ∷ []) → Extends a c (opens (sources remaining (inputs ++ i ∷ [])))
   opens_more a b c inputs i h k =
-      subst (Extends a c) (sym (ap opens (map-append _ inputs (i ∷ [])) ∙ map-append _ (sources remaining inputs) _)) (asked_behind a b c _ _ h k)
+      subst (Extends a c) (sym (ap opens (map-append _ inputs (i ∷ [])) ∙ map-append _ (sources remaining inputs) _)) (asked_after a b c _ _ h k)
 
   -- the paths of the files that were opened
   pub paths_opened : (inputs : List (String Global × Latched R)) → map string_bytes (map (λ i. i.0) inputs) ≡ paths_of (sources remaining inputs)
@@ -52,7 +52,7 @@ module _ {R : Type 0} (remaining : R → Option (List ℕ)) where
     found = sources remaining inputs;
     rest = map string_bytes later;
     order = ap (map string_bytes) (order ∙ ap (λ (l : List (String Global)). map (λ i. i.0) inputs ++ l) e) ∙ map-append string_bytes (map (λ i. i.0) inputs) (path ∷ later) ∙ ap (λ (l : List (List ℕ)). l ++ string_bytes path ∷ map string_bytes later) (paths_opened inputs);
-    asked = asked_behind a b c _ _ h k;
+    asked = asked_after a b c _ _ h k;
   }
 
 pub opened_at : (b c : History) (at path : List ℕ) (came known : Option (Option (List ℕ))) → Extends b c (opened at came ∷ []) → at ≡ path → came ≡ known → Extends b c (opened path known ∷ [])

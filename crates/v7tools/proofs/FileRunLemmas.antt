@@ -11,20 +11,20 @@ use Rattle.v7tools.specs.FileRuns.{AreRead, IsStored, IsLoadAt, IsStripping, Loa
 use Rattle.v7tools.specs.declared.fault.CliFault.{CliFault}
 use Rattle.v7tools.specs.declared.office.Stored.{Stored}
 use Rattle.v7tools.specs.declared.office.Stored.TheVariants.{Kept, NotCreated, Failed}
-use Rattle.v7tools.proofs.EventLemmas.{asked_behind, map-append}
+use Rattle.v7tools.proofs.EventLemmas.{asked_after, map-append}
 
-read_behind : (found : List Opened) (loaded : List Loaded) (known : Option (List ℕ)) (l : Loaded) → AreRead found loaded → IfSome known (λ bytes. decode bytes ≡ Ok l.1) → AreRead (found ++ (string_bytes l.0, known) ∷ []) (loaded ++ l ∷ [])
-read_behind [] [] known l h k = ((refl, k), tt)
-read_behind [] (m ∷ ms) known l h k = absurd h
-read_behind (f ∷ fs) [] known l h k = absurd h
-read_behind (f ∷ fs) (m ∷ ms) known l h k = (h.0, read_behind fs ms known l h.1 k)
+read_after : (found : List Opened) (loaded : List Loaded) (known : Option (List ℕ)) (l : Loaded) → AreRead found loaded → IfSome known (λ bytes. decode bytes ≡ Ok l.1) → AreRead (found ++ (string_bytes l.0, known) ∷ []) (loaded ++ l ∷ [])
+read_after [] [] known l h k = ((refl, k), tt)
+read_after [] (m ∷ ms) known l h k = absurd h
+read_after (f ∷ fs) [] known l h k = absurd h
+read_after (f ∷ fs) (m ∷ ms) known l h k = (h.0, read_after fs ms known l h.1 k)
 
 -- one more file is read
 pub reads_more : (a b c : History) (loaded : List Loaded) (path : String Global) (l : Loaded) → Reads a b loaded → IsLoadAt b c path (Ok l) → Reads a c (loaded ++ l ∷ [])
 reads_more a b c loaded path l h k = record {
   found = h.found ++ (string_bytes l.0, k.1.0) ∷ [];
-  read = read_behind h.found loaded k.1.0 l h.read k.1.2;
-  asked = subst (Extends a c) (sym (map-append _ h.found _)) (asked_behind a b c _ _ h.asked (subst (λ (p : String Global). Extends b c (opened (string_bytes p) (Some k.1.0) ∷ [])) (sym k.0) k.1.1));
+  read = read_after h.found loaded k.1.0 l h.read k.1.2;
+  asked = subst (Extends a c) (sym (map-append _ h.found _)) (asked_after a b c _ _ h.asked (subst (λ (p : String Global). Extends b c (opened (string_bytes p) (Some k.1.0) ∷ [])) (sym k.0) k.1.1));
 }
 
 -- the paths of what was read and those that are left
@@ -53,7 +53,7 @@ strips_all loaded = map (λ l. strips l Kept) loaded
 
 -- one more file is stored
 pub strips_more : (a b c : History) (done : List Loaded) (l : Loaded) (what : Stored) → Extends a b (strips_all done) → Extends b c (strips l what ∷ []) → IsStored l.0 what (Ok tt) → Extends a c (strips_all (done ++ l ∷ []))
-strips_more a b c done l Kept h k is = subst (Extends a c) (sym (map-append _ done (l ∷ []))) (asked_behind a b c _ _ h k)
+strips_more a b c done l Kept h k is = subst (Extends a c) (sym (map-append _ done (l ∷ []))) (asked_after a b c _ _ h k)
 strips_more a b c done l NotCreated h k is = absurd (cc)
 strips_more a b c done l Failed h k is = absurd (cc)
 
@@ -66,7 +66,7 @@ stops_storing a b c loaded done left later l what fault order e h k is = record 
   rest = later;
   what = what;
   order = order ∙ ap (λ (xs : List Loaded). done ++ xs) e;
-  asked = asked_behind a b c _ _ h k;
+  asked = asked_after a b c _ _ h k;
   fails = is;
 }
 

@@ -202,7 +202,7 @@ module _ {W : Type 0} (contents : W → Option (List ℕ)) where
       AnswersLine contents o asks kept left old new result before after
   answered_from o asks kept left old new result before between after e h = subst (λ (w : Latched W). AnswersLine contents o asks kept left old new result w after) e h
 
-  -- the whole answer is behind a flush that failed
+  -- the whole answer is after a flush that failed
   pub not_passed : (a b c : Option (List ℕ)) (answer : List ℕ) → Appends a b answer → Keeps b c → AppendsPrefix a c answer
   not_passed a b c answer sent kept = (answer, [], sym (append-nil answer), Appends-kept a b c answer sent kept)
 

@@ -14,7 +14,7 @@ use Rattle.v7tools.specs.LinkRuns.{inputs_opened, IsLinkOfFiles, IsLinkRun, Repo
 use Rattle.v7tools.specs.declared.fault.CliFault.{CliFault}
 use Rattle.v7tools.specs.declared.fault.CliFault.TheVariants as faults
 use Rattle.v7tools.specs.declared.office.Stored.{Stored}
-use Rattle.v7tools.proofs.EventLemmas.{asked_behind, paths_opened}
+use Rattle.v7tools.proofs.EventLemmas.{asked_after, paths_opened}
 
 module _ {R : Type 0} (remaining : R → Option (List ℕ)) where
   -- the inputs are the files that were opened
@@ -65,6 +65,6 @@ module _ {R : Type 0} (remaining : R → Option (List ℕ)) where
       what = what;
       found = sources remaining inputs;
       answer = link_of_files forced o files inputs (Ok made) h.1 h.2 link;
-      asked = asked_behind old mid new _ _ h.0 asked;
+      asked = asked_after old mid new _ _ h.0 asked;
       reports = reports;
     })))

@@ -10,9 +10,9 @@ use Rattle.link_session.specs.Sessions.{nothing_kept}
 use Rattle.link_session.specs.Undo.{Kept}
 use Rattle.link_options.specs.Choices.{Choices}
 use Rattle.v7tools.specs.Events.{History, Extends}
-use Rattle.command_words.specs.Scripts.{Asked, lines_in, Given, ScriptFault, long_line, many_lines, and_given, given_behind}
+use Rattle.command_words.specs.Scripts.{Asked, lines_in, Given, ScriptFault, long_line, many_lines, and_given, given_after}
 use Rattle.command_words.specs.ScriptAnswers.{Answer, WhereKnown, IsNextOf, NamesPath, Progress, Settles, asked_by, lines_of}
-use Rattle.v7tools.specs.SessionRuns.{AreFirst, AreLines, Chains, EndsBehind, IsSessionRun, Ran, StopsBehind, answers_of, events_of, given, lines_asked, worst}
+use Rattle.v7tools.specs.SessionRuns.{AreFirst, AreLines, Chains, EndsAfter, IsSessionRun, Ran, StopsAfter, answers_of, events_of, given, lines_asked, worst}
 use Rattle.v7tools.specs.LineRuns.{IsLineOf, LineRun}
 use Rattle.v7tools.specs.internal.SessionParts.{AnswersLine}
 use Rattle.v7tools.specs.ScriptCalls.{returned}
@@ -21,8 +21,8 @@ use Rattle.v7tools.specs.declared.fault.CliFault.TheVariants as faults
 use Rattle.command_words.specs.declared.line_reader.Stop.{Stop}
 use Rattle.command_words.specs.declared.line_reader.Stop.TheVariants as stops
 use Rattle.command_words.specs.declared.lines.Line.{Line}
-use Rattle.v7tools.proofs.EventLemmas.{asked_behind, map-append, nothing_asked}
-use Rattle.command_words.proofs.ScriptLemmas.{behind_last_line}
+use Rattle.v7tools.proofs.EventLemmas.{asked_after, map-append, nothing_asked}
+use Rattle.command_words.proofs.ScriptLemmas.{after_last_line}
 
 -- ---- one more line
 
@@ -45,9 +45,9 @@ larger_small a b p q = omega arith
 abbrev before_given : List Asked → Given → Given
 before_given lines g = record { lines = lines ++ g.lines; fault = g.fault }
 
--- these lines were given, and these bytes are left for those behind them
+-- these lines were given, and these bytes are left for those after them
 abbrev GivesFirst : List Asked → ℕ → List ℕ → List ℕ → Type 0
-GivesFirst lines n bytes left = given bytes ≡ before_given lines (given_behind n (lines_in left))
+GivesFirst lines n bytes left = given bytes ≡ before_given lines (given_after n (lines_in left))
 
 abbrev IsEmpty : List ℕ → List ℕ → Type 0
 IsEmpty bytes left = left ≡ []
@@ -77,7 +77,7 @@ told_both None now P Q S f h k = tt
 told_both (Some a) None P Q S f h k = absurd h
 told_both (Some a) (Some b) P Q S f h k = f a b h k
 
--- a line behind others
+-- a line after others
 before_and_given : (lines : List Asked) (a : Asked) (g : Given) → before_given lines (and_given a g) ≡ before_given (lines ++ a ∷ []) g
 before_and_given lines a g = ap (λ (l : List Asked). let r : Given = record { lines = l; fault = g.fault } in r) (sym (append_assoc lines (a ∷ []) g.lines))
 
@@ -94,7 +94,7 @@ Stays settled answer = IfSome settled (λ stop. answer ≡ Err stop)
 
 reads_front : (first mid : Option (List ℕ)) (n : ℕ) (settled : Option Stop) (lines : List Asked) → Reading first mid n settled lines → AreFirst first lines
 reads_front first mid n settled lines h =
-    told_alone first mid (GivesFirst lines n) (λ a. (more : List Asked) × ((given a).lines ≡ lines ++ more)) (λ a b k. ((given_behind n (lines_in b)).lines, ap (λ (g : Given). g.lines) k)) h.told
+    told_alone first mid (GivesFirst lines n) (λ a. (more : List Asked) × ((given a).lines ≡ lines ++ more)) (λ a b k. ((given_after n (lines_in b)).lines, ap (λ (g : Given). g.lines) k)) h.told
 
 pub stays_alone : (settled : Option Stop) (answer : Answer) (same : Type 0) → IfSome settled (λ stop. (answer ≡ Err stop) × same) → Stays settled answer
 stays_alone None answer same h = tt
@@ -123,8 +123,8 @@ module _ (first mid now : Option (List ℕ)) (n : ℕ) (settled later : Option S
       told =
           told_on first mid now (GivesFirst lines n) (λ bytes left. IsNextOf n bytes left later (Ok it)) (GivesFirst (lines ++ asked_by it ∷ []) m)
           (λ a b c first_given is.
-          let g = given_behind m (lines_in c) in
-          first_given ∙ ap (before_given lines) (is.0.1 ∙ ap (λ (k : ℕ). and_given (asked_by it) (given_behind k (lines_in c))) (sym count)) ∙ before_and_given lines (asked_by it) g)
+          let g = given_after m (lines_in c) in
+          first_given ∙ ap (before_given lines) (is.0.1 ∙ ap (λ (k : ℕ). and_given (asked_by it) (given_after k (lines_in c))) (sym count)) ∙ before_and_given lines (asked_by it) g)
           h.told next_told
 
       goes : (s : Option Stop) → later ≡ s → IfSome s (λ stop. stop ≡ stops.End) → (later ≡ None) ⊎ ((later ≡ Some stops.End) × WhereKnown first now IsEmpty)
@@ -133,7 +133,7 @@ module _ (first mid now : Option (List ℕ)) (n : ℕ) (settled later : Option S
           inr (
             e ∙ ap (λ (s : Stop). let r : Option Stop = Some s in r) settled_so,
             told_on first mid now (GivesFirst lines n) (λ bytes left. IsNextOf n bytes left later (Ok it)) IsEmpty
-                (λ a b c first_given is. is.0.0 ∙ behind_last_line b (is.1.0 (subst (λ (o : Option Stop). IsSome o) (sym e) refl)))
+                (λ a b c first_given is. is.0.0 ∙ after_last_line b (is.1.0 (subst (λ (o : Option Stop). IsSome o) (sym e) refl)))
                 h.told next_told,
           )
 
@@ -155,37 +155,37 @@ module _ (first mid now : Option (List ℕ)) (n : ℕ) (settled later : Option S
       by (inr (e, ended)) =
           told_alone first mid (λ a b. given a ≡ record { lines = lines; fault = None }) (λ a. given a ≡ record { lines = lines; fault = None }) (λ a b k. k)
           (told_both first mid (GivesFirst lines n) IsEmpty (λ a b. given a ≡ record { lines = lines; fault = None })
-          (λ a b first_given empty. first_given ∙ ap (λ (l : List ℕ). before_given lines (given_behind n (lines_in l))) empty ∙ before_end lines None) h.told ended)
+          (λ a b first_given empty. first_given ∙ ap (λ (l : List ℕ). before_given lines (given_after n (lines_in l))) empty ∙ before_end lines None) h.told ended)
 
   pub reads_ended : (answer : Answer) → answer ≡ Err stops.End → Stays settled answer → Next mid now n settled later answer → AreLines first lines None
   reads_ended answer is stays next = reads_end (subst (Stays settled) is stays) (subst (Next mid now n settled later) is next)
 
-  -- a fault behind the lines
-  stops_with : (stop : Stop) (fault : CliFault) → Err fault ≡ returned (Err stop) → WhereKnown mid now (λ bytes left. IsNextOf n bytes left later (Err stop)) → StopsBehind first lines fault
+  -- a fault after the lines
+  stops_with : (stop : Stop) (fault : CliFault) → Err fault ≡ returned (Err stop) → WhereKnown mid now (λ bytes left. IsNextOf n bytes left later (Err stop)) → StopsAfter first lines fault
   stops_with stops.End fault e next = absurd (cc)
   stops_with stops.LongLine fault e next =
       let is : fault ≡ faults.LongLine = cc in
-      subst (StopsBehind first lines) (sym is)
+      subst (StopsAfter first lines) (sym is)
       (told_alone first now (λ a c. given a ≡ record { lines = lines; fault = Some long_line }) (λ a. given a ≡ record { lines = lines; fault = Some long_line }) (λ a c k. k)
       (told_on first mid now (GivesFirst lines n) (λ bytes left. IsNextOf n bytes left later (Err stops.LongLine)) (λ a c. given a ≡ record { lines = lines; fault = Some long_line })
       (λ a b c first_given is. first_given ∙ ap (before_given lines) is.1 ∙ before_end lines (Some long_line)) h.told next))
   stops_with stops.ManyLines fault e next =
       let is : fault ≡ faults.ManyLines = cc in
-      subst (StopsBehind first lines) (sym is)
+      subst (StopsAfter first lines) (sym is)
       (told_alone first now (λ a c. given a ≡ record { lines = lines; fault = Some many_lines }) (λ a. given a ≡ record { lines = lines; fault = Some many_lines }) (λ a c k. k)
       (told_on first mid now (GivesFirst lines n) (λ bytes left. IsNextOf n bytes left later (Err stops.ManyLines)) (λ a c. given a ≡ record { lines = lines; fault = Some many_lines })
       (λ a b c first_given is. first_given ∙ ap (before_given lines) is.1 ∙ before_end lines (Some many_lines)) h.told next))
   stops_with stops.ReadFailed fault e next =
       let is : fault ≡ faults.ScriptFailed = cc in
-      subst (StopsBehind first lines) (sym is) (reads_front first mid n settled lines h)
+      subst (StopsAfter first lines) (sym is) (reads_front first mid n settled lines h)
   stops_with stops.Memory fault e next =
       let is : fault ≡ faults.Memory = cc in
-      subst (StopsBehind first lines) (sym is)
+      subst (StopsAfter first lines) (sym is)
       (told_alone first now (λ a c. (x : Asked) × (more : List Asked) × NamesPath x × ((given a).lines ≡ lines ++ x ∷ more)) (λ a. (x : Asked) × (more : List Asked) × NamesPath x × ((given a).lines ≡ lines ++ x ∷ more)) (λ a c k. k)
       (told_on first mid now (GivesFirst lines n) (λ bytes left. IsNextOf n bytes left later (Err stops.Memory)) (λ a c. (x : Asked) × (more : List Asked) × NamesPath x × ((given a).lines ≡ lines ++ x ∷ more))
-      (λ a b c first_given is. (is.0, (given_behind (n + 1) (lines_in c)).lines, is.1, ap (λ (g : Given). g.lines) (first_given ∙ ap (before_given lines) is.2.1))) h.told next))
+      (λ a b c first_given is. (is.0, (given_after (n + 1) (lines_in c)).lines, is.1, ap (λ (g : Given). g.lines) (first_given ∙ ap (before_given lines) is.2.1))) h.told next))
 
-  pub reads_fault : (answer : Answer) (fault : CliFault) → Err fault ≡ returned answer → Stays settled answer → Next mid now n settled later answer → StopsBehind first lines fault
+  pub reads_fault : (answer : Answer) (fault : CliFault) → Err fault ≡ returned answer → Stays settled answer → Next mid now n settled later answer → StopsAfter first lines fault
   reads_fault (Ok it) fault e stays next = absurd (cc)
   reads_fault (Err stop) fault e stays next =
       stops_with stop fault e (next (open_script (Err stop) stays (λ same.
@@ -225,7 +225,7 @@ module _ {R W : Type 0} (remaining : R → Option (List ℕ)) (contents : W → 
       runs = h.runs ++ line.run ∷ [];
       ran = record {
         chain = chains_more o start mid left h.runs line.run h.ran.chain line.is_run line.leaves;
-        asked = subst (Extends old new) (sym (row_more (λ (r : LineRun). r.events) h.runs line.run)) (asked_behind old between new (events_of h.runs) line.run.events h.ran.asked line.asked);
+        asked = subst (Extends old new) (sym (row_more (λ (r : LineRun). r.events) h.runs line.run)) (asked_after old between new (events_of h.runs) line.run.events h.ran.asked line.asked);
         answers = subst (Appends (contents before.device) (contents after.device)) (sym (row_more (λ (r : LineRun). r.answer) h.runs line.run))
             (Appends-trans (contents before.device) (contents during.device) (contents after.device) (answers_of h.runs) line.run.answer h.ran.answers line.bytes);
         working = λ t. absurd (let bad = line.fault.1 t in cc);
@@ -250,15 +250,15 @@ module _ {R W : Type 0} (remaining : R → Option (List ℕ)) (contents : W → 
         runs = h.runs;
         kept = mid;
         ran = subst (λ (k : Kept). Ran contents o k mid h.runs old between before during) is h.ran;
-        ends = subst (EndsBehind (remaining source.device) h.runs) (sym answer) (subst (λ (known : Option (List ℕ)). AreLines known asked_so_far None) first_is all, h.worst_so_far);
+        ends = subst (EndsAfter (remaining source.device) h.runs) (sym answer) (subst (λ (known : Option (List ℕ)). AreLines known asked_so_far None) first_is all, h.worst_so_far);
       }))
 
-      pub run_up_to : (fault : CliFault) → StopsBehind (left_of remaining begun) asked_so_far fault → result ≡ Err fault → IsSessionRun contents forced o (remaining source.device) old between result before during
+      pub run_up_to : (fault : CliFault) → StopsAfter (left_of remaining begun) asked_so_far fault → result ≡ Err fault → IsSessionRun contents forced o (remaining source.device) old between result before during
       run_up_to fault stops answer = inr (inl (record {
         runs = h.runs;
         kept = mid;
         ran = subst (λ (k : Kept). Ran contents o k mid h.runs old between before during) is h.ran;
-        ends = subst (EndsBehind (remaining source.device) h.runs) (sym answer) (subst (λ (known : Option (List ℕ)). StopsBehind known asked_so_far fault) first_is stops);
+        ends = subst (EndsAfter (remaining source.device) h.runs) (sym answer) (subst (λ (known : Option (List ℕ)). StopsAfter known asked_so_far fault) first_is stops);
       }))
 
       pub broke_off : (next : Progress R) (it : Line) (left : Kept) (new : History) (after : Latched W) (fault : CliFault) → Reading (left_of remaining begun) (left_of remaining next) next.line_count next.settled (asked_so_far ++ asked_by it ∷ []) →
@@ -273,7 +273,7 @@ module _ {R W : Type 0} (remaining : R → Option (List ℕ)) (contents : W → 
             is_run = line.is_run;
             first = subst (λ (known : Option (List ℕ)). AreFirst known (asked_so_far ++ line.run.line ∷ [])) first_is
                 (subst (λ (a : Asked). AreFirst (left_of remaining begun) (asked_so_far ++ a ∷ [])) (sym line.line) (reads_front (left_of remaining begun) (left_of remaining next) next.line_count next.settled (asked_so_far ++ asked_by it ∷ []) reading));
-            asked = asked_behind old between new (events_of h.runs) line.run.events h.ran.asked line.asked;
+            asked = asked_after old between new (events_of h.runs) line.run.events h.ran.asked line.asked;
             part = part;
             rest = rest;
             split = split;

@@ -130,7 +130,7 @@ module _ {R : Type 0} (remaining : R → Option (List ℕ)) (from to : Latched R
   not_added_by new (same, inl (is, header)) = (same, by_memory is header)
   not_added_by new (same, inr h) = (same, by_refusal h)
 
--- what the wire is like behind an addition is left out
+-- what the wire is like after an addition is left out
 working_on : (known : Option (List ℕ)) (forced : List (List ℕ)) (kept : List Labelled) (path : List ℕ) (did : Stepped) → IsAddWorking known forced kept path did → IsAddOn known forced kept path did
 working_on None forced kept path did (found, sound, is) = (found, is)
 working_on (Some bytes) forced kept path did is = is
@@ -231,7 +231,7 @@ pub worked_unless : {R : Type 0} (before after : Latched R) (path : String Globa
 worked_unless before after path fault latched device other =
     false_from_ne_true before.has_failed (λ failed. other (let e = failed_before before after (failed_with fault) path latched device failed in cc))
 
--- nor has it behind the addition
+-- nor has it after the addition
 pub worked_after : {R : Type 0} (after : Latched R) (path : String Global) → ((Ok tt ≡ failed_with (faults.BadFile path reads.Device)) ↔ IsTrue after.has_failed) → after.has_failed ≡ false
 worked_after after path device = false_from_ne_true after.has_failed (λ failed. let bad = device.1 failed in absurd (cc))
 

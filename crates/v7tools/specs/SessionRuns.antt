@@ -12,7 +12,7 @@ use Rattle.link_session.specs.Undo.{Kept}
 use Rattle.link_options.specs.Choices.{Choices}
 use Rattle.v7tools.specs.Events.{Event, History, Extends}
 use Rattle.v7tools.specs.LinkRuns.{Refuses}
-use Rattle.command_words.specs.Scripts.{Asked, lines_in, Given, ScriptFault, long_line, many_lines, given_behind}
+use Rattle.command_words.specs.Scripts.{Asked, lines_in, Given, ScriptFault, long_line, many_lines, given_after}
 use Rattle.command_words.specs.ScriptAnswers.{NamesPath}
 use Rattle.v7tools.specs.declared.fault.CliFault.{CliFault}
 use Rattle.v7tools.specs.declared.fault.CliFault.TheVariants as faults
@@ -47,7 +47,7 @@ pub record Ran {W : Type 0} (contents : W → Option (List ℕ)) (o : Choices) (
 
 -- what a script gives, by its bytes
 abbrev pub given : List ℕ → Given
-given bytes = given_behind 0 (lines_in bytes)
+given bytes = given_after 0 (lines_in bytes)
 
 -- the lines are all, and this ends them
 abbrev pub AreLines : Option (List ℕ) → List Asked → Option ScriptFault → Type 0
@@ -58,24 +58,24 @@ abbrev pub AreFirst : Option (List ℕ) → List Asked → Type 0
 AreFirst known lines = IfSome known (λ bytes. (more : List Asked) × ((given bytes).lines ≡ lines ++ more))
 
 -- after these lines the script gives no further one; its device may fail, and memory run out for a line that has a path
-abbrev pub StopsBehind : Option (List ℕ) → List Asked → CliFault → Type 0
-StopsBehind known lines faults.LongLine = AreLines known lines (Some long_line)
-StopsBehind known lines faults.ManyLines = AreLines known lines (Some many_lines)
-StopsBehind known lines faults.ScriptFailed = AreFirst known lines
-StopsBehind known lines faults.Memory = IfSome known (λ bytes. (a : Asked) × (more : List Asked) × NamesPath a × ((given bytes).lines ≡ lines ++ a ∷ more))
-StopsBehind known lines _ = ⊥
+abbrev pub StopsAfter : Option (List ℕ) → List Asked → CliFault → Type 0
+StopsAfter known lines faults.LongLine = AreLines known lines (Some long_line)
+StopsAfter known lines faults.ManyLines = AreLines known lines (Some many_lines)
+StopsAfter known lines faults.ScriptFailed = AreFirst known lines
+StopsAfter known lines faults.Memory = IfSome known (λ bytes. (a : Asked) × (more : List Asked) × NamesPath a × ((given bytes).lines ≡ lines ++ a ∷ more))
+StopsAfter known lines _ = ⊥
 
 -- the lines that were run are all, and the status is the largest of theirs; or after them the script gave a fault
-abbrev pub EndsBehind : Option (List ℕ) → List LineRun → Result ℕ CliFault → Type 0
-EndsBehind script runs (Ok status) = AreLines script (lines_asked runs) None × (status ≡ worst runs)
-EndsBehind script runs (Err fault) = StopsBehind script (lines_asked runs) fault
+abbrev pub EndsAfter : Option (List ℕ) → List LineRun → Result ℕ CliFault → Type 0
+EndsAfter script runs (Ok status) = AreLines script (lines_asked runs) None × (status ≡ worst runs)
+EndsAfter script runs (Err fault) = StopsAfter script (lines_asked runs) fault
 
 -- all answers went out whole
 pub record RunsLines {W : Type 0} (contents : W → Option (List ℕ)) (forced : List (List ℕ)) (o : Choices) (script : Option (List ℕ)) (old new : History) (result : Result ℕ CliFault) (before after : Latched W) : Type 0 where
   pub runs : List LineRun
   pub kept : Kept
   pub ran : Ran contents o (nothing_kept forced) kept runs old new before after
-  pub ends : EndsBehind script runs result
+  pub ends : EndsAfter script runs result
 
 -- after the lines whose answers went out whole one more was run, and of its answer a prefix went out; on a wire that had
 -- failed before it is the first, and nothing went out

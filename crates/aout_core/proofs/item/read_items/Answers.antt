@@ -28,13 +28,13 @@ loop-item-preserved g c =
     let steps = c.in-Some.ensures.steps in
     let pushed : c.push_reserved.new.self.items ≡ c.loop-item.items.items ++ c.from_slice.result ∷ [] = search rules in
     let more : vec_len c.push_reserved.new.self ≡ vec_len c.loop-item.items + 1 = search rules in
-    let (k, next, behind, read) = item_read g.T.Item.item_in g.T.Item.WIDTH left (chunks_exact_rest c.loop-item.item-iterator) c.in-Some.item.now (chunks_exact_rest c.next.new.self) c.loop-item.items.items c.push_reserved.new.self.items (c.args.items.now.items ++ row_in g.T.Item.item_in g.T.Item.WIDTH c.args.count c.args.bytes.now) c.from_slice.result
+    let (k, next, after, read) = item_read g.T.Item.item_in g.T.Item.WIDTH left (chunks_exact_rest c.loop-item.item-iterator) c.in-Some.item.now (chunks_exact_rest c.next.new.self) c.loop-item.items.items c.push_reserved.new.self.items (c.args.items.now.items ++ row_in g.T.Item.item_in g.T.Item.WIDTH c.args.count c.args.bytes.now) c.from_slice.result
     g.met.T.Item.has_bytes steps.1.0 (steps.1.1 ∙ wide) size c.from_slice.ensures pushed so_far in (
       k,
       search rules,
       tt,
       steps.0 ∙ wide,
-      behind,
+      after,
       read,
       omega arith,
       search rules,

@@ -9,13 +9,13 @@ pub returns-in_err-from_str-clause-room : goal.returns-in_err-from_str-clause-ro
 returns-in_err-from_str-clause-room c =
     where_err c.from_residual.result (NamesPath (asked c.args.line.now)) (subst NamesPath (sym (asked_add c.args.line.now c.utf8.line c.in-Some.ensures.0)) tt)
 
-pub returns-in_err-from_str-in-Some-path_behind-clause-room : goal.returns-in_err-from_str-in-Some-path_behind-clause-room
-returns-in_err-from_str-in-Some-path_behind-clause-room c =
+pub returns-in_err-from_str-in-Some-path_after-clause-room : goal.returns-in_err-from_str-in-Some-path_after-clause-room
+returns-in_err-from_str-in-Some-path_after-clause-room c =
     let no_withdraw : c.args.line.now ≡ codes "withdraw" → ⊥ = search rules in
     let no_externals : c.args.line.now ≡ codes "externals" → ⊥ = search rules in
     let no_undefined : c.args.line.now ≡ codes "undefined" → ⊥ = search rules in
-    where_err c.from_residual-in_err-from_str-in-Some-path_behind.result (NamesPath (asked c.args.line.now))
-    (subst NamesPath (sym (asked_link c.args.line.now c.utf8.line c.in_default.ensures no_withdraw no_externals no_undefined c.in-Some-path_behind.ensures.0)) tt)
+    where_err c.from_residual-in_err-from_str-in-Some-path_after.result (NamesPath (asked c.args.line.now))
+    (subst NamesPath (sym (asked_link c.args.line.now c.utf8.line c.in_default.ensures no_withdraw no_externals no_undefined c.in-Some-path_after.ensures.0)) tt)
 
 pub returns-in-Some-clause-value : goal.returns-in-Some-clause-value
 returns-in-Some-clause-value c = ap to_add (c.in_ok-from_str.ensures.ok ∙ c.in-Some.ensures.1) ∙ sym (asked_add c.args.line.now c.utf8.line c.in-Some.ensures.0)
@@ -29,10 +29,10 @@ returns-in-externals-clause-value c = sym (asked_externals c.args.line.now c.utf
 pub returns-in-undefined-clause-value : goal.returns-in-undefined-clause-value
 returns-in-undefined-clause-value c = sym (asked_undefined c.args.line.now c.utf8.line c.in-undefined.is)
 
-pub returns-in_ok-from_str-in-Some-path_behind-clause-value : goal.returns-in_ok-from_str-in-Some-path_behind-clause-value
-returns-in_ok-from_str-in-Some-path_behind-clause-value c =
+pub returns-in_ok-from_str-in-Some-path_after-clause-value : goal.returns-in_ok-from_str-in-Some-path_after-clause-value
+returns-in_ok-from_str-in-Some-path_after-clause-value c =
     let no_withdraw : c.args.line.now ≡ codes "withdraw" → ⊥ = search rules in
     let no_externals : c.args.line.now ≡ codes "externals" → ⊥ = search rules in
     let no_undefined : c.args.line.now ≡ codes "undefined" → ⊥ = search rules in
-    ap to_link (c.in_ok-from_str-in-Some-path_behind.ensures.ok ∙ c.in-Some-path_behind.ensures.1)
-    ∙ sym (asked_link c.args.line.now c.utf8.line c.in_default.ensures no_withdraw no_externals no_undefined c.in-Some-path_behind.ensures.0)
+    ap to_link (c.in_ok-from_str-in-Some-path_after.ensures.ok ∙ c.in-Some-path_after.ensures.1)
+    ∙ sym (asked_link c.args.line.now c.utf8.line c.in_default.ensures no_withdraw no_externals no_undefined c.in-Some-path_after.ensures.0)

@@ -3,7 +3,7 @@ use Rattle.link_session.specs.internal.Chains.{walk}
 use Rattle.link_session.specs.internal.Bindings.{BindsTo}
 use Rattle.link_session.proofs.bind.bind.Given as goal
 
--- the places behind are bound, and those ahead are left
+-- the places after are bound, and those ahead are left
 abbrev pub invariant-loop-next : goal.invariant-loop-next
 invariant-loop-next l = BindsTo l.chain l.fn.head l.next l.initial.text_cells l.initial.data_cells l.initial.marks.items l.text_cells l.data_cells l.marks.items
 

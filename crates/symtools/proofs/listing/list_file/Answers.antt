@@ -6,7 +6,7 @@ use Rattle.aout_core.specs.Wires.{AppendsPrefix}
 use Rattle.aout_core.specs.declared.symbol.Symbol.{Symbol}
 use Rattle.symtools.specs.SymbolLines.{symbol_line}
 use Rattle.symtools.specs.NmLists.{is_shown, arranged}
-use Rattle.aout_core.proofs.PutsLemmas.{front_before, front_behind, put_broke_off}
+use Rattle.aout_core.proofs.PutsLemmas.{front_before, front_after, put_broke_off}
 use Rattle.symtools.proofs.listing.list_file.Goals as goal
 
 pub returns-in_err-symbols-clause-memory : goal.returns-in_err-symbols-clause-memory
@@ -24,7 +24,7 @@ returns-in_err-put_lines-clause-bytes g c =
     let path = c.deref-3.ensures in
     let shown = c.deref-2.ensures.value ∙ c.in_ok-symbols.ensures.ok ∙ ap (λ (ss : List Symbol). arranged o (filter (is_shown o) ss)) c.symbols.ensures.value in
     let lines = subst (AppendsPrefix _ _) (λ i. flat_map (λ (s : Symbol). (if o.each_line then path i ++ 58 ∷ [] else []) ++ symbol_line s) (shown i)) c.in_err-put_lines.ensures.bytes in
-    put_broke_off c.from_residual-in_err-put_lines.result _ _ _ c.from_residual-in_err-put_lines.ensures.0 (front_behind _ _ _ _ _ heading lines)
+    put_broke_off c.from_residual-in_err-put_lines.result _ _ _ c.from_residual-in_err-put_lines.ensures.0 (front_after _ _ _ _ _ heading lines)
 
 pub returns-clause-bytes : goal.returns-clause-bytes
 returns-clause-bytes g c =

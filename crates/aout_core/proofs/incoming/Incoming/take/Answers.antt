@@ -4,7 +4,7 @@ use Rattle.std.specs.Prelude.{Err, IfErr}
 use Rattle.std.specs.Io.KnownBytes.{prepend_known}
 use borrow.Rule.Slice.PartMut.{post_of}
 use Rattle.aout_core.specs.internal.Blocks.{Awaited, awaited, EndsBefore, Refills, Takes}
-use Rattle.aout_core.proofs.IncomingLemmas.{taken_at_once, taken_in_two, ends_behind_waiting}
+use Rattle.aout_core.proofs.IncomingLemmas.{taken_at_once, taken_in_two, ends_after_waiting}
 use Rattle.aout_core.proofs.incoming.Incoming.take.Goals as goal
 
 pub returns-else-n-out-clause-value : goal.returns-else-n-out-clause-value
@@ -50,5 +50,5 @@ returns-in_err-refill-clause-end g c =
     let after = g.R.Read.remaining c.refill.new.wire.device in
     let old : Awaited = record { waiting = c.self.inside.block; missing = c.self.inside.missing } in
     let ended = subst (λ (w : Awaited). EndsBefore c.in_err-refill.field-0.0 (prepend_known w.waiting before) after (awaited w)) c.self.view_is
-    (ends_behind_waiting c.in_err-refill.field-0.0 old before after c.in_err-refill.ensures.end) in
+    (ends_after_waiting c.in_err-refill.field-0.0 old before after c.in_err-refill.ensures.end) in
     subst (λ r. IfErr r (λ fault. EndsBefore fault (prepend_known c.args.self.now.waiting before) after (awaited c.args.self.now))) (sym same) ended

@@ -4,7 +4,7 @@ use Rattle.std.proofs.lemmas.List.{nil_from_length}
 use Rattle.link_out.proofs.RunLemmas.{one_more}
 use Rattle.v7tools.specs.Events.{Extends, opens}
 use Rattle.v7tools.specs.internal.Openings.{sources, IsWorking}
-use Rattle.v7tools.proofs.EventLemmas.{all_behind, no_more, nothing_asked, opened_at, opens_more, map-append, stops_at}
+use Rattle.v7tools.proofs.EventLemmas.{all_after, no_more, nothing_asked, opened_at, opens_more, map-append, stops_at}
 use Rattle.v7tools.proofs.link.command.open_all.Goals as goal
 
 pub loop-path-init : goal.loop-path-init
@@ -39,7 +39,7 @@ loop-path-preserved g c =
       room = search rules;
       asked = subst (λ xs. Extends old new (opens (sources g.O.Source.Read.remaining xs))) (sym pushed) (opens_more g.O.Source.Read.remaining _ _ _ c.loop-path.inputs.items (c.in-Some.path, c.new.result) c.loop-path.invariant.asked asked);
       order = subst (λ xs. c.args.files.items ≡ xs ++ c.next.new.self.rest.items) (sym (ap (map (λ i. i.0)) pushed ∙ map-append (λ i. i.0) c.loop-path.inputs.items _)) (one_more c.args.files.items _ _ _ _ c.loop-path.invariant.order e);
-      working = subst (AllByRecursion IsWorking) (sym pushed) (all_behind IsWorking c.loop-path.inputs.items _ c.loop-path.invariant.working c.new.ensures.latch);
+      working = subst (AllByRecursion IsWorking) (sym pushed) (all_after IsWorking c.loop-path.inputs.items _ c.loop-path.invariant.working c.new.ensures.latch);
     }
 
 pub returns : goal.returns

@@ -4,7 +4,7 @@ use Rattle.v7tools.specs.LinkAnswers.{inputs_of, Said, TakesAll}
 use Rattle.v7tools.specs.internal.InputParts.{StopsWith}
 use Rattle.v7tools.proofs.link.linking.take_inputs.Given as goal
 
--- the inputs so far are taken; so what becomes of those left, behind them, becomes of all
+-- the inputs so far are taken; so what becomes of those left, after them, becomes of all
 abbrev pub invariant-loop-path : goal.invariant-loop-path
 invariant-loop-path g l = record {
   forced : l.session.forced ≡ l.initial.session.forced;

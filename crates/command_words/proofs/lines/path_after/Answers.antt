@@ -1,6 +1,6 @@
 use Rattle.std.proofs.Common.{◌≡◌, ◌++◌, ◌∙◌, ℕ, List, drop, sym, ap}
 use Rattle.command_words.proofs.AskedLemmas.{path_without_word, path_of_some}
-use Rattle.command_words.proofs.lines.path_behind.Goals as goal
+use Rattle.command_words.proofs.lines.path_after.Goals as goal
 
 pub returns-in_err-path : goal.returns-in_err-path
 returns-in_err-path c = rw c.from_residual.ensures (path_without_word c.args.word.now c.args.line.now c.in_err-path.ensures.cases)
