@@ -1,2 +1,3 @@
 pub mod BadWordLemmas
 pub mod SymbolLemmas
+pub mod TextLemmas

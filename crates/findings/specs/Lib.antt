@@ -4,4 +4,5 @@ pub mod Segments
 pub mod Odd
 pub mod Wrong
 pub mod Kinds
+pub mod Notes
 pub mod internal

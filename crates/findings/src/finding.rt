@@ -1,6 +1,7 @@
 //! What is found in a file.
-ghost use Rattle.std.specs.Prelude.{◌≡◌, ◌++◌, true, OnOk};
+ghost use Rattle.std.specs.Prelude.{◌≡◌, true, [], ◌∷◌, ◌++◌, map, string_bytes, IfOk, OnOk};
 ghost use Rattle.findings.specs.Found.{all_found, found_if};
+ghost use Rattle.findings.specs.Notes.{finding_text, finding_note};
 
 use crate::text::{byte_text, put_note};
 use std::alloc::{AllocError, Global};
@@ -75,24 +76,41 @@ pub(crate) fn find(
 }
 
 /// A finding in a line.
-pub fn finding_text(alloc: Global, finding: &Finding) -> Result<String, AllocError> {
+#[tactic(auto, using(crate::proofs::TextLemmas::joined))]
+pub fn finding_text(alloc: Global, finding: &Finding) -> Result<String, AllocError>
+    ensures { IfOk result (λ text. string_bytes text ≡ finding_text finding.now) }
+{
     let byte = byte_text(alloc, finding.place)?;
     let text = finding.text.as_str();
     format!(in alloc; "{byte}: {text}")
 }
 
-/// Adds findings as notes, each after this word.
+/// Adds a finding as a note, after this word.
+#[tactic(auto, using(crate::proofs::TextLemmas::joined))]
+fn put_finding(
+    alloc: Global,
+    notes: &mut Vec<String>,
+    word: &str,
+    finding: &Finding,
+) -> Result<(), AllocError>
+    ensures { OnOk result (map string_bytes notes.new.items ≡ map string_bytes notes.old.items ++ finding_note word.now finding.now ∷ []) }
+{
+    let text = finding_text(alloc, finding)?;
+    let note = format!(in alloc; "{word}: {text}")?;
+    put_note(alloc, notes, note.as_str())
+}
+
+/// Adds findings as notes, each after this word. An error: out of memory.
 pub fn put_findings(
     alloc: Global,
     notes: &mut Vec<String>,
     word: &str,
     findings: &[Finding],
-) -> Result<(), AllocError> {
+) -> Result<(), AllocError>
+    ensures { OnOk result (map string_bytes notes.new.items ≡ map string_bytes notes.old.items ++ map (finding_note word.now) findings.now) }
+{
     for finding in findings {
-        let text = finding_text(alloc, finding)?;
-        let text = text.as_str();
-        let note = format!(in alloc; "{word}: {text}")?;
-        put_note(alloc, notes, note.as_str())?;
+        put_finding(alloc, notes, word, finding)?;
     }
     Ok(())
 }

@@ -1,4 +1,7 @@
 //! Notes, and names as they are shown.
+ghost use Rattle.std.specs.Prelude.{◌≡◌, [], ◌∷◌, ◌++◌, map, string_bytes, IfOk, OnOk};
+ghost use Rattle.findings.specs.Notes.{byte_text, note_text};
+
 use aout_core::Name;
 use std::alloc::{AllocError, Global};
 use std::fmt::Write;
@@ -27,12 +30,17 @@ pub(crate) fn shown(alloc: Global, name: &Name) -> Result<String, AllocError> {
 }
 
 /// Adds a note. The slash of its line is not there yet.
-pub fn put_note(alloc: Global, notes: &mut Vec<String>, note: &str) -> Result<(), AllocError> {
+pub fn put_note(alloc: Global, notes: &mut Vec<String>, note: &str) -> Result<(), AllocError>
+    ensures { OnOk result (map string_bytes notes.new.items ≡ map string_bytes notes.old.items ++ note_text note.now ∷ []) }
+{
     notes.push(format!(in alloc; " {note}")?)?;
     Ok(())
 }
 
 /// The byte of a file, in octal and in decimal.
-pub(crate) fn byte_text(alloc: Global, place: usize) -> Result<String, AllocError> {
+#[tactic(auto, using(crate::proofs::TextLemmas::joined))]
+pub(crate) fn byte_text(alloc: Global, place: usize) -> Result<String, AllocError>
+    ensures { IfOk result (λ text. string_bytes text ≡ byte_text place) }
+{
     format!(in alloc; "byte 0{place:o} ({place})")
 }
