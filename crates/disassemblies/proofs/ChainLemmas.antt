@@ -1,14 +1,14 @@
 -- A table is put into chains from its last symbol to the first, and a walk along a chain passes over symbols of other buckets.
-use Rattle.std.proofs.Common.{◌≡◌, ℕ, zero, suc, ◌+◌, ◌<◌, Bool, true, false, eqb, if◌then◌else◌, Some, None, List, [], ◌∷◌, ◌++◌, length, drop, replicate, refl, sym, ap, subst, ◌∙◌, arith, append_assoc}
+use Rattle.std.proofs.Common.{◌≡◌, ℕ, zero, suc, ◌+◌, ◌<◌, ◌-◌, Bool, true, false, eqb, if◌then◌else◌, Some, None, List, [], ◌∷◌, ◌++◌, length, drop, replicate, refl, sym, ap, subst, ◌∙◌, arith, append_assoc, get_or}
 use Rattle.std.specs.Prelude.{slice_get, slice_set, slice_index_or}
 use Rattle.std.specs.Option.{ForSome}
 use Rattle.std.specs.List.{flat_map}
 use Rattle.std.proofs.lemmas.Bool.{false_from_ne_true}
 use Rattle.std.proofs.lemmas.Bool.Decides.{Decides-eqb}
-use Rattle.std.proofs.lemmas.Option.{slice_get_past, slice_get-get_or}
+use Rattle.std.proofs.lemmas.Option.{slice_get_past, slice_get-get_or, slice_get_read}
 use Rattle.std.proofs.Math.ListN.{drop_of_length-le}
 use Rattle.aout_core.specs.declared.symbol.Symbol.{Symbol}
-use Rattle.disassemblies.specs.internal.Blocks.{place_of, AreFirst, IsNext, AreNext, IsIn}
+use Rattle.disassemblies.specs.internal.Blocks.{place_of, AreFirst, IsNext, AreNext, IsIn, Walks}
 
 -- a symbol before the first of a bucket gives nothing, if those of the bucket alone can
 flat_by : (of : Symbol → ℕ) (b : ℕ) (f : Symbol → List ℕ) (s : Symbol) (ss : List Symbol) (t : Bool) → eqb (of s) b ≡ t → (t ≡ false → f s ≡ []) →
@@ -129,22 +129,33 @@ goes : (of : Symbol → ℕ) (b : ℕ) (ss : List Symbol) (place next : ℕ) (s 
 goes of b ss place next s e is goes_to =
     goes_to s e ∙ ap (λ (n : ℕ). suc place + place_of of n (drop (suc place) ss)) (is s e)
 
--- the next symbol of the walk is in the bucket
-pub walk_in : (of : Symbol → ℕ) (b : ℕ) (ss : List Symbol) (place next : ℕ) (s : Symbol) → slice_get ss place ≡ Some s → IsIn of b ss place → IsNext of ss place next → IsIn of b ss next
-walk_in of b ss place next s e is goes_to = in_later of b (suc place) ss next (goes of b ss place next s e is goes_to)
+-- a walk begins at the first symbol of the bucket
+pub walk_begins : (of : Symbol → ℕ) (b : ℕ) (f : Symbol → List ℕ) → ((s : Symbol) → eqb (of s) b ≡ false → f s ≡ []) → (ss : List Symbol) (old : List ℕ) (place : ℕ) →
+    place ≡ place_of of b ss → IsIn of b ss place → Walks of b f ss old place old
+walk_begins of b f only ss old place first is = record {
+  whole = ap (λ (l : List ℕ). old ++ l) (ap (λ (n : ℕ). flat_map f (drop n ss)) first ∙ flat_later of b f only ss);
+  is_in = is;
+}
 
-pub walk_less : (of : Symbol → ℕ) (ss : List Symbol) (place next : ℕ) (s : Symbol) → slice_get ss place ≡ Some s → IsNext of ss place next → place < next
-walk_less of ss place next s e goes_to = let found : next ≡ suc place + place_of of (of s) (drop (suc place) ss) = goes_to s e in omega arith
-
--- a walk appends what all give
-pub walk_flat : (of : Symbol → ℕ) (b : ℕ) (f : Symbol → List ℕ) → ((s : Symbol) → eqb (of s) b ≡ false → f s ≡ []) → (ss : List Symbol) (place next : ℕ) (s : Symbol) (old new whole : List ℕ) →
-    slice_get ss place ≡ Some s → IsIn of b ss place → IsNext of ss place next → new ≡ old ++ f s → old ++ flat_map f (drop place ss) ≡ whole → new ++ flat_map f (drop next ss) ≡ whole
-walk_flat of b f only ss place next s old new whole e is goes_to added before =
+-- it goes on to the next one
+pub walk_goes_on : (of : Symbol → ℕ) (b : ℕ) (f : Symbol → List ℕ) → ((s : Symbol) → eqb (of s) b ≡ false → f s ≡ []) → (ss : List Symbol) (old : List ℕ) (place next : ℕ) (s : Symbol) (text new : List ℕ) →
+    place < length ss → s ≡ get_or ss place s → IsNext of ss place next → new ≡ text ++ f s → Walks of b f ss old place text → Walks of b f ss old next new
+walk_goes_on of b f only ss old place next s text new h is goes_to added before =
+    let here : slice_get ss place ≡ Some s = slice_get_read ss (length ss) place s refl h is in
     let rest : List Symbol = drop (suc place) ss in
+    let found : next ≡ suc place + place_of of b rest = goes of b ss place next s here before.is_in goes_to in
     let later : flat_map f (drop next ss) ≡ flat_map f rest =
-    ap (flat_map f) (drop_more ss (suc place) (place_of of b rest) next (goes of b ss place next s e is goes_to)) ∙ flat_later of b f only rest in
-    ap (λ (l : List ℕ). l ++ flat_map f (drop next ss)) added
-    ∙ ap (λ (l : List ℕ). (old ++ f s) ++ l) later
-    ∙ append_assoc old (f s) (flat_map f rest)
-    ∙ ap (λ (l : List ℕ). old ++ l) (sym (ap (flat_map f) (dropped ss place s e)))
-    ∙ before
+    ap (flat_map f) (drop_more ss (suc place) (place_of of b rest) next found) ∙ flat_later of b f only rest in record {
+      whole = ap (λ (l : List ℕ). l ++ flat_map f (drop next ss)) added
+          ∙ ap (λ (l : List ℕ). (text ++ f s) ++ l) later
+          ∙ append_assoc text (f s) (flat_map f rest)
+          ∙ ap (λ (l : List ℕ). text ++ l) (sym (ap (flat_map f) (dropped ss place s here)))
+          ∙ before.whole;
+      is_in = in_later of b (suc place) ss next found;
+    }
+
+-- fewer symbols are left then
+pub walk_less : (of : Symbol → ℕ) (ss : List Symbol) (place next : ℕ) (s : Symbol) → place < length ss → s ≡ get_or ss place s → IsNext of ss place next → length ss - next < length ss - place
+walk_less of ss place next s h is goes_to =
+    let found : next ≡ suc place + place_of of (of s) (drop (suc place) ss) = goes_to s (slice_get_read ss (length ss) place s refl h is) in
+    omega (arith, found, h)

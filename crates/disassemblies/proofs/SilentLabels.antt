@@ -1,17 +1,17 @@
 -- A label says nothing to a reader of listings.
-use Rattle.std.proofs.Common.{◌≡◌, ℕ, ◌+◌, ◌-◌, ◌<◌, ◌≤◌, Bool, true, false, eqb, nat_lt, List, [], ◌∷◌, ◌++◌, length, refl, sym, ◌∙◌, ap, subst, arith, append_assoc, length-append}
-use Rattle.std.specs.Prelude.{nat_le, ◌/◌, ◌%◌, ◌*◌, ◌&&◌, ◌||◌, if◌then◌else◌, codes, Ok, drop}
+use Rattle.std.proofs.Common.{◌≡◌, ℕ, ◌+◌, ◌-◌, ◌<◌, ◌≤◌, Bool, true, false, eqb, nat_lt, List, [], ◌∷◌, ◌++◌, length, refl, sym, ◌∙◌, ap, subst, arith, length-append}
+use Rattle.std.specs.Prelude.{nat_le, ◌*◌, ◌&&◌, ◌||◌, if◌then◌else◌, codes, Ok}
 use Rattle.std.specs.Cmp.Lexicographic.{pointwise}
 use Rattle.std.specs.List.{AllByRecursion, flat_map, ends_with}
 use Rattle.std.proofs.lemmas.Bool.Decides.{nat_tests}
 use Rattle.std.proofs.lemmas.List.{append-nil, drop_at}
 use Rattle.aout_core.specs.declared.symbol.Symbol.{Symbol}
 use Rattle.aout_core.specs.declared.symbol.Segment.TheVariants.{TextSeg}
-use Rattle.listings.specs.Columns.{Row, row_of, column, from_third, from_fourth}
+use Rattle.listings.specs.Columns.{Row, row_of, column, from_fourth}
 use Rattle.listings.specs.Drafts.{Draft}
 use Rattle.listings.specs.Listing.{gap}
-use Rattle.listings.specs.Laws.{IsLine, IsLabel}
-use Rattle.listings.specs.Reading.{is_decimal, is_label, entry_in, named, row_by, row_read}
+use Rattle.listings.specs.Laws.{IsLabel}
+use Rattle.listings.specs.Reading.{is_decimal, is_label, entry_in, named, row_by}
 use Rattle.listings.proofs.ColumnLemmas.{IsInk, IsColumn, ink as ink_of, row_one, row_three, line_of_column, line_gap}
 use Rattle.instructions.specs.References.{octal, is_shown, is_digit, is_register, escaped, shown_byte, shown_name}
 use Rattle.instructions.proofs.SplitLemmas.{AreDigits, other_test, octal_is}

@@ -3,7 +3,7 @@
 -- Without relocation an address is named by a symbol of the segment in which it lies. With split spaces a jump, a call or a branch
 -- reaches text, and any other operand data or bss. Of an overlay only the text is known. An immediate number and an index may be
 -- addresses or not, so they have no names.
-use Rattle.std.specs.Prelude.{ℕ, ◌+◌, Bool, true, false, not, ◌&&◌, ◌||◌, eqb, nat_lt, nat_le, if◌then◌else◌, List, Option, Some, None}
+use Rattle.std.specs.Prelude.{ℕ, ◌+◌, Bool, false, not, ◌&&◌, ◌||◌, eqb, nat_lt, nat_le, if◌then◌else◌, List, Option, Some, None}
 use Rattle.aout_core.specs.declared.header.Header.{Header}
 use Rattle.aout_core.specs.declared.symbol.Symbol.{Symbol}
 use Rattle.aout_core.specs.declared.symbol.Segment.{Segment}

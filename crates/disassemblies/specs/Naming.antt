@@ -2,7 +2,7 @@
 --
 -- A symbol names its exact value only. Among the symbols with one segment and value an external names it, if there is one, and then
 -- the first of the table. A word that refers to an external is shown as the external and the bytes beyond it.
-use Rattle.std.specs.Prelude.{ℕ, ◌+◌, ◌/◌, ◌%◌, Bool, ◌&&◌, ◌||◌, eqb, if◌then◌else◌, List, ◌++◌, Option, Some, None, slice_get, find, codes}
+use Rattle.std.specs.Prelude.{ℕ, ◌/◌, ◌%◌, Bool, ◌&&◌, ◌||◌, eqb, if◌then◌else◌, List, ◌++◌, Option, Some, None, slice_get, find, codes}
 use Rattle.aout_core.specs.declared.symbol.Symbol.{Symbol}
 use Rattle.aout_core.specs.declared.symbol.Segment.{Segment}
 use Rattle.aout_core.specs.declared.symbol.Segment.TheVariants as segments

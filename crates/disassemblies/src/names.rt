@@ -2,7 +2,7 @@
 ghost use Rattle.std.specs.Prelude.{◌≡◌, ℕ, true, false, find, if◌then◌else◌, Some, OnOk, IfOk};
 ghost use Rattle.std.specs.BTreeMap.{get};
 ghost use Rattle.disassemblies.specs.Naming.{is_at, is_external_at};
-ghost use Rattle.disassemblies.specs.internal.FirstNamed.{key_cmp, has_key, AreFirst};
+ghost use Rattle.disassemblies.specs.internal.FirstNamed.{key_cmp, has_key, FindsFirst};
 
 use aout_core::{Segment, Symbol};
 use std::alloc::{AllocError, Global};
@@ -23,7 +23,7 @@ fn put_before(first: &mut FirstNamed, symbol: &Symbol, externals: bool) -> Resul
 
 /// The first of these symbols with each segment and value; of the externals alone, if these alone count.
 fn first_named(alloc: Global, symbols: &[Symbol], externals: bool) -> Result<FirstNamed, AllocError>
-    ensures { IfOk result (λ m. AreFirst externals symbols.now m) }
+    ensures { IfOk result (λ m. FindsFirst externals symbols.now m) }
 {
     let mut first = BTreeMap::new(alloc);
     let mut place = symbols.len();
@@ -40,8 +40,8 @@ pub(crate) struct Names<'a> {
     pub(crate) symbols: &'a [Symbol],
     externals: FirstNamed,
     all: FirstNamed,
-    ghost externals_first: { AreFirst true symbols.now externals },
-    ghost all_first: { AreFirst false symbols.now all },
+    ghost externals_first: { FindsFirst true symbols.now externals },
+    ghost all_first: { FindsFirst false symbols.now all },
 }
 
 impl<'a> Names<'a> {

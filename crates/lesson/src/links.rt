@@ -11,7 +11,7 @@ use std::alloc::{AllocError, Global};
 #[derive(Drop)]
 pub(crate) struct Link {
     bases: Bases,
-    pub(crate) made: Result<Linked, LinkFault>,
+    pub(crate) outcome: Result<Linked, LinkFault>,
     /// The externals, by first mention; none if the link is refused.
     pub(crate) externals: Vec<Symbol>,
 }
@@ -35,15 +35,15 @@ static LINKS: [(Layout, bool); 4] = [
 ];
 
 fn link_of(alloc: Global, session: &Session, options: &Options) -> Result<Link, AllocError> {
-    let made = finish(alloc, session, options);
-    let externals = match &made {
+    let outcome = finish(alloc, session, options);
+    let externals = match &outcome {
         Ok(_) => link_externals(alloc, session, options)?,
         Err(LinkFault::Memory) => return Err(AllocError),
         Err(_) => None,
     };
     Ok(Link {
         bases: link_bases(session, options),
-        made,
+        outcome,
         externals: externals.unwrap_or(Vec::new(alloc)),
     })
 }
@@ -82,7 +82,7 @@ fn put_link(alloc: Global, out: &mut JsonWriter, link: &Link) -> Result<(), Allo
         out.put_number(bound)?;
     }
     out.end_list()?;
-    match &link.made {
+    match &link.outcome {
         Ok(linked) => {
             out.put_key("report")?;
             out.put_bytes(b"", &report_lines(alloc, &linked.report))?;

@@ -122,7 +122,7 @@ fn push_locals(out: &mut Vec<u32>, computed: Computed<'_>) -> Result<()> {
 /// Adds the values of a local symbol in the links, where it is at this place of the table.
 fn push_local(out: &mut Vec<u32>, links: &[Link], symbol: &Symbol, place: usize) -> Result<()> {
     for link in links {
-        let Ok(linked) = &link.made else {
+        let Ok(linked) = &link.outcome else {
             out.push(0)?;
             continue;
         };
@@ -162,7 +162,7 @@ fn push_word(
         // how far the word itself has moved
         let moved = link.start(segment).wrapping_add(fronts.shifts.of(segment));
         let minus = if cell.pc { moved } else { 0 };
-        let last = match &link.made {
+        let last = match &link.outcome {
             Ok(linked) => words_of(&linked.file, segment).get(place).copied(),
             Err(_) => None,
         };

@@ -1,7 +1,8 @@
 -- Which symbols of a table have values in one block, in the order of the table.
 --
 -- A block is 16 values, the first of them a multiple of 16, or 8 less than one. Blocks share so many buckets.
-use Rattle.std.specs.Prelude.{◌≡◌, ℕ, suc, ◌+◌, ◌/◌, ◌%◌, ◌≤◌, eqb, if◌then◌else◌, List, [], ◌∷◌, drop, slice_get}
+use Rattle.std.specs.Prelude.{◌≡◌, ℕ, suc, ◌+◌, ◌/◌, ◌%◌, ◌≤◌, eqb, if◌then◌else◌, List, [], ◌∷◌, ◌++◌, drop, slice_get}
+use Rattle.std.specs.List.{flat_map}
 use Rattle.std.specs.Option.{ForSome}
 use Rattle.aout_core.specs.declared.symbol.Symbol.{Symbol}
 
@@ -33,3 +34,8 @@ AreNext of symbols from next = (j : ℕ) → from ≤ j → ForSome (slice_get n
 -- the symbol at a place, if there is one, is in the bucket
 abbrev pub IsIn : (Symbol → ℕ) → ℕ → List Symbol → ℕ → Type 0
 IsIn of b symbols place = ForSome (slice_get symbols place) (λ s. of s ≡ b)
+
+-- a walk along a bucket has come to a place: what has been appended, and what the symbols from there on give, is what all give
+pub record Walks (of : Symbol → ℕ) (b : ℕ) (f : Symbol → List ℕ) (symbols : List Symbol) (old : List ℕ) (place : ℕ) (new : List ℕ) : Type 0 where
+  pub whole : new ++ flat_map f (drop place symbols) ≡ old ++ flat_map f symbols
+  pub is_in : IsIn of b symbols place

@@ -14,6 +14,6 @@ key_cmp x y = ordering_then (nat_cmp x.0 y.0) (nat_cmp x.1 y.1)
 abbrev pub has_key : Bool → ℕ × ℕ → Symbol → Bool
 has_key externals key s = (not externals || is_external s) && (eqb (masked_type s) key.0 && eqb s.value key.1)
 
--- what a map has at each key
-abbrev pub AreFirst : Bool → List Symbol → BTreeMap (ℕ × ℕ) Symbol → Type 0
-AreFirst externals symbols map = (key : ℕ × ℕ) → get key_cmp map key ≡ find (λ s. has_key externals key s) symbols
+-- a map has at each key the first symbol with it
+abbrev pub FindsFirst : Bool → List Symbol → BTreeMap (ℕ × ℕ) Symbol → Type 0
+FindsFirst externals symbols map = (key : ℕ × ℕ) → get key_cmp map key ≡ find (λ s. has_key externals key s) symbols

@@ -7,19 +7,11 @@ use Rattle.command_words.proofs.ToolLemmas.{asked_by_words, none_for_read, none_
 use Rattle.command_words.proofs.WordsLemmas.{dashes-kept}
 use Rattle.command_words.proofs.words.parse.Goals as goal
 
-pub returns-clause-dashes : goal.returns-clause-dashes
-returns-clause-dashes c =
-    let words = c.args.words.items in
-    let files = c.in_ok-files.files.items in
-    let in_words : c.dashes.result ≡ length (filter (λ word. bytes_eq (string_bytes word) (codes "-")) words) = search rules in
-    let in_files : c.dashes-2.result ≡ length (filter (λ word. bytes_eq (string_bytes word) (codes "-")) files) = search rules in
-    let same : c.dashes.result ≡ c.dashes-2.result = search rules in
-    dashes-kept (rows_of (found_of c.in-Some.given.now)) words files c.dashes.result c.dashes-2.result c.call_of.result in_words in_files same c.call_of.ensures.asked
-
-pub returns-clause-asked : goal.returns-clause-asked
-returns-clause-asked c =
+pub returns : goal.returns
+returns c =
     let words = map string_bytes c.args.words.items in
     let given = map string_bytes c.as_slice.result.now in
+    let files = map string_bytes c.in_ok-files.files.items in
     let same : words ≡ given = search rules in
     let m = c.in_ok-matches.matches in
     let name = c.in-Some.name.now in
@@ -28,20 +20,14 @@ returns-clause-asked c =
     let rows_are : Some rows ≡ option_map (λ (p : Text × List Row). p.1) (subcommand_rows_of m) = search rules in
     let read = reads_subcommand _ words given m name rows c.in_ok-tools.ensures same c.in_ok-matches.ensures.matches named rows_are in
     let taken = takes_words _ words given c.in_ok-tools.ensures same c.in_ok-matches.ensures.kinds in
-    asked_by_words words name rows (map string_bytes c.in_ok-files.files.items) c.call_of.result taken read c.in_ok-files.ensures.value c.call_of.ensures.named c.call_of.ensures.asked
-
-pub returns-clause-none : goal.returns-clause-none
-returns-clause-none c =
-    let words = map string_bytes c.args.words.items in
-    let given = map string_bytes c.as_slice.result.now in
-    let same : words ≡ given = search rules in
-    let m = c.in_ok-matches.matches in
-    let name = c.in-Some.name.now in
-    let rows = rows_of (found_of c.in-Some.given.now) in
-    let named : Some name ≡ subcommand_name_of m = search rules in
-    let rows_are : Some rows ≡ option_map (λ (p : Text × List Row). p.1) (subcommand_rows_of m) = search rules in
-    let read = reads_subcommand _ words given m name rows c.in_ok-tools.ensures same c.in_ok-matches.ensures.matches named rows_are in
-    none_for_read words name rows (map string_bytes c.in_ok-files.files.items) c.call_of.result read c.in_ok-files.ensures.value c.call_of.ensures.none
+    let in_words : c.dashes.result ≡ length (filter (λ word. bytes_eq (string_bytes word) (codes "-")) c.args.words.items) = search rules in
+    let in_files : c.dashes-2.result ≡ length (filter (λ word. bytes_eq (string_bytes word) (codes "-")) c.in_ok-files.files.items) = search rules in
+    let alike : c.dashes.result ≡ c.dashes-2.result = search rules in record {
+      whole = search rules;
+      asked = asked_by_words words name rows files c.call_of.result taken read c.in_ok-files.ensures.value c.call_of.ensures.named c.call_of.ensures.asked;
+      dashes = dashes-kept rows c.args.words.items c.in_ok-files.files.items c.dashes.result c.dashes-2.result c.call_of.result in_words in_files alike c.call_of.ensures.asked;
+      none = none_for_read words name rows files c.call_of.result read c.in_ok-files.ensures.value c.call_of.ensures.none;
+    }
 
 pub returns-then-dashes-clause-none : goal.returns-then-dashes-clause-none
 returns-then-dashes-clause-none c =

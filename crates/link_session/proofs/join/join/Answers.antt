@@ -94,24 +94,8 @@ append_object-requires-clause-heads_room c =
     let entries : filter is_external c.file-file.result.now.symbols ≡ filter is_external o.symbols = ap (λ (f : Contents). filter is_external f.symbols) c.file-file.ensures.value in
     omega (arith, few, heads, ap (λ (l : List Symbol). length l) entries, c.in_ok-make_room.ensures.heads, c.bind_waiting.ensures.room.heads, c.requires.threaded.heads)
 
-pub returns-clause-image : goal.returns-clause-image
-returns-clause-image c =
-    let m = image_in c.args.image.now in
-    let o = c.args.object.now in
-    let n : Image = record (image_in c.make_room.new.image) { externals = c.enter_all.new.externals.entries; multiples = c.enter_all.new.multiples.items } in
-    let b = image_in c.bind_waiting.new.image in
-    let e = entered-is m (image_in c.make_room.new.image) o c.file-file.result.now c.next_shifts-shifts.result c.symbols.result.now c.enter_all.new.externals.entries c.enter_all.new.multiples.items
-    c.make_room.ensures.image c.file-file.ensures.value c.symbols.ensures.value c.next_shifts-shifts.ensures c.enter_all.ensures.names c.enter_all.ensures.multiples in
-    let places : c.deref.result.now ≡ all_places n.externals c.symbols.result.now = c.deref.ensures.value ∙ (search rules) in
-    let few : length n.externals ≤ 65535 = subst (λ (x : Image). length x.externals ≤ 65535) (sym e) (few_named m o c.requires.fits) in
-    let texts = c.in_default.ensures.texts ∙ ap (λ (l : List ℕ). map (settled_over n.externals l) n.text_cells) places ∙ settled_places n.externals few c.symbols.result.now n.text_cells in
-    let datas = c.in_default.ensures.datas ∙ ap (λ (l : List ℕ). map (settled_over n.externals l) n.data_cells) places ∙ settled_places n.externals few c.symbols.result.now n.data_cells in
-    let table : c.symbols.result.now ≡ o.symbols = c.symbols.ensures.value ∙ ap (λ (f : Contents). f.symbols) c.file-file.ensures.value in
-    let bound = bound-is m n o c.symbols.result.now e table c.requires.covered b c.bind_waiting.ensures.else_same texts datas in
-    joined-is m b o c.file-file.result.now c.next_shifts-shifts.result bound c.file-file.ensures.value c.next_shifts-shifts.ensures (image_in c.append_object.new.image) c.append_object.ensures.image
-
-pub returns-clause-threads : goal.returns-clause-threads
-returns-clause-threads c =
+pub returns : goal.returns
+returns c =
     let m = image_in c.args.image.now in
     let o = c.args.object.now in
     let t = threads_in c.args.image.now in
@@ -129,25 +113,9 @@ returns-clause-threads c =
     let table : c.symbols.result.now ≡ o.symbols = c.symbols.ensures.value ∙ ap (λ (f : Contents). f.symbols) c.file-file.ensures.value in
     let bound = bound-is m n o c.symbols.result.now e table c.requires.covered b c.bind_waiting.ensures.else_same texts datas in
     let heads = heads-are m n o c.symbols.result.now e table t u v c.make_room.ensures.threads c.bind_waiting.ensures.links cut in
-    joined_threads m b o c.file-file.result.now c.next_shifts-shifts.result bound c.file-file.ensures.value c.next_shifts-shifts.ensures t v (threads_in c.append_object.new.image) heads c.append_object.ensures.threads
-
-pub returns-clause-marks : goal.returns-clause-marks
-returns-clause-marks c =
-    let m = image_in c.args.image.now in
-    let o = c.args.object.now in
-    let t = threads_in c.args.image.now in
-    let n : Image = record (image_in c.make_room.new.image) { externals = c.enter_all.new.externals.entries; multiples = c.enter_all.new.multiples.items } in
-    let u = threads_in c.make_room.new.image in
-    let b = image_in c.bind_waiting.new.image in
-    let v = threads_in c.bind_waiting.new.image in
-    let e = entered-is m (image_in c.make_room.new.image) o c.file-file.result.now c.next_shifts-shifts.result c.symbols.result.now c.enter_all.new.externals.entries c.enter_all.new.multiples.items
-    c.make_room.ensures.image c.file-file.ensures.value c.symbols.ensures.value c.next_shifts-shifts.ensures c.enter_all.ensures.names c.enter_all.ensures.multiples in
-    let places : c.deref.result.now ≡ all_places n.externals c.symbols.result.now = c.deref.ensures.value ∙ (search rules) in
-    let few : length n.externals ≤ 65535 = subst (λ (x : Image). length x.externals ≤ 65535) (sym e) (few_named m o c.requires.fits) in
-    let texts = c.in_default.ensures.texts ∙ ap (λ (l : List ℕ). map (settled_over n.externals l) n.text_cells) places ∙ settled_places n.externals few c.symbols.result.now n.text_cells in
-    let datas = c.in_default.ensures.datas ∙ ap (λ (l : List ℕ). map (settled_over n.externals l) n.data_cells) places ∙ settled_places n.externals few c.symbols.result.now n.data_cells in
-    let cut = c.in_default.ensures.heads ∙ ap (λ (l : List ℕ). cut_heads n.externals l u.heads) places ∙ cut_places n.externals few c.symbols.result.now u.heads in
-    let table : c.symbols.result.now ≡ o.symbols = c.symbols.ensures.value ∙ ap (λ (f : Contents). f.symbols) c.file-file.ensures.value in
-    let states : c.enter_all.new.marks.items ≡ state_marks (length m.externals) m.externals (next_mentions m o) = search rules in
-    marks-are m n o c.symbols.result.now e table c.requires.covered t u c.make_room.ensures.threads b.text_cells b.data_cells v.heads c.enter_all.new.marks.items c.bind_waiting.new.marks.items states
-    texts datas cut c.bind_waiting.ensures.back c.in_default.ensures.few
+    let states : c.enter_all.new.marks.items ≡ state_marks (length m.externals) m.externals (next_mentions m o) = search rules in record {
+      image = joined-is m b o c.file-file.result.now c.next_shifts-shifts.result bound c.file-file.ensures.value c.next_shifts-shifts.ensures (image_in c.append_object.new.image) c.append_object.ensures.image;
+      threads = joined_threads m b o c.file-file.result.now c.next_shifts-shifts.result bound c.file-file.ensures.value c.next_shifts-shifts.ensures t v (threads_in c.append_object.new.image) heads c.append_object.ensures.threads;
+      marks = marks-are m n o c.symbols.result.now e table c.requires.covered t u c.make_room.ensures.threads b.text_cells b.data_cells v.heads c.enter_all.new.marks.items c.bind_waiting.new.marks.items states texts datas cut c.bind_waiting.ensures.back c.in_default.ensures.few;
+      err = search rules;
+    }
