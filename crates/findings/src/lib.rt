@@ -19,6 +19,7 @@
 mod finding;
 mod heading;
 mod kind;
+mod octal;
 mod odd;
 mod other_files;
 mod places;
