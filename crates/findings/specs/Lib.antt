@@ -5,4 +5,5 @@ pub mod Odd
 pub mod Wrong
 pub mod Kinds
 pub mod Notes
+pub mod Texts
 pub mod internal
