@@ -6,28 +6,14 @@ use Rattle.findings.specs.declared.finding.FindingKind.{FindingKind}
 pub record Found : Type 0 where
   pub place : ℕ
   pub kind : FindingKind
+  pub text : List ℕ
 
 abbrev pub found_in : Finding → Found
-found_in f = record { place = f.place; kind = f.kind }
+found_in f = record { place = f.place; kind = f.kind; text = string_bytes f.text }
 
 abbrev pub all_found : List Finding → List Found
 all_found findings = map found_in findings
 
 -- one finding at a byte, if the test holds
-abbrev pub found_if : Bool → ℕ → FindingKind → List Found
-found_if test place kind = if test then record { place = place; kind = kind } ∷ [] else []
-
--- the same with its text
-pub record Told : Type 0 where
-  pub place : ℕ
-  pub kind : FindingKind
-  pub text : List ℕ
-
-abbrev pub told_in : Finding → Told
-told_in f = record { place = f.place; kind = f.kind; text = string_bytes f.text }
-
-abbrev pub all_told : List Finding → List Told
-all_told findings = map told_in findings
-
-abbrev pub told_if : Bool → ℕ → FindingKind → List ℕ → List Told
-told_if test place kind text = if test then record { place = place; kind = kind; text = text } ∷ [] else []
+abbrev pub found_if : Bool → ℕ → FindingKind → List ℕ → List Found
+found_if test place kind text = if test then record { place = place; kind = kind; text = text } ∷ [] else []

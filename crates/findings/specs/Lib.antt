@@ -6,4 +6,5 @@ pub mod Wrong
 pub mod Kinds
 pub mod Notes
 pub mod Texts
+pub mod OddTexts
 pub mod internal

@@ -1,6 +1,6 @@
 //! What is found in a file.
 ghost use Rattle.std.specs.Prelude.{◌≡◌, true, [], ◌∷◌, ◌++◌, map, string_bytes, IfOk, OnOk};
-ghost use Rattle.findings.specs.Found.{all_found, found_if, all_told, told_if};
+ghost use Rattle.findings.specs.Found.{all_found, found_if};
 ghost use Rattle.findings.specs.Notes.{finding_text, finding_note};
 
 use crate::text::{byte_text, put_note};
@@ -69,8 +69,7 @@ pub(crate) fn find(
     kind: FindingKind,
     text: String,
 ) -> Result<(), AllocError>
-    ensures found { OnOk result (all_found findings.new.items ≡ all_found findings.old.items ++ found_if true place kind) }
-    ensures told { OnOk result (all_told findings.new.items ≡ all_told findings.old.items ++ told_if true place kind (string_bytes text)) }
+    ensures { OnOk result (all_found findings.new.items ≡ all_found findings.old.items ++ found_if true place kind (string_bytes text)) }
 {
     findings.push(Finding { place, kind, text })?;
     Ok(())

@@ -21,6 +21,7 @@ mod heading;
 mod kind;
 mod octal;
 mod odd;
+mod odd_texts;
 mod other_files;
 mod places;
 mod text;

@@ -4,7 +4,7 @@ ghost use Rattle.aout_core.specs.Encoding.{relocation_at};
 ghost use Rattle.aout_core.specs.WellFormed.{word_fault};
 ghost use Rattle.disassemblies.specs.Starts.{starts};
 ghost use Rattle.findings.specs.declared.finding.FindingKind.TheVariants.{OddSize, MoreBadWords};
-ghost use Rattle.findings.specs.Found.{all_told, told_if};
+ghost use Rattle.findings.specs.Found.{all_found, found_if};
 ghost use Rattle.findings.specs.Texts.{odd_size_text, odd_table_text, short_header_text, bad_magic_text, part_at, truncated_text, unwanted_text, bad_word_text, address_text, instruction_text, owner_text, more_text};
 ghost use Rattle.findings.specs.Wrong.{odd_sizes, wrong_bytes, fault_kind, bad_words, all_bad_words, wrong_words};
 ghost use Rattle.findings.specs.internal.BadWords.{bad_text, all_bad};
@@ -39,7 +39,7 @@ fn find_odd_size(
     part: &str,
     size: u16,
 ) -> Result<(), AllocError>
-    ensures { OnOk result (all_told findings.new.items ≡ all_told findings.old.items ++ told_if (not (eqb (size % 2) 0)) place OddSize (odd_size_text part.now size)) }
+    ensures { OnOk result (all_found findings.new.items ≡ all_found findings.old.items ++ found_if (not (eqb (size % 2) 0)) place OddSize (odd_size_text part.now size)) }
 {
     if size % 2 == 0 {
         return Ok(());
@@ -58,7 +58,7 @@ fn odd_table_text(alloc: Global, size: u16) -> Result<String, AllocError>
 
 /// Adds the sizes that are not whole.
 fn find_sizes(alloc: Global, findings: &mut Vec<Finding>, header: &Header) -> Result<(), AllocError>
-    ensures { OnOk result (all_told findings.new.items ≡ all_told findings.old.items ++ odd_sizes header.now) }
+    ensures { OnOk result (all_found findings.new.items ≡ all_found findings.old.items ++ odd_sizes header.now) }
 {
     find_odd_size(alloc, findings, 2, "text", header.text_size)?;
     find_odd_size(alloc, findings, 4, "data", header.data_size)?;
@@ -122,7 +122,7 @@ pub fn wrong_bytes(
     bytes: &[u8],
     fault: ReadFault,
 ) -> Result<Vec<Finding>, AllocError>
-    ensures { IfOk result (λ findings. all_told findings.items ≡ wrong_bytes fault bytes.now) }
+    ensures { IfOk result (λ findings. all_found findings.items ≡ wrong_bytes fault bytes.now) }
 {
     let mut findings = Vec::new(alloc);
     let size = bytes.len();
@@ -289,7 +289,7 @@ fn find_bad(
     bad: BadWord,
 ) -> Result<(), AllocError>
     requires { lined.now.starts.now ≡ starts lined.now.named.now }
-    ensures { OnOk result (all_told findings.new.items ≡ all_told findings.old.items ++ told_if true bad.place bad.kind (bad_text lined.now.named.now bad)) }
+    ensures { OnOk result (all_found findings.new.items ≡ all_found findings.old.items ++ found_if true bad.place bad.kind (bad_text lined.now.named.now bad)) }
 {
     let mut text = word_text(alloc, lined.named.file().symbols(), bad)?;
     put_owner(&mut text, lined, bad.index)?;
@@ -304,7 +304,7 @@ fn find_each(
     bad: &[BadWord],
 ) -> Result<(), AllocError>
     requires { lined.now.starts.now ≡ starts lined.now.named.now }
-    ensures { OnOk result (all_told findings.new.items ≡ all_told findings.old.items ++ all_bad lined.now.named.now bad.now) }
+    ensures { OnOk result (all_found findings.new.items ≡ all_found findings.old.items ++ all_bad lined.now.named.now bad.now) }
 {
     for word in bad {
         find_bad(alloc, findings, lined, *word)?;
@@ -319,7 +319,7 @@ fn find_shown(
     file: &File,
     bad: &[BadWord],
 ) -> Result<(), AllocError>
-    ensures { OnOk result (all_told findings.new.items ≡ all_told findings.old.items ++ all_bad file.now bad.now) }
+    ensures { OnOk result (all_found findings.new.items ≡ all_found findings.old.items ++ all_bad file.now bad.now) }
 {
     let starts = line_starts(alloc, file)?;
     let named = NamedFile::new(alloc, file)?;
@@ -338,7 +338,7 @@ fn find_more(
     header: &Header,
     count: usize,
 ) -> Result<(), AllocError>
-    ensures { OnOk result (all_told findings.new.items ≡ all_told findings.old.items ++ told_if (nat_lt 16 count) (relocation_at header.now) MoreBadWords (more_text (count - 16))) }
+    ensures { OnOk result (all_found findings.new.items ≡ all_found findings.old.items ++ found_if (nat_lt 16 count) (relocation_at header.now) MoreBadWords (more_text (count - 16))) }
 {
     if count <= MOST {
         return Ok(());
@@ -351,7 +351,7 @@ fn find_more(
 
 /// The bad relocation words of a file, the first of them one by one. An error: out of memory.
 pub fn wrong_words(alloc: Global, file: &File) -> Result<Vec<Finding>, AllocError>
-    ensures { IfOk result (λ findings. all_told findings.items ≡ wrong_words file.now) }
+    ensures { IfOk result (λ findings. all_found findings.items ≡ wrong_words file.now) }
 {
     let mut findings = Vec::new(alloc);
     let bad = bad_words_of(alloc, file)?;
