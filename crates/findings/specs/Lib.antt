@@ -5,4 +5,6 @@ pub mod Odd
 pub mod Wrong
 pub mod Kinds
 pub mod Notes
+pub mod Texts
+pub mod OddTexts
 pub mod internal

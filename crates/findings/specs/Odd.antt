@@ -15,15 +15,16 @@ use Rattle.aout_core.specs.WellFormed.{is_wanted, kind_of, masked_type, segment_
 use Rattle.aout_core.specs.Words.{plus}
 use Rattle.findings.specs.declared.finding.FindingKind.TheVariants.{IgnoredEntry, IgnoredWord, BytesAfterTable, IgnoredRelocationBits, OutsideReference, EmptyName, UnprintableName, BytesAfterName, RepeatedName, IgnoredTypeBits, UnknownType, OddCommon, OutsideValue}
 use Rattle.findings.specs.Found.{Found, found_if}
+use Rattle.findings.specs.OddTexts.{entry_text, unused_text, bytes_after_text, ignored_bits_text, outside_reference_text, symbol_title, empty_name_text, hidden_text, rest_text, repeated_text, type_bits_text, unknown_type_text, common_text, outside_value_text}
 use Rattle.findings.specs.Segments.{data_from, has_address, segment_meant}
 use Rattle.findings.specs.Words.{meant}
 
 -- the entry point of a file with relocation, the unused word, and bytes after the table
 abbrev pub odd_header : Header → ℕ → List Found
 odd_header h size =
-    found_if (not (eqb h.entry_point 0) && eqb h.flag 0) 10 IgnoredEntry
-    ++ found_if (not (eqb h.unused 0)) 12 IgnoredWord
-    ++ found_if (nat_lt (file_length h) size) (file_length h) BytesAfterTable
+    found_if (not (eqb h.entry_point 0) && eqb h.flag 0) 10 IgnoredEntry (entry_text h.entry_point)
+    ++ found_if (not (eqb h.unused 0)) 12 IgnoredWord (unused_text h.unused)
+    ++ found_if (nat_lt (file_length h) size) (file_length h) BytesAfterTable (bytes_after_text (size - file_length h))
 
 -- the bits above 17 count for an external alone
 abbrev pub ignores_number : Option Kind → Bool
@@ -34,8 +35,8 @@ ignores_number (Some _) = true
 -- a word at an address, whose relocation word is at this byte
 abbrev pub odd_word : Header → ℕ → ℕ → ℕ → Reloc → List Found
 odd_word h place address word r =
-    found_if (nat_le 0o20 r.0 && ignores_number (kind_of r)) place IgnoredRelocationBits
-    ++ found_if (not (has_address h (segment_meant (kind_of r)) (meant address word r))) place OutsideReference
+    found_if (nat_le 0o20 r.0 && ignores_number (kind_of r)) place IgnoredRelocationBits (ignored_bits_text r.0 address)
+    ++ found_if (not (has_address h (segment_meant (kind_of r)) (meant address word r))) place OutsideReference (outside_reference_text h (segment_meant (kind_of r)) address (meant address word r))
 
 -- the words of a segment from number n on, by their relocation words; number 0 has this address, and its relocation word this byte
 abbrev pub odd_words : Header → ℕ → ℕ → List ℕ → ℕ → List Reloc → List Found
@@ -55,29 +56,40 @@ after_name bytes place s = if nat_lt (length bytes) (place + 8) then [] else tak
 abbrev pub has_type : Symbol → Bool
 has_type s = nat_lt (masked_type s) 5 || (eqb (masked_type s) 0o24 || eqb (masked_type s) 0o37)
 
--- the name of a symbol whose entry begins at this byte, where an earlier symbol has the name or not
-abbrev pub odd_name : List ℕ → Bool → ℕ → Symbol → List Found
-odd_name bytes is_repeated place s =
-    found_if (eqb (length s.name) 0) place EmptyName
-    ++ found_if (list_any is_hidden s.name) place UnprintableName
-    ++ found_if (list_any (λ (b : ℕ). not (eqb b 0)) (after_name bytes place s)) place BytesAfterName
-    ++ found_if is_repeated place RepeatedName
+-- a name that an earlier symbol has, if there is one, by its number
+abbrev pub repeated : ℕ → List ℕ → Option ℕ → List Found
+repeated place title None = []
+repeated place title (Some first) = found_if true place RepeatedName (repeated_text title first)
+
+-- the name of a symbol, which is called so, and whose entry begins at this byte; the number of the first symbol with the name, if an
+-- earlier one has it
+abbrev pub odd_name : List ℕ → List ℕ → Option ℕ → ℕ → Symbol → List Found
+odd_name bytes title first place s =
+    found_if (eqb (length s.name) 0) place EmptyName (empty_name_text title)
+    ++ found_if (list_any is_hidden s.name) place UnprintableName (hidden_text title)
+    ++ found_if (list_any (λ (b : ℕ). not (eqb b 0)) (after_name bytes place s)) place BytesAfterName (rest_text title)
+    ++ repeated place title first
 
 -- its type word and its value
-abbrev pub odd_fields : Header → ℕ → Symbol → List Found
-odd_fields h place s =
-    found_if (nat_le 0o100 s.type_bits) (place + 8) IgnoredTypeBits
-    ++ found_if (not (has_type s)) (place + 8) UnknownType
-    ++ found_if (is_wanted (Some s) && eqb (s.value % 2) 1) (place + 10) OddCommon
-    ++ found_if (not (has_address h (segment_of s) s.value)) (place + 10) OutsideValue
+abbrev pub odd_fields : Header → List ℕ → ℕ → Symbol → List Found
+odd_fields h title place s =
+    found_if (nat_le 0o100 s.type_bits) (place + 8) IgnoredTypeBits (type_bits_text title s.type_bits)
+    ++ found_if (not (has_type s)) (place + 8) UnknownType (unknown_type_text title s.type_bits)
+    ++ found_if (is_wanted (Some s) && eqb (s.value % 2) 1) (place + 10) OddCommon (common_text title s.value)
+    ++ found_if (not (has_address h (segment_of s) s.value)) (place + 10) OutsideValue (outside_value_text h (segment_of s) title s.value)
 
--- names are equal in eight bytes
-abbrev pub is_repeated : List ℕ → List Symbol → Bool
-is_repeated name earlier = list_any (λ (e : Symbol). bytes_eq e.name name) earlier
+-- the number of the first symbol that has a name, where the first of them has number n; names are equal in eight bytes
+abbrev pub first_named_from : ℕ → List ℕ → List Symbol → Option ℕ
+first_named_from n name [] = None
+first_named_from n name (s ∷ ss) = if bytes_eq s.name name then Some n else first_named_from (n + 1) name ss
 
--- a symbol whose entry begins at this byte, and which follows these in the table
-abbrev pub odd_symbol : Header → List ℕ → List Symbol → ℕ → Symbol → List Found
-odd_symbol h bytes earlier place s = odd_name bytes (is_repeated s.name earlier) place s ++ odd_fields h place s
+abbrev pub first_named : List ℕ → List Symbol → Option ℕ
+first_named name symbols = first_named_from 0 name symbols
+
+-- symbol n, whose entry begins at this byte, and which follows these in the table
+abbrev pub odd_symbol : Header → List ℕ → List Symbol → ℕ → ℕ → Symbol → List Found
+odd_symbol h bytes earlier n place s =
+    odd_name bytes (symbol_title n s.name) (first_named s.name earlier) place s ++ odd_fields h (symbol_title n s.name) place s
 
 abbrev pub symbol_at : Header → ℕ → ℕ
 symbol_at h n = symbols_at h + 12 * n
@@ -85,7 +97,7 @@ symbol_at h n = symbols_at h + 12 * n
 -- the symbols from number n on
 abbrev pub odd_symbols : Contents → List ℕ → ℕ → List Symbol → List Found
 odd_symbols c bytes n [] = []
-odd_symbols c bytes n (s ∷ ss) = odd_symbol c.header bytes (take n c.symbols) (symbol_at c.header n) s ++ odd_symbols c bytes (n + 1) ss
+odd_symbols c bytes n (s ∷ ss) = odd_symbol c.header bytes (take n c.symbols) n (symbol_at c.header n) s ++ odd_symbols c bytes (n + 1) ss
 
 abbrev pub odd : List ℕ → Contents → List Found
 odd bytes c =

@@ -1,5 +1,5 @@
--- What is damaged in a file: why it is refused, at which byte. (a.out(5); the refusals: own choice)
-use Rattle.std.specs.Prelude.{ℕ, ◌+◌, ◌*◌, ◌%◌, true, not, eqb, nat_lt, if◌then◌else◌, List, [], ◌∷◌, ◌++◌, take, length, Option, Some, None}
+-- What is damaged in a file: why it is refused, at which byte, and in which words. (a.out(5); the refusals: own choice)
+use Rattle.std.specs.Prelude.{ℕ, ◌+◌, ◌*◌, ◌-◌, ◌%◌, true, not, eqb, nat_lt, if◌then◌else◌, List, [], ◌∷◌, ◌++◌, take, length, codes, Option, Some, None}
 use Rattle.aout_core.specs.declared.header.Header.{Header}
 use Rattle.aout_core.specs.declared.symbol.Symbol.{Symbol}
 use Rattle.aout_core.specs.declared.reloc.Reloc.{Reloc}
@@ -14,23 +14,28 @@ use Rattle.aout_core.specs.WellFormed.{word_fault}
 use Rattle.findings.specs.declared.finding.FindingKind.{FindingKind}
 use Rattle.findings.specs.declared.finding.FindingKind.TheVariants.{ShortHeader, BadMagic, OddSize, Truncated, BadRelocation, BadSymbolNumber, MoreBadWords}
 use Rattle.findings.specs.Found.{Found, found_if}
+use Rattle.findings.specs.Texts.{short_header_text, bad_magic_text, odd_size_text, odd_table_text, truncated_text, bad_word_text, owner_text, more_text}
 
--- each size that is not whole, at its word of the header
+-- the size of a part, at its word of the header
+abbrev pub odd_size : ℕ → List ℕ → ℕ → List Found
+odd_size place part size = found_if (not (eqb (size % 2) 0)) place OddSize (odd_size_text part size)
+
+-- each size that is not whole
 abbrev pub odd_sizes : Header → List Found
 odd_sizes h =
-    found_if (not (eqb (h.text_size % 2) 0)) 2 OddSize
-    ++ found_if (not (eqb (h.data_size % 2) 0)) 4 OddSize
-    ++ found_if (not (eqb (h.bss_size % 2) 0)) 6 OddSize
-    ++ found_if (not (eqb (h.symbol_size % 12) 0)) 8 OddSize
+    odd_size 2 (codes "text") h.text_size
+    ++ odd_size 4 (codes "data") h.data_size
+    ++ odd_size 6 (codes "bss") h.bss_size
+    ++ found_if (not (eqb (h.symbol_size % 12) 0)) 8 OddSize (odd_table_text h.symbol_size)
 
 -- bytes that are not a file, for this reason
 abbrev pub wrong_by : ReadFault → List ℕ → List Found
-wrong_by faults.BadMagic bytes = found_if true 0 BadMagic
+wrong_by faults.BadMagic bytes = found_if true 0 BadMagic (bad_magic_text (header_in bytes).magic)
 wrong_by faults.OddSize bytes = odd_sizes (header_in bytes)
-wrong_by _ bytes = found_if true (length bytes) Truncated
+wrong_by _ bytes = found_if true (length bytes) Truncated (truncated_text (header_in bytes) (length bytes))
 
 abbrev pub wrong_bytes : ReadFault → List ℕ → List Found
-wrong_bytes fault bytes = if nat_lt (length bytes) 16 then found_if true (length bytes) ShortHeader else wrong_by fault bytes
+wrong_bytes fault bytes = if nat_lt (length bytes) 16 then found_if true (length bytes) ShortHeader short_header_text else wrong_by fault bytes
 
 -- what is wrong with a relocation word, by what makes ld refuse an object
 abbrev pub fault_kind : Option ObjectFault → Option FindingKind
@@ -38,18 +43,21 @@ fault_kind (Some (refusals.BadRelocation _)) = Some BadRelocation
 fault_kind (Some (refusals.BadSymbolNumber _)) = Some BadSymbolNumber
 fault_kind _ = None
 
-abbrev pub bad_word : ℕ → Option FindingKind → List Found
-bad_word place None = []
-bad_word place (Some kind) = found_if true place kind
+abbrev pub bad_word : ℕ → Option FindingKind → (FindingKind → List ℕ) → List Found
+bad_word place None text = []
+bad_word place (Some kind) text = found_if true place kind (text kind)
 
 -- the words from number n on that make ld refuse an object, by their relocation words; that of word 0 is at this byte
-abbrev pub bad_words : List Symbol → ℕ → ℕ → List Reloc → List Found
-bad_words symbols place n [] = []
-bad_words symbols place n (r ∷ rs) = bad_word (place + 2 * n) (fault_kind (word_fault symbols 0 r)) ++ bad_words symbols place (n + 1) rs
+abbrev pub bad_words : Contents → ℕ → ℕ → List Reloc → List Found
+bad_words c place n [] = []
+bad_words c place n (r ∷ rs) =
+    bad_word (place + 2 * n) (fault_kind (word_fault c.symbols 0 r)) (λ kind. bad_word_text c.symbols n r kind ++ owner_text c n) ++ bad_words c place (n + 1) rs
 
 abbrev pub all_bad_words : Contents → List Found
-all_bad_words c = bad_words c.symbols (relocation_at c.header) 0 (c.text_reloc ++ c.data_reloc)
+all_bad_words c = bad_words c (relocation_at c.header) 0 (c.text_reloc ++ c.data_reloc)
 
 -- the first 16 one by one, and that there are more
 abbrev pub wrong_words : Contents → List Found
-wrong_words c = take 16 (all_bad_words c) ++ found_if (nat_lt 16 (length (all_bad_words c))) (relocation_at c.header) MoreBadWords
+wrong_words c =
+    take 16 (all_bad_words c)
+    ++ found_if (nat_lt 16 (length (all_bad_words c))) (relocation_at c.header) MoreBadWords (more_text (length (all_bad_words c) - 16))

@@ -69,7 +69,7 @@ pub(crate) fn find(
     kind: FindingKind,
     text: String,
 ) -> Result<(), AllocError>
-    ensures { OnOk result (all_found findings.new.items ≡ all_found findings.old.items ++ found_if true place kind) }
+    ensures { OnOk result (all_found findings.new.items ≡ all_found findings.old.items ++ found_if true place kind (string_bytes text)) }
 {
     findings.push(Finding { place, kind, text })?;
     Ok(())

@@ -19,7 +19,9 @@
 mod finding;
 mod heading;
 mod kind;
+mod octal;
 mod odd;
+mod odd_texts;
 mod other_files;
 mod places;
 mod text;

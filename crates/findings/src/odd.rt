@@ -1,6 +1,6 @@
 //! What is odd of a file, and not refused.
-ghost use Rattle.std.specs.Prelude.{◌≡◌, ◌+◌, ◌*◌, ◌%◌, ◌^◌, ◌<◌, ◌≤◌, ℕ, ◌&&◌, not, eqb, nat_lt, nat_le, Some, ◌++◌, length, take, slice_index, bytes_eq, is_some, IfOk, OnOk};
-ghost use Rattle.std.specs.Prelude.{◌||◌, List};
+ghost use Rattle.std.specs.Prelude.{◌≡◌, ◌+◌, ◌*◌, ◌%◌, ◌^◌, ◌<◌, ◌≤◌, ℕ, ◌&&◌, not, eqb, nat_lt, nat_le, Some, ◌++◌, length, take, slice_index, if◌then◌else◌, bytes_eq, is_some, IfOk, OnOk};
+ghost use Rattle.std.specs.Prelude.{List};
 ghost use Rattle.std.specs.List.{list_any};
 ghost use Rattle.std.specs.BTreeMap.{get};
 ghost use Rattle.std.specs.Cmp.Lexicographic.{slice_cmp};
@@ -9,14 +9,19 @@ ghost use Rattle.aout_core.specs.declared.symbol.Symbol.{Symbol};
 ghost use Rattle.aout_core.specs.Contents.{Fits};
 ghost use Rattle.aout_core.specs.Encoding.{relocation_at};
 ghost use Rattle.aout_core.specs.WellFormed.{is_wanted, kind_of, segment_of};
-ghost use Rattle.findings.specs.declared.finding.FindingKind.TheVariants.{EmptyName, UnprintableName, BytesAfterName, RepeatedName, IgnoredTypeBits, UnknownType, OddCommon, OutsideValue, IgnoredRelocationBits};
+ghost use Rattle.findings.specs.declared.finding.FindingKind.TheVariants.{EmptyName, UnprintableName, BytesAfterName, IgnoredTypeBits, UnknownType, OddCommon, OutsideValue, IgnoredRelocationBits};
 ghost use Rattle.findings.specs.Found.{all_found, found_if};
 ghost use Rattle.findings.specs.Segments.{has_address, segment_meant};
-ghost use Rattle.findings.specs.Odd.{odd_header, ignores_number, odd_word, odd_words, is_hidden, after_name, has_type, odd_name, odd_fields, is_repeated, odd_symbol, symbol_at, odd_symbols, odd};
+ghost use Rattle.findings.specs.OddTexts.{empty_name_text, hidden_text, rest_text, type_bits_text, unknown_type_text, common_text, outside_value_text, ignored_bits_text};
+ghost use Rattle.findings.specs.Odd.{odd_header, ignores_number, odd_word, odd_words, is_hidden, after_name, has_type, repeated, odd_name, odd_fields, first_named, odd_symbol, symbol_at, odd_symbols, odd};
 
 use crate::finding::{Finding, FindingKind, find};
-use crate::places::{Places, Segments, has_address, symbol_at};
-use crate::text::shown;
+use crate::odd_texts::{
+    bytes_after_text, common_text, empty_name_text, entry_text, hidden_text, ignored_bits_text,
+    outside_reference_text, outside_value_text, repeated_text, rest_text, symbol_title,
+    type_bits_text, unknown_type_text, unused_text,
+};
+use crate::places::{Places, has_address, symbol_at};
 use crate::words::{is_wanted, meant};
 use aout_core::{File, Header, Kind, Name, Reloc, Segment, Symbol};
 use listings::data_start;
@@ -50,16 +55,13 @@ fn find_common(
     at: &Titled<'_>,
 ) -> Result<(), AllocError>
     requires { at.now.place < 2 ^ 32 }
-    ensures { OnOk result (all_found findings.new.items ≡ all_found findings.old.items ++ found_if (is_wanted (Some at.now.symbol.now) && eqb (at.now.symbol.now.value % 2) 1) (at.now.place + 10) OddCommon) }
+    ensures { OnOk result (all_found findings.new.items ≡ all_found findings.old.items ++ found_if (is_wanted (Some at.now.symbol.now) && eqb (at.now.symbol.now.value % 2) 1) (at.now.place + 10) OddCommon (common_text at.now.title.now at.now.symbol.now.value)) }
 {
     let size = at.symbol.value;
     if !is_wanted(at.symbol) || size % 2 == 0 {
         return Ok(());
     }
-    let title = at.title;
-    let text = format!(in alloc;
-        "{title} is undefined with value {size:06o}: a common of {size} bytes, rounded up to even"
-    )?;
+    let text = common_text(alloc, at.title, size)?;
     find(findings, at.place + 10, FindingKind::OddCommon, text)
 }
 
@@ -74,16 +76,12 @@ fn has_type(symbol: &Symbol) -> bool
 /// Adds a type that the format does not have.
 fn find_type(alloc: Global, findings: &mut Vec<Finding>, at: &Titled<'_>) -> Result<(), AllocError>
     requires { at.now.place < 2 ^ 32 }
-    ensures { OnOk result (all_found findings.new.items ≡ all_found findings.old.items ++ found_if (not (has_type at.now.symbol.now)) (at.now.place + 8) UnknownType) }
+    ensures { OnOk result (all_found findings.new.items ≡ all_found findings.old.items ++ found_if (not (has_type at.now.symbol.now)) (at.now.place + 8) UnknownType (unknown_type_text at.now.title.now at.now.symbol.now.type_bits)) }
 {
     if has_type(at.symbol) {
         return Ok(());
     }
-    let title = at.title;
-    let bits = at.symbol.type_bits;
-    let text = format!(in alloc;
-        "{title} has type {bits:06o}, which the format does not have; it is taken as absolute"
-    )?;
+    let text = unknown_type_text(alloc, at.title, at.symbol.type_bits)?;
     find(findings, at.place + 8, FindingKind::UnknownType, text)
 }
 
@@ -95,20 +93,14 @@ fn find_value(
     header: &Header,
 ) -> Result<(), AllocError>
     requires { at.now.place < 2 ^ 32 }
-    ensures { OnOk result (all_found findings.new.items ≡ all_found findings.old.items ++ found_if (not (has_address header.now (segment_of at.now.symbol.now) at.now.symbol.now.value)) (at.now.place + 10) OutsideValue) }
+    ensures { OnOk result (all_found findings.new.items ≡ all_found findings.old.items ++ found_if (not (has_address header.now (segment_of at.now.symbol.now) at.now.symbol.now.value)) (at.now.place + 10) OutsideValue (outside_value_text header.now (segment_of at.now.symbol.now) at.now.title.now at.now.symbol.now.value)) }
 {
     let segment = at.symbol.segment();
     let value = at.symbol.value;
     if has_address(header, segment, value) {
         return Ok(());
     }
-    let title = at.title;
-    let (name, range) = Segments::of(header).named(segment);
-    let start = range.start;
-    let end = range.end;
-    let text = format!(in alloc;
-        "{title} of {name} has value {value:06o}, and {name} lies from {start:06o} to {end:06o}"
-    )?;
+    let text = outside_value_text(alloc, header, segment, at.title, value)?;
     find(findings, at.place + 10, FindingKind::OutsideValue, text)
 }
 
@@ -119,16 +111,13 @@ fn find_type_bits(
     at: &Titled<'_>,
 ) -> Result<(), AllocError>
     requires { at.now.place < 2 ^ 32 }
-    ensures { OnOk result (all_found findings.new.items ≡ all_found findings.old.items ++ found_if (nat_le 0o100 at.now.symbol.now.type_bits) (at.now.place + 8) IgnoredTypeBits) }
+    ensures { OnOk result (all_found findings.new.items ≡ all_found findings.old.items ++ found_if (nat_le 0o100 at.now.symbol.now.type_bits) (at.now.place + 8) IgnoredTypeBits (type_bits_text at.now.title.now at.now.symbol.now.type_bits)) }
 {
     let bits = at.symbol.type_bits;
     if bits < 0o100 {
         return Ok(());
     }
-    let title = at.title;
-    let text = format!(in alloc;
-        "{title} has type {bits:06o}, of which the bits above 77 are ignored"
-    )?;
+    let text = type_bits_text(alloc, at.title, bits)?;
     find(findings, at.place + 8, FindingKind::IgnoredTypeBits, text)
 }
 
@@ -145,13 +134,12 @@ fn find_empty_name(
     findings: &mut Vec<Finding>,
     at: &Titled<'_>,
 ) -> Result<(), AllocError>
-    ensures { OnOk result (all_found findings.new.items ≡ all_found findings.old.items ++ found_if (eqb (length at.now.symbol.now.name) 0) at.now.place EmptyName) }
+    ensures { OnOk result (all_found findings.new.items ≡ all_found findings.old.items ++ found_if (eqb (length at.now.symbol.now.name) 0) at.now.place EmptyName (empty_name_text at.now.title.now)) }
 {
     if !at.symbol.name.as_bytes().is_empty() {
         return Ok(());
     }
-    let title = at.title;
-    let text = format!(in alloc; "{title} has an empty name")?;
+    let text = empty_name_text(alloc, at.title)?;
     find(findings, at.place, FindingKind::EmptyName, text)
 }
 
@@ -161,13 +149,12 @@ fn find_hidden(
     findings: &mut Vec<Finding>,
     at: &Titled<'_>,
 ) -> Result<(), AllocError>
-    ensures { OnOk result (all_found findings.new.items ≡ all_found findings.old.items ++ found_if (list_any is_hidden at.now.symbol.now.name) at.now.place UnprintableName) }
+    ensures { OnOk result (all_found findings.new.items ≡ all_found findings.old.items ++ found_if (list_any is_hidden at.now.symbol.now.name) at.now.place UnprintableName (hidden_text at.now.title.now)) }
 {
     if !has_hidden(at.symbol.name.as_bytes()) {
         return Ok(());
     }
-    let title = at.title;
-    let text = format!(in alloc; "{title} has bytes in its name that do not print")?;
+    let text = hidden_text(alloc, at.title)?;
     find(findings, at.place, FindingKind::UnprintableName, text)
 }
 
@@ -199,13 +186,12 @@ fn find_rest(
     bytes: &[u8],
 ) -> Result<(), AllocError>
     requires { at.now.place < 2 ^ 32 }
-    ensures { OnOk result (all_found findings.new.items ≡ all_found findings.old.items ++ found_if (list_any (λ (b : ℕ). not (eqb b 0)) (after_name bytes.now at.now.place at.now.symbol.now)) at.now.place BytesAfterName) }
+    ensures { OnOk result (all_found findings.new.items ≡ all_found findings.old.items ++ found_if (list_any (λ (b : ℕ). not (eqb b 0)) (after_name bytes.now at.now.place at.now.symbol.now)) at.now.place BytesAfterName (rest_text at.now.title.now)) }
 {
     if !has_rest(bytes, at.place, at.symbol) {
         return Ok(());
     }
-    let title = at.title;
-    let text = format!(in alloc; "{title} has bytes after the NUL of its name, which are ignored")?;
+    let text = rest_text(alloc, at.title)?;
     find(findings, at.place, FindingKind::BytesAfterName, text)
 }
 
@@ -216,15 +202,12 @@ fn find_alike(
     at: &Titled<'_>,
     first: Option<usize>,
 ) -> Result<(), AllocError>
-    ensures { OnOk result (all_found findings.new.items ≡ all_found findings.old.items ++ found_if (is_some first) at.now.place RepeatedName) }
+    ensures { OnOk result (all_found findings.new.items ≡ all_found findings.old.items ++ repeated at.now.place at.now.title.now first) }
 {
     let Some(first) = first else {
         return Ok(());
     };
-    let title = at.title;
-    let text = format!(in alloc;
-        "{title} has the name of symbol {first}; names are equal in eight bytes"
-    )?;
+    let text = repeated_text(alloc, at.title, first)?;
     find(findings, at.place, FindingKind::RepeatedName, text)
 }
 
@@ -237,7 +220,7 @@ fn find_name(
     first: Option<usize>,
 ) -> Result<(), AllocError>
     requires { at.now.place < 2 ^ 32 }
-    ensures { OnOk result (all_found findings.new.items ≡ all_found findings.old.items ++ odd_name bytes.now (is_some first) at.now.place at.now.symbol.now) }
+    ensures { OnOk result (all_found findings.new.items ≡ all_found findings.old.items ++ odd_name bytes.now at.now.title.now first at.now.place at.now.symbol.now) }
 {
     find_empty_name(alloc, findings, at)?;
     find_hidden(alloc, findings, at)?;
@@ -253,7 +236,7 @@ fn find_fields(
     header: &Header,
 ) -> Result<(), AllocError>
     requires { at.now.place < 2 ^ 32 }
-    ensures { OnOk result (all_found findings.new.items ≡ all_found findings.old.items ++ odd_fields header.now at.now.place at.now.symbol.now) }
+    ensures { OnOk result (all_found findings.new.items ≡ all_found findings.old.items ++ odd_fields header.now at.now.title.now at.now.place at.now.symbol.now) }
 {
     find_type_bits(alloc, findings, at)?;
     find_type(alloc, findings, at)?;
@@ -278,13 +261,12 @@ fn find_symbol(
     symbol: &Symbol,
 ) -> Result<(), AllocError>
     requires few { number < 65536 }
-    requires first { is_some first ≡ is_repeated symbol.now.name (take number source.now.file.now.symbols) }
-    ensures { OnOk result (all_found findings.new.items ≡ all_found findings.old.items ++ odd_symbol source.now.file.now.header source.now.bytes.now (take number source.now.file.now.symbols) (symbol_at source.now.file.now.header number) symbol.now) }
+    requires first { first ≡ first_named symbol.now.name (take number source.now.file.now.symbols) }
+    ensures { OnOk result (all_found findings.new.items ≡ all_found findings.old.items ++ odd_symbol source.now.file.now.header source.now.bytes.now (take number source.now.file.now.symbols) number (symbol_at source.now.file.now.header number) symbol.now) }
 {
     let header = source.file.header();
     let place = symbol_at(header, number);
-    let name = shown(alloc, &symbol.name)?;
-    let title = format!(in alloc; "symbol {number} {name}")?;
+    let title = symbol_title(alloc, number, &symbol.name)?;
     let title = title.as_str();
     let at = Titled {
         symbol,
@@ -302,7 +284,7 @@ fn first_alike(
     number: usize,
 ) -> Result<Option<usize>, AllocError>
     ensures first { IfOk result (λ first. first ≡ get (slice_cmp nat_cmp) seen.old name) }
-    ensures noted { OnOk result ((other : List ℕ) → is_some (get (slice_cmp nat_cmp) seen.new other) ≡ (is_some (get (slice_cmp nat_cmp) seen.old other) || bytes_eq name other)) }
+    ensures noted { OnOk result ((other : List ℕ) → get (slice_cmp nat_cmp) seen.new other ≡ (if bytes_eq name other && not (is_some (get (slice_cmp nat_cmp) seen.old name)) then Some number else get (slice_cmp nat_cmp) seen.old other)) }
 {
     if let Some(first) = seen.get(&name) {
         return Ok(Some(*first));
@@ -350,16 +332,13 @@ fn find_reloc_bits(
     findings: &mut Vec<Finding>,
     at: Relocated,
 ) -> Result<(), AllocError>
-    ensures { OnOk result (all_found findings.new.items ≡ all_found findings.old.items ++ found_if (nat_le 0o20 at.reloc.0 && ignores_number (kind_of at.reloc)) at.place IgnoredRelocationBits) }
+    ensures { OnOk result (all_found findings.new.items ≡ all_found findings.old.items ++ found_if (nat_le 0o20 at.reloc.0 && ignores_number (kind_of at.reloc)) at.place IgnoredRelocationBits (ignored_bits_text at.reloc.0 at.address)) }
 {
-    let address = at.address;
     let bits = at.reloc.0;
     if bits < 0o20 || !ignores_number(at.reloc.kind()) {
         return Ok(());
     }
-    let text = format!(in alloc;
-        "relocation word {bits:06o} of the word at {address:06o}: bits above 17 are ignored"
-    )?;
+    let text = ignored_bits_text(alloc, bits, at.address)?;
     find(findings, at.place, FindingKind::IgnoredRelocationBits, text)
 }
 
@@ -379,12 +358,7 @@ fn find_word(
     if has_address(header, segment, target) {
         return Ok(());
     }
-    let (name, range) = Segments::of(header).named(segment);
-    let start = range.start;
-    let end = range.end;
-    let text = format!(in alloc;
-        "the word at {address:06o} is of kind {name} and refers to {target:06o}; {name} lies from {start:06o} to {end:06o}"
-    )?;
+    let text = outside_reference_text(alloc, header, segment, address, target)?;
     find(findings, at.place, FindingKind::OutsideReference, text)
 }
 
@@ -432,12 +406,12 @@ fn find_ignored(
 {
     let entry = header.entry_point;
     if entry != 0 && header.flag == 0 {
-        let text = format!(in alloc; "the entry point of an object, {entry:06o}, is ignored")?;
+        let text = entry_text(alloc, entry)?;
         find(findings, 10, FindingKind::IgnoredEntry, text)?;
     }
     let unused = header.unused;
     if unused != 0 {
-        let text = format!(in alloc; "the unused word, {unused:06o}, is ignored")?;
+        let text = unused_text(alloc, unused)?;
         find(findings, 12, FindingKind::IgnoredWord, text)?;
     }
     let end = Places::of(header).end;
@@ -445,7 +419,7 @@ fn find_ignored(
         return Ok(());
     }
     let more = size - end;
-    let text = format!(in alloc; "0{more:o} ({more}) bytes after the symbol table are not read")?;
+    let text = bytes_after_text(alloc, more)?;
     find(findings, end, FindingKind::BytesAfterTable, text)
 }
 

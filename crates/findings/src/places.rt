@@ -1,8 +1,9 @@
 //! The places of the parts of a file, by the sizes in its header, and their addresses in memory.
 ghost use Rattle.std.specs.Prelude.{◌≡◌, ◌+◌, ◌^◌, ◌<◌, ◌&&◌, nat_le};
 ghost use Rattle.aout_core.specs.Encoding.{relocation_at, symbols_at, file_length};
-ghost use Rattle.findings.specs.Segments.{data_from, data_to, bss_to, has_address};
+ghost use Rattle.findings.specs.Segments.{data_from, data_to, bss_to, has_address, segment_from, segment_to};
 ghost use Rattle.findings.specs.Odd.{symbol_at};
+ghost use Rattle.findings.specs.OddTexts.{segment_name};
 
 use aout_core::{Header, Segment};
 use listings::data_start;
@@ -83,6 +84,8 @@ pub(crate) struct Segments {
 impl Segments {
     /// The addresses that a header announces.
     pub(crate) fn of(header: &Header) -> Segments
+        ensures text_start { result.text.start ≡ 0 }
+        ensures text_end { result.text.end ≡ header.now.text_size }
         ensures data_start { result.«data».start ≡ data_from header.now }
         ensures data_end { result.«data».end ≡ data_to header.now }
         ensures bss_start { result.bss.start ≡ data_to header.now }
@@ -107,14 +110,29 @@ impl Segments {
             },
         }
     }
+}
 
-    /// A segment by name, and where it lies, for a note.
-    pub(crate) fn named(&self, segment: Segment) -> (&'static str, Range) {
-        match segment {
-            Segment::DataSeg => ("data", self.data),
-            Segment::BssSeg => ("bss", self.bss),
-            _ => ("text", self.text),
-        }
+/// Where a segment of a file with this header lies, for a note.
+pub(crate) fn range_of(header: &Header, segment: Segment) -> Range
+    ensures start { result.start ≡ segment_from header.now segment }
+    ensures end { result.end ≡ segment_to header.now segment }
+{
+    let segments = Segments::of(header);
+    match segment {
+        Segment::DataSeg => segments.data,
+        Segment::BssSeg => segments.bss,
+        Segment::TextSeg | Segment::Undefined | Segment::Absolute | Segment::Other => segments.text,
+    }
+}
+
+/// A segment by name.
+pub(crate) fn segment_name(segment: Segment) -> &'static str
+    ensures { result.now ≡ segment_name segment }
+{
+    match segment {
+        Segment::DataSeg => "data",
+        Segment::BssSeg => "bss",
+        Segment::TextSeg | Segment::Undefined | Segment::Absolute | Segment::Other => "text",
     }
 }
 

@@ -1,4 +1,4 @@
-use Rattle.std.proofs.Common.{◌++◌, is_some}
+use Rattle.std.proofs.Common.{◌++◌}
 use Rattle.std.specs.BTreeMap.{get}
 use Rattle.std.specs.Cmp.Lexicographic.{slice_cmp}
 use Rattle.std.specs.Ordering.{nat_cmp}
@@ -13,6 +13,7 @@ loop-number-preserved c =
     let file = c.args.source.now.file.now in (
       symbols_more file c.args.source.now.bytes.now symbols c.loop-number.number c.index-symbols-number.result (all_found c.loop-number.findings.items) (all_found c.find_symbol.new.findings.items)
           (all_found c.args.findings.now.items ++ odd_symbols file c.args.source.now.bytes.now 0 symbols) c.loop-number-test.true c.index-symbols-number.is c.in_ok-find_symbol.ensures c.loop-number.invariant.0,
-      λ other. noted_more symbols c.loop-number.number c.index-symbols-number.result other (is_some (get (slice_cmp nat_cmp) c.loop-number.seen other)) (is_some (get (slice_cmp nat_cmp) c.first_alike.new.seen other))
-          c.loop-number-test.true c.index-symbols-number.is (c.in_ok-first.ensures.noted other) (c.loop-number.invariant.1 other),
+      λ other. noted_more symbols c.loop-number.number c.index-symbols-number.result other (get (slice_cmp nat_cmp) c.loop-number.seen c.index-symbols-number.result.name)
+          (get (slice_cmp nat_cmp) c.loop-number.seen other) (get (slice_cmp nat_cmp) c.first_alike.new.seen other) c.loop-number-test.true c.index-symbols-number.is
+          (c.in_ok-first.ensures.noted other) (c.loop-number.invariant.1 c.index-symbols-number.result.name) (c.loop-number.invariant.1 other),
     )
