@@ -72,7 +72,7 @@ pub struct Step {
 /// Files, commands, and states of sessions, in a folder of its own.
 #[derive(Drop)]
 pub struct Part {
-    pub made: Vec<Item>,
+    pub initial_files: Vec<Item>,
     pub plans: Vec<Item>,
     pub is_only_disk: bool,
     pub steps: Vec<Step>,
@@ -140,7 +140,7 @@ impl Step {
 impl Part {
     pub(crate) fn new(alloc: Global) -> Part {
         Part {
-            made: Vec::new(alloc),
+            initial_files: Vec::new(alloc),
             plans: Vec::new(alloc),
             is_only_disk: false,
             steps: Vec::new(alloc),

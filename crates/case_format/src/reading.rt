@@ -88,7 +88,7 @@ impl Reader {
             None if item.word.only_checks() => {
                 Err(wrong(line, format!(in alloc; "before any command: {name}")))
             }
-            None => Ok(self.part.made.push(item)?),
+            None => Ok(self.part.initial_files.push(item)?),
             Some(_) if item.word.only_makes() => {
                 let hint = "comes before the commands of a part; -- begins a new part";
                 Err(wrong(line, format!(in alloc; "{name} {hint}")))

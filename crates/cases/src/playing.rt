@@ -60,7 +60,7 @@ fn play_step(
 /// Plays a part.
 pub(crate) fn play_part(rt: &HostRuntime, part: &Part) -> Result<(), Problem> {
     let mut folder = BTreeMap::new(rt.alloc());
-    for item in &part.made {
+    for item in &part.initial_files {
         make(rt, &mut folder, item)?;
     }
     for (place, step) in part.steps.iter().enumerate() {
