@@ -321,6 +321,9 @@ fn find_shown(
 ) -> Result<(), AllocError>
     ensures { OnOk result (all_found findings.new.items ≡ all_found findings.old.items ++ all_bad file.now bad.now) }
 {
+    if bad.is_empty() {
+        return Ok(());
+    }
     let starts = line_starts(alloc, file)?;
     let named = NamedFile::new(alloc, file)?;
     let lined = Lined {
