@@ -11,7 +11,7 @@ endif
 
 # tests/prove.py uses all processors by itself
 .NOTPARALLEL:
-.PHONY: all try demo lib install-lib wheel check-lib dist check-dist test gate recheck wrong-bodies memory room bench instructions simulate \
+.PHONY: all try demo lib install-lib wheel check-lib dist check-dist test gate recheck wrong-bodies check-wrong-bodies memory room bench instructions simulate \
 	lesson page check-page check-manual check-examples check-explain check-cases planted check-model check-streams install clean
 
 all: build/v7 build/v7-from-gnu build/v7-object build/v7-explain build/v7-lesson
@@ -152,9 +152,15 @@ gate:
 recheck:
 	@sh tests/recheck.sh
 
-# further wrong bodies, which the prover has to refuse as well; NAMES are the crates whose are tried
+# all wrong bodies, which the prover has to refuse, in copies with one for each function; NAMES are the crates whose are tried
 wrong-bodies:
-	sh tests/wrong_bodies.sh $(NAMES)
+	python3 tests/wrong_bodies.py $(NAMES)
+
+# those of the crates that have changed since `make wrong-bodies` refused theirs, as tests/wrong-bodies.seen tells; and the script
+# itself, with harmless edits planted among wrong ones
+check-wrong-bodies:
+	python3 tests/wrong_bodies.py -c
+	python3 tests/wrong_bodies.py --try
 
 # the calls that may be refused memory, of crates/fixtures, with the first, the second, .. request for memory refused
 memory:

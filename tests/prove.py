@@ -56,8 +56,8 @@ class Crate:
         return self.functions() + max((it.functions_to_end() for it in self.waits), default=0)
 
 
-def crates_under(name):
-    """The crate of a name and those below it, lowest first."""
+def crates_under(*names):
+    """The crates of these names and those below them, lowest first."""
     lines, crates = {}, {}
     for line in read("crates.txt").split("\n"):
         if line.strip() and not line.startswith("#"):
@@ -71,7 +71,9 @@ def crates_under(name):
                 add(other)
         crates[name] = Crate(name, head, uses, crates)
 
-    add(name)
+    for name in names:
+        if name not in crates:
+            add(name)
     return [*crates.values()]
 
 
@@ -118,10 +120,11 @@ class Kit:
 
 
 class Proving:
-    """What is proved of a crate and of those below it."""
+    """What is proved of crates, lowest first. The last one is built into a file, if a file is given."""
 
-    def __init__(self, name, file, place):
-        self.kit, self.crates, self.file = Kit(place), crates_under(name), file
+    def __init__(self, crates, kit, file=None):
+        self.crates, self.kit, self.file = crates, kit, file
+        self.top = crates[-1] if file else None
         self.lanes = {}
 
     def stamp(self, crate):
@@ -161,7 +164,7 @@ class Proving:
 
     def is_kept(self, crate, stamp):
         """Whether the crate is proved already. What it left is unpacked."""
-        kept, top = f"{KEPT}/{crate.name}", crate is self.crates[-1]
+        kept, top = f"{KEPT}/{crate.name}", crate is self.top
         needed = [f"{kept}.stamp", f"{kept}.verdict", self.file if top else f"{kept}.tar", *[f"{kept}.o"] * crate.is_program]
         if not all(map(os.path.exists, needed)):
             return False
@@ -177,7 +180,7 @@ class Proving:
         kept = f"{KEPT}/{crate.name}"
         if os.path.exists(f"{kept}.stamp"):
             os.remove(f"{kept}.stamp")
-        if crate is not self.crates[-1]:
+        if crate is not self.top:
             with tarfile.open(f"{kept}.tar", "w") as packed:
                 packed.add(f"{self.kit.place}/{crate.name}.rlib", f"{crate.name}.rlib")
         if crate.is_program:
@@ -203,9 +206,9 @@ class Proving:
 
     def whole(self):
         """Proves all, lowest first. Whether all is proved."""
-        below = self.crates[:-1]
+        below = [it for it in self.crates if it is not self.top]
         count = sum(it.functions() for it in below)
-        print(f"{len(below)} libraries of {count} functions, and then {self.crates[-1].name}", flush=True)
+        print(f"{len(below)} libraries of {count} functions{f', and then {self.top.name}' if self.top else ''}", flush=True)
         with ThreadPoolExecutor(len(self.crates)) as pool:
             for crate in self.crates:
                 self.lanes[crate] = pool.submit(self.prove, crate)
@@ -221,7 +224,7 @@ def main(name, file):
     for folder in (KEPT, os.path.dirname(file)):
         os.makedirs(folder, exist_ok=True)
     with tempfile.TemporaryDirectory() as place:
-        return 0 if Proving(name, file, place).whole() else 1
+        return 0 if Proving(crates_under(name), Kit(place), file).whole() else 1
 
 
 if __name__ == "__main__":
