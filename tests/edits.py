@@ -9,7 +9,6 @@ import glob
 import os
 import sys
 
-ROOT = os.path.abspath(os.path.join(os.path.dirname(os.path.abspath(__file__)), ".."))
 FOLDERS = ("must-fail", "wrong-bodies")
 
 
@@ -24,7 +23,7 @@ def read(path):
 
 def edits_of(crate):
     """The files with the wrong bodies of a crate, by name."""
-    found = [path for folder in FOLDERS for path in glob.glob(f"{ROOT}/crates/{crate}/{folder}/*.edit")]
+    found = [path for folder in FOLDERS for path in glob.glob(f"crates/{crate}/{folder}/*.edit")]
     return sorted(found, key=os.path.basename)
 
 
@@ -66,17 +65,17 @@ def faults(paths):
     """What is wrong with edits: those that do not fit their crate, and those of one crate and name."""
     names = [path.replace("/wrong-bodies/", "/must-fail/") for path in paths]
     for path, name in zip(paths, names):
-        shown = os.path.relpath(path, ROOT)
         try:
             changed(pairs(path), os.path.dirname(os.path.dirname(path)))
         except Misfit as fault:
-            yield f"{shown}: {fault}"
+            yield f"{path}: {fault}"
         if names.count(name) > 1:
-            yield f"{shown}: there is another of this name"
+            yield f"{path}: there is another of this name"
 
 
 def main():
-    paths = [path for crate in sorted(os.listdir(f"{ROOT}/crates")) for path in edits_of(crate)]
+    os.chdir(os.path.join(os.path.dirname(os.path.abspath(__file__)), ".."))
+    paths = [path for crate in sorted(os.listdir("crates")) for path in edits_of(crate)]
     found = list(faults(paths))
     for fault in found:
         print(fault)

@@ -35,7 +35,6 @@ from concurrent.futures import ThreadPoolExecutor
 import edits
 import prove
 
-ROOT = prove.ROOT
 SEEN = "tests/wrong-bodies.seen"
 FUNCTION = re.compile(r'( *)(?:pub(?:\(\w+\))? )?(?:const |unsafe |extern "C" )*fn (\w+)')
 BLOCK = re.compile(r"( *)(?:pub(?:\(\w+\))? )?(impl|trait|mod)\b(.*)\{$")
@@ -246,10 +245,11 @@ class Answer:
 class Trial:
     """The edits of a crate, tried in copies."""
 
-    def __init__(self, crate, kit, found, slots):
-        self.crate, self.kit, self.slots, self.edits = crate, kit, slots, found
-        self.folder = f"{ROOT}/crates/{crate.name}"
-        self.results, self.apart, self.copies, self.said = {}, set(), 0, []
+    def __init__(self, crate, kit, slots):
+        self.crate, self.kit, self.slots = crate, kit, slots
+        self.folder = f"crates/{crate.name}"
+        self.edits = [Edit(self.folder, path) for path in edits.edits_of(crate.name)]
+        self.results, self.apart, self.copies = {}, set(), 0
 
     def check(self, texts, kept=None, without=None):
         """Checks a copy of the crate with these texts, over what other copies left, and without a folder of proofs."""
@@ -336,6 +336,7 @@ class Trial:
         others = [it for it in chosen if it is not edit and below & set(answer.names(it.function))]
         self.apart |= {frozenset((edit.function, it.function)) for it in others}
         edit.alone, edit.waited = not others, True
+        print(f"{self.crate.name}/{edit.name}: waits for another copy: {line[:150]}", flush=True)
         return False
 
     def without_proof(self, edit, line):
@@ -432,18 +433,15 @@ def note(passed):
         file.writelines(f"{crate} {found[crate]}\n" for crate in with_edits() if crate in found)
 
 
-def try_edits(names, jobs, edits_in=None):
-    """Tries the edits of crates, with the libraries below them proved. The trials, by crate; none if one of these is not proved."""
+def try_edits(names, jobs):
+    """Tries the edits of crates, once the libraries below them are proved. The trials, and whether all edits are refused, by crate."""
     os.makedirs(prove.KEPT, exist_ok=True)
     slots = threading.Semaphore(jobs)
     with tempfile.TemporaryDirectory(prefix="wrong-bodies-") as place:
         kit, crates = Kit(place), {it.name: it for it in prove.crates_under(*names)}
         needed = {below for name in names for below in crates[name].below}
         below = Below([it for it in crates.values() if it in needed], kit, slots)
-        trials = {}
-        for name in names:
-            found = [Edit(f"crates/{name}", path) for path in (edits_in or edits.edits_of(name))]
-            trials[name] = Trial(crates[name], kit, found, slots)
+        trials = {name: Trial(crates[name], kit, slots) for name in names}
 
         def run(trial):
             return all([below.lanes[it].result() for it in trial.crate.below]) and trial.run()
@@ -482,7 +480,7 @@ def main(words):
     if not shutil.which("rt"):
         print("rt, the command of the Rattle kit, is not on the PATH", file=sys.stderr)
         return 2
-    os.chdir(ROOT)
+    os.chdir(prove.ROOT)
     jobs = int(words[words.index("-j") + 1]) if "-j" in words else 2
     names = [word for at, word in enumerate(words) if not word.startswith("-") and words[at - 1:at] != ["-j"]]
     if "--try" in words:

@@ -1,59 +1,125 @@
-"""Tries tests/wrong_bodies.py on edits of `link_options`, made in a temporary folder: some wrong, some harmless, some unfit.
+"""Tries tests/wrong_bodies.py on a small crate of its own, in a temporary folder: `tests/wrong_bodies.py --try`.
 
-`tests/wrong_bodies.py --try` runs it. Each harmless edit has to be reported as not refused. One of them is in a function that calls
-another one with a wrong body, so the prover first refuses it for what it calls; it must not count as refused, and wait for a copy
-without that body.
+Of its edits some are wrong bodies and some are harmless. Each harmless one has to be reported as not refused. One of them is in a
+function that calls another one, which has a wrong body in the first copy. So the prover first refuses it for what it calls: it must
+not count as refused, and has to wait for a copy without that body.
 """
 import os
 import tempfile
 
 import wrong_bodies
 
-CRATE = "link_options"
-# of each edit: its file, the old and the new text, what the report has to begin with, and whether it has to wait for another copy
-EDITS = {
-    "wrong": ("src/flags.rt", "(true, true) => None,", "(true, true) => Some(Layout::Split),", "refused", False),
-    "wrong_definition": ("specs/Flags.antt", "layout_by true true = None", "layout_by true true = Some Pure", "refused", False),
-    "harmless": ("src/options.rt", "!self.relocatable || self.force_commons", "self.force_commons || !self.relocatable", "NOT REFUSED", False),
-    "harmless_caller": ("src/flags.rt", "        if self.commons {", "        if self.commons && self.commons {", "NOT REFUSED", True),
-    "wrong_caller": ("src/flags.rt", "self.layout()?, self.relocatable,", "self.layout()?, false,", "refused", False),
-    "other_shape": (
-        "src/options.rt",
-        "(Keep::Nothing, _) =>",
-        "(Keep::Nothing, Layout::Plain | Layout::Pure | Layout::Split) =>",
-        "refused only for its shape",
-        False,
-    ),
-    "unfit": ("src/flags.rt", "no such text", "another", "it cannot be made", False),
-    "unreadable": ("src/flags.rt", "            Keep::NotL", "            Keep::NoSuchKeep", "the prover cannot read it", False),
+SOURCE = """//! Sums of small numbers.
+#![tactic(auto)]
+
+ghost use Rattle.std.specs.Prelude.{◌≡◌, ◌+◌, ◌<◌, ◌≤◌, ◌↔◌, IsTrue};
+ghost use Rattle.tried.specs.Sums.{sum_of};
+
+/// Twice a number.
+pub fn twice(number: u8) -> u16
+    ensures { result ≡ number + number }
+{
+    number as u16 + number as u16
 }
 
+/// Four times a number.
+pub fn four_times(number: u8) -> u16
+    ensures { result ≡ (number + number) + (number + number) }
+{
+    let half = twice(number);
+    half + half
+}
 
-def write(folder):
-    """Writes the edits into a folder. Their files, by name."""
-    paths = {name: os.path.join(folder, f"{name}.edit") for name in sorted(EDITS)}
-    for name, path in paths.items():
-        file, old, new = EDITS[name][:3]
-        with open(path, "w", encoding="utf-8") as edit:
-            edit.write(f"file: {file}\nold: {old}\nnew: {new}\n")
-    return paths
+/// The sum of two numbers.
+pub fn sum(one: u8, other: u8) -> u16
+    ensures { result ≡ sum_of one other }
+{
+    one as u16 + other as u16
+}
+
+/// Whether a number is small.
+pub fn is_small(number: u16) -> bool
+    ensures { IsTrue result ↔ (number < 100) }
+{
+    number < 100
+}
+
+/// The larger of two numbers.
+pub fn larger(one: u16, other: u16) -> u16
+    ensures first { one ≤ result }
+    ensures second { other ≤ result }
+{
+    if one < other {
+        return other;
+    }
+    one
+}
+"""
+FILES = {
+    "crates.txt": "tried:\n",
+    "crates/tried/src/lib.rt": SOURCE,
+    "crates/tried/specs/Lib.antt": "pub mod Sums\n",
+    "crates/tried/specs/Sums.antt": """-- The sum of two numbers.
+use Rattle.std.specs.Prelude.{ℕ, ◌+◌}
+
+abbrev pub sum_of : ℕ → ℕ → ℕ
+sum_of one other = one + other
+""",
+    "crates/tried/proofs/larger/Answers.antt": """use Rattle.std.proofs.Common.{rules}
+use Rattle.tried.proofs.larger.Goals as goal
+
+pub returns-then-one-other-clause-first : goal.returns-then-one-other-clause-first
+returns-then-one-other-clause-first c = search rules
+""",
+}
+# of each edit: its file, the old and the new text, and what the report has to begin with
+LIB, SUMS = "src/lib.rt", "specs/Sums.antt"
+EDITS = {
+    "wrong": (LIB, "number as u16 + number as u16", "number as u16", "refused"),
+    "wrong_caller": (LIB, "half + half", "half + 1", "refused"),
+    "harmless_caller": (LIB, "twice(number);", "twice(number + 0);", "NOT REFUSED"),
+    "harmless": (LIB, "one as u16 + other as u16", "other as u16 + one as u16", "NOT REFUSED"),
+    "wrong_definition": (SUMS, "= one + other", "= one + one", "refused"),
+    "harmless_definition": (SUMS, "= one + other", "= other + one", "NOT REFUSED"),
+    "other_shape": (LIB, "if one < other {", "if other > one {", "refused only for its shape"),
+    "other_shape_wrong": (LIB, "if one < other {", "if other < one {", "refused"),
+    "unreadable": (LIB, "    number < 100", "    number < no_such_name", "the prover cannot read it"),
+    "wrong_limit": (LIB, "    number < 100", "    number <= 100", "refused"),
+    "unfit": (LIB, "no such text", "another", "it cannot be made"),
+}
+WAITS = "harmless_caller"
+
+
+def write():
+    """Writes the crate with its edits."""
+    files = dict(FILES)
+    for name, (file, old, new, _) in EDITS.items():
+        files[f"crates/tried/must-fail/{name}.edit"] = f"file: {file}\nold: {old}\nnew: {new}\n"
+    for path, text in files.items():
+        os.makedirs(os.path.dirname(path) or ".", exist_ok=True)
+        with open(path, "w", encoding="utf-8") as file:
+            file.write(text)
 
 
 def faults(trial):
     """The edits of which the script reports something else than it has to."""
     for edit in trial.edits:
-        _, _, _, wanted, waits = EDITS[edit.name]
-        shown = trial.results.get(edit.name) or "refused"
-        if not shown.startswith(wanted):
+        wanted, fault = EDITS[edit.name][3], trial.results.get(edit.name, "nothing")
+        shown = fault or "refused"
+        if bool(fault) != (wanted != "refused") or not shown.startswith(wanted):
             yield f"{edit.name}: it has to be: {wanted}; the script says: {shown}"
-        if waits and not edit.waited:
+        if edit.name == WAITS and not edit.waited:
             yield f"{edit.name}: it has to wait for another copy, since the function calls one with a wrong body"
 
 
 def main(jobs):
+    top = os.getcwd()
     with tempfile.TemporaryDirectory() as folder:
-        trials, _ = wrong_bodies.try_edits([CRATE], jobs, list(write(folder).values()))
-    found = list(faults(trials[CRATE]))
+        os.chdir(folder)
+        write()
+        trials, _ = wrong_bodies.try_edits(["tried"], jobs)
+        found = list(faults(trials["tried"]))
+        os.chdir(top)
     for fault in found:
         print(fault)
     print(f"{len(found)} faults" if found else f"each of {len(EDITS)} edits is reported as what it is")
