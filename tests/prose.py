@@ -49,7 +49,7 @@ NOT_IN_CI = {
     "instructions": "needs valgrind, and prints figures",
     "room": "needs valgrind, and prints figures",
     "memory": "takes ten minutes",
-    "wrong-bodies": "takes an hour",
+    "wrong-bodies": "takes an hour; check-wrong-bodies tries those of the crates that changed",
     "simulate": "needs SIMH's pdp11; check-examples runs the same commands where it is installed",
     "page": "check-page makes the same page",
     "check-page": "needs a browser",
