@@ -171,7 +171,7 @@ class Answer:
             place = PLACE.match(line)
             if said:
                 self.verdicts[said[1]] = said[2]
-            elif place and (": error: " in line or line.startswith("note: ")):
+            elif place and (": error" in line or line.startswith("note: ")):
                 self.places.append((place[1], int(place[2]), place[3]))
 
     @property
@@ -304,14 +304,13 @@ class Trial:
                 answer = self.check(texts, kept)
                 took = time.monotonic() - begun
                 print(f"{self.crate.name}: copy {self.copies}, {len(chosen)} edits, {took:.0f} seconds", flush=True)
-                waiting = [it for it in waiting if it not in chosen]
-                waiting += [it for it in chosen if not self.has_ended(it, chosen, answer, texts)]
-                waiting.sort(key=lambda it: it.alone)
+                again = [it for it in chosen if not self.has_ended(it, chosen, answer)]
+                waiting = sorted(again + [it for it in waiting if it not in chosen], key=lambda it: it.alone)
         return not any(self.results.values())
 
-    def has_ended(self, edit, chosen, answer, texts):
+    def has_ended(self, edit, chosen, answer):
         """Notes what a copy says of an edit. Whether it is the last word on it."""
-        single, unread = len(chosen) == 1, list(answer.unread(texts))
+        single, unread = len(chosen) == 1, list(answer.unread({file for it in chosen for file in it.files}))
         mine = [text for file, line, text in unread if edit.has(file, line)]
         if unread or not answer.is_told:
             if mine or single:
