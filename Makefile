@@ -16,7 +16,7 @@ endif
 
 all: build/v7 build/v7-from-gnu build/v7-object build/v7-explain build/v7-lesson
 
-SOURCES := crates.txt $(shell find crates \( -name out -o -path crates/cases -o -path crates/case_format \) -prune -o -type f -print)
+SOURCES := crates.txt $(shell find crates -name out -prune -o -type f -print)
 
 build/v7: crates/v7/out/v7
 	mkdir -p build
@@ -132,8 +132,8 @@ demo: build/v7
 	cmp examples/ab.out build/program
 	od -An -v -tx1 build/program
 
-# the cases and the tests that are code, compiled without any proof: what fails is named, and a pass proves nothing. The cases
-# are played on disk too, if the programs are built
+# the cases and the tests that are code, by programs that are compiled without any proof: what fails is named, and a pass proves
+# nothing
 test:
 	@python3 tests/unproved.py
 
@@ -231,16 +231,25 @@ check-explain: build/v7 build/v7-explain build/v7-object
 	python3 tests/map.py build/v7 build/v7-explain
 	python3 tests/disassembly.py build/v7-explain
 
-# plays the cases, docs/CASES.md, with the programs: each must come out as written, and each bad case must be refused as in
-# memory. Samples that are in examples too must be the same there
-check-cases: build/v7 build/v7-from-gnu build/v7-object build/v7-explain
+# plays the cases, docs/CASES.md, with the programs: each must come out as written, and each bad case must be refused as bad.errors
+# has it. Samples that are in examples too must be the same there
+check-cases: build/v7 build/v7-from-gnu build/v7-object build/v7-explain build/library_uses
 	python3 tests/cases.py -s
 	python3 tests/planted.py -c
 	python3 tests/cases.py -b
 	python3 tests/cases.py
 
-# plants the bugs of docs/CASES.md, or those that BUGS names, one after another, and sees that the cases find each: two minutes
-# for a bug, with no proof
+# the program by which cases show the states of sessions
+build/library_uses: crates/library_uses/out/library_uses
+	mkdir -p build
+	cp crates/library_uses/out/library_uses build/library_uses
+
+crates/library_uses/out/library_uses: $(SOURCES)
+	python3 tests/prove.py library_uses $@
+	touch $@
+
+# plants the bugs of docs/CASES.md, or those that BUGS names, one after another, and sees that the cases find each: one to two
+# minutes for a bug, with no proof
 planted:
 	python3 tests/planted.py $(BUGS)
 
