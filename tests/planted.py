@@ -101,7 +101,7 @@ def failed(folder, texts):
                              stderr=subprocess.STDOUT, env={**os.environ, "V7_BUILD": folder, "V7_SECONDS": SECONDS}, check=False)
     said = ran.stdout.decode("ascii", "replace")
     names = re.findall(r"^ok (\w+)", said, re.M) + re.findall(rf"^{file.name}:\d+: (\w+): ", said, re.M)
-    if sorted(names) != sorted(texts) or "is missing\n" in said:
+    if sorted(names) != sorted(texts) or re.search(r": build/\S+ is missing$", said, re.M):
         raise Fault(said)
     return [name for name in texts if not re.search(rf"^ok {name}$", said, re.M)]
 
