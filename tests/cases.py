@@ -16,6 +16,7 @@ import glob
 import io
 import os
 import re
+import struct
 import subprocess
 import sys
 import tempfile
@@ -191,29 +192,48 @@ def forced_in(words):
     return names, words
 
 
-def play_state(item, files):
-    """Compares what a session shows after the edits of a line, by the call of libv7 that the program `library_uses` makes."""
-    names, edits = forced_in(item.arguments)
+def is_whole(data):
+    """Whether a file with relocation is as long as its header says."""
+    if len(data) < 16:
+        return False
+    _, text, of_data, _, symbols = struct.unpack("<5H", data[:10])
+    return len(data) == 16 + 2 * (text + of_data) + symbols
+
+
+def cannot_be_made(item, word):
+    return Mistake(item.line, f"this edit cannot be made: {shown(word)}")
+
+
+def shown_after(item, names, edits, files):
+    """What `library_uses` prints of a session after these edits. It finds the objects by their lengths, one after another."""
     for word in edits:
-        if word != b"-" and word[1:] not in files or word[:1] not in (b"+", b"-"):
-            raise Mistake(item.line, f"this edit cannot be made: {shown(word)}")
+        if word != b"-" and not (word[:1] == b"+" and is_whole(files.get(word[1:], b""))):
+            raise cannot_be_made(item, word)
+    objects = b"".join(files[word[1:]] for word in edits if word != b"-")
     letters = b"".join(b"w" if word == b"-" else b"a" for word in edits)
     with tempfile.TemporaryDirectory() as directory:
-        for name, data in ("forced", [name[:8].ljust(8, b"\0") for name in names]), ("objects", [files[it[1:]] for it in edits if it != b"-"]):
+        for name, data in ("forced", b"".join(name[:8].ljust(8, b"\0") for name in names)), ("objects", objects):
             with open(os.path.join(directory, name), "wb") as file:
-                file.write(b"".join(data))
-        came = run(item.line, [b"library_uses", b"state", b"forced", letters, b"objects"], directory)
+                file.write(data)
+        return run(item.line, [b"library_uses", b"state", b"forced", letters, b"objects"], directory)
+
+
+def play_state(item, files):
+    """Compares what a session shows after the edits of a line."""
+    names, edits = forced_in(item.arguments)
+    came = shown_after(item, names, edits, files)
+    if came.returncode or came.stderr:
+        raise differ(item.line, "state", "a state", shown(came.stderr))
     replies, _, lines = came.stdout.partition(b"\n")
     for word, reply in zip(edits, replies.decode().strip("[]").split(", ")):
         if word != b"-" and reply != "0":
-            raise Mistake(item.line, f"this edit cannot be made: {shown(word)}")
-    if came.returncode or came.stderr:
-        raise differ(item.line, "state", "a state", shown(came.stderr))
-    check_output(item.line, "state", [(line, encoded(line, text)) for line, text in item.block], re.sub(b"(?m)^  ", b"", lines))
+            raise cannot_be_made(item, word)
+    expected = [(line, encoded(line, text)) for line, text in item.block]
+    check_output(item.line, "state", expected, re.sub(b"(?m)^  ", b"", lines))
 
 
 def files_of(part):
-    """The files before the commands. Listings after the commands are read too, so that a part that is skipped has no bad one."""
+    """The files before the commands. Listings after the commands are read too, so that a bad one is found before the part is played."""
     folder = {}
     for item in part.files_before:
         make(item, folder)

@@ -121,8 +121,9 @@ def failing(bug, texts, good, is_whole=False):
     programs that the bug reaches are compiled before the cases are played."""
     files, uses = changed(bug), uses_of(TOP)
     crate = next(iter(files)).split(os.sep)[1]
-    counts = {name: sum(name in programs_of(text) for text in texts.values()) for name in CRATES if crate in below(CRATES[name][0], uses)}
-    reached = sorted((name for name in counts if counts[name]), key=lambda name: -counts[name])
+    using = [name for name in CRATES if crate in below(CRATES[name][0], uses)]
+    counts = {name: sum(name in programs_of(text) for text in texts.values()) for name in using}
+    reached = sorted(filter(counts.get, using), key=lambda name: -counts[name])
     with tempfile.TemporaryDirectory() as top:
         sources(top, files)
         folder = os.path.join(top, "build")
@@ -192,7 +193,7 @@ def try_rows(table):
         good = os.path.join(top, "good")
         programs(good, set().union(*map(programs_of, wanted.values())))
         passed = failed(good, wanted)
-        print(f"{len(wanted)} cases without a bug: {'not as expected: ' + ', '.join(passed) if passed else 'as expected'}", flush=True)
+        print(f"{len(wanted)} cases without a bug: {'failed: ' + ', '.join(passed) if passed else 'as expected'}", flush=True)
         faults += bool(passed)
         for (bug, _), fault in zip(table, pool.map(lambda row: try_row(*row, there, good), table)):
             print(f"{bug}: {fault or 'found'}", flush=True)

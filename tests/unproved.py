@@ -1,7 +1,7 @@
 #!/usr/bin/env python3
 """Plays the cases and runs the tests that are code, each crate compiled without any proof: `make test`.
 
-Four things run side by side: the programs are compiled, and then come groups of cases, the checks of texts, and the tests of a crate.
+Four things run side by side: the programs are compiled, and then come groups of cases, the checks of texts, and the tests of crates.
 Fails, with what was printed, if any of them fails. A crate with tests is one that has a function with `#[test]`.
 """
 import glob
@@ -109,23 +109,17 @@ def compiled(program, folder):
     return f"{program} compiled"
 
 
-def play(folder, *words):
-    """Plays cases by the compiled programs."""
-    return passes(sys.executable, "tests/cases.py", *words, env={**os.environ, "V7_BUILD": folder, "V7_SECONDS": SECONDS})
+def play(programs, folder, *words):
+    """Plays cases by the compiled programs, once these are there."""
+    wait(programs)
+    if any(job.exception() for job in programs):
+        raise Failed("a program is not compiled\n")
+    environment = {**os.environ, "V7_BUILD": folder, "V7_SECONDS": SECONDS}
+    return passes(sys.executable, "tests/cases.py", *words, env=environment)
 
 
 def play_share(programs, folder, files):
-    """Plays the cases of these files, once the programs are compiled."""
-    if wait(programs)[0] and any(job.exception() for job in programs):
-        raise Failed("a program is not compiled\n")
-    said = play(folder, *files)
-    return f"{said}: {' '.join(os.path.basename(file) for file in files)}"
-
-
-def play_bad(programs, folder):
-    if wait(programs)[0] and any(job.exception() for job in programs):
-        raise Failed("a program is not compiled\n")
-    return play(folder, "-b")
+    return f"{play(programs, folder, *files)}: {' '.join(map(os.path.basename, files))}"
 
 
 # --- all of it
@@ -161,7 +155,7 @@ def main():
         work = [(f"cases of {' '.join(files)}", play_share, [*programs], folder, files) for files in shares()]
         work += [(f"tests/{name}.py", passes, sys.executable, f"tests/{name}.py") for name in TEXTS]
         work += [("samples", passes, sys.executable, "tests/cases.py", "-s"), ("names of cases", check_names)]
-        work += [("bad cases", play_bad, [*programs], folder)]
+        work += [("bad cases", play, [*programs], folder, "-b")]
         tests = sorted(crates_with_tests().items(), key=lambda it: -it[1])
         work += [(f"tests of {name}", run_tests, name, count) for name, count in tests]
         jobs = {**programs, **{pool.submit(*rest): name for name, *rest in work}}
