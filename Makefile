@@ -16,7 +16,7 @@ endif
 
 all: build/v7 build/v7-from-gnu build/v7-object build/v7-explain build/v7-lesson
 
-SOURCES := crates.txt $(shell find crates \( -name out -o -path crates/cases -o -path crates/case_format \) -prune -o -type f -print)
+SOURCES := crates.txt $(shell find crates -name out -prune -o -type f -print)
 
 build/v7: crates/v7/out/v7
 	mkdir -p build
@@ -33,7 +33,7 @@ build/v7-from-gnu: crates/v7_from_gnu/out/v7_from_gnu
 	mkdir -p build
 	cp crates/v7_from_gnu/out/v7_from_gnu build/v7-from-gnu
 
-crates/v7_from_gnu/out/v7_from_gnu: crates.txt $(shell find crates/aout_core crates/gnu_objects crates/programs crates/v7_from_gnu -name out -prune -o -type f -print)
+crates/v7_from_gnu/out/v7_from_gnu: crates.txt $(shell find crates/aout_core crates/gnu_objects crates/v7_from_gnu -name out -prune -o -type f -print)
 	python3 tests/prove.py v7_from_gnu $@
 	touch $@
 
@@ -41,7 +41,7 @@ build/v7-object: crates/v7_object/out/v7_object
 	mkdir -p build
 	cp crates/v7_object/out/v7_object build/v7-object
 
-crates/v7_object/out/v7_object: crates.txt $(shell find crates/aout_core crates/listings crates/programs crates/v7_object -name out -prune -o -type f -print)
+crates/v7_object/out/v7_object: crates.txt $(shell find crates/aout_core crates/listings crates/v7_object -name out -prune -o -type f -print)
 	python3 tests/prove.py v7_object $@
 	touch $@
 
@@ -49,7 +49,7 @@ build/v7-explain: crates/v7_explain/out/v7_explain
 	mkdir -p build
 	cp crates/v7_explain/out/v7_explain build/v7-explain
 
-EXPLAIN_CRATES := $(addprefix crates/,aout_core link_session link_options link_out symtools command_words gnu_objects listings instructions disassemblies findings link_maps programs v7_explain)
+EXPLAIN_CRATES := $(addprefix crates/,aout_core link_session link_options link_out symtools command_words gnu_objects listings instructions disassemblies findings link_maps v7_explain)
 crates/v7_explain/out/v7_explain: crates.txt $(shell find $(EXPLAIN_CRATES) -name out -prune -o -type f -print)
 	python3 tests/prove.py v7_explain $@
 	touch $@
@@ -132,8 +132,8 @@ demo: build/v7
 	cmp examples/ab.out build/program
 	od -An -v -tx1 build/program
 
-# the cases and the tests that are code, compiled without any proof: what fails is named, and a pass proves nothing. The cases
-# are played on disk too, if the programs are built
+# the cases and the tests that are code, by programs that are compiled without any proof: what fails is named, and a pass proves
+# nothing
 test:
 	@python3 tests/unproved.py
 
@@ -214,7 +214,7 @@ build/v7-lesson: crates/lesson/out/lesson
 	mkdir -p build
 	cp crates/lesson/out/lesson build/v7-lesson
 
-LESSON_CRATES := $(addprefix crates/,aout_core link_session link_options link_out symtools reports listings instructions disassemblies programs lesson)
+LESSON_CRATES := $(addprefix crates/,aout_core link_session link_options link_out symtools reports listings instructions disassemblies lesson)
 crates/lesson/out/lesson: crates.txt $(shell find $(LESSON_CRATES) -name out -prune -o -type f -print)
 	python3 tests/prove.py lesson $@
 	touch $@
@@ -237,16 +237,25 @@ check-explain: build/v7 build/v7-explain build/v7-object
 	python3 tests/map.py build/v7 build/v7-explain
 	python3 tests/disassembly.py build/v7-explain
 
-# plays the cases, docs/CASES.md, with the programs: each must come out as written, and each bad case must be refused as in
-# memory. Samples that are in examples too must be the same there
-check-cases: build/v7 build/v7-from-gnu build/v7-object build/v7-explain
+# plays the cases, docs/CASES.md, with the programs: each must come out as written, and each bad case must be refused as bad.errors
+# has it. Samples that are in examples too must be the same there
+check-cases: build/v7 build/v7-from-gnu build/v7-object build/v7-explain build/library_uses
 	python3 tests/cases.py -s
 	python3 tests/planted.py -c
 	python3 tests/cases.py -b
 	python3 tests/cases.py
 
-# plants the bugs of docs/CASES.md, or those that BUGS names, one after another, and sees that the cases find each: two minutes
-# for a bug, with no proof
+# the program by which cases show the states of sessions
+build/library_uses: crates/library_uses/out/library_uses
+	mkdir -p build
+	cp crates/library_uses/out/library_uses build/library_uses
+
+crates/library_uses/out/library_uses: $(SOURCES)
+	python3 tests/prove.py library_uses $@
+	touch $@
+
+# plants the bugs of docs/CASES.md, or those that BUGS names, one after another, and sees that the cases find each: one to two
+# minutes for a bug, with no proof
 planted:
 	python3 tests/planted.py $(BUGS)
 

@@ -62,7 +62,7 @@ class Release:
     def __init__(self, is_checked):
         self.is_checked = is_checked
         self.version = re.search(r'^#define V7_VERSION "(.*)"$', read("include/v7.h"), re.M)[1]
-        shown = re.search(r'VERSION: &str = "(.*)";', read("crates/programs/src/shown.rt"))[1]
+        shown = re.search(r'VERSION: &str = "(.*)";', read("crates/aout_core/src/shown.rt"))[1]
         if shown != self.version:
             sys.exit(f"include/v7.h has version {self.version}, and the programs show {shown}")
         self.commit, self.date, self.author = asked("git", "show", "-s", "--format=%H\n%ct\n%an <%ae>", "HEAD").split("\n")

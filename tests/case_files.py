@@ -4,7 +4,7 @@ import re
 
 from case_format import Mistake, encoded, numbered
 
-SAMPLES = os.path.join(os.path.dirname(__file__), "..", "crates", "cases", "data")
+SAMPLES = os.path.join(os.path.dirname(__file__), "cases")
 
 
 # --- listings, as man/v7-object.1 has them

@@ -16,22 +16,25 @@ class Mistake(Exception):
 
 @dataclass
 class Item:
-    """A line with a word at the front, what it has after the word, and its `|` lines."""
+    """A line with a word at the front, what it has after the word, and its `|` lines; and how many commands of its part come before
+    it."""
     line: int
     word: str
     arguments: tuple
     block: list = field(default_factory=list)
+    place: int = 0
 
 
 @dataclass
 class Step:
-    """A command, what it reads, and what is to come of it. Each text has its line."""
+    """A command, what it reads, and what is to come of it. Each text has its line, and so have the requests."""
     line: int
     words: list
     given: list = field(default_factory=list)
     output: list = field(default_factory=list)
     error: list = field(default_factory=list)
     status: tuple = None
+    asked: tuple = None
     files: list = field(default_factory=list)
 
     def is_checked(self):
@@ -127,8 +130,17 @@ def some_bytes(word):
     return bytes.fromhex(word.decode("ascii"))
 
 
+REQUESTS = (b"open", b"read", b"create", b"write")
+
+
+def request(word):
+    if word not in REQUESTS:
+        raise ValueError
+    return word
+
+
 KINDS = {"FILE": path, "FROM": path, "N": number, "BYTE": number, "HH": some_bytes, "NAME": bytes, "PREFIX": bytes,
-         "REQUEST": bytes, "EDIT": bytes}
+         "REQUEST": request, "EDIT": bytes}
 FORMS = {
     "use": ["FILE .."],
     "object": ["FILE"],
@@ -142,14 +154,13 @@ FORMS = {
     "same": ["FILE FROM"],
     "unchanged": ["FILE .."],
     "absent": ["FILE .."],
-    "only": ["memory", "disk"],
     "refuse": ["REQUEST FILE", "write more FILE"],
     "fail": ["read FILE after N", "write FILE after N"],
     "state": ["", "EDIT .."],
     "status": ["N"],
 }
 WITH_BLOCK = ("object", "text", "listing", "state")
-PLANS = ("only", "refuse", "fail", "state")
+PLANS = ("refuse", "fail", "state")
 ONLY_MADE = ("use", "object")
 ONLY_CHECKED = ("listing", "unchanged", "absent")
 
@@ -198,10 +209,13 @@ def item_of(line, word, rest):
     raise Mistake(line, "wanted " + ", or ".join(f"{word} {form}" for form in FORMS[word]))
 
 
-def check_asked(line, text):
-    """The requests of a line, each with its file, are checked in memory only; here they need the right form."""
-    if any(len(words_of(line, one)) < 2 for one in text.split(", ") if text):
-        raise Mistake(line, "wanted asked REQUEST FILE, ..")
+def requests_of(line, text):
+    """The requests of a line, each with its file."""
+    requests = [words_of(line, one) for one in text.split(", ")] if text else []
+    for words in requests:
+        if len(words) < 2 or words[:-1] != [b"write", b"more"] and (len(words) != 2 or words[0] not in REQUESTS):
+            raise Mistake(line, "wanted asked REQUEST FILE, ..")
+    return [b" ".join(words) for words in requests]
 
 
 # --- cases
@@ -256,8 +270,7 @@ class Reader:
         if word == "object*":
             self.take_objects(line, rest)
         elif word == "asked":
-            self.step(line, text)
-            check_asked(line, rest)
+            self.step(line, text).asked = line, requests_of(line, rest)
         elif word in FORMS:
             self.take_item(item_of(line, word, rest))
         else:
@@ -276,6 +289,7 @@ class Reader:
         if item.word == "status":
             self.take_status(item)
         elif item.word in PLANS:
+            item.place = len(part.steps)
             part.plans.append(item)
         elif not part.steps and item.word not in ONLY_CHECKED:
             part.files_before.append(item)

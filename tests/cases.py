@@ -1,12 +1,13 @@
 #!/usr/bin/env python3
 """Plays cases, docs/CASES.md, with the built programs, in real folders and through real pipes.
 
-usage: tests/cases.py [FILE ..]      plays these files, or all of crates/cases/data
+usage: tests/cases.py [FILE ..]      plays these files, or all of tests/cases
        tests/cases.py -e FILE ..     prints only the first error of each bad case
        tests/cases.py -s             compares the samples with the files of examples/
-       tests/cases.py -b             plays bad.cases: each error must be the one that the engine in memory finds
+       tests/cases.py -b             plays bad.cases: each error must be the one that bad.errors has
+       tests/cases.py -p             plays all with the programs of a package: skips parts that watch a program, and states
 
-The programs are in build/, or in the folder V7_BUILD.
+The programs are in build/, or in the folder V7_BUILD. A command has 60 seconds, or V7_SECONDS.
 """
 import collections
 import contextlib
@@ -15,17 +16,20 @@ import glob
 import io
 import os
 import re
+import struct
 import subprocess
 import sys
 import tempfile
 
 from case_files import SAMPLES, contents, make, sample, sample_path
-from case_format import Mistake, cases_in, read_case
+from case_format import Mistake, cases_in, encoded, read_case
+from watching import NotWatched, Watch
 
 TOP = os.path.normpath(os.path.join(os.path.dirname(os.path.abspath(__file__)), ".."))
 # the folder of the programs
 BUILD = os.environ.get("V7_BUILD") or os.path.join(TOP, "build")
-SECONDS = 60
+# how long a command may take
+SECONDS = int(os.environ.get("V7_SECONDS") or 60)
 
 
 def shown(data, most=120):
@@ -113,6 +117,12 @@ def check_files(step, before, after):
             raise Mistake(step.line, f"{os.fsdecode(name)} {how}, and no line describes it")
 
 
+def check_asked(step, came):
+    line, expected = step.asked
+    if came != expected:
+        raise differ(line, "asked", shown(b", ".join(expected), 2000), shown(b", ".join(came), 2000))
+
+
 # --- commands
 
 def snapshot(directory):
@@ -124,29 +134,106 @@ def snapshot(directory):
     return files
 
 
-def run(step, directory):
-    given = b"".join(text for _, text in step.given)
-    path = os.path.join(BUILD, step.words[0].decode())
+def run(line, words, directory, given=b"", environment=None):
+    """Runs a command, of this line, and returns what came of it."""
+    name = os.fsdecode(words[0])
+    path = os.path.join(BUILD, name)
     if not os.access(path, os.X_OK):
-        raise Mistake(step.line, f"build/{step.words[0].decode()} is missing")
+        raise Mistake(line, f"build/{name} is missing")
     try:
-        return subprocess.run(step.words, executable=path, cwd=directory, input=given, capture_output=True,
-                              env={}, timeout=SECONDS, check=False)
+        return subprocess.run(words, executable=path, cwd=directory, input=given, capture_output=True,
+                              env=environment or {}, timeout=SECONDS, check=False)
     except subprocess.TimeoutExpired:
-        raise Mistake(step.line, f"it does not end within {SECONDS} seconds") from None
+        raise Mistake(line, f"it does not end within {SECONDS} seconds") from None
 
 
-def play_step(step, directory):
+def planned(item):
+    """The plan of a line, in the words of tests/watching.py."""
+    if item.word == "refuse":
+        return b"refuse", b" ".join(word.encode() if isinstance(word, str) else word for word in item.arguments)
+    word, name, _, count = item.arguments
+    return word.encode(), name, str(count).encode()
+
+
+def watched(step, plans, directory, given):
+    """Runs a command that is watched, and returns what came of it and what it asked for."""
+    try:
+        watch = Watch([planned(item) for item in plans])
+        came = run(step.line, step.words, directory, given, watch.environment())
+        return came, watch.requests()
+    except NotWatched as reason:
+        raise Mistake(step.line, str(reason)) from None
+
+
+def play_step(step, plans, directory):
+    """Runs a command, of whose requests some are refused, and checks what comes of it."""
     before = snapshot(directory)
-    came = run(step, directory)
+    given = b"".join(text for _, text in step.given)
+    if step.asked or plans:
+        came, requests = watched(step, plans, directory, given)
+    else:
+        came, requests = run(step.line, step.words, directory, given), []
     check_output(step.line, "standard error", step.error, came.stderr)
     check_output(step.line, "standard output", step.output, came.stdout)
     check_status(step, came.returncode)
     check_files(step, before, snapshot(directory))
+    if step.asked:
+        check_asked(step, requests)
+
+
+# --- states of sessions
+
+def forced_in(words):
+    """The names that edits force, each after -u, and the other edits."""
+    names, words = [], list(words)
+    while words[:1] == [b"-u"] and len(words) > 1:
+        names.append(words[1])
+        words = words[2:]
+    return names, words
+
+
+def is_whole(data):
+    """Whether a file with relocation is as long as its header says."""
+    if len(data) < 16:
+        return False
+    _, text, of_data, _, symbols = struct.unpack("<5H", data[:10])
+    return len(data) == 16 + 2 * (text + of_data) + symbols
+
+
+def cannot_be_made(item, word):
+    return Mistake(item.line, f"this edit cannot be made: {shown(word)}")
+
+
+def shown_after(item, names, edits, files):
+    """What `library_uses` prints of a session after these edits. It finds the objects by their lengths, one after another."""
+    for word in edits:
+        if word != b"-" and not (word[:1] == b"+" and is_whole(files.get(word[1:], b""))):
+            raise cannot_be_made(item, word)
+    objects = b"".join(files[word[1:]] for word in edits if word != b"-")
+    letters = b"".join(b"w" if word == b"-" else b"a" for word in edits)
+    with tempfile.TemporaryDirectory() as directory:
+        for name, data in ("forced", b"".join(name[:8].ljust(8, b"\0") for name in names)), ("objects", objects):
+            with open(os.path.join(directory, name), "wb") as file:
+                file.write(data)
+        return run(item.line, [b"library_uses", b"state", b"forced", letters, b"objects"], directory)
+
+
+def play_state(item, files):
+    """Compares what a session shows after the edits of a line."""
+    names, edits = forced_in(item.arguments)
+    came = shown_after(item, names, edits, files)
+    if came.returncode or came.stderr:
+        raise differ(item.line, "state", "a state", shown(came.stderr))
+    replies, _, lines = came.stdout.partition(b"\n")
+    for word, reply in zip(edits, replies.decode().strip("[]").split(", ")):
+        if word != b"-" and reply != "0":
+            raise cannot_be_made(item, word)
+    expected = [(line, encoded(line, text)) for line, text in item.block]
+    check_output(item.line, "state", expected, re.sub(b"(?m)^  ", b"", lines))
 
 
 def files_of(part):
-    """The files before the commands. Listings after the commands are read too, so that a part that is skipped has no bad one."""
+    """The files before the commands. Listings after the commands are read too, so that a bad one is found before the part is played."""
     folder = {}
     for item in part.files_before:
         make(item, folder)
@@ -156,29 +243,41 @@ def files_of(part):
     return folder
 
 
+def play_states(part, place, directory):
+    """Plays the states before which so many commands come."""
+    for item in part.plans:
+        if item.word == "state" and item.place == place:
+            play_state(item, snapshot(directory))
+
+
 def play_part(part, folder):
     with tempfile.TemporaryDirectory() as directory:
         for name, data in folder.items():
             with open(os.path.join(os.fsencode(directory), name), "wb") as file:
                 file.write(data)
-        for step in part.steps:
-            play_step(step, directory)
+        for place, step in enumerate(part.steps):
+            play_states(part, place, directory)
+            play_step(step, [item for item in part.plans if item.word != "state" and item.place <= place], directory)
+        play_states(part, len(part.steps), directory)
 
 
 # --- cases
 
 def reason(part):
-    """Why a part can't be played here, or None."""
-    words = {plan.word for plan in part.plans if plan.arguments != ("disk",)}
-    names = {"state": "states of sessions", "refuse": "refusals and failing devices", "fail": "refusals and failing devices"}
-    return next((names.get(word, "only memory") for word in sorted(words, reverse=True)), None)
+    """Why a part is not played with the programs of a package, or None."""
+    if any(plan.word == "state" for plan in part.plans):
+        return "states of sessions"
+    if part.plans or any(step.asked for step in part.steps):
+        return "requests that are watched"
+    return None
 
 
 class Run:
     """All cases of a run, and what came of them."""
 
-    def __init__(self, is_listing_errors):
+    def __init__(self, is_listing_errors=False, is_packaged=False):
         self.is_listing_errors = is_listing_errors
+        self.is_packaged = is_packaged
         self.names = {}
         self.played = self.in_part = self.bad = 0
         self.skipped = collections.Counter()
@@ -188,10 +287,10 @@ class Run:
             print(text)
 
     def play(self, case):
-        reasons = [why for why in map(reason, case.parts) if why]
+        reasons = [why for why in map(reason, case.parts) if why and self.is_packaged]
         for part in case.parts:
             folder = files_of(part)
-            if not reason(part):
+            if not (self.is_packaged and reason(part)):
                 play_part(part, folder)
         if len(reasons) == len(case.parts):
             self.skipped[reasons[0]] += 1
@@ -227,8 +326,8 @@ class Run:
 
     def summary(self):
         skipped = "".join(f", {count} for {why}" for why, count in sorted(self.skipped.items()))
-        print(f"{self.played} cases played on disk, {self.in_part} of them in part; "
-              f"{sum(self.skipped.values())} skipped{skipped}; {self.bad} failed")
+        skipped = f"; {self.in_part} of them in part; {sum(self.skipped.values())} skipped{skipped}" if self.is_packaged else ""
+        print(f"{self.played} cases played{skipped}; {self.bad} failed")
 
 
 def check_samples():
@@ -255,10 +354,10 @@ def played(words):
 
 
 def check_bad():
-    """Plays the bad cases: whether they fail a run, each with the error that crates/cases/stdout has at its end."""
+    """Plays the bad cases: whether they fail a run, each with the error that bad.errors has."""
     name = os.path.relpath(os.path.join(SAMPLES, "bad.cases"))
-    with open(os.path.join(SAMPLES, "..", "stdout"), encoding="ascii") as file:
-        expected = file.read().split(" failed\n")[1].replace("bad.cases:", f"{name}:")
+    with open(os.path.join(SAMPLES, "bad.errors"), encoding="ascii") as file:
+        expected = file.read().replace("bad.cases:", f"{name}:")
     is_good = len(expected) > 0
     for words, status in ([name], 1), (["-e", name], 0):
         ended, came = played(words)
@@ -267,19 +366,19 @@ def check_bad():
         if ended != status:
             print(f"{' '.join(words)}: status {ended} in place of {status}")
         is_good = is_good and ended == status and came == expected
-    print(f"{len(re.findall('^[^ ]', expected, re.M))} errors of bad cases compared with those in memory")
+    print(f"{len(re.findall('^[^ ]', expected, re.M))} errors of bad cases compared")
     return is_good
 
 
 def main(words):
     if words in (["-s"], ["-b"]):
         return 0 if {"-s": check_samples, "-b": check_bad}[words[0]]() else 1
-    is_listing_errors = words[:1] == ["-e"]
-    files = words[is_listing_errors:] or sorted(glob.glob(os.path.relpath(os.path.join(SAMPLES, "*.case"))))
-    all_cases = Run(is_listing_errors)
+    option = words[0] if words[:1] in (["-e"], ["-p"]) else ""
+    files = words[bool(option):] or sorted(glob.glob(os.path.relpath(os.path.join(SAMPLES, "*.case"))))
+    all_cases = Run(option == "-e", option == "-p")
     for name in files:
         all_cases.file(name)
-    if is_listing_errors:
+    if option == "-e":
         return 0
     all_cases.summary()
     return 1 if all_cases.bad or not all_cases.played else 0

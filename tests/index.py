@@ -17,7 +17,7 @@ def fault_of(crate, file, name, column):
     is_case = column == "Test" and not crate and file.endswith(".case")
     is_definition = file.split("/")[-1][0].isupper()
     if is_case:
-        path = f"crates/cases/data/{file}"
+        path = f"tests/cases/{file}"
     else:
         path = f"crates/{crate}/specs/{file}.antt" if is_definition else f"crates/{crate}/src/{file}.rt"
     if not os.path.exists(path):

@@ -7,10 +7,9 @@ usage: tests/planted.py [BUG ..]    tries the bugs of all rows, or these; an err
        tests/planted.py -c          looks only whether each edit fits the code, and the table the edits and the cases
 
 A bug CRATE/NAME is an edit of the crate that the prover refuses, in its must-fail/ or wrong-bodies/. Any other is an edit of
-tests/planted/. It is made in a copy of the crates, and the program is compiled by `rt try`, with no proof. A bug of the
-listings or of GNU's objects is seen by v7-object or v7-from-gnu, on disk; each other one by the program `cases`, in memory.
+tests/planted/. It is made in a copy of the sources, and programs are compiled there with no proof: those that use its crate, one
+after another, as long as a case that the row names does not fail. The other programs are those without a bug.
 """
-import errno
 import glob
 import os
 import re
@@ -18,16 +17,17 @@ import shutil
 import subprocess
 import sys
 import tempfile
-import time
+from concurrent.futures import ThreadPoolExecutor
+
+from compiling import CRATES, NotCompiled, compile_program, uses_of
 
 TOP = os.path.normpath(os.path.join(os.path.dirname(os.path.abspath(__file__)), ".."))
-CASES = os.path.join(TOP, "crates", "cases", "data")
+CASES = os.path.join(TOP, "tests", "cases")
 ROW = re.compile(r"^\| `([\w/]+)` \| .* \| (.*) \|$")
-SECONDS = 900
-
-# the programs that show the bugs of a crate on disk, and the file of their cases
-PROGRAMS = {"gnu_objects": "v7_from_gnu", "listings": "v7_object"}
-ON_DISK = {"v7_from_gnu": "gnu.case", "v7_object": "listings.case"}
+# for a command of a case, on a machine with other work too
+SECONDS = "300"
+# a compilation takes a processor and a gigabyte
+SIDE_BY_SIDE = 2
 
 
 class Fault(Exception):
@@ -71,48 +71,9 @@ def changed(bug):
     return files
 
 
-def compiled(top, crate, to):
-    """Compiles a program with no proof, keeps it, and returns the words that start it. It waits at a pipe until it is copied."""
-    folder = tempfile.mkdtemp(dir=top)
-    pipe = os.path.join(folder, "pipe")
-    os.mkfifo(pipe)
-    words = ["rt", "try", "--steps", "1", "--seconds", "60", "--", pipe] + (["out"] if crate != "cases" else [])
-    with open(os.path.join(folder, "log"), "wb") as log:
-        trying = subprocess.Popen(words, cwd=os.path.join(top, "crates", crate), stdin=subprocess.DEVNULL, stdout=log,
-                                  stderr=log, env={**os.environ, "TMPDIR": folder})
-    while True:
-        try:
-            writer = os.open(pipe, os.O_WRONLY | os.O_NONBLOCK)
-            break
-        except OSError as error:
-            if error.errno != errno.ENXIO:
-                raise
-        if trying.poll() is not None:
-            with open(os.path.join(folder, "log"), errors="replace") as log:
-                raise Fault("it is not compiled\n" + log.read()[-2000:])
-        time.sleep(0.1)
-    with open(f"/proc/{readers(pipe)[0]}/cmdline", "rb") as line:
-        words = [os.fsdecode(word) for word in line.read().split(b"\0")]
-    # a loader starts the program
-    place = [os.path.basename(word) for word in words].index("program")
-    shutil.copy(words[place], to)
-    os.close(writer)
-    trying.wait()
-    return words[:place] + [to]
-
-
-def readers(pipe):
-    """The processes that have opened a pipe, other than this one."""
-    found = []
-    for process in filter(str.isdigit, os.listdir("/proc")):
-        if int(process) == os.getpid():
-            continue
-        try:
-            if any(os.path.realpath(handle) == pipe for handle in glob.glob(f"/proc/{process}/fd/*")):
-                found.append(process)
-        except OSError:
-            continue
-    return found
+def below(crate, uses):
+    """A crate, and those of the repository that it uses."""
+    return {crate}.union(*(below(other, uses) for other in uses[crate] if other in uses))
 
 
 def cases_of(paths):
@@ -125,49 +86,63 @@ def cases_of(paths):
     return texts
 
 
-def played_in_memory(program, expected):
-    """Those of the cases that fail, or are not reached since the program stops."""
-    files = sorted(glob.glob(os.path.join(CASES, "*.case")))
-    texts = cases_of(files)
-    with tempfile.TemporaryDirectory() as folder:
-        for sample in glob.glob(os.path.join(CASES, "*.lst")):
-            shutil.copy(sample, folder)
-        with open(os.path.join(folder, "wanted.case"), "w", encoding="ascii") as file:
-            file.writelines(text for name, text in texts.items() if not expected or name in expected)
-        try:
-            ran = subprocess.run([*program, "wanted.case"], cwd=folder, stdin=subprocess.DEVNULL, stdout=subprocess.PIPE,
-                                 stderr=subprocess.DEVNULL, timeout=SECONDS, check=False)
-            said = ran.stdout.decode("ascii", "replace")
-        except subprocess.TimeoutExpired as late:
-            said = (late.stdout or b"").decode("ascii", "replace")
-    passed = re.findall(r"^(?:ok|skipped) (\w+)", said, re.M)
-    return [name for name in expected or texts if name not in passed]
+def programs_of(text):
+    """The programs that a case runs. A state is shown by `library_uses`."""
+    found = set(re.findall(r"^\$ (\S+)", text, re.M))
+    return found | {"library_uses"} if re.search(r"^state\b", text, re.M) else found
 
 
-def played_on_disk(program, word, expected):
-    """Those of the cases of a file that fail with this program in the place of the built one."""
-    path = os.path.join(CASES, ON_DISK[word])
-    folder = tempfile.mkdtemp(dir=os.path.dirname(program[-1]))
-    with open(os.path.join(folder, word.replace("_", "-")), "w", encoding="utf-8") as script:
-        script.write(f'#!/bin/sh\nexec {" ".join(program)} "$@"\n')
-    os.chmod(script.name, 0o755)
-    ran = subprocess.run([sys.executable, os.path.join(TOP, "tests", "cases.py"), path], stdout=subprocess.PIPE,
-                         stderr=subprocess.STDOUT, env={**os.environ, "V7_BUILD": folder}, check=False)
-    passed = re.findall(r"^(?:ok|skipped) (\w+)", ran.stdout.decode("ascii", "replace"), re.M)
-    return [name for name in expected or cases_of([path]) if name not in passed]
+def failed(folder, texts):
+    """Those of these cases that fail with the programs of a folder."""
+    with tempfile.NamedTemporaryFile("w", suffix=".case", encoding="ascii") as file:
+        file.writelines(texts.values())
+        file.flush()
+        ran = subprocess.run([sys.executable, os.path.join(TOP, "tests", "cases.py"), file.name], stdout=subprocess.PIPE,
+                             stderr=subprocess.STDOUT, env={**os.environ, "V7_BUILD": folder, "V7_SECONDS": SECONDS}, check=False)
+    said = ran.stdout.decode("ascii", "replace")
+    names = re.findall(r"^ok (\w+)", said, re.M) + re.findall(rf"^{file.name}:\d+: (\w+): ", said, re.M)
+    if sorted(names) != sorted(texts) or re.search(r": build/\S+ is missing$", said, re.M):
+        raise Fault(said)
+    return [name for name in texts if not re.search(rf"^ok {name}$", said, re.M)]
 
 
-def failing(bug, word, expected):
-    """Those of the cases that fail with a bug in this program, or, if there is none, with the program as it is."""
+def sources(top, files):
+    """Copies the sources, some files of which are changed."""
+    shutil.copy(os.path.join(TOP, "crates.txt"), top)
+    for path in glob.glob(os.path.join(TOP, "crates", "*", "src")):
+        shutil.copytree(path, os.path.join(top, os.path.relpath(path, TOP)))
+    for path, code in files.items():
+        with open(os.path.join(top, path), "w", encoding="utf-8") as source:
+            source.write(code)
+
+
+def failing(bug, texts, good, is_whole=False):
+    """Those of these cases that fail with a bug, where `good` is the folder of the programs without one. With `is_whole` all
+    programs that the bug reaches are compiled before the cases are played."""
+    files, uses = changed(bug), uses_of(TOP)
+    crate = next(iter(files)).split(os.sep)[1]
+    using = [name for name in CRATES if crate in below(CRATES[name][0], uses)]
+    counts = {name: sum(name in programs_of(text) for text in texts.values()) for name in using}
+    reached = sorted(filter(counts.get, using), key=lambda name: -counts[name])
     with tempfile.TemporaryDirectory() as top:
-        for name in ("crates.txt", "HANDLES"):
-            shutil.copy(os.path.join(TOP, name), top)
-        shutil.copytree(os.path.join(TOP, "crates"), os.path.join(top, "crates"), ignore=shutil.ignore_patterns("out"))
-        for path, code in changed(bug).items() if bug else ():
-            with open(os.path.join(top, path), "w", encoding="utf-8") as source:
-                source.write(code)
-        program = compiled(top, word, os.path.join(top, "program"))
-        return played_in_memory(program, expected) if word == "cases" else played_on_disk(program, word, expected)
+        sources(top, files)
+        folder = os.path.join(top, "build")
+        shutil.copytree(good, folder, ignore=shutil.ignore_patterns("*.compiled"))
+        found = []
+        for place, program in enumerate(reached, 1):
+            compile_program(top, program, folder)
+            if not is_whole or place == len(reached):
+                found = failed(folder, texts)
+            if len(found) == len(texts):
+                break
+        return found
+
+
+def programs(folder, names):
+    """Compiles programs without a bug."""
+    os.mkdir(folder)
+    with ThreadPoolExecutor(SIDE_BY_SIDE) as pool:
+        list(pool.map(lambda name: compile_program(TOP, name, folder), names))
 
 
 def check_table():
@@ -186,34 +161,43 @@ def check_table():
     return bool(faults) or not table
 
 
-def program_of(bug):
-    return PROGRAMS.get(bug.rpartition("/")[0], "cases")
-
-
 def list_failing(bugs):
-    for bug in bugs:
-        try:
-            print(f"{bug}: {' '.join(failing(bug, program_of(bug), []))}", flush=True)
-        except Fault as fault:
-            print(f"{bug}: {fault}", flush=True)
+    """Prints all cases that fail with each bug."""
+    there = cases_of(glob.glob(os.path.join(CASES, "*.case")))
+    with tempfile.TemporaryDirectory() as top:
+        good = os.path.join(top, "good")
+        programs(good, CRATES)
+        for bug in bugs:
+            try:
+                print(f"{bug}: {' '.join(failing(bug, there, good, True))}", flush=True)
+            except (Fault, NotCompiled) as fault:
+                print(f"{bug}: {fault}", flush=True)
+
+
+def try_row(bug, names, there, good):
+    """Plants a bug: what is wrong, if not all cases fail that its row names."""
+    try:
+        found = failing(bug, {name: there[name] for name in names}, good)
+    except (Fault, NotCompiled) as fault:
+        return str(fault)
+    passed = [name for name in names if name not in found] if names else ["no case is named"]
+    return "not found: " + ", ".join(passed) if passed else None
 
 
 def try_rows(table):
-    """Plants the bugs, each program first without one: whether all wanted cases fail, and without a bug none."""
+    """Plants the bugs, after the cases are played without one: whether all wanted cases fail, and without a bug none."""
+    there = cases_of(glob.glob(os.path.join(CASES, "*.case")))
+    wanted = {name: there[name] for _, names in table for name in names}
     faults = 0
-    for word in sorted({program_of(bug) for bug, _ in table}):
-        expected = sorted({name for bug, names in table if program_of(bug) == word for name in names})
-        failed = failing(None, word, expected)
-        print(f"{word} without a bug: {'not as expected: ' + ', '.join(failed) if failed else 'as expected'}", flush=True)
-        faults += bool(failed)
-    for bug, expected in table:
-        try:
-            failed = failing(bug, program_of(bug), expected)
-            passed = [name for name in expected if name not in failed] if expected else ["no case is named"]
-        except Fault as fault:
-            passed = [str(fault)]
-        print(f"{bug}: {'not found: ' + ', '.join(passed) if passed else 'found'}", flush=True)
+    with tempfile.TemporaryDirectory() as top, ThreadPoolExecutor(SIDE_BY_SIDE) as pool:
+        good = os.path.join(top, "good")
+        programs(good, set().union(*map(programs_of, wanted.values())))
+        passed = failed(good, wanted)
+        print(f"{len(wanted)} cases without a bug: {'failed: ' + ', '.join(passed) if passed else 'as expected'}", flush=True)
         faults += bool(passed)
+        for (bug, _), fault in zip(table, pool.map(lambda row: try_row(*row, there, good), table)):
+            print(f"{bug}: {fault or 'found'}", flush=True)
+            faults += bool(fault)
     print(f"{len(table)} bugs planted, {faults} faults")
     return faults
 
@@ -224,7 +208,7 @@ def main(words):
     if words == ["-c"]:
         return check_table()
     table = [row for row in rows() if not words or row[0] in words]
-    return 1 if try_rows(table) or not table else 0
+    return 1 if not table or try_rows(table) else 0
 
 
 if __name__ == "__main__":

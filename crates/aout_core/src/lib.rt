@@ -19,6 +19,8 @@
 //! - `Wire`, `BufferedWrite`: a reader or a writer with a sticky error, and a writer that may hold bytes back
 //! - `Block`, `BLOCK_SIZE`: bytes between a wire and its user, and how many a block holds
 //! - `ReadFault`, `DeviceFault`: why no file was read; a device failed
+//! - `FileFault`: why the bytes at a path were not read
+//! - `Shown`, `VERSION`: what a program shows of itself, and the version of v7
 //!
 //! Functions:
 //!
@@ -26,6 +28,8 @@
 //! - `write_file`: writes a file to a wire
 //! - `strip_file`: the file without symbols and relocation
 //! - `is_magic`: whether a file may begin with a word
+//! - `read_all`: all bytes at a path
+//! - `shown_by`, `show`: what an argument asks a program to show of itself; shows it
 //!
 //! Modules:
 //!
@@ -47,8 +51,10 @@ mod outgoing;
 mod reader;
 mod reloc;
 pub mod samples;
+mod shown;
 mod strip;
 mod symbol;
+mod whole;
 mod wire;
 mod word;
 mod writer;
@@ -60,7 +66,9 @@ pub use name::Name;
 pub use object::{Object, ObjectFault};
 pub use reader::read_file;
 pub use reloc::{Kind, Reloc};
+pub use shown::{Shown, VERSION, show, shown_by};
 pub use strip::strip_file;
 pub use symbol::{Segment, Symbol};
+pub use whole::{FileFault, read_all};
 pub use wire::{BufferedWrite, DeviceFault, Wire};
 pub use writer::write_file;

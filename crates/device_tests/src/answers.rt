@@ -1,6 +1,6 @@
-//! When what a command prints goes out: how often it is flushed, and that a session's answer is flushed before the next line
-//! is read.
-use aout_core::samples::{C_O, TestReader, TestWriter};
+//! When what a command prints goes out: how often it is flushed, that a session's answer is flushed before the next line is read,
+//! and that a flush that fails ends a command.
+use aout_core::samples::{C_O, Failing, TestReader, TestWriter};
 use aout_core::{File, Wire};
 use fixtures::words;
 use std::alloc::{AllocError, Global};
@@ -10,9 +10,11 @@ use std::io::{ErrorKind, Read, Write};
 use std::test::Fail;
 use v7tools::{BlockWriter, Office, Outputs, Stored, perform};
 
-/// A file system of `c.o` alone, which keeps each file that it is given.
+/// A file system of `c.o` alone, which keeps each file that it is given, and counts them.
 #[derive(Drop)]
-struct OneObject;
+struct OneObject {
+    stored: u32,
+}
 
 impl Office for OneObject {
     type Source = TestReader<'static>;
@@ -25,6 +27,7 @@ impl Office for OneObject {
     }
 
     fn store(&mut self, _: &str, _: &File) -> Stored {
+        self.stored = self.stored.saturating_add(1);
         Stored::Kept
     }
 }
@@ -41,7 +44,8 @@ fn run<R: Read + Drop, W: Write>(
         error: Wire::new(TestWriter::whole(Vec::new(alloc))),
     };
     let arguments = words(alloc, arguments)?;
-    Ok(perform(alloc, &mut OneObject, script, &mut outputs, arguments))
+    let mut office = OneObject { stored: 0 };
+    Ok(perform(alloc, &mut office, script, &mut outputs, arguments))
 }
 
 /// How often the device for what a command prints is flushed.
@@ -133,5 +137,80 @@ fn answers_before_the_next_line(rt: HostRuntime) -> Result<(), Fail> {
     };
     let status = run(rt.alloc(), &["session"], typist, &mut device)?;
     assert!(rt; status == 1 && flushed.get() == 60 && was_in_time.get());
+    Ok(())
+}
+
+/// What came of a command: its status, how many files it stored, and its line of a fault.
+#[derive(PartialEq, Eq, Drop)]
+struct Came {
+    status: u8,
+    stored: u32,
+    error: Vec<u8>,
+}
+
+/// Runs a command over a device for what it prints, which fails to be flushed.
+fn run_failing(
+    alloc: Global,
+    arguments: &[&str],
+    script: &str,
+    device: &mut TestWriter,
+) -> Result<Came, AllocError> {
+    let mut outputs = Outputs {
+        output: Wire::new(BlockWriter::new(device)),
+        error: Wire::new(TestWriter::whole(Vec::new(alloc))),
+    };
+    let arguments = words(alloc, arguments)?;
+    let mut office = OneObject { stored: 0 };
+    let script = TestReader::whole(script.as_bytes());
+    let status = perform(alloc, &mut office, script, &mut outputs, arguments);
+    Ok(Came {
+        status,
+        stored: office.stored,
+        error: outputs.error.into_inner().into_taken(),
+    })
+}
+
+/// Whether a command writes just this, fails to flush it, and then ends with status 2, after so many files were stored.
+fn ends_unflushed(
+    alloc: Global,
+    arguments: &[&str],
+    script: &str,
+    output: &[u8],
+    stored: u32,
+) -> Result<bool, AllocError> {
+    let failure = Failing::Fails(ErrorKind::Other);
+    let mut device = TestWriter::new(Vec::new(alloc), usize::MAX, output.len(), failure);
+    let came = run_failing(alloc, arguments, script, &mut device)?;
+    let wanted = Came {
+        status: 2,
+        stored,
+        error: Vec::from_slice(alloc, b"v7: write error\n")?,
+    };
+    Ok(came == wanted && device.taken() == output)
+}
+
+/// The arguments of a command, its script, what it prints up to the flush that fails, and how many files it stores.
+static UNFLUSHED: [(&[&str], &str, &[u8], u32); 6] = [
+    (&["session"], "withdraw\n", b"nothing to withdraw\n", 0),
+    (&["session"], "add c.o\nlink out\n", b"added c.o\n", 0),
+    (
+        &["session", "-x"],
+        "add c.o\nlink out",
+        b"added c.o\nUndefined:\n_f\nlinked out 1\n",
+        1,
+    ),
+    (&["ld", "-o", "out", "c.o"], "", b"Undefined:\n_f\n", 1),
+    (&["nm", "c.o"], "", b"000000 t L1\n       U _f\n", 0),
+    (&["size", "c.o"], "", b"4+0+0 = 4b = 04b\n", 0),
+];
+
+#[test]
+fn outputs_that_fail_to_be_flushed(rt: HostRuntime) -> Result<(), Fail> {
+    for (arguments, script, output, stored) in UNFLUSHED {
+        assert!(rt;
+            ends_unflushed(rt.alloc(), arguments, script, output, stored)?,
+            "{stored} files"
+        );
+    }
     Ok(())
 }

@@ -1,7 +1,6 @@
 //! Files and objects by their paths.
 use anyhow::{Result, anyhow};
-use aout_core::{Object, Wire, read_file};
-use programs::read_all;
+use aout_core::{Object, Wire, read_all, read_file};
 use std::alloc::Global;
 
 /// The object in the bytes of the file at a path.

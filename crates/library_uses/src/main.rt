@@ -1,4 +1,6 @@
-//! A use of each library, which the library's CALLING.md quotes, and a run of all of them.
+//! A use of each library, which the library's CALLING.md quotes, and a run of all of them. With the words `state FORCED EDITS
+//! OBJECTS` it shows a session as `v7_state` of libv7 does, for the cases of docs/CASES.md: the forced names and the objects are
+//! those of the files, and the edits are letters.
 #![tactic(auto)]
 
 mod bytes;
@@ -23,6 +25,7 @@ use conversion::converted_object;
 use disassembly::disassembled;
 use externals::externals_and_sizes;
 use gnu_objects::{Locals, Options};
+use library_calls::show_session;
 use line::put_first;
 use link_session::{Session, Starts};
 use listed::read_back;
@@ -48,12 +51,13 @@ fn object_at(rt: &HostRuntime, path: &str) -> Result<Object> {
     }
 }
 
-fn paths(rt: &HostRuntime) -> Result<Vec<String>> {
-    let mut paths = Vec::new(rt.alloc());
-    for path in env::args(rt)?.skip(1) {
-        paths.push(path)?;
+/// The arguments: paths, or the words of a state.
+fn arguments(rt: &HostRuntime) -> Result<Vec<String>> {
+    let mut words = Vec::new(rt.alloc());
+    for word in env::args(rt)?.skip(1) {
+        words.push(word)?;
     }
-    Ok(paths)
+    Ok(words)
 }
 
 /// Adds the object at a path, and prints how many names it brings.
@@ -82,7 +86,7 @@ fn show_file(rt: &HostRuntime, path: &str) -> Result<()> {
 
 /// Brings the files that the arguments name to the session.
 fn bring_all(rt: &HostRuntime, session: &mut Session) -> Result<()> {
-    for path in paths(rt)? {
+    for path in arguments(rt)? {
         add(rt, session, path.as_str())?;
         show_file(rt, path.as_str())?;
     }
@@ -116,7 +120,7 @@ fn show_words(rt: &HostRuntime) -> Result<()> {
 fn show_links(rt: &HostRuntime) -> Result<()> {
     let mut inputs = Vec::new(rt.alloc());
     let mut objects = Vec::new(rt.alloc());
-    for path in paths(rt)? {
+    for path in arguments(rt)? {
         objects.extend_from_slice(&bytes_at(rt, path.as_str())?)?;
         let file = fs::open(rt, path.as_str())?;
         inputs.push((path, Wire::new(file)))?;
@@ -168,13 +172,37 @@ fn show_second(rt: &HostRuntime) -> io::Result<()> {
     println!(rt; "{:?}", starts.shifts(&HEADER))
 }
 
-fn main(rt: HostRuntime) -> Result<()> {
+/// Uses each library.
+fn use_all(rt: &HostRuntime) -> Result<()> {
     let mut session = Session::new(rt.alloc());
-    bring_all(&rt, &mut session)?;
-    list_program(&rt, &session)?;
-    show_words(&rt)?;
-    show_links(&rt)?;
-    show_nothing(&rt)?;
-    show_others(&rt)?;
-    Ok(show_second(&rt)?)
+    bring_all(rt, &mut session)?;
+    list_program(rt, &session)?;
+    show_words(rt)?;
+    show_links(rt)?;
+    show_nothing(rt)?;
+    show_others(rt)?;
+    Ok(show_second(rt)?)
+}
+
+/// Prints the replies to the edits of a session, and then the lines of its state.
+fn show_state(rt: &HostRuntime, forced: &str, edits: &str, objects: &str) -> Result<()> {
+    let forced = bytes_at(rt, forced)?;
+    let objects = bytes_at(rt, objects)?;
+    match show_session(rt.alloc(), 0, &forced, edits.as_bytes(), &objects) {
+        Ok(shown) => {
+            println!(rt; "{:?}", shown.replies)?;
+            Ok(io::writer(rt).write_all(&shown.state)?)
+        }
+        Err(refusal) => Err(anyhow!("edit {}", refusal.place)),
+    }
+}
+
+fn main(rt: HostRuntime) -> Result<()> {
+    let words = arguments(&rt)?;
+    match words.as_slice() {
+        [word, forced, edits, objects] if word.as_str() == "state" => {
+            show_state(&rt, forced, edits, objects)
+        }
+        _ => use_all(&rt),
+    }
 }

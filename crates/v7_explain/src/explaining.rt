@@ -4,12 +4,11 @@ use crate::listing::listing_of;
 use crate::output::{Output, report_findings};
 use crate::remarks::put_lines;
 use crate::words::ListingWords;
-use aout_core::{File, Object, ObjectFault, ReadFault, Wire, read_file};
+use aout_core::{File, FileFault, Object, ObjectFault, ReadFault, Wire, read_all, read_file};
 use findings::{
     header_of, is_of_gnu, kind_text, likeness, odd_of, put_findings, put_header, put_note,
     wrong_bytes, wrong_words,
 };
-use programs::{FileFault, read_all};
 use std::alloc::{AllocError, Global};
 use std::fs;
 use std::io::Write;

@@ -15,10 +15,10 @@ mod remarks;
 mod words;
 mod words_in;
 
+use aout_core::show;
 use explaining::{check_files, disassemble_files, explain_files};
 use map::write_map;
 use output::{Output, write_output};
-use programs::show;
 use std::process::ExitCode;
 use words::{Asked, what_is_asked};
 

@@ -1,6 +1,6 @@
 //! The arguments of the command.
+use aout_core::{Shown, shown_by};
 use command_words::{Call, WordsFault, parse};
-use programs::{Shown, shown_by};
 use std::alloc::AllocError;
 use std::{env, io};
 

@@ -1,6 +1,6 @@
 //! What the arguments ask for.
+use aout_core::{Shown, shown_by};
 use gnu_objects::{Locals, Options};
-use programs::{Shown, shown_by};
 use std::alloc::AllocError;
 use std::{env, io};
 

@@ -2,9 +2,8 @@
 use crate::arguments::Choices;
 use crate::faults::{Failure, Fault, device_fault, file_fault, refused};
 use crate::lines::{clash_line, remark_line};
-use aout_core::{DeviceFault, Object, Wire, write_file};
+use aout_core::{DeviceFault, Object, Wire, read_all, write_file};
 use gnu_objects::{convert, first_clash, remarks};
-use programs::read_all;
 use std::fs;
 
 /// A file, and the object that it becomes.

@@ -1,7 +1,7 @@
 //! Why nothing was converted, reported on standard error.
 use crate::lines::{fault_line, refusal_line};
+use aout_core::FileFault;
 use gnu_objects::Refusal;
-use programs::FileFault;
 
 /// The line for standard error and the status.
 #[derive(Drop)]

@@ -6,10 +6,10 @@ mod converting;
 mod faults;
 mod lines;
 
+use aout_core::show;
 use arguments::{Asked, what_is_asked};
 use converting::{convert_file, convert_files};
 use faults::{Fault, report};
-use programs::show;
 use std::io;
 use std::process::ExitCode;
 

@@ -1,9 +1,8 @@
 //! The program `v7-object`: makes an a.out file of a listing.
 #![tactic(auto)]
 
-use aout_core::{DeviceFault, Wire, write_file};
+use aout_core::{DeviceFault, FileFault, Shown, Wire, read_all, show, shown_by, write_file};
 use listings::{Fault, ListingFault, read_listing};
-use programs::{FileFault, Shown, read_all, show, shown_by};
 use std::alloc::{AllocError, Global};
 use std::process::ExitCode;
 use std::{env, fs, io};

@@ -1,6 +1,6 @@
-//! The answers to `--help` and `--version`.
+//! What the programs beside `v7` show in place of their work: the answers to `--help` and `--version`.
 ghost use Rattle.std.specs.Prelude.{◌≡◌, ◌↔◌, ◌≤◌, Some, codes};
-ghost use Rattle.programs.specs.declared.shown.Shown.TheVariants.{Help, Version};
+ghost use Rattle.aout_core.specs.declared.shown.Shown.TheVariants.{Help, Version};
 
 use std::io;
 use std::rt::Runtime;
