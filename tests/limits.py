@@ -8,7 +8,7 @@ import sys
 os.chdir(os.path.join(os.path.dirname(os.path.abspath(__file__)), ".."))
 # the file and the name of each constant, and the texts that have its value, in place of {}
 LIMITS = [
-    ("link_session/src/forced.rt", "MOST", {
+    ("tool_options/src/forced.rt", "MOST", {
         "docs/LINK.md": "| names after `-u` that differ once they are cut | {} (own) |",
         "man/v7.1": "More than {} different names after",
         "man/v7.3": "More than {} different names are forced;",

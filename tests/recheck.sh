@@ -13,9 +13,9 @@ verdicts() {
 }
 
 mkdir -p "$room/crates"
-printf 'aout_core: byteorder thiserror\nlink_session: aout_core indexmap thiserror\n' >"$room/crates.txt"
+grep -E '^(aout_core|tool_options|link_session):' crates.txt >"$room/crates.txt"
 cp HANDLES "$room"
-cp -R crates/aout_core crates/link_session "$room/crates"
+cp -R crates/aout_core crates/tool_options crates/link_session "$room/crates"
 rm -rf "$room"/crates/*/must-fail "$room"/crates/*/out
 
 echo 'With the code as it is:'

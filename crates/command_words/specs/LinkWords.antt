@@ -4,10 +4,10 @@
 use Rattle.std.specs.Prelude.{◌≡◌, ◌≤◌, ℕ, Bool, cond, nat_lt, List, [], ◌∷◌, take, length, None, ok_or, option_map, unwrap_or, Result, Ok, Err}
 use Rattle.clap.specs.Walk.{Row, all_of, count_of, first_of}
 use Rattle.aout_core.specs.Names.{before_nul}
-use Rattle.link_session.specs.ForcedNames.{AreDifferent, takes, with_name}
-use Rattle.link_options.specs.declared.flags.Flags.{Flags}
-use Rattle.link_options.specs.Choices.{Choices, option_fault}
-use Rattle.link_options.specs.Flags.{choices_of}
+use Rattle.tool_options.specs.ForcedNames.{AreDifferent, takes, with_name}
+use Rattle.tool_options.specs.declared.flags.Flags.{Flags}
+use Rattle.tool_options.specs.Choices.{Choices, option_fault}
+use Rattle.tool_options.specs.Flags.{choices_of}
 use Rattle.command_words.specs.declared.fault.WordsFault.{WordsFault}
 use Rattle.command_words.specs.declared.fault.WordsFault.TheVariants.{Usage}
 use Rattle.command_words.specs.declared.link_words.TheConstants.{RELOCATABLE, STRIP, EXTERNALS, NOT_L, PURE, SPLIT, COMMONS, FORCED, ENTRY}

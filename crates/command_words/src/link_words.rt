@@ -11,9 +11,8 @@ ghost use Rattle.command_words.specs.LinkWords.{flags_asked, forced_asked, is_gi
 use crate::fault::WordsFault;
 use aout_core::Name;
 use clap::{Arg, ArgAction, ArgMatches, Command};
-use link_options::{Flags, Options};
-use link_session::Forced;
 use std::alloc::{AllocError, Global};
+use tool_options::{Flags, Forced, Options};
 
 /// The option of a file that can be linked again.
 const RELOCATABLE: &str = "relocatable";

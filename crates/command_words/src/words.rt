@@ -15,10 +15,8 @@ use crate::link_words::{
     forced_names, is_set, link_options, valued, with_flags, with_link_options,
 };
 use clap::{Arg, ArgAction, ArgMatches, Command};
-use link_options::Options;
-use link_session::Forced;
 use std::alloc::{AllocError, Global};
-use symtools::NmOptions;
+use tool_options::{Forced, NmOptions, Options};
 
 /// What the words ask for. (ld(1), nm(1), size(1), strip(1); the session: own choice)
 #[derive(Debug, Drop)]

@@ -13,7 +13,7 @@ use Rattle.link_session.specs.declared.state.State.TheVariants.{Defined, Wanted}
 use Rattle.link_session.specs.Sessions.{IsObject}
 use Rattle.link_session.specs.Starts.{total}
 use Rattle.link_session.specs.Mentions.{Mention}
-use Rattle.link_options.specs.Choices.{Choices}
+use Rattle.tool_options.specs.Choices.{Choices}
 use Rattle.link_out.specs.Layouts.{magic_of}
 use Rattle.link_out.specs.relation.NameStates.{IsWanted}
 use Rattle.link_out.specs.ReservedNames.{etext, edata, end_name, reserved_names}

@@ -9,7 +9,8 @@ use Rattle.aout_core.specs.declared.reloc.Reloc.{Reloc}
 use Rattle.aout_core.specs.Contents.{Contents}
 use Rattle.link_session.specs.declared.state.State.{State}
 use Rattle.link_session.specs.declared.state.State.TheVariants.{Defined, Wanted}
-use Rattle.link_session.specs.Mentions.{Mention, is_among}
+use Rattle.tool_options.specs.NameLists.{is_among}
+use Rattle.link_session.specs.Mentions.{Mention}
 use Rattle.link_out.specs.declared.linked.LinkFault.TheVariants.{DoesNotFit}
 use Rattle.link_out.specs.relation.NameStates.{IsFirst, IsWanted}
 use Rattle.link_out.specs.ReservedNames.{etext, edata, end_name}

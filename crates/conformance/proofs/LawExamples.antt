@@ -9,7 +9,7 @@ use Rattle.aout_core.specs.Decoding.{decode}
 use Rattle.aout_core.proofs.EncodesLemmas.{decoded_is_encoded}
 use Rattle.link_session.specs.Mentions.{mentions}
 use Rattle.link_session.specs.States.{multiple_names}
-use Rattle.link_options.specs.declared.options.Keep.TheVariants.{NotL}
+use Rattle.tool_options.specs.declared.options.Keep.TheVariants.{NotL}
 use Rattle.link_out.specs.declared.linked.LinkFault.{LinkFault}
 use Rattle.link_out.specs.function.Link.{Outcome, link}
 use Rattle.link_out.specs.laws.PartialLinks.{IsPartialLink}

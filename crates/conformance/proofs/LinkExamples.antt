@@ -4,9 +4,9 @@ use Rattle.aout_core.specs.Contents.{Contents}
 use Rattle.aout_core.specs.Encoding.{encoding}
 use Rattle.link_out.specs.declared.linked.LinkFault.{LinkFault}
 use Rattle.link_out.specs.declared.linked.LinkFault.TheVariants.{DoesNotFit, TooManySymbols, SymbolNumber}
-use Rattle.link_options.specs.declared.options.Layout.TheVariants.{Pure, Split}
-use Rattle.link_options.specs.declared.options.Keep.TheVariants.{NotL, Externals}
-use Rattle.link_options.specs.Choices.{Choices}
+use Rattle.tool_options.specs.declared.options.Layout.TheVariants.{Pure, Split}
+use Rattle.tool_options.specs.declared.options.Keep.TheVariants.{NotL, Externals}
+use Rattle.tool_options.specs.Choices.{Choices}
 use Rattle.link_out.specs.function.Reports.{report_text, status_of}
 use Rattle.link_out.specs.function.Link.{Outcome, link}
 use Rattle.std.specs.Prelude.{replicate}

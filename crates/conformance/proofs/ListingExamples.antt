@@ -10,17 +10,18 @@ use Rattle.aout_core.specs.Contents.{Contents}
 use Rattle.link_session.specs.declared.state.State.{State}
 use Rattle.link_session.specs.declared.state.State.TheVariants.{Wanted}
 use Rattle.link_session.specs.Starts.{total}
-use Rattle.link_session.specs.Mentions.{mentions, externals, is_among}
+use Rattle.tool_options.specs.NameLists.{is_among}
+use Rattle.link_session.specs.Mentions.{mentions, externals}
 use Rattle.link_session.specs.Sessions.{IsObject}
-use Rattle.link_options.specs.declared.options.Keep.TheVariants.{All, Externals, Nothing}
-use Rattle.link_options.specs.Choices.{Choices, lays_commons}
+use Rattle.tool_options.specs.declared.options.Keep.TheVariants.{All, Externals, Nothing}
+use Rattle.tool_options.specs.Choices.{Choices, lays_commons}
 use Rattle.link_out.specs.Results.{Outcome}
 use Rattle.link_out.specs.function.Link.{link}
 use Rattle.link_out.specs.relation.NameStates.{HasState, IsWanted}
 use Rattle.link_out.specs.relation.Relocated.{data_base_in, entry_of}
 use Rattle.link_out.specs.relation.LinkedFrom.{IsLinkedFrom, moved_locals_in}
 use Rattle.link_out.proofs.LinkedTheorem.{linked_exactly}
-use Rattle.symtools.specs.declared.options.NmOptions.{NmOptions}
+use Rattle.tool_options.specs.declared.nm_options.NmOptions.{NmOptions}
 use Rattle.symtools.specs.SymbolLines.{letter, symbol_line, value_column}
 use Rattle.symtools.specs.NmLists.{arranged, shown, nm_text}
 use Rattle.symtools.specs.SizeLines.{size_line, size_text}

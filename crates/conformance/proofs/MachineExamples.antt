@@ -4,8 +4,8 @@ use Rattle.std.specs.Prelude.{map}
 use Rattle.aout_core.specs.declared.symbol.Segment.TheVariants.{TextSeg, DataSeg}
 use Rattle.aout_core.specs.Contents.{Contents}
 use Rattle.link_session.specs.Sessions.{IsObject}
-use Rattle.link_options.specs.declared.options.Layout.TheVariants.{Pure, Split}
-use Rattle.link_options.specs.Choices.{Choices}
+use Rattle.tool_options.specs.declared.options.Layout.TheVariants.{Pure, Split}
+use Rattle.tool_options.specs.Choices.{Choices}
 use Rattle.link_out.specs.function.Link.{link}
 use Rattle.laws.specs.Core.{Space, of_instructions, of_data, core}
 use Rattle.laws.specs.Operands.{operand, Calls, Defines, is_usable_in, Arrives}

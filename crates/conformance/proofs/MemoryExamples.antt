@@ -13,8 +13,8 @@ use Rattle.link_session.specs.Labelled.{Labelled}
 use Rattle.link_session.specs.Limits.{refusal}
 use Rattle.link_session.specs.Sessions.{IsCause, nothing_kept}
 use Rattle.link_session.specs.Undo.{Kept}
-use Rattle.link_options.specs.declared.options.Layout.TheVariants.{Pure}
-use Rattle.link_options.specs.Choices.{Choices}
+use Rattle.tool_options.specs.declared.options.Layout.TheVariants.{Pure}
+use Rattle.tool_options.specs.Choices.{Choices}
 use Rattle.link_out.specs.declared.edit.Reply.{Reply}
 use Rattle.link_out.specs.declared.edit.RunFault.TheVariants as runs
 use Rattle.link_out.specs.declared.linked.LinkFault.TheVariants as links

@@ -11,13 +11,14 @@ use Rattle.aout_core.specs.WellFormed.{symbol_number}
 use Rattle.link_session.specs.declared.state.State.{State}
 use Rattle.link_session.specs.declared.state.State.TheVariants.{Defined, Wanted}
 use Rattle.link_session.specs.Sessions.{IsObject}
-use Rattle.link_session.specs.Mentions.{is_among, place_of}
+use Rattle.tool_options.specs.NameLists.{is_among}
+use Rattle.link_session.specs.Mentions.{place_of}
 use Rattle.link_session.specs.Cells.{segment_words, segment_relocs}
 use Rattle.link_out.specs.declared.linked.LinkFault.{LinkFault}
 use Rattle.link_out.specs.declared.linked.LinkFault.TheVariants.{DoesNotFit, TooManySymbols, SymbolNumber, Memory}
-use Rattle.link_options.specs.declared.options.Layout.{Layout}
-use Rattle.link_options.specs.declared.options.Layout.TheVariants.{Split}
-use Rattle.link_options.specs.Choices.{Choices}
+use Rattle.tool_options.specs.declared.options.Layout.{Layout}
+use Rattle.tool_options.specs.declared.options.Layout.TheVariants.{Split}
+use Rattle.tool_options.specs.Choices.{Choices}
 use Rattle.link_out.specs.relation.NameStates.{IsFirst}
 use Rattle.link_out.specs.Results.{Outcome}
 use Rattle.link_out.specs.function.Link.{link}

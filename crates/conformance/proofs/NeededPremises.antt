@@ -10,11 +10,12 @@ use Rattle.aout_core.specs.Contents.{Contents}
 use Rattle.aout_core.specs.Strip.{stripped}
 use Rattle.aout_core.specs.WellFormed.{is_external, masked_type, IsWellFormed}
 use Rattle.link_session.specs.Sessions.{IsObject}
-use Rattle.link_session.specs.Mentions.{externals, is_among}
+use Rattle.tool_options.specs.NameLists.{is_among}
+use Rattle.link_session.specs.Mentions.{externals}
 use Rattle.link_session.specs.Cells.{segment_words, segment_relocs}
 use Rattle.link_out.specs.declared.linked.LinkFault.{LinkFault}
-use Rattle.link_options.specs.declared.options.Keep.TheVariants.{All, NotL, Nothing}
-use Rattle.link_options.specs.Choices.{Choices, lays_commons, option_fault}
+use Rattle.tool_options.specs.declared.options.Keep.TheVariants.{All, NotL, Nothing}
+use Rattle.tool_options.specs.Choices.{Choices, lays_commons, option_fault}
 use Rattle.link_out.specs.Results.{Outcome}
 use Rattle.link_out.specs.function.Link.{link}
 use Rattle.link_out.specs.laws.PartialLinks.{KeepsNoMore, IsPartialLink, without_multiples}

@@ -12,11 +12,12 @@ use Rattle.aout_core.specs.Decoding.{decode}
 use Rattle.aout_core.specs.Names.{IsName}
 use Rattle.aout_core.specs.Encoding.{encoding}
 use Rattle.link_session.specs.Labelled.{Labelled}
-use Rattle.link_session.specs.Mentions.{mentions, is_among}
+use Rattle.tool_options.specs.NameLists.{is_among}
+use Rattle.link_session.specs.Mentions.{mentions}
 use Rattle.link_session.specs.States.{multiple_names}
 use Rattle.link_out.specs.declared.linked.Linked.{Linked}
-use Rattle.link_options.specs.declared.options.Keep.TheVariants.{Externals}
-use Rattle.link_options.specs.Choices.{Choices}
+use Rattle.tool_options.specs.declared.options.Keep.TheVariants.{Externals}
+use Rattle.tool_options.specs.Choices.{Choices}
 use Rattle.link_out.specs.Outcomes.{outcome_of as result_of}
 use Rattle.link_out.specs.function.Link.{link}
 use Rattle.link_out.specs.laws.PartialLinks.{KeepsNoMore}

@@ -12,7 +12,7 @@ use Rattle.aout_core.specs.Wires.{Latched}
 use Rattle.aout_core.proofs.EncodesLemmas.{decoded_sound}
 use Rattle.link_session.specs.Labelled.{Labelled, objects}
 use Rattle.link_out.specs.declared.linked.Linked.{Linked}
-use Rattle.link_options.specs.Choices.{Choices}
+use Rattle.tool_options.specs.Choices.{Choices}
 use Rattle.link_out.specs.Outcomes.{findings_of, outcome_of}
 use Rattle.link_out.specs.Results.{Findings}
 use Rattle.link_out.specs.function.Link.{link}

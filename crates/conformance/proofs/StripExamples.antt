@@ -8,8 +8,8 @@ use Rattle.aout_core.specs.Decoding.{decode}
 use Rattle.aout_core.specs.Names.{IsName}
 use Rattle.aout_core.specs.Encoding.{encoding}
 use Rattle.aout_core.specs.Strip.{stripped}
-use Rattle.link_options.specs.declared.options.Keep.TheVariants.{Nothing}
-use Rattle.link_options.specs.Choices.{Choices}
+use Rattle.tool_options.specs.declared.options.Keep.TheVariants.{Nothing}
+use Rattle.tool_options.specs.Choices.{Choices}
 use Rattle.command_words.specs.declared.words.Call.TheVariants.{Ld, Strip}
 use Rattle.v7tools.specs.CommandRuns.{AsksFor}
 use Rattle.v7tools.specs.Events.{opened, stored}

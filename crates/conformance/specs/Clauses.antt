@@ -6,8 +6,9 @@ use Rattle.aout_core.specs.declared.symbol.Segment.TheVariants.{TextSeg, DataSeg
 use Rattle.aout_core.specs.Contents.{Contents}
 use Rattle.link_session.specs.Starts.{total}
 use Rattle.link_session.specs.Sessions.{IsObject}
-use Rattle.link_session.specs.Mentions.{Mention, mentions, externals, is_among}
-use Rattle.link_options.specs.Choices.{Choices}
+use Rattle.tool_options.specs.NameLists.{is_among}
+use Rattle.link_session.specs.Mentions.{Mention, mentions, externals}
+use Rattle.tool_options.specs.Choices.{Choices}
 use Rattle.link_out.specs.Layouts.{magic_of}
 use Rattle.link_out.specs.relation.NameStates.{IsWanted}
 use Rattle.link_out.specs.KeptSymbols.{rows_kept}

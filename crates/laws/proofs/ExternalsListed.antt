@@ -14,10 +14,11 @@ use Rattle.link_session.specs.declared.state.State.{State}
 use Rattle.link_session.specs.declared.state.State.TheVariants.{Defined, Wanted}
 use Rattle.link_session.specs.Earlier.{with_earlier}
 use Rattle.link_session.specs.Starts.{total}
-use Rattle.link_session.specs.Mentions.{Mention, mentions, externals, is_among, new_names, names_of}
-use Rattle.link_session.proofs.MentionLemmas.{is_among-append}
-use Rattle.link_options.specs.declared.options.Keep.TheVariants.{Nothing}
-use Rattle.link_options.specs.Choices.{Choices}
+use Rattle.tool_options.specs.NameLists.{is_among, new_names}
+use Rattle.link_session.specs.Mentions.{Mention, mentions, externals, names_of}
+use Rattle.tool_options.proofs.NameListLemmas.{is_among-append}
+use Rattle.tool_options.specs.declared.options.Keep.TheVariants.{Nothing}
+use Rattle.tool_options.specs.Choices.{Choices}
 use Rattle.link_out.specs.KeptSymbols.{is_kept_local}
 use Rattle.link_out.specs.ReservedNames.{etext, edata, end_name}
 use Rattle.link_out.specs.Results.{Outcome}
@@ -27,7 +28,7 @@ use Rattle.link_out.specs.relation.LinkedTable.{shown as row_of_name, row_for, r
 use Rattle.link_out.specs.relation.Refusals.{CommonsTake}
 use Rattle.link_out.specs.relation.LinkedFrom.{IsLinkedFrom}
 use Rattle.link_out.proofs.RowLemmas.{rows_kept-others}
-use Rattle.symtools.specs.declared.options.NmOptions.{NmOptions}
+use Rattle.tool_options.specs.declared.nm_options.NmOptions.{NmOptions}
 use Rattle.symtools.specs.SymbolLines.{letter}
 use Rattle.symtools.specs.NmLists.{is_shown, arranged, shown, nm_text}
 use Rattle.laws.specs.Listings.{listed_locals, lines, state_letter, IsListedOnce}

@@ -17,7 +17,7 @@ use Rattle.link_session.specs.Starts.{size_of, total}
 use Rattle.link_session.specs.Sessions.{IsObject}
 use Rattle.link_session.proofs.ListLemmas.{all_split}
 use Rattle.link_session.proofs.WellFormedLemmas.{well_formed_parts}
-use Rattle.link_options.specs.Choices.{Choices}
+use Rattle.tool_options.specs.Choices.{Choices}
 use Rattle.link_out.specs.Results.{Outcome}
 use Rattle.link_out.specs.relation.Relocated.{move_in, IsAdded, IsRelocated, HoldsObjects}
 use Rattle.link_out.specs.relation.LinkedFrom.{IsLinkedFrom}

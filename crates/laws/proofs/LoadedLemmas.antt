@@ -18,11 +18,11 @@ use Rattle.link_session.specs.Sessions.{IsObject}
 use Rattle.link_session.specs.Mentions.{mentions}
 use Rattle.link_session.proofs.ListLemmas.{all_split}
 use Rattle.link_session.specs.Cells.{segment_words, segment_relocs}
-use Rattle.link_options.specs.declared.options.Keep.{Keep}
-use Rattle.link_options.specs.declared.options.Keep.TheVariants.{Nothing}
-use Rattle.link_options.specs.declared.options.Layout.{Layout}
-use Rattle.link_options.specs.declared.options.Layout.TheVariants.{Plain, Pure, Split}
-use Rattle.link_options.specs.Choices.{Choices, lays_commons}
+use Rattle.tool_options.specs.declared.options.Keep.{Keep}
+use Rattle.tool_options.specs.declared.options.Keep.TheVariants.{Nothing}
+use Rattle.tool_options.specs.declared.options.Layout.{Layout}
+use Rattle.tool_options.specs.declared.options.Layout.TheVariants.{Plain, Pure, Split}
+use Rattle.tool_options.specs.Choices.{Choices, lays_commons}
 use Rattle.link_out.specs.Layouts.{magic_of, data_base}
 use Rattle.link_out.specs.Results.{Outcome}
 use Rattle.link_out.specs.function.Plans.{plan, commons_laid}

@@ -5,8 +5,8 @@ use Rattle.std.specs.List.Sorted.{IsPermutation}
 use Rattle.std.proofs.lemmas.Bool.{or_left, or_right, or_parts}
 use Rattle.std.proofs.lemmas.List.Sorted.{IsPermutation-refl, IsPermutation-sym, IsPermutation-trans, IsPermutation-cons, IsPermutation-middle}
 use Rattle.std.proofs.lemmas.Slice.Eq.{bytes_eq-Decides}
-use Rattle.link_session.specs.Mentions.{is_among, new_names}
-use Rattle.link_session.proofs.MentionLemmas.{is_among-append}
+use Rattle.tool_options.specs.NameLists.{is_among, new_names}
+use Rattle.tool_options.proofs.NameListLemmas.{is_among-append}
 use Rattle.link_session.proofs.UpdateLemmas.{bytes_eq_sym, own_name}
 
 -- no name stands twice

@@ -15,7 +15,7 @@ use Rattle.link_session.specs.Limits.{limit_passed, refusal}
 use Rattle.link_session.specs.Edits.{Answer, added, refused, kept_unless, answer_by, answers_from, survivors_from, survivors}
 use Rattle.link_session.proofs.TotalLemmas.{within_before}
 use Rattle.link_out.specs.declared.linked.LinkFault.{LinkFault}
-use Rattle.link_options.specs.Choices.{Choices}
+use Rattle.tool_options.specs.Choices.{Choices}
 use Rattle.link_out.specs.function.Link.{Outcome, link}
 use Rattle.link_out.specs.Runs.{link_after}
 use Rattle.laws.specs.Orders.{additions, AreAdded, AreAlike}

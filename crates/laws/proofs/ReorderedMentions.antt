@@ -16,7 +16,8 @@ use Rattle.aout_core.proofs.AlikeLemmas.{slice_get_after}
 use Rattle.link_session.specs.declared.state.State.{State}
 use Rattle.link_session.specs.declared.state.State.TheVariants.{Defined, Wanted}
 use Rattle.link_session.specs.Starts.{size_of, total, shift}
-use Rattle.link_session.specs.Mentions.{Mention, statement, mention, mentions, mentions_in, forced_mention, is_among, names_of, names_by_first_mention}
+use Rattle.tool_options.specs.NameLists.{is_among}
+use Rattle.link_session.specs.Mentions.{Mention, statement, mention, mentions, mentions_in, forced_mention, names_of, names_by_first_mention}
 use Rattle.link_session.specs.States.{state}
 use Rattle.link_session.proofs.ListLemmas.{all_append, all_split}
 use Rattle.link_session.proofs.MentionLemmas.{is_among-externals}

@@ -15,7 +15,7 @@ use Rattle.link_session.specs.Mentions.{Mention, statement, mention, mentions, m
 use Rattle.link_session.specs.States.{Definition, definition_by, first_definition, differs, multiple_names}
 use Rattle.link_session.proofs.ListLemmas.{all_map}
 use Rattle.link_session.proofs.UpdateLemmas.{own_name}
-use Rattle.link_options.specs.Choices.{Choices}
+use Rattle.tool_options.specs.Choices.{Choices}
 use Rattle.link_out.specs.Results.{Findings}
 use Rattle.link_out.specs.function.Plans.{plan}
 use Rattle.link_out.specs.function.Link.{Outcome, link}

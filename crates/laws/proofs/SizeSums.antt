@@ -5,7 +5,7 @@ use Rattle.std.proofs.lemmas.List.Sums.{sum_by-cons}
 use Rattle.aout_core.specs.Contents.{Contents}
 use Rattle.link_session.specs.Mentions.{Mention, mentions, externals}
 use Rattle.link_session.specs.States.{state}
-use Rattle.link_options.specs.Choices.{Choices, lays_commons}
+use Rattle.tool_options.specs.Choices.{Choices, lays_commons}
 use Rattle.link_out.specs.function.Plans.{plan, common_size, room_of, commons_laid}
 use Rattle.link_out.specs.function.Link.{Outcome, link}
 use Rattle.link_out.specs.relation.LinkedTable.{room_for}

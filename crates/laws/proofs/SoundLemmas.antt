@@ -13,16 +13,17 @@ use Rattle.aout_core.specs.WellFormed.{is_external, segment_of, IsWellFormed}
 use Rattle.aout_core.specs.Words.{minus, plus}
 use Rattle.link_session.specs.Cells.{Referent, referent, to_name, to_segment, words_of}
 use Rattle.link_session.specs.Earlier.{with_earlier}
-use Rattle.link_session.specs.Mentions.{Mention, forced_mention, is_among, mention, mentions, mentions_in, names_by_first_mention, names_of, new_names, statement}
+use Rattle.tool_options.specs.NameLists.{is_among, new_names}
+use Rattle.link_session.specs.Mentions.{Mention, forced_mention, mention, mentions, mentions_in, names_by_first_mention, names_of, statement}
 use Rattle.link_session.specs.Sessions.{IsObject}
 use Rattle.link_session.specs.Starts.{total}
 use Rattle.link_session.specs.States.{Definition, first_definition, size_wanted_by, state_by, wanted_size}
 use Rattle.link_session.proofs.ListLemmas.{all_append}
-use Rattle.link_options.specs.declared.options.Keep.{Keep}
-use Rattle.link_options.specs.declared.options.Keep.TheVariants.{All, Externals, NotL, Nothing}
-use Rattle.link_options.specs.declared.options.Layout.{Layout}
-use Rattle.link_options.specs.declared.options.Layout.TheVariants.{Plain, Pure, Split}
-use Rattle.link_options.specs.Choices.{Choices, lays_commons}
+use Rattle.tool_options.specs.declared.options.Keep.{Keep}
+use Rattle.tool_options.specs.declared.options.Keep.TheVariants.{All, Externals, NotL, Nothing}
+use Rattle.tool_options.specs.declared.options.Layout.{Layout}
+use Rattle.tool_options.specs.declared.options.Layout.TheVariants.{Plain, Pure, Split}
+use Rattle.tool_options.specs.Choices.{Choices, lays_commons}
 use Rattle.link_out.specs.KeptSymbols.{is_kept_local, rows_kept}
 use Rattle.link_out.specs.Layouts.{Bases, base, magic_of}
 use Rattle.link_out.specs.ReservedNames.{edata, end_name, etext}

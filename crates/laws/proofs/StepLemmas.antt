@@ -14,9 +14,9 @@ use Rattle.link_session.specs.Starts.{total}
 use Rattle.link_session.proofs.ListLemmas.{all_split}
 use Rattle.link_out.specs.declared.linked.Linked.{Linked}
 use Rattle.link_out.specs.declared.linked.LinkFault.{LinkFault}
-use Rattle.link_options.specs.declared.options.Keep.TheVariants.{Nothing}
-use Rattle.link_options.specs.declared.options.Layout.{Layout}
-use Rattle.link_options.specs.Choices.{Choices, option_fault}
+use Rattle.tool_options.specs.declared.options.Keep.TheVariants.{Nothing}
+use Rattle.tool_options.specs.declared.options.Layout.{Layout}
+use Rattle.tool_options.specs.Choices.{Choices, option_fault}
 use Rattle.link_out.specs.Outcomes.{outcome_of, findings_of}
 use Rattle.link_out.specs.Results.{Outcome}
 use Rattle.link_out.specs.function.Link.{link}

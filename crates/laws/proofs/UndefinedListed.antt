@@ -14,8 +14,8 @@ use Rattle.link_session.specs.declared.state.State.TheVariants.{Defined, Wanted}
 use Rattle.link_session.specs.Earlier.{with_earlier}
 use Rattle.link_session.specs.Mentions.{Mention, mentions, names_by_first_mention}
 use Rattle.link_session.specs.States.{state}
-use Rattle.link_options.specs.declared.options.Keep.TheVariants.{Nothing}
-use Rattle.link_options.specs.Choices.{Choices}
+use Rattle.tool_options.specs.declared.options.Keep.TheVariants.{Nothing}
+use Rattle.tool_options.specs.Choices.{Choices}
 use Rattle.link_out.specs.KeptSymbols.{is_kept_local}
 use Rattle.link_out.specs.Layouts.{Bases}
 use Rattle.link_out.specs.function.Plans.{Plan, plan, common_offset}
@@ -28,7 +28,7 @@ use Rattle.link_out.proofs.ExternalLemmas.{row_at}
 use Rattle.link_out.proofs.OutcomeLemmas.{made_file, made_report}
 use Rattle.link_out.proofs.PartialLemmas.{IsProper, state_is_proper, local_rows_inner, external_row_outer}
 use Rattle.link_out.proofs.RowLemmas.{rows_kept-others}
-use Rattle.symtools.specs.declared.options.NmOptions.{NmOptions}
+use Rattle.tool_options.specs.declared.nm_options.NmOptions.{NmOptions}
 use Rattle.symtools.specs.SymbolLines.{is_shown_undefined}
 use Rattle.symtools.specs.NmLists.{is_shown, arranged, shown, nm_text}
 use Rattle.laws.specs.Listings.{undefined_locals, listed_locals, undefined_symbol, lines}

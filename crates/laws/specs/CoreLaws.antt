@@ -17,10 +17,10 @@ use Rattle.aout_core.specs.Strip.{stripped}
 use Rattle.link_session.specs.Starts.{total, own}
 use Rattle.link_session.specs.Sessions.{IsObject}
 use Rattle.link_session.specs.Cells.{segment_words, segment_relocs}
-use Rattle.link_options.specs.declared.options.Keep.{Keep}
-use Rattle.link_options.specs.declared.options.Keep.TheVariants.{Nothing}
-use Rattle.link_options.specs.declared.options.Layout.TheVariants.{Split}
-use Rattle.link_options.specs.Choices.{Choices, lays_commons}
+use Rattle.tool_options.specs.declared.options.Keep.{Keep}
+use Rattle.tool_options.specs.declared.options.Keep.TheVariants.{Nothing}
+use Rattle.tool_options.specs.declared.options.Layout.TheVariants.{Split}
+use Rattle.tool_options.specs.Choices.{Choices, lays_commons}
 use Rattle.link_out.specs.Results.{Outcome}
 use Rattle.link_out.specs.function.Link.{link}
 use Rattle.link_out.specs.relation.Relocated.{base_in, move_in, entry_of, IsAdded}

@@ -13,9 +13,10 @@ use Rattle.aout_core.specs.WellFormed.{is_external}
 use Rattle.link_session.specs.declared.state.State.{State}
 use Rattle.link_session.specs.declared.state.State.TheVariants.{Defined, Wanted}
 use Rattle.link_session.specs.Starts.{total}
-use Rattle.link_session.specs.Mentions.{mentions, externals, is_among}
-use Rattle.link_options.specs.declared.options.Keep.TheVariants.{Nothing}
-use Rattle.link_options.specs.Choices.{Choices}
+use Rattle.tool_options.specs.NameLists.{is_among}
+use Rattle.link_session.specs.Mentions.{mentions, externals}
+use Rattle.tool_options.specs.declared.options.Keep.TheVariants.{Nothing}
+use Rattle.tool_options.specs.Choices.{Choices}
 use Rattle.link_out.specs.ReservedNames.{etext, edata, end_name}
 use Rattle.link_out.specs.function.Link.{Outcome, link}
 use Rattle.link_out.specs.relation.NameStates.{HasState}
@@ -23,7 +24,7 @@ use Rattle.link_out.specs.relation.Relocated.{data_base_in, entry_of}
 use Rattle.link_out.specs.relation.LinkedTable.{row_for, moved_locals_in}
 use Rattle.link_out.specs.relation.Refusals.{CommonsTake, kept_locals}
 use Rattle.link_out.specs.relation.LinkedFrom.{IsLinkedFrom}
-use Rattle.symtools.specs.declared.options.NmOptions.{NmOptions}
+use Rattle.tool_options.specs.declared.nm_options.NmOptions.{NmOptions}
 use Rattle.symtools.specs.SymbolLines.{is_shown_undefined, letter, symbol_line}
 use Rattle.symtools.specs.NmLists.{arranged, shown, line_heading, nm_text}
 use Rattle.symtools.specs.SizeLines.{size_line, size_text}

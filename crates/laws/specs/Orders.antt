@@ -16,11 +16,12 @@ use Rattle.aout_core.specs.WellFormed.{is_external, masked_type, kind_of, symbol
 use Rattle.link_session.specs.Labelled.{Labelled}
 use Rattle.link_session.specs.Edits.{Change, addition, added, answers}
 use Rattle.link_session.specs.Sessions.{IsObject}
-use Rattle.link_session.specs.Mentions.{mentions, externals, is_among}
+use Rattle.tool_options.specs.NameLists.{is_among}
+use Rattle.link_session.specs.Mentions.{mentions, externals}
 use Rattle.link_session.specs.Cells.{segment_words, segment_relocs}
 use Rattle.link_out.specs.declared.linked.LinkFault.{LinkFault}
-use Rattle.link_options.specs.declared.options.Keep.TheVariants.{Nothing}
-use Rattle.link_options.specs.Choices.{Choices}
+use Rattle.tool_options.specs.declared.options.Keep.TheVariants.{Nothing}
+use Rattle.tool_options.specs.Choices.{Choices}
 use Rattle.link_out.specs.function.Link.{Outcome, link}
 use Rattle.link_out.specs.Runs.{link_after}
 use Rattle.link_out.specs.relation.NameStates.{IsWanted}

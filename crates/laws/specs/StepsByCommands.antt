@@ -10,8 +10,8 @@ use Rattle.std.specs.List.{AllByRecursion}
 use Rattle.aout_core.specs.Contents.{Contents, IsSound}
 use Rattle.aout_core.specs.Decoding.{decode}
 use Rattle.aout_core.specs.Names.{IsName}
-use Rattle.link_options.specs.declared.options.Keep.TheVariants.{Nothing}
-use Rattle.link_options.specs.Choices.{Choices}
+use Rattle.tool_options.specs.declared.options.Keep.TheVariants.{Nothing}
+use Rattle.tool_options.specs.Choices.{Choices}
 use Rattle.link_out.specs.laws.PartialLinks.{KeepsNoMore}
 use Rattle.link_out.specs.laws.PartialLinksAmongOthers.{IsPart, DefinesNoMultiple}
 use Rattle.command_words.specs.declared.words.Call.TheVariants.{Ld, Strip}

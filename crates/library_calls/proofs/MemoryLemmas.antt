@@ -5,7 +5,7 @@ use Rattle.link_session.specs.Edits.{Change}
 use Rattle.link_session.specs.Labelled.{objects}
 use Rattle.link_session.specs.Sessions.{nothing_kept}
 use Rattle.link_session.specs.Undo.{Kept}
-use Rattle.link_options.specs.Choices.{Choices}
+use Rattle.tool_options.specs.Choices.{Choices}
 use Rattle.link_out.specs.declared.linked.LinkFault.{LinkFault}
 use Rattle.link_out.specs.function.Link.{link}
 use Rattle.link_out.specs.Results.{Outcome}

@@ -16,7 +16,7 @@ use Rattle.library_calls.specs.declared.cause.LongPart.TheVariants as long
 use Rattle.library_calls.specs.declared.cause.Refusal.{Refusal}
 use Rattle.library_calls.specs.Causes.{at, number_of}
 use Rattle.link_session.specs.declared.entry.AddFault.TheVariants as adds
-use Rattle.link_session.specs.ForcedNames.{takes, with_name}
+use Rattle.tool_options.specs.ForcedNames.{takes, with_name}
 use Rattle.link_session.specs.Edits.{Change, addition, answers, survivors, withdrawal}
 use Rattle.link_session.specs.Labelled.{objects}
 use Rattle.link_out.specs.Runs.{link_after}
@@ -24,8 +24,8 @@ use Rattle.link_session.specs.Limits.{refusal}
 use Rattle.link_session.specs.Mentions.{externals}
 use Rattle.link_session.specs.Starts.{total}
 use Rattle.aout_core.specs.declared.symbol.Segment.TheVariants.{TextSeg, DataSeg, BssSeg}
-use Rattle.link_options.specs.Choices.{Choices}
-use Rattle.link_options.specs.Flags.{choices_of}
+use Rattle.tool_options.specs.Choices.{Choices}
+use Rattle.tool_options.specs.Flags.{choices_of}
 use Rattle.link_out.specs.declared.linked.LinkFault.TheVariants as links
 use Rattle.link_out.specs.function.Link.{link, linked_file}
 use Rattle.link_out.specs.function.Plans.{plan}

@@ -3,7 +3,7 @@ use Rattle.std.proofs.Common.{◌≡◌, ◌≢◌, ℕ, zero, suc, ◌+◌, ◌
 use Rattle.std.proofs.lemmas.List.{length-map}
 use Rattle.std.specs.Prelude.{IsOkAnd}
 use Rattle.aout_core.specs.Contents.{Contents}
-use Rattle.link_session.specs.ForcedNames.{takes, with_name}
+use Rattle.tool_options.specs.ForcedNames.{takes, with_name}
 use Rattle.link_session.specs.Labelled.{Labelled, objects}
 use Rattle.link_session.specs.Undo.{Kept}
 use Rattle.link_out.specs.Steps.{and_then}

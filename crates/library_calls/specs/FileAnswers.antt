@@ -9,7 +9,7 @@ use Rattle.aout_core.specs.Strip.{stripped}
 use Rattle.aout_core.specs.WellFormed.{first_object_fault}
 use Rattle.disassemblies.specs.Columns.{disassembly}
 use Rattle.link_out.specs.Steps.{and_then, refused_as, unless}
-use Rattle.symtools.specs.declared.options.NmOptions.{NmOptions}
+use Rattle.tool_options.specs.declared.nm_options.NmOptions.{NmOptions}
 use Rattle.symtools.specs.NmLists.{nm_text}
 use Rattle.symtools.specs.SizeLines.{size_text}
 use Rattle.library_calls.specs.declared.cause.Cause.{Cause}

@@ -7,7 +7,7 @@ use Rattle.aout_core.specs.Contents.{Contents}
 use Rattle.aout_core.specs.Encoding.{encoding}
 use Rattle.aout_core.specs.Names.{padded}
 use Rattle.link_session.specs.Limits.{refusal}
-use Rattle.link_options.specs.Choices.{Choices}
+use Rattle.tool_options.specs.Choices.{Choices}
 use Rattle.link_out.specs.function.Link.{Outcome, link}
 use Rattle.link_out.specs.Steps.{and_then, refused_as, unless}
 use Rattle.link_out.specs.Results.{Findings}

@@ -4,10 +4,10 @@
 -- for none.
 use Rattle.std.specs.Prelude.{ℕ, zero, suc, ◌+◌, ◌%◌, ◌/◌, cond, eqb, nat_lt, if◌then◌else◌, List, [], ◌∷◌, take, drop, length, Option, Some, None, ok_or, Result, Ok, Err}
 use Rattle.aout_core.specs.Names.{before_nul}
-use Rattle.link_session.specs.ForcedNames.{takes, with_name}
-use Rattle.link_options.specs.declared.flags.Flags.{Flags}
-use Rattle.link_options.specs.Choices.{Choices}
-use Rattle.link_options.specs.Flags.{choices_of}
+use Rattle.tool_options.specs.ForcedNames.{takes, with_name}
+use Rattle.tool_options.specs.declared.flags.Flags.{Flags}
+use Rattle.tool_options.specs.Choices.{Choices}
+use Rattle.tool_options.specs.Flags.{choices_of}
 use Rattle.library_calls.specs.declared.cause.Cause.{Cause}
 use Rattle.library_calls.specs.declared.cause.Cause.TheVariants.{NoOption, Excluded, LongName, CutNames, ManyNames}
 use Rattle.library_calls.specs.declared.cause.Refusal.{Refusal}

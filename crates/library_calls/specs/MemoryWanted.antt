@@ -7,7 +7,7 @@ use Rattle.aout_core.specs.Contents.{Contents}
 use Rattle.aout_core.specs.Decoding.{header_in}
 use Rattle.aout_core.specs.Encoding.{file_length}
 use Rattle.link_session.specs.Edits.{Change}
-use Rattle.link_options.specs.Choices.{Choices}
+use Rattle.tool_options.specs.Choices.{Choices}
 use Rattle.link_out.specs.Runs.{link_after}
 use Rattle.library_calls.specs.FileAnswers.{after_file, file_in}
 use Rattle.library_calls.specs.LinkAnswers.{linked_each, linked_in, with_first}

@@ -11,7 +11,7 @@ ghost use Rattle.library_calls.specs.declared.cause.Cause.TheVariants.{Memory, N
 
 use crate::cause::{Cause, Refusal};
 use crate::parts::ObjectBytes;
-use crate::requests::{forced_names, link_options};
+use crate::requests::{forced_names, tool_options};
 use crate::taking::{take_each, take_objects};
 use aout_core::{Wire, write_file};
 use link_out::{Linked, Options, finish};
@@ -123,7 +123,7 @@ pub fn link(alloc: Global, request: &LinkRequest<'_>, objects: &[u8]) -> Result<
     ensures memory { IfErr result (λ r. r.cause ≡ Memory
         → LinkMayRunOut request.now.options request.now.entry.now request.now.forced.now objects.now r.place) }
 {
-    let options = link_options(request.options, request.entry)?;
+    let options = tool_options(request.options, request.entry)?;
     let forced = forced_names(request.forced)?;
     let linked = link_objects(alloc, objects, &forced, &options)?;
     Ok(program_of(alloc, &linked)?)
@@ -141,7 +141,7 @@ pub(crate) fn link_requested(
         → LinkOfEachMayRunOut request.now.options request.now.entry.now request.now.forced.now (each_of parts.now) r.place) }
     ensures more { IsOk result → LinkOfEachMayRunOut request.now.options request.now.entry.now request.now.forced.now (each_of parts.now) 0 }
 {
-    let choices = link_options(request.options, request.entry)?;
+    let choices = tool_options(request.options, request.entry)?;
     let forced = forced_names(request.forced)?;
     link_parts(alloc, parts, &forced, &choices)
 }

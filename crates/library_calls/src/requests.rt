@@ -6,9 +6,9 @@ ghost use Rattle.library_calls.specs.declared.cause.Cause.TheVariants.{Memory};
 
 use crate::cause::{Cause, Refusal};
 use aout_core::Name;
-use link_options::{Flags, Options};
 use link_session::Forced;
 use symtools::NmOptions;
+use tool_options::{Flags, Options};
 
 /// Whether the bit of value `place` is 1.
 fn has_bit(bits: u32, place: u32) -> bool
@@ -45,7 +45,7 @@ fn entry(bytes: &[u8]) -> Option<Name>
 }
 
 /// The options of a link, by their bits and the name of the entry point.
-pub(crate) fn link_options(bits: u32, entry_name: &[u8]) -> Result<Options, Cause>
+pub(crate) fn tool_options(bits: u32, entry_name: &[u8]) -> Result<Options, Cause>
     ensures { result ≡ choices_in bits entry_name.now }
 {
     if bits > 127 {

@@ -11,7 +11,7 @@ ghost use Rattle.library_calls.specs.declared.cause.Cause.TheVariants.{Memory};
 use crate::cause::{Cause, Refusal};
 use crate::edits::{make_edits, read_edits, session_status};
 use crate::link_call::{LinkRequest, Program, link_kept, program_of};
-use crate::requests::{forced_names, link_options};
+use crate::requests::{forced_names, tool_options};
 use link_out::{Edit, Options};
 use link_session::{Forced, Session};
 use std::alloc::Global;
@@ -83,7 +83,7 @@ pub fn run_session(
     ensures memory { IfErr result (λ r. r.cause ≡ Memory
         → SessionMayRunOut request.now.options request.now.entry.now request.now.forced.now letters.now objects.now r.place) }
 {
-    let options = link_options(request.options, request.entry)?;
+    let options = tool_options(request.options, request.entry)?;
     let forced = forced_names(request.forced)?;
     let edits = read_edits(alloc, letters, objects)?;
     Ok(run_edits(alloc, edits, &forced, &options)?)

@@ -1,10 +1,10 @@
-//! A use of `link_options`.
+//! A use of `tool_options`.
 ghost use Rattle.std.specs.Prelude.{◌≡◌, true, None};
-ghost use Rattle.link_options.specs.Choices.{options_of};
-ghost use Rattle.link_options.specs.declared.options.Layout.TheVariants.{Plain};
-ghost use Rattle.link_options.specs.declared.options.Keep.TheVariants.{NotL};
+ghost use Rattle.tool_options.specs.Choices.{options_of};
+ghost use Rattle.tool_options.specs.declared.options.Layout.TheVariants.{Plain};
+ghost use Rattle.tool_options.specs.declared.options.Keep.TheVariants.{NotL};
 
-use link_options::{Keep, Layout, Options};
+use tool_options::{Keep, Layout, Options};
 
 /// The options of `ld -r -X`: the file can be linked again, and keeps no local symbol whose name begins with L.
 pub(crate) fn partial_options() -> Options

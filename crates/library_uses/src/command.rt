@@ -1,8 +1,8 @@
 //! A use of `v7tools`.
 ghost use Rattle.std.specs.Prelude.{[], false, None};
-ghost use Rattle.link_options.specs.Choices.{options_of};
-ghost use Rattle.link_options.specs.declared.options.Layout.TheVariants.{Plain};
-ghost use Rattle.link_options.specs.declared.options.Keep.TheVariants.{All};
+ghost use Rattle.tool_options.specs.Choices.{options_of};
+ghost use Rattle.tool_options.specs.declared.options.Layout.TheVariants.{Plain};
+ghost use Rattle.tool_options.specs.declared.options.Keep.TheVariants.{All};
 ghost use Rattle.v7tools.specs.LinkAnswers.{IsLinkOf, inputs_of};
 
 use aout_core::Wire;

@@ -1,9 +1,9 @@
 //! A use of `link_out`.
 ghost use Rattle.std.specs.Prelude.{false, None};
 ghost use Rattle.link_session.specs.Labelled.{objects};
-ghost use Rattle.link_options.specs.Choices.{options_of};
-ghost use Rattle.link_options.specs.declared.options.Layout.TheVariants.{Plain};
-ghost use Rattle.link_options.specs.declared.options.Keep.TheVariants.{All};
+ghost use Rattle.tool_options.specs.Choices.{options_of};
+ghost use Rattle.tool_options.specs.declared.options.Layout.TheVariants.{Plain};
+ghost use Rattle.tool_options.specs.declared.options.Keep.TheVariants.{All};
 ghost use Rattle.link_out.specs.Outcomes.{IsLinkOf};
 ghost use Rattle.link_out.specs.function.Link.{link};
 

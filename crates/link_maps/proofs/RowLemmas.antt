@@ -2,7 +2,8 @@
 use Rattle.std.proofs.Common.{◌≡◌, Bool, true, false, cond, ℕ, List, Some, None, refl, ◌∙◌, ap}
 use Rattle.std.specs.Prelude.{bytes_eq, position}
 use Rattle.aout_core.specs.declared.symbol.Symbol.{Symbol}
-use Rattle.link_session.specs.Mentions.{is_among, names_by_first_mention, place_of}
+use Rattle.tool_options.specs.NameLists.{is_among}
+use Rattle.link_session.specs.Mentions.{names_by_first_mention, place_of}
 use Rattle.link_out.specs.function.Plans.{Plan}
 use Rattle.link_out.specs.function.Tables.{external_row, external_rows}
 use Rattle.link_out.proofs.FindingLemmas.{position-place}

@@ -7,9 +7,10 @@ use Rattle.aout_core.specs.declared.reloc.Kind.TheVariants.{External}
 use Rattle.aout_core.specs.Contents.{Contents}
 use Rattle.aout_core.specs.WellFormed.{kind_of, symbol_number}
 use Rattle.link_session.specs.Labelled.{objects}
-use Rattle.link_session.specs.Mentions.{externals, is_among}
+use Rattle.tool_options.specs.NameLists.{is_among}
+use Rattle.link_session.specs.Mentions.{externals}
 use Rattle.link_session.specs.Undo.{Kept}
-use Rattle.link_options.specs.Choices.{Choices}
+use Rattle.tool_options.specs.Choices.{Choices}
 use Rattle.link_out.specs.declared.linked.LinkFault.TheVariants.{Memory}
 use Rattle.link_out.specs.Layouts.{Bases}
 use Rattle.link_out.specs.Outcomes.{IsLinkOf}

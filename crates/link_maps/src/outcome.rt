@@ -2,7 +2,7 @@
 ghost use Rattle.std.specs.Prelude.{◌≡◌, ◌≢◌, Err, bytes_eq, position, IfOk};
 ghost use Rattle.link_session.specs.Labelled.{objects};
 ghost use Rattle.link_session.specs.Mentions.{externals};
-ghost use Rattle.link_options.specs.Choices.{Choices};
+ghost use Rattle.tool_options.specs.Choices.{Choices};
 ghost use Rattle.link_out.specs.declared.linked.LinkFault.TheVariants.{Memory};
 ghost use Rattle.link_out.specs.Outcomes.{IsLinkOf};
 ghost use Rattle.link_out.specs.function.Link.{link};

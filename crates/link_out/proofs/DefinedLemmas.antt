@@ -10,12 +10,13 @@ use Rattle.aout_core.specs.WellFormed.{is_external, masked_type, segment_of, seg
 use Rattle.aout_core.proofs.SegmentLemmas.{by_number}
 use Rattle.link_session.specs.declared.state.State.TheVariants.{Wanted}
 use Rattle.link_session.specs.Starts.{shift}
-use Rattle.link_session.specs.Mentions.{mention, statement, mentions, is_among, names_of, names_by_first_mention}
+use Rattle.tool_options.specs.NameLists.{is_among}
+use Rattle.link_session.specs.Mentions.{mention, statement, mentions, names_of, names_by_first_mention}
 use Rattle.link_session.specs.States.{Definition, first_definition, wanted_size, state_by, differs, multiple_names}
 use Rattle.link_session.proofs.MentionLemmas.{is_among-externals}
 use Rattle.link_session.proofs.UpdateLemmas.{unmentioned}
-use Rattle.link_options.specs.declared.options.Keep.TheVariants.{Nothing}
-use Rattle.link_options.specs.Choices.{Choices}
+use Rattle.tool_options.specs.declared.options.Keep.TheVariants.{Nothing}
+use Rattle.tool_options.specs.Choices.{Choices}
 use Rattle.link_out.specs.Layouts.{base}
 use Rattle.link_out.specs.function.Plans.{Plan, plan}
 use Rattle.link_out.specs.function.Finals.{Final, final, final_by, type_of, bound_at}

@@ -7,7 +7,8 @@ use Rattle.link_session.specs.declared.state.State.{State}
 use Rattle.link_session.specs.declared.state.State.TheVariants.{Wanted}
 use Rattle.link_session.specs.Image.{state_at}
 use Rattle.link_session.specs.Image.{named_states}
-use Rattle.link_session.specs.Mentions.{Mention, is_among, names_by_first_mention, place_of}
+use Rattle.tool_options.specs.NameLists.{is_among}
+use Rattle.link_session.specs.Mentions.{Mention, names_by_first_mention, place_of}
 use Rattle.link_session.specs.States.{state}
 use Rattle.link_session.proofs.PlaceLemmas.{found_place, missing_state}
 use Rattle.link_session.proofs.MentionedLemmas.{keys-named_states, state_for-named_states}

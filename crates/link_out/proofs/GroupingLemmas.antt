@@ -5,14 +5,15 @@ use Rattle.std.specs.List.{AllByRecursion}
 use Rattle.aout_core.specs.declared.symbol.Segment.TheVariants.{TextSeg, DataSeg, BssSeg}
 use Rattle.aout_core.specs.Contents.{Contents}
 use Rattle.aout_core.specs.WellFormed.{IsWellFormed}
-use Rattle.link_session.specs.Mentions.{Mention, mentions, mentions_in, forced_mention, is_among, names_by_first_mention}
+use Rattle.tool_options.specs.NameLists.{is_among}
+use Rattle.link_session.specs.Mentions.{Mention, mentions, mentions_in, forced_mention, names_by_first_mention}
 use Rattle.link_session.specs.States.{definition_by, first_definition, state, multiple_names}
 use Rattle.link_session.specs.Limits.{limit_passed}
 use Rattle.link_session.specs.declared.entry.AddFault.TheVariants.{TextFull, DataFull, BssFull, NamesFull}
 use Rattle.link_session.proofs.ListLemmas.{all_append, all_split}
 use Rattle.link_session.proofs.UpdateLemmas.{definition_of}
-use Rattle.link_options.specs.declared.options.Keep.{Keep}
-use Rattle.link_options.specs.Choices.{Choices}
+use Rattle.tool_options.specs.declared.options.Keep.{Keep}
+use Rattle.tool_options.specs.Choices.{Choices}
 use Rattle.link_out.specs.function.Link.{Outcome, link}
 use Rattle.link_out.specs.laws.PartialLinks.{KeepsNoMore, IsPartialLink}
 use Rattle.link_out.specs.laws.PartialLinksAmongOthers.{IsPart, DefinesNoMultiple, IsGrouped, ungrouped, grouped}

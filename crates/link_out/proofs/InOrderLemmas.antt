@@ -6,9 +6,10 @@ use Rattle.std.proofs.lemmas.List.Sums.{sum_by-append}
 use Rattle.link_session.specs.declared.state.State.{State}
 use Rattle.link_session.specs.Image.{Named}
 use Rattle.link_session.specs.Image.{named_states}
-use Rattle.link_session.specs.Mentions.{Mention, is_among, new_names, names_of, names_by_first_mention, place_of}
+use Rattle.tool_options.specs.NameLists.{is_among, new_names}
+use Rattle.link_session.specs.Mentions.{Mention, names_of, names_by_first_mention, place_of}
 use Rattle.link_session.specs.States.{state}
-use Rattle.link_session.proofs.MentionLemmas.{is_among-append}
+use Rattle.tool_options.proofs.NameListLemmas.{is_among-append}
 use Rattle.link_session.proofs.UpdateLemmas.{own_name}
 use Rattle.link_out.specs.function.Plans.{Plan, common_size, room_of, commons_total, common_offset}
 use Rattle.link_out.specs.function.Finals.{final}

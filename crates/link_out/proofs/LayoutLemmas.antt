@@ -14,13 +14,14 @@ use Rattle.link_session.specs.declared.state.State.{State}
 use Rattle.link_session.specs.declared.state.State.TheVariants.{Defined, Wanted}
 use Rattle.link_session.specs.Earlier.{with_earlier}
 use Rattle.link_session.specs.Starts.{total, shift}
-use Rattle.link_session.specs.Mentions.{Mention, mentions, is_among, names_by_first_mention, place_of}
+use Rattle.tool_options.specs.NameLists.{is_among}
+use Rattle.link_session.specs.Mentions.{Mention, mentions, names_by_first_mention, place_of}
 use Rattle.link_session.specs.States.{state}
 use Rattle.link_session.specs.Cells.{Referent, to_segment, to_name, referent, words_of}
-use Rattle.link_options.specs.declared.options.Layout.{Layout}
-use Rattle.link_options.specs.declared.options.Keep.{Keep}
-use Rattle.link_options.specs.declared.options.Keep.TheVariants.{All, NotL, Externals, Nothing}
-use Rattle.link_options.specs.Choices.{Choices, lays_commons}
+use Rattle.tool_options.specs.declared.options.Layout.{Layout}
+use Rattle.tool_options.specs.declared.options.Keep.{Keep}
+use Rattle.tool_options.specs.declared.options.Keep.TheVariants.{All, NotL, Externals, Nothing}
+use Rattle.tool_options.specs.Choices.{Choices, lays_commons}
 use Rattle.link_out.specs.function.Plans.{Plan, plan, commons_laid, common_offset}
 use Rattle.link_out.specs.function.Finals.{final, final_by, type_of, bound_at, waiting}
 use Rattle.link_out.specs.ReservedNames.{etext, edata, end_name}

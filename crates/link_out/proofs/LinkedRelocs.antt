@@ -19,12 +19,13 @@ use Rattle.link_session.specs.declared.state.State.TheVariants.{Defined, Wanted}
 use Rattle.link_session.specs.Earlier.{with_earlier}
 use Rattle.link_session.specs.Starts.{total}
 use Rattle.link_session.specs.Sessions.{IsObject}
-use Rattle.link_session.specs.Mentions.{mentions, is_among, names_of, names_by_first_mention, place_of}
+use Rattle.tool_options.specs.NameLists.{is_among}
+use Rattle.link_session.specs.Mentions.{mentions, names_of, names_by_first_mention, place_of}
 use Rattle.link_session.specs.States.{state}
 use Rattle.link_session.specs.Cells.{referent, referent_by, name_in, words_of, segment_relocs}
 use Rattle.link_session.proofs.CellLemmas.{RefersAmong}
 use Rattle.link_session.proofs.MentionLemmas.{is_among-externals}
-use Rattle.link_options.specs.Choices.{Choices, lays_commons}
+use Rattle.tool_options.specs.Choices.{Choices, lays_commons}
 use Rattle.link_out.specs.function.Plans.{Plan, plan, common_offset}
 use Rattle.link_out.specs.function.Finals.{final, final_by, type_of, bound_at, waiting, etext, edata, end_name}
 use Rattle.link_out.specs.function.Tables.{is_kept_local, moved_value, moved_local, local_rows, external_row, external_rows, row_of, name_bits, referent_bits, final_reloc, final_relocs, waits_far, is_out_of_reach, has_far_in}

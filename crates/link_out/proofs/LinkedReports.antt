@@ -5,7 +5,8 @@ use Rattle.std.specs.List.{AllByRecursion}
 use Rattle.std.proofs.lemmas.Bool.{and_parts}
 use Rattle.link_session.specs.declared.state.State.{State}
 use Rattle.link_session.specs.declared.state.State.TheVariants.{Defined, Wanted}
-use Rattle.link_session.specs.Mentions.{Mention, is_among}
+use Rattle.tool_options.specs.NameLists.{is_among}
+use Rattle.link_session.specs.Mentions.{Mention}
 use Rattle.link_session.specs.States.{Definition, definition_by, first_definition, differs, state}
 use Rattle.link_session.proofs.ListLemmas.{all_map}
 use Rattle.link_session.proofs.UpdateLemmas.{own_name}

@@ -9,7 +9,7 @@ use Rattle.link_session.specs.declared.state.State.{State}
 use Rattle.link_session.specs.declared.state.State.TheVariants.{Defined, Wanted}
 use Rattle.link_session.specs.Mentions.{Mention}
 use Rattle.link_session.specs.States.{state}
-use Rattle.link_options.specs.Choices.{Choices, lays_commons}
+use Rattle.tool_options.specs.Choices.{Choices, lays_commons}
 use Rattle.link_out.specs.Layouts.{Bases}
 use Rattle.link_out.specs.function.Plans.{Plan, common_size}
 use Rattle.link_out.specs.function.Finals.{Final, final, bound_at, waiting, reserved_or_waiting, etext, edata, end_name}

@@ -6,9 +6,9 @@ use Rattle.aout_core.specs.Contents.{Contents}
 use Rattle.aout_core.specs.Words.{plus, minus}
 use Rattle.link_session.specs.Starts.{total, own}
 use Rattle.link_session.specs.Mentions.{mentions}
-use Rattle.link_options.specs.declared.options.Layout.{Layout}
-use Rattle.link_options.specs.declared.options.Layout.TheVariants.{Plain, Pure, Split}
-use Rattle.link_options.specs.Choices.{Choices}
+use Rattle.tool_options.specs.declared.options.Layout.{Layout}
+use Rattle.tool_options.specs.declared.options.Layout.TheVariants.{Plain, Pure, Split}
+use Rattle.tool_options.specs.Choices.{Choices}
 use Rattle.link_out.specs.Layouts.{data_base, magic_of}
 use Rattle.link_out.specs.function.Plans.{plan, commons_laid}
 use Rattle.link_out.specs.function.Words.{move}

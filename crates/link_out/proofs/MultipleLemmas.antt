@@ -7,7 +7,8 @@ use Rattle.aout_core.specs.declared.symbol.Segment.{Segment}
 use Rattle.aout_core.specs.WellFormed.{first_of}
 use Rattle.link_session.specs.declared.state.State.{State}
 use Rattle.link_session.specs.declared.state.State.TheVariants.{Defined, Wanted}
-use Rattle.link_session.specs.Mentions.{Mention, is_among}
+use Rattle.tool_options.specs.NameLists.{is_among}
+use Rattle.link_session.specs.Mentions.{Mention}
 use Rattle.link_session.specs.States.{Definition, definition_by, first_definition, is_definition, differs}
 use Rattle.link_session.proofs.UpdateLemmas.{own_definition, definition_same}
 

@@ -9,13 +9,15 @@ use Rattle.aout_core.specs.Contents.{Contents}
 use Rattle.aout_core.specs.Words.{plus}
 use Rattle.aout_core.specs.WellFormed.{IsWellFormed}
 use Rattle.link_session.specs.declared.state.State.TheVariants.{Defined}
-use Rattle.link_session.specs.Mentions.{mentions, forced_mention, new_names, names_of, names_by_first_mention}
+use Rattle.tool_options.specs.NameLists.{new_names}
+use Rattle.link_session.specs.Mentions.{mentions, forced_mention, names_of, names_by_first_mention}
 use Rattle.link_session.specs.States.{state, multiple_names}
 use Rattle.link_session.proofs.ListLemmas.{all_append}
-use Rattle.link_session.proofs.MentionLemmas.{names_of-append, new_names-append}
-use Rattle.link_options.specs.declared.options.Keep.{Keep}
-use Rattle.link_options.specs.declared.options.Keep.TheVariants.{Nothing}
-use Rattle.link_options.specs.Choices.{Choices}
+use Rattle.tool_options.proofs.NameListLemmas.{new_names-append}
+use Rattle.link_session.proofs.MentionLemmas.{names_of-append}
+use Rattle.tool_options.specs.declared.options.Keep.{Keep}
+use Rattle.tool_options.specs.declared.options.Keep.TheVariants.{Nothing}
+use Rattle.tool_options.specs.Choices.{Choices}
 use Rattle.link_out.specs.function.Link.{Outcome, link, linked_file}
 use Rattle.link_out.specs.laws.PartialLinks.{KeepsNoMore, IsPartialLink, without_multiples}
 use Rattle.link_out.specs.laws.PartialLinksAmongOthers.{IsPart, offset_after, DefinitionsStand}

@@ -9,15 +9,16 @@ use Rattle.aout_core.specs.Words.{plus}
 use Rattle.aout_core.specs.WellFormed.{IsWellFormed, first_of}
 use Rattle.link_session.specs.declared.state.State.{State}
 use Rattle.link_session.specs.declared.state.State.TheVariants.{Defined, Wanted}
-use Rattle.link_session.specs.Mentions.{Mention, mentions, mentions_in, is_among, names_by_first_mention}
+use Rattle.tool_options.specs.NameLists.{is_among}
+use Rattle.link_session.specs.Mentions.{Mention, mentions, mentions_in, names_by_first_mention}
 use Rattle.link_session.specs.States.{Definition, definition_by, first_definition, state_by, state, differs, multiple_names, wanted_size}
 use Rattle.link_session.proofs.StateLemmas.{first_definition-append}
 use Rattle.link_session.proofs.ListLemmas.{all_split, all_map}
 use Rattle.link_session.proofs.MentionLemmas.{mentions-append}
 use Rattle.link_session.proofs.UpdateLemmas.{definition_of, own_name}
-use Rattle.link_options.specs.declared.options.Keep.{Keep}
-use Rattle.link_options.specs.declared.options.Keep.TheVariants.{Nothing}
-use Rattle.link_options.specs.Choices.{Choices}
+use Rattle.tool_options.specs.declared.options.Keep.{Keep}
+use Rattle.tool_options.specs.declared.options.Keep.TheVariants.{Nothing}
+use Rattle.tool_options.specs.Choices.{Choices}
 use Rattle.link_out.specs.function.Link.{Outcome, link}
 use Rattle.link_out.specs.laws.PartialLinks.{KeepsNoMore, IsPartialLink}
 use Rattle.link_out.specs.laws.PartialLinksAmongOthers.{IsPart, DefinitionsStand, DefinesNoMultiple}

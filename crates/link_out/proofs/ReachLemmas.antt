@@ -21,7 +21,7 @@ use Rattle.link_session.specs.States.{state}
 use Rattle.link_session.proofs.CellLemmas.{AllReferAmong}
 use Rattle.link_session.proofs.AdditionLemmas.{well_formed}
 use Rattle.link_session.proofs.WellFormedLemmas.{objects_refer}
-use Rattle.link_options.specs.Choices.{Choices, lays_commons}
+use Rattle.tool_options.specs.Choices.{Choices, lays_commons}
 use Rattle.link_out.specs.function.Finals.{bound_at, waiting, reserved_or_waiting, final, final_by}
 use Rattle.link_out.specs.internal.FromCells.{bound_of, finals, is_far}
 use Rattle.link_out.specs.function.Plans.{Plan, plan, common_offset}

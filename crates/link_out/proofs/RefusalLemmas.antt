@@ -25,9 +25,9 @@ use Rattle.link_session.specs.States.{state}
 use Rattle.link_session.specs.Cells.{referent, referent_by, name_in, words_of, segment_words, segment_relocs}
 use Rattle.link_out.specs.declared.linked.LinkFault.{LinkFault}
 use Rattle.link_out.specs.declared.linked.LinkFault.TheVariants.{DoesNotFit, TooManySymbols, SymbolNumber, Memory}
-use Rattle.link_options.specs.declared.options.Keep.{Keep}
-use Rattle.link_options.specs.declared.options.Keep.TheVariants.{All, NotL, Externals, Nothing}
-use Rattle.link_options.specs.Choices.{Choices, lays_commons}
+use Rattle.tool_options.specs.declared.options.Keep.{Keep}
+use Rattle.tool_options.specs.declared.options.Keep.TheVariants.{All, NotL, Externals, Nothing}
+use Rattle.tool_options.specs.Choices.{Choices, lays_commons}
 use Rattle.link_out.specs.Layouts.{data_base}
 use Rattle.link_out.specs.function.Plans.{Plan, plan, common_size, common_offset}
 use Rattle.link_out.specs.function.Finals.{final, final_by, bound_at, waiting, reserved_or_waiting}

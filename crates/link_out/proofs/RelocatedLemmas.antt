@@ -14,12 +14,13 @@ use Rattle.aout_core.specs.WellFormed.{kind_of, is_pc_relative, symbol_number, i
 use Rattle.aout_core.specs.declared.header.Header.{Header}
 use Rattle.link_session.specs.Starts.{total}
 use Rattle.link_session.specs.Sessions.{IsObject}
-use Rattle.link_session.specs.Mentions.{mentions, is_among, names_of, names_by_first_mention}
+use Rattle.tool_options.specs.NameLists.{is_among}
+use Rattle.link_session.specs.Mentions.{mentions, names_of, names_by_first_mention}
 use Rattle.link_session.specs.Cells.{referent, referent_by, name_in, segment_words, segment_relocs}
 use Rattle.link_session.proofs.CellLemmas.{RefersAmong}
 use Rattle.link_session.proofs.MentionLemmas.{is_among-externals}
-use Rattle.link_options.specs.declared.options.Keep.TheVariants.{Nothing}
-use Rattle.link_options.specs.Choices.{Choices}
+use Rattle.tool_options.specs.declared.options.Keep.TheVariants.{Nothing}
+use Rattle.tool_options.specs.Choices.{Choices}
 use Rattle.link_out.specs.function.Plans.{Plan, plan, commons_laid}
 use Rattle.link_out.specs.function.Finals.{final}
 use Rattle.link_out.specs.function.Words.{referent_move, final_word, final_words}

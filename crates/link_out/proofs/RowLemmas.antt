@@ -16,8 +16,8 @@ use Rattle.link_session.specs.Starts.{total, no_starts, starts_after, next_start
 use Rattle.link_session.specs.Mentions.{names_by_first_mention}
 use Rattle.link_session.specs.States.{state}
 use Rattle.link_session.specs.Image.{Named, named_states}
-use Rattle.link_options.specs.declared.options.Keep.{Keep}
-use Rattle.link_options.specs.declared.options.Keep.TheVariants as keeps
+use Rattle.tool_options.specs.declared.options.Keep.{Keep}
+use Rattle.tool_options.specs.declared.options.Keep.TheVariants as keeps
 use Rattle.link_out.specs.declared.table.Moves.{Moves}
 use Rattle.link_out.specs.Layouts.{Bases}
 use Rattle.link_out.specs.function.Finals.{Final, final}

@@ -22,7 +22,7 @@ use Rattle.link_out.specs.declared.edit.RunFault.TheVariants as faults
 use Rattle.link_out.specs.declared.linked.Linked.{Linked}
 use Rattle.link_out.specs.declared.linked.LinkFault.{LinkFault}
 use Rattle.link_out.specs.declared.linked.LinkFault.TheVariants as links
-use Rattle.link_options.specs.Choices.{Choices}
+use Rattle.tool_options.specs.Choices.{Choices}
 use Rattle.link_out.specs.function.Link.{Outcome, link}
 use Rattle.link_out.specs.Runs.{change_of, answer_of, IsDone, IsRunOf}
 use Rattle.link_out.specs.internal.Replies.{IsReplied, AreDone, Lists, StopsAmong, IsLinkedWith, IsRunFrom, RunsOut}

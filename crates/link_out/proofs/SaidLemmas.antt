@@ -10,11 +10,12 @@ use Rattle.aout_core.specs.WellFormed.{is_external, segment_of, first_of}
 use Rattle.aout_core.proofs.AlikeLemmas.{slice_get_after}
 use Rattle.link_session.specs.declared.state.State.{State}
 use Rattle.link_session.specs.declared.state.State.TheVariants.{Defined, Wanted}
-use Rattle.link_session.specs.Mentions.{Mention, mention, mentions, mentions_in, forced_mention, statement, is_among}
+use Rattle.tool_options.specs.NameLists.{is_among}
+use Rattle.link_session.specs.Mentions.{Mention, mention, mentions, mentions_in, forced_mention, statement}
 use Rattle.link_session.specs.States.{Definition, definition_by, first_definition, differs, multiple_names}
 use Rattle.link_session.proofs.ListLemmas.{all_append, all_split}
 use Rattle.link_session.proofs.MentionLemmas.{mentions-append}
-use Rattle.link_options.specs.Choices.{Choices}
+use Rattle.tool_options.specs.Choices.{Choices}
 use Rattle.link_out.specs.function.Plans.{plan}
 use Rattle.link_out.specs.function.Reports.{Findings}
 use Rattle.link_out.specs.function.Link.{Outcome, link}

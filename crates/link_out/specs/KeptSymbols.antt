@@ -6,8 +6,8 @@ use Rattle.std.specs.Prelude.{ℕ, Bool, true, false, not, ◌&&◌, eqb, List, 
 use Rattle.aout_core.specs.declared.symbol.Symbol.{Symbol}
 use Rattle.aout_core.specs.Words.{letter_of}
 use Rattle.aout_core.specs.WellFormed.{is_external}
-use Rattle.link_options.specs.declared.options.Keep.{Keep}
-use Rattle.link_options.specs.declared.options.Keep.TheVariants.{All, NotL, Externals, Nothing}
+use Rattle.tool_options.specs.declared.options.Keep.{Keep}
+use Rattle.tool_options.specs.declared.options.Keep.TheVariants.{All, NotL, Externals, Nothing}
 
 -- a name that begins with L
 abbrev pub begins_with_l : List ℕ → Bool

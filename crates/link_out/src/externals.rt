@@ -9,9 +9,9 @@ use crate::layout::link_bases;
 use crate::linker::LAST_ADDRESS;
 use crate::table::put_externals;
 use aout_core::Symbol;
-use link_options::Options;
 use link_session::Session;
 use std::alloc::{AllocError, Global};
+use tool_options::Options;
 
 /// The externals of the link of the objects that a session keeps, by first mention: each as the symbol table of `finish` has it,
 /// with its type and its address, or its size if it is not bound. The symbols that the options keep make no difference, and

@@ -10,10 +10,10 @@ use crate::layout::{Bases, common_size};
 use crate::reserved_names::reserved_or_waiting;
 use crate::words::base_word;
 use aout_core::{Name, Segment};
-use link_options::Options;
 use link_session::{Session, State};
 use std::alloc::{AllocError, Global};
 use std::marker::Model;
+use tool_options::Options;
 
 /// What becomes of a name: the segment that it is bound to, if it is bound, its address, and the value that is written.
 #[derive(Clone, Copy)]

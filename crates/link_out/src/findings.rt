@@ -13,9 +13,9 @@ use crate::finals::Final;
 use crate::linked::Report;
 use crate::reserved_names::{is_missing, reserved_taken};
 use aout_core::{Name, Segment};
-use link_options::Options;
 use link_session::Session;
 use std::alloc::{AllocError, Global};
+use tool_options::Options;
 
 /// The entry point of a program.
 #[derive(Clone, Copy)]

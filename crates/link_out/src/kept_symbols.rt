@@ -7,8 +7,8 @@ ghost use Rattle.link_out.specs.internal.InOrder.{plan_of};
 ghost use Rattle.link_out.specs.internal.Rows.{count_in, kept_count};
 
 use aout_core::{Name, Symbol};
-use link_options::{Keep, Options};
 use link_session::{Entry, Session};
+use tool_options::{Keep, Options};
 
 /// The most symbols of a table: one more, of 12 bytes each, would not fit the size in the header. (own choice)
 pub const MOST_ROWS: usize = 5461;

@@ -11,9 +11,9 @@ ghost use Rattle.link_out.specs.Layouts.{bases, data_base};
 ghost use Rattle.link_out.specs.function.Plans.{common_size, commons_laid, plan};
 ghost use Rattle.link_out.specs.internal.InOrder.{room_in};
 
-use link_options::{Layout, Options};
 use link_session::{Session, State};
 use std::marker::Model;
+use tool_options::{Layout, Options};
 
 /// The bounds of the segments of a link, in bytes. Text starts at 0, and commons at the end of data. An end may pass
 /// 65,535. (a.out(5) and ld(1); commons: own choice)

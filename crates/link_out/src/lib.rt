@@ -13,7 +13,7 @@
 //! - `LinkFault`: why there is no file
 //! - `Bases`: where the segments of a link begin and end
 //! - `Edit`, `Reply`, `RunFault`: a change of what is linked, the reply to it, and why a run gave no link
-//! - `Options`, `Layout`, `Keep`, `OptionFault`: what a link is asked for, from `link_options`
+//! - `Options`, `Layout`, `Keep`, `OptionFault`: what a link is asked for, from `tool_options`
 //!
 //! Functions:
 //!
@@ -53,9 +53,9 @@ pub use edit::{Edit, Reply, RunFault};
 pub use externals::link_externals;
 pub use kept_symbols::MOST_ROWS;
 pub use layout::{Bases, link_bases};
-pub use link_options::{Keep, Layout, OptionFault, Options};
 pub use linked::{LinkFault, Linked, Report};
 pub use linker::{LAST_ADDRESS, finish};
 pub use relocs::MOST_NUMBER;
 pub use reserved_names::is_missing;
 pub use runner::{reply_to, run};
+pub use tool_options::{Keep, Layout, OptionFault, Options};

@@ -23,9 +23,9 @@ use crate::relocs::relocs_of_cells;
 use crate::table::table;
 use crate::words::words_of_cells;
 use aout_core::{File, Header, Parts, Reloc, Segment};
-use link_options::{Layout, Options};
 use link_session::{Cell, Session};
 use std::alloc::{AllocError, Global};
+use tool_options::{Layout, Options};
 
 /// The last address that a word can hold: the end of bss may not pass it. (own choice)
 pub const LAST_ADDRESS: u64 = 65_535;

@@ -9,8 +9,8 @@ ghost use Rattle.link_out.specs.internal.Reach.{kept_bound, kept_bound_of, is_ou
 
 use crate::relocs::waits_far;
 use aout_core::Segment;
-use link_options::Options;
 use link_session::{Cell, Session, State, Target};
+use tool_options::Options;
 
 /// The segment that a name in this state is bound to in a file with relocation, if it is bound; `commons` tells
 /// whether commons are laid out.

@@ -2,7 +2,8 @@
 ghost use Rattle.std.specs.Prelude.{◌≡◌, ◌≤◌, ◌++◌, ◌∷◌, [], bytes_eq, IfOk, OnOk};
 ghost use Rattle.link_session.specs.Image.{state_at};
 ghost use Rattle.link_session.specs.Labelled.{objects};
-ghost use Rattle.link_session.specs.Mentions.{mentions, is_among};
+ghost use Rattle.tool_options.specs.NameLists.{is_among};
+ghost use Rattle.link_session.specs.Mentions.{mentions};
 ghost use Rattle.link_session.specs.States.{state};
 ghost use Rattle.link_session.specs.Undo.{image_of};
 ghost use Rattle.link_out.specs.ReservedNames.{reserved_names};

@@ -14,9 +14,9 @@ use crate::edit::{Edit, Reply, RunFault};
 use crate::linked::Linked;
 use crate::linker::finish;
 use aout_core::Object;
-use link_options::Options;
 use link_session::{AddFault, Forced, Session};
 use std::alloc::{AllocError, Global};
+use tool_options::Options;
 
 /// Adds an object, or refuses it. An error: out of memory for an object that is within all limits.
 #[tactic(auto, using(crate::proofs::RunLemmas::by_edit))]

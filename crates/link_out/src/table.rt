@@ -14,9 +14,9 @@ use crate::kept_symbols::is_kept_local;
 use crate::layout::Bases;
 use crate::words::base_word;
 use aout_core::{Name, Segment, Symbol};
-use link_options::{Keep, Options};
 use link_session::{Entry, Session, Shifts, Starts};
 use std::alloc::{AllocError, Global};
+use tool_options::{Keep, Options};
 
 /// How far the segments of an object move, modulo 65,536.
 #[derive(Clone, Copy)]

@@ -17,7 +17,8 @@ use Rattle.link_session.specs.declared.cell.Target.TheVariants as targets
 use Rattle.link_session.specs.declared.state.State.{State}
 use Rattle.link_session.specs.declared.relocate.Shifts.{Shifts}
 use Rattle.link_session.specs.Starts.{shift, shift_by}
-use Rattle.link_session.specs.Mentions.{Mention, mention, statement, statement_by, mentions, mentions_in, externals_in, names_of, names_by_first_mention, new_names, place_of}
+use Rattle.tool_options.specs.NameLists.{new_names}
+use Rattle.link_session.specs.Mentions.{Mention, mention, statement, statement_by, mentions, mentions_in, externals_in, names_of, names_by_first_mention, place_of}
 use Rattle.link_session.specs.States.{Definition, state, state_by, first_definition, wanted_size, multiple_names}
 use Rattle.link_session.specs.Cells.{Referent, to_segment, to_name, referent, referent_by, segment_target, name_target, name_in, target_of, target_shift, offset_in, if_pc, cell, words_of, cells}
 use Rattle.link_session.specs.Image.{named_states, image}

@@ -6,7 +6,8 @@ use Rattle.std.proofs.lemmas.Bool.{ltb-true, ltb-false}
 use Rattle.link_session.specs.declared.state.State.{State}
 use Rattle.link_session.specs.declared.state.State.TheVariants.{Defined, Wanted}
 use Rattle.link_session.specs.declared.mark.Mark.TheVariants.{StateWas}
-use Rattle.link_session.specs.Mentions.{Mention, is_among}
+use Rattle.tool_options.specs.NameLists.{is_among}
+use Rattle.link_session.specs.Mentions.{Mention}
 use Rattle.link_session.specs.Image.{Image}
 use Rattle.link_session.specs.Undo.{with_state, put_all_back, IsInside}
 use Rattle.link_session.specs.internal.Updates.{updated_state}

@@ -14,7 +14,8 @@ use Rattle.link_session.specs.declared.mark.Mark.TheVariants.{StateWas}
 use Rattle.link_session.specs.declared.mark.Place.TheVariants.{InText, InData}
 use Rattle.link_session.specs.Image.{Image, Named, image, named_states}
 use Rattle.link_session.specs.Marks.{HoldCell, IsDifference, cells_marked, states_marked, same_state, state_changed, states_changed}
-use Rattle.link_session.specs.Mentions.{Mention, is_among, mentions, mentions_in, new_names, names_of, names_by_first_mention, externals, place_of}
+use Rattle.tool_options.specs.NameLists.{is_among, new_names}
+use Rattle.link_session.specs.Mentions.{Mention, mentions, mentions_in, names_of, names_by_first_mention, externals, place_of}
 use Rattle.link_session.specs.Sessions.{IsObject}
 use Rattle.link_session.specs.States.{state}
 use Rattle.link_session.specs.internal.Additions.{place_in, state_for, with_mention, changes, state_mark, state_marks, settled_cell, next_named}
@@ -26,7 +27,8 @@ use Rattle.link_session.proofs.AdditionLemmas.{joined_image-is, next_mentions-in
 use Rattle.link_session.proofs.ChainLemmas.{own_number, other_number}
 use Rattle.link_session.proofs.ListLemmas.{get_append, get_mapped, index_get}
 use Rattle.link_session.proofs.MarkedLemmas.{none_bound, states_marked-append}
-use Rattle.link_session.proofs.MentionLemmas.{names_by_first_mention-append, is_among-append, place_of-append}
+use Rattle.tool_options.proofs.NameListLemmas.{is_among-append}
+use Rattle.link_session.proofs.MentionLemmas.{names_by_first_mention-append, place_of-append}
 use Rattle.link_session.proofs.MentionedLemmas.{keys-named_states, state_for-named_states, with_mention-named_states}
 use Rattle.link_session.proofs.UpdateLemmas.{own_definition, own_name, state_mention}
 

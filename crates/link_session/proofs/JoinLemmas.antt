@@ -6,7 +6,7 @@ use Rattle.aout_core.specs.declared.symbol.Symbol.{Symbol}
 use Rattle.aout_core.specs.Contents.{Contents}
 use Rattle.aout_core.specs.WellFormed.{is_external}
 use Rattle.link_session.specs.declared.relocate.Shifts.{Shifts}
-use Rattle.link_session.specs.Mentions.{new_names}
+use Rattle.tool_options.specs.NameLists.{new_names}
 use Rattle.link_session.specs.Image.{Image}
 use Rattle.link_session.specs.declared.cell.Cell.{Cell}
 use Rattle.link_session.specs.declared.mark.Mark.{Mark}

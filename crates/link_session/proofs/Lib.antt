@@ -11,7 +11,6 @@ pub mod MarkLemmas
 pub mod JournalLemmas
 pub mod BoundLemmas
 pub mod UpdateLemmas
-pub mod ForcedLemmas
 pub mod PlaceLemmas
 pub mod PutBackLemmas
 pub mod MentionedLemmas

@@ -6,10 +6,10 @@ use Rattle.std.specs.Map.{keys_of, lookup}
 use Rattle.std.proofs.lemmas.List.{length-map}
 use Rattle.aout_core.specs.declared.symbol.Symbol.{Symbol}
 use Rattle.aout_core.specs.WellFormed.{is_external}
-use Rattle.link_session.specs.Mentions.{is_among, new_names}
+use Rattle.tool_options.specs.NameLists.{is_among, new_names}
 use Rattle.link_session.specs.Image.{Named}
 use Rattle.link_session.specs.internal.Additions.{external_names, new_count}
-use Rattle.link_session.proofs.MentionLemmas.{is_among-append}
+use Rattle.tool_options.proofs.NameListLemmas.{is_among-append}
 
 -- a key is found where it is one of the keys
 pub found-is_among : (es : Named) (name : List ℕ) → is_some (lookup (bytes_eq name) es) ≡ is_among (keys_of es) name

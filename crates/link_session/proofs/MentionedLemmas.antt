@@ -6,14 +6,16 @@ use Rattle.std.proofs.lemmas.List.{map-append, length-map}
 use Rattle.indexmap.specs.IndexMap.{insert_entry}
 use Rattle.link_session.specs.declared.state.State.{State}
 use Rattle.link_session.specs.declared.state.State.TheVariants.{Wanted}
-use Rattle.link_session.specs.Mentions.{Mention, is_among, new_names, names_of, names_by_first_mention, place_of}
+use Rattle.tool_options.specs.NameLists.{is_among, new_names}
+use Rattle.link_session.specs.Mentions.{Mention, names_of, names_by_first_mention, place_of}
 use Rattle.link_session.specs.States.{state, multiple_names}
 use Rattle.link_session.specs.Image.{named_states}
 use Rattle.link_session.specs.Undo.{with_state}
 use Rattle.link_session.specs.internal.Updates.{updated_state, clashes}
 use Rattle.link_session.specs.Image.{Named, state_at, state_in}
 use Rattle.link_session.specs.internal.Additions.{state_for, place_in, with_mention, with_mentions, all_clashes}
-use Rattle.link_session.proofs.MentionLemmas.{is_among-externals, seen_again, new_names-seen, get_place}
+use Rattle.tool_options.proofs.NameListLemmas.{seen_again, new_names-seen}
+use Rattle.link_session.proofs.MentionLemmas.{is_among-externals, get_place}
 use Rattle.link_session.proofs.UpdateLemmas.{unmentioned, externals_mention, multiples_mention, says_alone}
 use Rattle.link_session.proofs.ListLemmas.{get_mapped}
 

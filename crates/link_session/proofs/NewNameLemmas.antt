@@ -7,10 +7,10 @@ use Rattle.aout_core.specs.declared.symbol.Symbol.{Symbol}
 use Rattle.aout_core.specs.WellFormed.{is_external}
 use Rattle.link_session.specs.declared.state.State.{State}
 use Rattle.link_session.specs.Image.{Named}
-use Rattle.link_session.specs.Mentions.{is_among, new_names}
+use Rattle.tool_options.specs.NameLists.{is_among, new_names}
 use Rattle.link_session.specs.internal.Additions.{external_names, new_count}
 use Rattle.link_session.specs.internal.NewNames.{with_entered, with_new, with_all_new}
-use Rattle.link_session.proofs.MentionLemmas.{is_among-append, seen_again, new_names-seen}
+use Rattle.tool_options.proofs.NameListLemmas.{is_among-append, seen_again, new_names-seen}
 
 -- the new names so far, with those that are left
 new_step : (seen fresh : List (List ℕ)) (s : Symbol) (ss : List Symbol) →

@@ -9,14 +9,16 @@ use Rattle.link_session.specs.declared.cell.Cell.{Cell}
 use Rattle.link_session.specs.declared.relocate.Shifts.{Shifts}
 use Rattle.link_session.specs.declared.state.State.{State}
 use Rattle.link_session.specs.declared.state.State.TheVariants.{Wanted}
-use Rattle.link_session.specs.Mentions.{Mention, is_among, place_of}
+use Rattle.tool_options.specs.NameLists.{is_among}
+use Rattle.link_session.specs.Mentions.{Mention, place_of}
 use Rattle.link_session.specs.Cells.{name_in}
 use Rattle.link_session.specs.Image.{Named, state_at}
 use Rattle.link_session.specs.internal.Additions.{place_in, with_mention, with_mentions, mention_by, mentions_by, no_place, all_places}
 use Rattle.link_session.specs.internal.Chains.{Link}
 use Rattle.link_session.specs.internal.Settled.{settled_at, settled_over, places_of}
 use Rattle.link_session.specs.internal.Threads.{cut_by_state, cut_heads}
-use Rattle.link_session.proofs.MentionLemmas.{is_among-append, place_of-append}
+use Rattle.tool_options.proofs.NameListLemmas.{is_among-append}
+use Rattle.link_session.proofs.MentionLemmas.{place_of-append}
 use Rattle.link_session.proofs.MentionedLemmas.{keys-with_mention}
 use Rattle.link_session.proofs.NamesLemmas.{unsettled, all_one}
 use Rattle.link_session.proofs.UpdateLemmas.{own_name}

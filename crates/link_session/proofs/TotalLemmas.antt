@@ -17,7 +17,8 @@ use Rattle.link_session.specs.declared.entry.AddFault.TheVariants.{TextFull, Dat
 use Rattle.link_session.specs.declared.state.State.{State}
 use Rattle.link_session.specs.Earlier.{with_earlier}
 use Rattle.link_session.specs.Starts.{total, size_of}
-use Rattle.link_session.specs.Mentions.{Mention, mentions, mentions_in, names_of, new_names, externals, externals_in, mention, is_among}
+use Rattle.tool_options.specs.NameLists.{new_names, is_among}
+use Rattle.link_session.specs.Mentions.{Mention, mentions, mentions_in, names_of, externals, externals_in, mention}
 use Rattle.link_session.specs.States.{state}
 use Rattle.link_session.specs.Cells.{cells, cells_in, cell, words_of}
 use Rattle.link_session.specs.Image.{image}
@@ -25,7 +26,8 @@ use Rattle.link_session.specs.Limits.{limit_passed, refusal}
 use Rattle.link_session.specs.Sessions.{IsObject}
 use Rattle.link_session.specs.internal.Fields.{IsSmall}
 use Rattle.link_session.specs.internal.Additions.{external_names, next_limit}
-use Rattle.link_session.proofs.MentionLemmas.{externals_push, is_among-externals, new_names-seen, names_of-map}
+use Rattle.tool_options.proofs.NameListLemmas.{new_names-seen}
+use Rattle.link_session.proofs.MentionLemmas.{externals_push, is_among-externals, names_of-map}
 use Rattle.link_session.proofs.MentionedLemmas.{keys-named_states}
 use Rattle.link_session.proofs.WellFormedLemmas.{well_formed_parts}
 

@@ -12,13 +12,15 @@ use Rattle.aout_core.specs.WellFormed.{segment_number, segment_numbered, first_o
 use Rattle.link_session.specs.declared.state.State.{State}
 use Rattle.link_session.specs.declared.state.State.TheVariants.{Defined, Wanted}
 use Rattle.link_session.specs.Starts.{size_of, total}
-use Rattle.link_session.specs.Mentions.{Mention, mentions_in, mentions, is_among, new_names, names_of, names_by_first_mention, place_of}
+use Rattle.tool_options.specs.NameLists.{is_among, new_names}
+use Rattle.link_session.specs.Mentions.{Mention, mentions_in, mentions, names_of, names_by_first_mention, place_of}
 use Rattle.link_session.specs.States.{Definition, definition_by, size_wanted_by, first_definition, wanted_size, state_by, state, is_definition, differs, multiple_names}
 use Rattle.link_session.specs.Cells.{cells_in}
 use Rattle.link_session.specs.Image.{named_states, image_by, image}
 use Rattle.link_session.specs.Undo.{with_state}
 use Rattle.link_session.specs.internal.Updates.{updated_state, clashes}
-use Rattle.link_session.proofs.MentionLemmas.{mentions_push, names_by_first_mention-append, is_among-append}
+use Rattle.tool_options.proofs.NameListLemmas.{is_among-append}
+use Rattle.link_session.proofs.MentionLemmas.{mentions_push, names_by_first_mention-append}
 use Rattle.link_session.proofs.StateLemmas.{first_definition-append, wanted_size-append}
 use Rattle.link_session.proofs.CellLemmas.{cells_push}
 use Rattle.link_session.proofs.MultipleLemmas.{multiple_names-append}

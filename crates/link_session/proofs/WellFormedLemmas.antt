@@ -14,9 +14,11 @@ use Rattle.aout_core.specs.declared.object.ObjectFault.{ObjectFault}
 use Rattle.aout_core.specs.Contents.{Contents}
 use Rattle.aout_core.specs.WellFormed.{is_external, masked_type, kind_of, symbol_number, is_wanted, kind_fault, word_fault, first_of, first_bad_word, IsWellFormed}
 use Rattle.link_session.specs.Earlier.{with_earlier}
-use Rattle.link_session.specs.Mentions.{mention, mentions_in, mentions, is_among, names_of, forced_mention}
+use Rattle.tool_options.specs.NameLists.{is_among}
+use Rattle.link_session.specs.Mentions.{mention, mentions_in, mentions, names_of, forced_mention}
 use Rattle.link_session.specs.Cells.{Referent, to_segment, to_name, referent_by, referent, name_in, words_of}
-use Rattle.link_session.proofs.MentionLemmas.{names_of-append, is_among-append}
+use Rattle.tool_options.proofs.NameListLemmas.{is_among-append}
+use Rattle.link_session.proofs.MentionLemmas.{names_of-append}
 use Rattle.link_session.proofs.CellLemmas.{RefersAmong, AllReferAmong}
 use Rattle.link_session.proofs.ListLemmas.{all_split, all_map}
 

@@ -1,6 +1,5 @@
 pub mod Earlier
 pub mod Labelled
-pub mod ForcedNames
 pub mod Starts
 pub mod Mentions
 pub mod States

@@ -1,5 +1,4 @@
 -- Definitions for the code alone: what its loops and private functions do. No contract of a public function leads here.
-pub mod ForcedSlots
 pub mod Updates
 pub mod Additions
 pub mod NewNames

@@ -5,7 +5,7 @@ ghost use Rattle.aout_core.specs.Words.{plus};
 ghost use Rattle.aout_core.specs.WellFormed.{is_external, segment_of};
 ghost use Rattle.link_session.specs.Starts.{shift_by};
 ghost use Rattle.link_session.specs.Image.{state_at};
-ghost use Rattle.link_session.specs.Mentions.{is_among, statement_by};
+ghost use Rattle.link_session.specs.Mentions.{statement_by};
 ghost use Rattle.link_session.specs.internal.Updates.{clashes};
 ghost use Rattle.link_session.specs.internal.Additions.{with_mention, mention_of, clash, state_mark, place_in, state_for, changes, mentions_by, with_mentions, state_marks, all_clashes, all_places};
 
@@ -14,13 +14,6 @@ use crate::merged::Externals;
 use crate::relocate::Shifts;
 use crate::state::{State, changes, clashes, updated_state};
 use aout_core::{Name, Segment, Symbol};
-
-/// Whether the name is one of these.
-pub(crate) fn is_among(names: &[Name], name: &Name) -> bool
-    ensures { result ≡ is_among names.now name.now }
-{
-    names.iter().any(|known| name == known)
-}
 
 /// What stands for the place of a symbol that is not external: no name has it.
 pub(crate) const NO_PLACE: u16 = u16::MAX;

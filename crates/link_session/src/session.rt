@@ -3,7 +3,7 @@ ghost use Rattle.std.specs.Prelude.{◌≡◌, ◌*◌, ◌≤◌, ◌<◌, ◌+
 ghost use Rattle.std.specs.List.{AllByRecursion};
 ghost use Rattle.std.specs.Map.{keys_of};
 ghost use Rattle.indexmap.specs.IndexMap.{spare};
-ghost use Rattle.link_session.specs.ForcedNames.{AreDifferent};
+ghost use Rattle.tool_options.specs.ForcedNames.{AreDifferent};
 ghost use Rattle.link_session.specs.Image.{GivesInOrder};
 ghost use Rattle.link_session.specs.Labelled.{objects};
 ghost use Rattle.link_session.specs.Mentions.{externals, forced_mention};
@@ -20,7 +20,6 @@ use crate::cell::Cell;
 use crate::chain::{Link, grow_heads};
 use crate::entry::{AddFault, AddRefused, Entry};
 use crate::externals::ExternalStates;
-use crate::forced::Forced;
 use crate::join::join;
 use crate::limits::limit_passed;
 use crate::mark::Mark;
@@ -32,6 +31,7 @@ use aout_core::{Name, Object};
 use std::alloc::{AllocError, Global};
 use std::marker::Model;
 use thiserror::Error;
+use tool_options::Forced;
 
 /// Memory ran out. (own choice)
 #[derive(Clone, Copy, Debug, PartialEq, Eq, Error)]

@@ -5,7 +5,7 @@ use Rattle.std.specs.Io.KnownBytes.{Appends}
 use Rattle.std.proofs.lemmas.List.{length-map, map-append, drop_more}
 use Rattle.std.proofs.lemmas.List.Folds.{flat_map-map}
 use Rattle.aout_core.specs.Contents.{Contents}
-use Rattle.symtools.specs.declared.options.NmOptions.{NmOptions}
+use Rattle.tool_options.specs.declared.nm_options.NmOptions.{NmOptions}
 use Rattle.symtools.specs.Files.{by_bytes}
 use Rattle.symtools.specs.NmLists.{ListsUpTo, file_lines, is_shown, nm_text}
 use Rattle.symtools.specs.SizeLines.{file_size_line, size_text}

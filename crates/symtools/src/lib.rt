@@ -26,12 +26,11 @@ mod buffer;
 mod fault;
 mod heading;
 mod listing;
-mod options;
 mod sizes;
 mod symbol_line;
 
 pub use fault::ToolFault;
 pub use listing::nm;
-pub use options::NmOptions;
 pub use sizes::size;
 pub use symbol_line::{letter, line, octal_word, value_column};
+pub use tool_options::NmOptions;

@@ -9,11 +9,11 @@ ghost use Rattle.symtools.specs.declared.fault.ToolFault.TheVariants.{Memory, De
 
 use crate::fault::ToolFault;
 use crate::heading::put_heading;
-use crate::options::NmOptions;
 use crate::symbol_line::{is_shown_undefined, line};
 use aout_core::{DeviceFault, File, Symbol, Wire};
 use std::alloc::{AllocError, Global};
 use std::io::Write;
+use tool_options::NmOptions;
 
 /// Writes the symbols of each file that the options ask for, a line each as `line` has it, in the order that they ask
 /// for; the files stay in the order given. With several files, a line with the file's path and `:` stands above its

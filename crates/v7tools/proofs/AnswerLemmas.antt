@@ -12,7 +12,7 @@ use Rattle.link_session.specs.Undo.{Kept}
 use Rattle.link_out.specs.declared.linked.Linked.{Linked}
 use Rattle.link_out.specs.declared.linked.LinkFault.{LinkFault}
 use Rattle.link_out.specs.declared.linked.LinkFault.TheVariants as links
-use Rattle.link_options.specs.Choices.{Choices}
+use Rattle.tool_options.specs.Choices.{Choices}
 use Rattle.link_out.specs.Steps.{and_then, refused_as}
 use Rattle.link_out.specs.function.Link.{Outcome, link}
 use Rattle.link_out.specs.Outcomes.{outcome_of}

@@ -8,7 +8,7 @@ use Rattle.aout_core.specs.Wires.{AppendsPrefix, Latched, Puts}
 use Rattle.link_session.specs.Edits.{last_of}
 use Rattle.link_session.specs.Labelled.{Labelled, objects}
 use Rattle.link_session.specs.Undo.{Kept}
-use Rattle.link_options.specs.Choices.{Choices}
+use Rattle.tool_options.specs.Choices.{Choices}
 use Rattle.link_out.specs.declared.linked.Linked.{Linked}
 use Rattle.link_out.specs.function.Link.{Outcome, link}
 use Rattle.link_out.specs.Outcomes.{findings_of, outcome_of}

@@ -5,7 +5,7 @@ use Rattle.std.specs.Prelude.{String, string_bytes}
 use Rattle.std.specs.List.{AllByRecursion}
 use Rattle.aout_core.specs.Wires.{Latched}
 use Rattle.link_out.specs.declared.linked.Linked.{Linked}
-use Rattle.link_options.specs.Choices.{Choices}
+use Rattle.tool_options.specs.Choices.{Choices}
 use Rattle.link_out.specs.Outcomes.{findings_of}
 use Rattle.v7tools.specs.Events.{History, Extends, stored}
 use Rattle.v7tools.specs.LinkAnswers.{Input, inputs_of, IsLinkOf}

@@ -8,7 +8,7 @@ use Rattle.std.proofs.lemmas.Grind.{flat_map-append}
 use Rattle.aout_core.specs.Wires.{Latched}
 use Rattle.link_session.specs.Sessions.{nothing_kept}
 use Rattle.link_session.specs.Undo.{Kept}
-use Rattle.link_options.specs.Choices.{Choices}
+use Rattle.tool_options.specs.Choices.{Choices}
 use Rattle.v7tools.specs.Events.{History, Extends}
 use Rattle.command_words.specs.Scripts.{Asked, lines_in, Given, ScriptFault, long_line, many_lines, and_given, given_after}
 use Rattle.command_words.specs.ScriptAnswers.{Answer, WhereKnown, IsNextOf, NamesPath, Progress, Settles, asked_by, lines_of}

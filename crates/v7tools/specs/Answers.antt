@@ -14,7 +14,7 @@ use Rattle.aout_core.specs.WellFormed.{segment_number}
 use Rattle.link_session.specs.Image.{image}
 use Rattle.link_session.specs.Edits.{without_last, last_of}
 use Rattle.link_out.specs.declared.linked.LinkFault.{LinkFault}
-use Rattle.link_options.specs.Choices.{Choices}
+use Rattle.tool_options.specs.Choices.{Choices}
 use Rattle.link_out.specs.function.Reports.{Findings, line, report_text, status_of, undefined_names}
 use Rattle.link_out.specs.function.Link.{Outcome, link}
 use Rattle.symtools.specs.SymbolLines.{symbol_line}

@@ -12,7 +12,7 @@ use Rattle.aout_core.specs.Strip.{stripped}
 use Rattle.aout_core.specs.Wires.{Latched, Puts}
 use Rattle.symtools.specs.Files.{by_bytes}
 use Rattle.symtools.specs.NmLists.{ListsUpTo}
-use Rattle.symtools.specs.declared.options.NmOptions.{NmOptions}
+use Rattle.tool_options.specs.declared.nm_options.NmOptions.{NmOptions}
 use Rattle.v7tools.specs.Events.{Event, History, Extends, Opened, opened, opens, stored}
 use Rattle.v7tools.specs.LinkRuns.{Refuses}
 use Rattle.v7tools.specs.declared.fault.CliFault.{CliFault}

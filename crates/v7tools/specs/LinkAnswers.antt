@@ -19,7 +19,7 @@ use Rattle.link_session.specs.Labelled.{Labelled, objects}
 use Rattle.link_out.specs.declared.linked.Linked.{Linked}
 use Rattle.link_out.specs.declared.linked.LinkFault.{LinkFault}
 use Rattle.link_out.specs.declared.linked.LinkFault.TheVariants as links
-use Rattle.link_options.specs.Choices.{Choices}
+use Rattle.tool_options.specs.Choices.{Choices}
 use Rattle.link_out.specs.function.Link.{Outcome, link}
 use Rattle.link_out.specs.Outcomes.{outcome_of}
 use Rattle.v7tools.specs.Inputs.{Cause, bad_file, bad_object, not_added, Refusal, of_input, not_linked, object_in, kept_with, with_input, linked}

@@ -5,7 +5,7 @@ use Rattle.std.specs.declared.alloc.Global.{Global}
 use Rattle.std.specs.Prelude.{◌≡◌, ◌⊎◌, ℕ, List, [], ◌∷◌, ◌++◌, map, false, Option, None, Result, Ok, Err, IfErr, IfOk, String, string_bytes}
 use Rattle.aout_core.specs.Wires.{Latched, Writes}
 use Rattle.link_out.specs.declared.linked.Linked.{Linked}
-use Rattle.link_options.specs.Choices.{Choices}
+use Rattle.tool_options.specs.Choices.{Choices}
 use Rattle.link_out.specs.Outcomes.{findings_of}
 use Rattle.link_out.specs.function.Reports.{Findings, report_text, status_of}
 use Rattle.v7tools.specs.Events.{History, Extends, Opened, opened, opens, paths_of, stored}

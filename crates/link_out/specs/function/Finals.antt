@@ -10,7 +10,7 @@ use Rattle.link_session.specs.declared.state.State.{State}
 use Rattle.link_session.specs.declared.state.State.TheVariants.{Defined, Wanted}
 use Rattle.aout_core.specs.WellFormed.{segment_number}
 use Rattle.link_session.specs.States.{state}
-use Rattle.link_options.specs.Choices.{Choices, lays_commons}
+use Rattle.tool_options.specs.Choices.{Choices, lays_commons}
 use Rattle.link_out.specs.Layouts.{Bases, base}
 use Rattle.link_out.specs.function.Plans.{Plan, common_offset}
 pub use Rattle.link_out.specs.ReservedNames.{etext, edata, end_name}

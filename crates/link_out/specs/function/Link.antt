@@ -8,7 +8,7 @@ use Rattle.aout_core.specs.Contents.{Contents}
 use Rattle.link_session.specs.Starts.{total}
 use Rattle.link_out.specs.declared.linked.LinkFault.{LinkFault}
 use Rattle.link_out.specs.declared.linked.LinkFault.TheVariants.{DoesNotFit, TooManySymbols, SymbolNumber}
-use Rattle.link_options.specs.Choices.{Choices}
+use Rattle.tool_options.specs.Choices.{Choices}
 use Rattle.link_out.specs.Layouts.{magic_of}
 use Rattle.link_out.specs.function.Plans.{Plan, plan, commons_laid}
 use Rattle.link_out.specs.function.Words.{final_words}

@@ -1,7 +1,7 @@
 -- The header as it follows from where the segments lie, from so many rows and from the entry word.
 use Rattle.std.specs.Prelude.{ℕ, ◌-◌, ◌*◌, cond}
 use Rattle.aout_core.specs.declared.header.Header.{Header}
-use Rattle.link_options.specs.Choices.{Choices}
+use Rattle.tool_options.specs.Choices.{Choices}
 use Rattle.link_out.specs.Layouts.{Bases, magic_of}
 
 abbrev pub header_of : Choices → Bases → ℕ → ℕ → Header

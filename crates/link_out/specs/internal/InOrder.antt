@@ -3,7 +3,7 @@ use Rattle.std.specs.Prelude.{ℕ, ◌+◌, List, [], ◌∷◌, map, filter}
 use Rattle.link_session.specs.Labelled.{objects}
 use Rattle.link_session.specs.Image.{Named}
 use Rattle.link_session.specs.Undo.{Kept}
-use Rattle.link_options.specs.Choices.{Choices}
+use Rattle.tool_options.specs.Choices.{Choices}
 use Rattle.link_out.specs.Layouts.{Bases}
 use Rattle.link_out.specs.function.Plans.{Plan, plan, common_size}
 use Rattle.link_out.specs.function.Finals.{Final, final_at}

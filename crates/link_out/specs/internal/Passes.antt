@@ -1,7 +1,7 @@
 -- What a link has to pass.
 use Rattle.std.specs.Prelude.{◌≡◌, ℕ, ◌≤◌, true, false, List, length, None}
 use Rattle.aout_core.specs.Contents.{Contents}
-use Rattle.link_options.specs.Choices.{option_fault}
+use Rattle.tool_options.specs.Choices.{option_fault}
 use Rattle.link_out.specs.function.Plans.{Plan}
 use Rattle.link_out.specs.function.Tables.{local_rows, table, has_far_word}
 

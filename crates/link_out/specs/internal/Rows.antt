@@ -11,7 +11,7 @@ use Rattle.link_session.specs.declared.relocate.Shifts.{Shifts}
 use Rattle.link_session.specs.Image.{Named}
 use Rattle.link_session.specs.Starts.{next_starts, shifts_at}
 use Rattle.link_session.specs.Starts.{shift_by}
-use Rattle.link_options.specs.declared.options.Keep.{Keep}
+use Rattle.tool_options.specs.declared.options.Keep.{Keep}
 use Rattle.link_out.specs.declared.table.Moves.{Moves}
 use Rattle.link_out.specs.Layouts.{Bases, base}
 use Rattle.link_out.specs.function.Finals.{Final, type_of}

@@ -10,10 +10,11 @@ use Rattle.aout_core.specs.Words.{minus}
 use Rattle.aout_core.specs.WellFormed.{segment_of}
 use Rattle.link_session.specs.Starts.{total}
 use Rattle.link_session.specs.Sessions.{IsObject}
-use Rattle.link_session.specs.Mentions.{mentions, is_among}
-use Rattle.link_options.specs.declared.options.Keep.TheVariants.{Nothing}
-use Rattle.link_options.specs.declared.options.Layout.{Layout}
-use Rattle.link_options.specs.Choices.{Choices, lays_commons, option_fault}
+use Rattle.tool_options.specs.NameLists.{is_among}
+use Rattle.link_session.specs.Mentions.{mentions}
+use Rattle.tool_options.specs.declared.options.Keep.TheVariants.{Nothing}
+use Rattle.tool_options.specs.declared.options.Layout.{Layout}
+use Rattle.tool_options.specs.Choices.{Choices, lays_commons, option_fault}
 use Rattle.link_out.specs.function.Link.{Outcome, link}
 use Rattle.link_out.specs.relation.NameStates.{IsWanted}
 use Rattle.link_out.specs.relation.Relocated.{data_base_in, base_in, entry_of, IsEntry}

@@ -9,8 +9,8 @@ use Rattle.aout_core.specs.WellFormed.{IsWellFormed}
 use Rattle.link_session.specs.Mentions.{mentions}
 use Rattle.link_session.specs.States.{multiple_names}
 use Rattle.link_out.specs.declared.linked.LinkFault.{LinkFault}
-use Rattle.link_options.specs.declared.options.Keep.{Keep}
-use Rattle.link_options.specs.Choices.{Choices, option_fault}
+use Rattle.tool_options.specs.declared.options.Keep.{Keep}
+use Rattle.tool_options.specs.Choices.{Choices, option_fault}
 use Rattle.link_out.specs.KeptSymbols.{keeps}
 use Rattle.link_out.specs.function.Link.{Outcome, link}
 

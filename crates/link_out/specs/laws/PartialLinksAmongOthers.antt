@@ -10,11 +10,12 @@ use Rattle.aout_core.specs.Words.{plus}
 use Rattle.aout_core.specs.WellFormed.{IsWellFormed}
 use Rattle.link_session.specs.declared.state.State.TheVariants.{Defined}
 use Rattle.link_session.specs.Starts.{total}
-use Rattle.link_session.specs.Mentions.{mentions, is_among}
+use Rattle.tool_options.specs.NameLists.{is_among}
+use Rattle.link_session.specs.Mentions.{mentions}
 use Rattle.link_session.specs.States.{first_definition, multiple_names, state}
 use Rattle.link_session.specs.Limits.{limit_passed}
-use Rattle.link_options.specs.declared.options.Keep.{Keep}
-use Rattle.link_options.specs.Choices.{Choices}
+use Rattle.tool_options.specs.declared.options.Keep.{Keep}
+use Rattle.tool_options.specs.Choices.{Choices}
 use Rattle.link_out.specs.function.Link.{Outcome, link}
 use Rattle.link_out.specs.laws.PartialLinks.{KeepsNoMore, IsPartialLink, without_multiples}
 

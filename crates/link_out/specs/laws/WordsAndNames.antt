@@ -12,11 +12,12 @@ use Rattle.aout_core.specs.Words.{plus}
 use Rattle.aout_core.specs.WellFormed.{is_external, masked_type, segment_of}
 use Rattle.link_session.specs.declared.state.State.{State}
 use Rattle.link_session.specs.Sessions.{IsObject}
-use Rattle.link_session.specs.Mentions.{externals, is_among, statement}
+use Rattle.tool_options.specs.NameLists.{is_among}
+use Rattle.link_session.specs.Mentions.{externals, statement}
 use Rattle.link_session.specs.declared.state.State.TheVariants.{Defined}
 use Rattle.link_session.specs.Cells.{segment_words, segment_relocs}
-use Rattle.link_options.specs.declared.options.Keep.TheVariants.{Nothing}
-use Rattle.link_options.specs.Choices.{Choices}
+use Rattle.tool_options.specs.declared.options.Keep.TheVariants.{Nothing}
+use Rattle.tool_options.specs.Choices.{Choices}
 use Rattle.link_out.specs.function.Link.{Outcome, link}
 use Rattle.link_out.specs.relation.Relocated.{move_in, entry_of, external_type, IsRelocated, HoldsObjects}
 

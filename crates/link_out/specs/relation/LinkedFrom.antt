@@ -11,7 +11,7 @@ use Rattle.aout_core.specs.Contents.{Contents}
 use Rattle.link_session.specs.Starts.{total}
 use Rattle.link_session.specs.Sessions.{IsObject}
 use Rattle.link_session.specs.Mentions.{mentions, externals}
-use Rattle.link_options.specs.Choices.{Choices}
+use Rattle.tool_options.specs.Choices.{Choices}
 use Rattle.link_out.specs.Layouts.{magic_of}
 use Rattle.link_out.specs.KeptSymbols.{rows_kept}
 use Rattle.link_out.specs.Results.{Outcome}

@@ -16,7 +16,7 @@ use Rattle.link_session.specs.declared.state.State.{State}
 use Rattle.link_session.specs.declared.state.State.TheVariants.{Defined, Wanted}
 use Rattle.link_session.specs.Earlier.{with_earlier}
 use Rattle.link_session.specs.Mentions.{Mention}
-use Rattle.link_options.specs.Choices.{Choices, lays_commons}
+use Rattle.tool_options.specs.Choices.{Choices, lays_commons}
 use Rattle.link_out.specs.relation.NameStates.{HasState}
 use Rattle.link_out.specs.KeptSymbols.{is_kept_local}
 use Rattle.link_out.specs.ReservedNames.{etext, edata, end_name}

@@ -7,8 +7,9 @@ use Rattle.std.specs.Prelude.{◌≡◌, ◌≢◌, ℕ, ◌⊎◌, true, false,
 use Rattle.aout_core.specs.declared.symbol.Segment.{Segment}
 use Rattle.aout_core.specs.Contents.{Contents}
 use Rattle.link_session.specs.declared.state.State.TheVariants.{Defined}
-use Rattle.link_session.specs.Mentions.{Mention, mentions, externals, is_among}
-use Rattle.link_options.specs.Choices.{Choices}
+use Rattle.tool_options.specs.NameLists.{is_among}
+use Rattle.link_session.specs.Mentions.{Mention, mentions, externals}
+use Rattle.tool_options.specs.Choices.{Choices}
 use Rattle.link_out.specs.relation.NameStates.{IsFirst, IsWanted}
 use Rattle.link_out.specs.ReservedNames.{reserved_names}
 use Rattle.link_out.specs.Results.{Outcome}

@@ -24,7 +24,8 @@ use Rattle.link_session.specs.declared.mark.Place.TheVariants.{InText, InData}
 use Rattle.link_session.specs.declared.relocate.Shifts.{Shifts}
 use Rattle.link_session.specs.declared.entry.AddFault.{AddFault}
 use Rattle.link_session.specs.declared.entry.AddFault.TheVariants.{TextFull, DataFull, BssFull, NamesFull}
-use Rattle.link_session.specs.Mentions.{Mention, statement_by, place_of, new_names}
+use Rattle.tool_options.specs.NameLists.{new_names}
+use Rattle.link_session.specs.Mentions.{Mention, statement_by, place_of}
 use Rattle.link_session.specs.Cells.{segment_target, name_target, name_in, offset_in, if_pc}
 use Rattle.link_session.specs.Starts.{shift_by}
 use Rattle.link_session.specs.Image.{Image, Named, state_at}

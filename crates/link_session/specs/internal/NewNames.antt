@@ -2,7 +2,7 @@
 use Rattle.std.specs.Prelude.{ℕ, ◌&&◌, not, cond, List, [], ◌∷◌, ◌++◌}
 use Rattle.aout_core.specs.declared.symbol.Symbol.{Symbol}
 use Rattle.aout_core.specs.WellFormed.{is_external}
-use Rattle.link_session.specs.Mentions.{is_among}
+use Rattle.tool_options.specs.NameLists.{is_among}
 
 -- the names, with one more if it is not among them
 abbrev pub with_entered : List (List ℕ) → List ℕ → List (List ℕ)

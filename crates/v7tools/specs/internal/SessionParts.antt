@@ -2,7 +2,7 @@
 use Rattle.std.specs.Prelude.{◌≡◌, ◌↔◌, ℕ, false, List, [], ◌∷◌, Option, Some, None, Result, IfErr, IfOk, IsErr, IsTrue}
 use Rattle.aout_core.specs.Wires.{Latched, Puts}
 use Rattle.link_session.specs.Undo.{Kept}
-use Rattle.link_options.specs.Choices.{Choices}
+use Rattle.tool_options.specs.Choices.{Choices}
 use Rattle.v7tools.specs.Answers.{Stepped}
 use Rattle.v7tools.specs.Events.{History, Extends, opened}
 use Rattle.command_words.specs.Scripts.{Asked}

@@ -1,5 +1,5 @@
 use Rattle.std.proofs.Common.{◌≡◌, ◌/◌, true, length, [], rules, arith}
-use Rattle.link_session.specs.ForcedNames.{takes}
+use Rattle.tool_options.specs.ForcedNames.{takes}
 use Rattle.library_calls.specs.LinkRequests.{with_names}
 use Rattle.library_calls.proofs.TakingLemmas.{one_more_name}
 use Rattle.library_calls.proofs.requests.forced_names.Goals as goal

@@ -2,7 +2,7 @@ use Rattle.std.proofs.Common.{◌≡◌, rules, ◌∙◌, sym}
 use Rattle.std.proofs.lemmas.List.{length-map}
 use Rattle.link_session.specs.Labelled.{objects}
 use Rattle.link_session.specs.Mentions.{names_by_first_mention}
-use Rattle.link_options.specs.declared.options.Keep.TheVariants as keeps
+use Rattle.tool_options.specs.declared.options.Keep.TheVariants as keeps
 use Rattle.link_out.specs.internal.InOrder.{plan_of}
 use Rattle.link_out.proofs.RowLemmas.{many_rows, locals_counted, none_counted}
 use Rattle.link_out.proofs.kept_symbols.locals_within.Goals as goal

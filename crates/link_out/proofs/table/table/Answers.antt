@@ -3,7 +3,7 @@ use Rattle.aout_core.specs.declared.symbol.Symbol.{Symbol}
 use Rattle.link_session.specs.Labelled.{objects}
 use Rattle.link_session.specs.Starts.{no_starts}
 use Rattle.link_session.specs.Undo.{image_of}
-use Rattle.link_options.specs.declared.options.Keep.TheVariants as keeps
+use Rattle.tool_options.specs.declared.options.Keep.TheVariants as keeps
 use Rattle.link_out.specs.function.Finals.{Final}
 use Rattle.link_out.specs.function.Tables.{local_rows, external_rows}
 use Rattle.link_out.specs.internal.InOrder.{plan_of}

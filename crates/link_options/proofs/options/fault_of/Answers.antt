@@ -1,5 +1,0 @@
-use Rattle.std.proofs.Common.{rules}
-use Rattle.link_options.proofs.options.fault_of.Goals as goal
-
-pub returns-in-Nothing-default : goal.returns-in-Nothing-default
-returns-in-Nothing-default c = search rules

@@ -1,3 +1,0 @@
--- The definitions that the contracts of this crate are written in.
-pub mod Choices
-pub mod Flags

@@ -1,0 +1,2 @@
+pub mod NameListLemmas
+pub mod ForcedLemmas
