@@ -198,6 +198,14 @@ class Answer:
         folders = tuple(f"proofs/{name.replace('::', '/')}/" for name in self.names(edit.function))
         return [text for file, line, text in self.places if file.startswith(folders) or edit.has(file, line)]
 
+    def others_refused(self, chosen):
+        """The functions that are refused for themselves although no edit of the copy changes them."""
+        for name, said in self.verdicts.items():
+            folder = f"proofs/{name.replace('::', '/')}/"
+            told = "did not prove" in said or any(file.startswith(folder) for file, _, _ in self.places)
+            if told and said != "proved" and not any(it.function.is_named(name) for it in chosen):
+                yield name
+
     def open_goals(self, function):
         """The goals of a function that are not proved."""
         folders = tuple(f"proofs/{name.replace('::', '/')}/" for name in self.names(function))
@@ -298,12 +306,17 @@ class Trial:
                 self.end(edit, "it cannot be made", edit.misfit)
         waiting = sorted((it for it in self.edits if not it.misfit), key=lambda it: it.alone)
         with tempfile.TemporaryDirectory(prefix="wrong-bodies-") as kept:
+            if os.path.isdir(f"{self.folder}/out/incremental"):
+                # (what `rt check` of the crate left)
+                shutil.copytree(f"{self.folder}/out/incremental", kept, dirs_exist_ok=True)
             while waiting:
                 chosen, texts = self.next_copy(waiting)
                 begun = time.monotonic()
                 answer = self.check(texts, kept)
                 took = time.monotonic() - begun
                 print(f"{self.crate.name}: copy {self.copies}, {len(chosen)} edits, {took:.0f} seconds", flush=True)
+                for name in [] if chosen[0].alone else answer.others_refused(chosen):
+                    print(f"{self.crate.name}: copy {self.copies}: {name} is refused for itself, and no edit changes it", flush=True)
                 again = [it for it in chosen if not self.has_ended(it, chosen, answer)]
                 waiting = sorted(again + [it for it in waiting if it not in chosen], key=lambda it: it.alone)
         return not any(self.results.values())
@@ -461,9 +474,8 @@ def minutes():
 def whole(names, jobs):
     """Tries the edits of crates, prints a summary, and returns the crates whose edits are all refused, with their digests."""
     was = {name: digest(name) for name in names}
-    begun, trials, passed = time.monotonic(), {}, {}
-    if names:
-        trials, passed = try_edits(names, jobs)
+    begun = time.monotonic()
+    trials, passed = try_edits(names, jobs)
     for name in names:
         if not passed[name]:
             failed = [edit for edit, fault in trials[name].results.items() if fault]
@@ -495,7 +507,8 @@ def main(words):
         except Untold as why:
             print(f"{SEEN} does not tell which crates have changed: {why}. `make wrong-bodies` writes it", file=sys.stderr)
             return 1
-        return 0 if len(whole(names, jobs)) == len(names) else 1
+        print(f"changed since their wrong bodies were refused: {' '.join(names) or 'no crate'}", flush=True)
+        return 0 if not names or len(whole(names, jobs)) == len(names) else 1
     names = names or with_edits()
     passed = whole(names, jobs)
     note(passed)
