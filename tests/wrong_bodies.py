@@ -1,22 +1,22 @@
 #!/usr/bin/env python3
 """Has the prover refuse the wrong bodies of crates, many of them in one copy of the crate.
 
-usage: tests/wrong_bodies.py [-j N] [CRATE ..]   tries all edits of these crates, or of all, and notes in tests/wrong-bodies.seen
-                                                 each crate whose edits are all refused
-       tests/wrong_bodies.py [-j N] -c           tries those of the crates that have changed since they were noted; an error if the
-                                                 file does not tell which those are
+usage: tests/wrong_bodies.py [-j N] [CRATE ..]   tries all edits of these crates, or of all, and notes in
+                                                 tests/wrong-bodies.seen each crate whose edits are all refused
+       tests/wrong_bodies.py [-j N] -c           tries those of the crates that have changed since they were noted; an
+                                                 error if the file does not tell which those are
        tests/wrong_bodies.py [-j N] --try        tries this script: tests/wrong_bodies_tried.py
 
-A wrong body is an edit in must-fail/ or wrong-bodies/ of a crate: tests/edits.py has its form. A copy has at most one edit for each
-function. It is checked once, by the kit's `rattle`, with the libraries below it as tests/prove.py proves them and keeps them, and over
-what the earlier copies of the crate left. For each edit, the script then reads whether the prover refuses the function itself. If it only
-says that the function calls another one that is not proved, the edit goes into a later copy without the edits of that one. An edit
-outside of functions, as of a constant or a definition, has a copy for itself.
+A wrong body is an edit in must-fail/ or wrong-bodies/ of a crate: tests/edits.py has its form. A copy has at most one edit for
+each function. It is checked once, by the kit's `rattle`, with the libraries below it as tests/prove.py proves them and keeps
+them, and over what `rt check` of the crate and its earlier copies left. For each edit, the script then reads whether the prover
+refuses the function itself. If it only says that the function calls another one that is not proved, the edit goes into a later
+copy without the edits of that one. An edit outside of functions, as of a constant or a definition, has a copy for itself.
 
-It is an error if an edit does not fit its crate, if the prover cannot read the text that it makes, if its function is proved, or if
-the function is refused for what it calls alone. It is an error too if the function is refused only for its shape: the proof names a goal
-or a step that is gone. Then the script checks the function with the edit and without it, both times without what is written of
-its proof, and the refusal counts if the edit has a goal open that the right body does not have.
+It is an error if an edit does not fit its crate, if the prover cannot read the text that it makes, if its function is proved,
+or if the function is refused for what it calls alone. It is an error too if the function is refused only for its shape: the
+proof names a goal or a step that is gone. Then the script checks the function with the edit and without it, both times without
+what is written of its proof, and the refusal counts if the edit has a goal open that the right body does not have.
 
 N copies are checked side by side, two if it is not given. The last line has how many edits are refused, and the minutes.
 """
@@ -316,7 +316,7 @@ class Trial:
                 took = time.monotonic() - begun
                 print(f"{self.crate.name}: copy {self.copies}, {len(chosen)} edits, {took:.0f} seconds", flush=True)
                 for name in [] if chosen[0].alone else answer.others_refused(chosen):
-                    print(f"{self.crate.name}: copy {self.copies}: {name} is refused for itself, and no edit changes it", flush=True)
+                    print(f"{self.crate.name}: copy {self.copies}: {name} is refused too, and no edit changes it", flush=True)
                 again = [it for it in chosen if not self.has_ended(it, chosen, answer)]
                 waiting = sorted(again + [it for it in waiting if it not in chosen], key=lambda it: it.alone)
         return not any(self.results.values())
@@ -446,7 +446,7 @@ def note(passed):
 
 
 def try_edits(names, jobs):
-    """Tries the edits of crates, once the libraries below them are proved. The trials, and whether all edits are refused, by crate."""
+    """Tries the edits of crates once the libraries below are proved. The trials, and whether all edits are refused, by crate."""
     os.makedirs(prove.KEPT, exist_ok=True)
     slots = threading.Semaphore(jobs)
     with tempfile.TemporaryDirectory(prefix="wrong-bodies-") as place:
@@ -488,6 +488,9 @@ def whole(names, jobs):
 
 
 def main(words):
+    if "-h" in words or "--help" in words:
+        print(__doc__.strip())
+        return 0
     if not shutil.which("rt"):
         print("rt, the command of the Rattle kit, is not on the PATH", file=sys.stderr)
         return 2
