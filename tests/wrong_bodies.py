@@ -1,22 +1,22 @@
 #!/usr/bin/env python3
 """Has the prover refuse the wrong bodies of crates, many of them in one copy of the crate.
 
-usage: tests/wrong_bodies.py [-j N] [CRATE ..]   tries all edits of these crates, or of all, and notes in tests/wrong-bodies.seen
-                                                 each crate whose edits are all refused
-       tests/wrong_bodies.py [-j N] -c           tries those of the crates that have changed since they were noted; an error if the
-                                                 file does not tell which those are
+usage: tests/wrong_bodies.py [-j N] [CRATE ..]   tries all edits of these crates, or of all, and notes in
+                                                 tests/wrong-bodies.seen each crate whose edits are all refused
+       tests/wrong_bodies.py [-j N] -c           tries those of the crates that have changed since they were noted; an
+                                                 error if the file does not tell which those are
        tests/wrong_bodies.py [-j N] --try        tries this script: tests/wrong_bodies_tried.py
 
-A wrong body is an edit in must-fail/ or wrong-bodies/ of a crate: tests/edits.py has its form. A copy has at most one edit for each
-function. It is checked once, by the kit's `rattle`, with the libraries below it as tests/prove.py proves them and keeps them, and over
-what the earlier copies of the crate left. For each edit, the script then reads whether the prover refuses the function itself. If it only
-says that the function calls another one that is not proved, the edit goes into a later copy without the edits of that one. An edit
-outside of functions, as of a constant or a definition, has a copy for itself.
+A wrong body is an edit in must-fail/ or wrong-bodies/ of a crate: tests/edits.py has its form. A copy has at most one edit for
+each function. It is checked once, by the kit's `rattle`, with the libraries below it as tests/prove.py proves them and keeps
+them, and over what `rt check` of the crate and its earlier copies left. For each edit, the script then reads whether the prover
+refuses the function itself. If it only says that the function calls another one that is not proved, the edit goes into a later
+copy without the edits of that one. An edit outside of functions, as of a constant or a definition, has a copy for itself.
 
-It is an error if an edit does not fit its crate, if the prover cannot read the text that it makes, if its function is proved, or if
-the function is refused for what it calls alone. It is an error too if the function is refused only for its shape: the proof names a goal
-or a step that is gone. Then the script checks the function with the edit and without it, both times without what is written of
-its proof, and the refusal counts if the edit has a goal open that the right body does not have.
+It is an error if an edit does not fit its crate, if the prover cannot read the text that it makes, if its function is proved,
+or if the function is refused for what it calls alone. It is an error too if the function is refused only for its shape: the
+proof names a goal or a step that is gone. Then the script checks the function with the edit and without it, both times without
+what is written of its proof, and the refusal counts if the edit has a goal open that the right body does not have.
 
 N copies are checked side by side, two if it is not given. The last line has how many edits are refused, and the minutes.
 """
@@ -198,6 +198,14 @@ class Answer:
         folders = tuple(f"proofs/{name.replace('::', '/')}/" for name in self.names(edit.function))
         return [text for file, line, text in self.places if file.startswith(folders) or edit.has(file, line)]
 
+    def others_refused(self, chosen):
+        """The functions that are refused for themselves although no edit of the copy changes them."""
+        for name, said in self.verdicts.items():
+            folder = f"proofs/{name.replace('::', '/')}/"
+            told = "did not prove" in said or any(file.startswith(folder) for file, _, _ in self.places)
+            if told and said != "proved" and not any(it.function.is_named(name) for it in chosen):
+                yield name
+
     def open_goals(self, function):
         """The goals of a function that are not proved."""
         folders = tuple(f"proofs/{name.replace('::', '/')}/" for name in self.names(function))
@@ -298,12 +306,17 @@ class Trial:
                 self.end(edit, "it cannot be made", edit.misfit)
         waiting = sorted((it for it in self.edits if not it.misfit), key=lambda it: it.alone)
         with tempfile.TemporaryDirectory(prefix="wrong-bodies-") as kept:
+            if os.path.isdir(f"{self.folder}/out/incremental"):
+                # (what `rt check` of the crate left)
+                shutil.copytree(f"{self.folder}/out/incremental", kept, dirs_exist_ok=True)
             while waiting:
                 chosen, texts = self.next_copy(waiting)
                 begun = time.monotonic()
                 answer = self.check(texts, kept)
                 took = time.monotonic() - begun
                 print(f"{self.crate.name}: copy {self.copies}, {len(chosen)} edits, {took:.0f} seconds", flush=True)
+                for name in [] if chosen[0].alone else answer.others_refused(chosen):
+                    print(f"{self.crate.name}: copy {self.copies}: {name} is refused too, and no edit changes it", flush=True)
                 again = [it for it in chosen if not self.has_ended(it, chosen, answer)]
                 waiting = sorted(again + [it for it in waiting if it not in chosen], key=lambda it: it.alone)
         return not any(self.results.values())
@@ -433,7 +446,7 @@ def note(passed):
 
 
 def try_edits(names, jobs):
-    """Tries the edits of crates, once the libraries below them are proved. The trials, and whether all edits are refused, by crate."""
+    """Tries the edits of crates once the libraries below are proved. The trials, and whether all edits are refused, by crate."""
     os.makedirs(prove.KEPT, exist_ok=True)
     slots = threading.Semaphore(jobs)
     with tempfile.TemporaryDirectory(prefix="wrong-bodies-") as place:
@@ -461,9 +474,8 @@ def minutes():
 def whole(names, jobs):
     """Tries the edits of crates, prints a summary, and returns the crates whose edits are all refused, with their digests."""
     was = {name: digest(name) for name in names}
-    begun, trials, passed = time.monotonic(), {}, {}
-    if names:
-        trials, passed = try_edits(names, jobs)
+    begun = time.monotonic()
+    trials, passed = try_edits(names, jobs)
     for name in names:
         if not passed[name]:
             failed = [edit for edit, fault in trials[name].results.items() if fault]
@@ -476,6 +488,9 @@ def whole(names, jobs):
 
 
 def main(words):
+    if "-h" in words or "--help" in words:
+        print(__doc__.strip())
+        return 0
     if not shutil.which("rt"):
         print("rt, the command of the Rattle kit, is not on the PATH", file=sys.stderr)
         return 2
@@ -495,7 +510,8 @@ def main(words):
         except Untold as why:
             print(f"{SEEN} does not tell which crates have changed: {why}. `make wrong-bodies` writes it", file=sys.stderr)
             return 1
-        return 0 if len(whole(names, jobs)) == len(names) else 1
+        print(f"changed since their wrong bodies were refused: {' '.join(names) or 'no crate'}", flush=True)
+        return 0 if not names or len(whole(names, jobs)) == len(names) else 1
     names = names or with_edits()
     passed = whole(names, jobs)
     note(passed)

@@ -95,6 +95,7 @@ def write():
     files = dict(FILES)
     for name, (file, old, new, _) in EDITS.items():
         files[f"crates/tried/must-fail/{name}.edit"] = f"file: {file}\nold: {old}\nnew: {new}\n"
+    os.mkdir("tests")
     for path, text in files.items():
         os.makedirs(os.path.dirname(path) or ".", exist_ok=True)
         with open(path, "w", encoding="utf-8") as file:
@@ -112,13 +113,51 @@ def faults(trial):
             yield f"{edit.name}: it has to wait for another copy, since the function calls one with a wrong body"
 
 
+def shown_as_changed(text):
+    """The crates that have changed by what a file of digests tells, or none if it does not tell."""
+    with open(wrong_bodies.SEEN, "w", encoding="utf-8") as file:
+        file.write(text)
+    try:
+        return wrong_bodies.have_changed()
+    except wrong_bodies.Untold:
+        return None
+
+
+def faults_of_digests():
+    """What is wrong with how the script tells which crates have changed."""
+    digest, other = wrong_bodies.digest("tried"), "0" * 64
+    texts = {
+        f"tried {digest}\n": [],
+        f"tried {other}\n": ["tried"],
+        "": None,
+        f"tried {digest[:-1]}\n": None,
+        f"tried {digest}\ngone {other}\n": None,
+        f"tried {digest}\ntried {digest}\n": None,
+    }
+    for text, wanted in texts.items():
+        if shown_as_changed(text) != wanted:
+            yield f"the digests {text!r} have to show as changed: {wanted}"
+    for path in ("src/lib.rt", "specs/Sums.antt", "must-fail/wrong.edit"):
+        with open(f"crates/tried/{path}", "a", encoding="utf-8") as file:
+            file.write("\n")
+        if shown_as_changed(f"tried {digest}\n") != ["tried"]:
+            yield f"a change of {path} has to be seen"
+        digest = wrong_bodies.digest("tried")
+    os.remove(wrong_bodies.SEEN)
+    try:
+        wrong_bodies.have_changed()
+        yield "without the file nothing is told"
+    except wrong_bodies.Untold:
+        pass
+
+
 def main(jobs):
     top = os.getcwd()
     with tempfile.TemporaryDirectory() as folder:
         os.chdir(folder)
         write()
         trials, _ = wrong_bodies.try_edits(["tried"], jobs)
-        found = list(faults(trials["tried"]))
+        found = [*faults(trials["tried"]), *faults_of_digests()]
         os.chdir(top)
     for fault in found:
         print(fault)
