@@ -101,7 +101,7 @@ alike_by P place w i a b c d false true e h x y = absurd cc
 alike_by P place w i a b c d false false e h x y = (refl, x, y)
 
 -- a line, and that of the same first word with other words after it
-line_alike : (P : ℕ → ℕ → ℕ → Type 0) (place : ℕ) (o : Option Instruction) (w : ℕ) (f g : List ℕ) → is_cut o f ≡ false → length f ≤ length g →
+pub line_alike : (P : ℕ → ℕ → ℕ → Type 0) (place : ℕ) (o : Option Instruction) (w : ℕ) (f g : List ℕ) → is_cut o f ≡ false → length f ≤ length g →
     Pairs P place (w ∷ f) (w ∷ g) → AlikeLine P place (line_of o w f) (line_of o w g)
 line_alike P place None w f g whole more pairs = refl
 line_alike P place (Some i) w f g whole more pairs =

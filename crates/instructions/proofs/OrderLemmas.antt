@@ -1,13 +1,15 @@
 -- The rows of the table are in the order of their words, so the row of a word is found by halves.
-use Rattle.std.proofs.Common.{◌≡◌, ℕ, ◌+◌, ◌-◌, ◌*◌, ◌<◌, ◌≤◌, Bool, true, false, ◌&&◌, nat_le, Option, Some, None, List, [], ◌∷◌, ◌++◌, length, slice_index_or, refl, sym, ap, subst, ◌∙◌, cond, arith}
+use Rattle.std.proofs.Common.{◌≡◌, ℕ, ◌+◌, ◌-◌, ◌*◌, ◌<◌, ◌≤◌, Bool, true, false, ◌&&◌, nat_le, nat_lt, if◌then◌else◌, Option, Some, None, List, [], ◌∷◌, ◌++◌, length, slice_index_or, refl, sym, ap, subst, ◌∙◌, cond, arith}
 use Rattle.std.proofs.lemmas.Bool.Decides.{nat_tests}
-use Rattle.std.specs.List.{find}
+use Rattle.std.specs.List.{find, filter}
 use Rattle.instructions.specs.declared.field.Field.{Field}
 use Rattle.instructions.specs.declared.field.Field.TheVariants as fields
 use Rattle.instructions.specs.declared.table.TheConstants.{ROWS}
 use Rattle.instructions.specs.declared.table.Row.{Row}
 use Rattle.instructions.specs.Fields.{place, size}
+use Rattle.instructions.specs.Table.{table}
 use Rattle.instructions.specs.Rows.{part, begins, row_of}
+use Rattle.instructions.specs.Laws.{placed, in_order, SameTable, OneRow}
 use Rattle.instructions.proofs.FieldLemmas.{row_sum}
 
 -- what a field adds at most
@@ -114,9 +116,101 @@ earlier_found low w (r ∷ front) row back h small =
 abbrev pub Holds : ℕ → List Row → Type 0
 Holds w rows = ((low : ℕ) × (are_in_order low rows ≡ true)) × (found w rows ≡ row_of w)
 
+-- the rows of the code are those of the table, in the order of their bases
+pub same_table : SameTable
+same_table = refl
+
+-- the rows of some that a word is in
+abbrev rows_with : ℕ → List Row → List Row
+rows_with w rows = filter (λ o. begins o w) rows
+
+-- a row that has the word or does not, and how many rows have it
+counted : (b : Bool) (r : Row) (rows : List Row) → length (cond b (r ∷ rows) rows) ≡ (if b then 1 else 0) + length rows
+counted true r rows = omega arith
+counted false r rows = omega arith
+
+-- placing a row among others changes neither how many have a word nor, if one at most has it, which is found
+placed_by : (w : ℕ) (row other : Row) (rows rest : List Row) (t : Bool) → length (rows_with w rest) ≡ length (rows_with w (row ∷ rows)) →
+    length (rows_with w (if t then row ∷ (other ∷ rows) else other ∷ rest)) ≡ length (rows_with w (row ∷ (other ∷ rows)))
+placed_by w row other rows rest true e = refl
+placed_by w row other rows rest false e =
+    let a = counted (begins other w) other (rows_with w rest) in
+    let b = counted (begins row w) row (rows_with w rows) in
+    let c = counted (begins row w) row (rows_with w (other ∷ rows)) in
+    let d = counted (begins other w) other (rows_with w rows) in
+    omega (arith, a, b, c, d, e)
+
+placed_count : (w : ℕ) (row : Row) (rows : List Row) → length (rows_with w (placed row rows)) ≡ length (rows_with w (row ∷ rows))
+placed_count w row [] = refl
+placed_count w row (other ∷ rows) = placed_by w row other rows (placed row rows) (nat_lt row.base other.base) (placed_count w row rows)
+
+order_count : (w : ℕ) (rows : List Row) → length (rows_with w (in_order rows)) ≡ length (rows_with w rows)
+order_count w [] = refl
+order_count w (row ∷ rows) =
+    let a = counted (begins row w) row (rows_with w (in_order rows)) in
+    let b = counted (begins row w) row (rows_with w rows) in
+    omega (arith, placed_count w row (in_order rows), order_count w rows, a, b)
+
+-- of two rows one at most has the word, so their order does not matter
+exchanged : (a b : Bool) (r s : Row) (rest : Option Row) (n : ℕ) → (if a then 1 else 0) + ((if b then 1 else 0) + n) ≤ 1 →
+    cond b (Some s) (cond a (Some r) rest) ≡ cond a (Some r) (cond b (Some s) rest)
+exchanged true true r s rest n h = absurd (omega arith)
+exchanged true false r s rest n h = refl
+exchanged false b r s rest n h = refl
+
+found_by : (w : ℕ) (row other : Row) (rows rest : List Row) (t : Bool) → length (rows_with w (row ∷ (other ∷ rows))) ≤ 1 → found w rest ≡ found w (row ∷ rows) →
+    found w (if t then row ∷ (other ∷ rows) else other ∷ rest) ≡ found w (row ∷ (other ∷ rows))
+found_by w row other rows rest true one e = refl
+found_by w row other rows rest false one e =
+    let c = counted (begins row w) row (rows_with w (other ∷ rows)) in
+    let d = counted (begins other w) other (rows_with w rows) in
+    ap (λ o. cond (begins other w) (Some other) o) e
+    ∙ exchanged (begins row w) (begins other w) row other (found w rows) (length (rows_with w rows)) (omega (arith, c, d, one))
+
+placed_found : (w : ℕ) (row : Row) (rows : List Row) → length (rows_with w (row ∷ rows)) ≤ 1 → found w (placed row rows) ≡ found w (row ∷ rows)
+placed_found w row [] one = refl
+placed_found w row (other ∷ rows) one =
+    let b = counted (begins row w) row (rows_with w rows) in
+    let c = counted (begins row w) row (rows_with w (other ∷ rows)) in
+    let d = counted (begins other w) other (rows_with w rows) in
+    found_by w row other rows (placed row rows) (nat_lt row.base other.base) one (placed_found w row rows (omega (arith, b, c, d, one)))
+
+order_found : (w : ℕ) (rows : List Row) → length (rows_with w rows) ≤ 1 → found w (in_order rows) ≡ found w rows
+order_found w [] one = refl
+order_found w (row ∷ rows) one =
+    let a = counted (begins row w) row (rows_with w (in_order rows)) in
+    let b = counted (begins row w) row (rows_with w rows) in
+    placed_found w row (in_order rows) (omega (arith, a, b, order_count w rows, one))
+    ∙ ap (λ o. cond (begins row w) (Some row) o) (order_found w rows (omega (arith, b, one)))
+
+-- of rows in order one at most has a word
+none_counted : (low w : ℕ) (rows : List Row) → are_in_order low rows ≡ true → w < low → length (rows_with w rows) ≡ 0
+none_counted low w [] h small = refl
+none_counted low w (r ∷ rows) h small =
+    let parts = both (nat_le low r.base) (are_in_order (last r + 1) rows) h in
+    let from : low ≤ r.base = grind (arith, nat_tests) in
+    let not_this : begins r w ≡ false = is_false (begins r w) (λ is. let within = words_within r w is in omega arith) in
+    ap (λ b. length (cond b (r ∷ rows_with w rows) (rows_with w rows))) not_this ∙ none_counted (last r + 1) w rows parts.1 (omega arith)
+
+one_by : (w : ℕ) (r : Row) (rows : List Row) (b : Bool) → begins r w ≡ b → (b ≡ true → length (rows_with w rows) ≡ 0) → length (rows_with w rows) ≤ 1 →
+    length (cond b (r ∷ rows_with w rows) (rows_with w rows)) ≤ 1
+one_by w r rows true is none one = omega (arith, none refl)
+one_by w r rows false is none one = one
+
+one_counted : (low w : ℕ) (rows : List Row) → are_in_order low rows ≡ true → length (rows_with w rows) ≤ 1
+one_counted low w [] h = omega arith
+one_counted low w (r ∷ rows) h =
+    let parts = both (nat_le low r.base) (are_in_order (last r + 1) rows) h in
+    one_by w r rows (begins r w) refl
+    (λ is. let within = words_within r w is in none_counted (last r + 1) w rows parts.1 (omega arith))
+    (one_counted (last r + 1) w rows parts.1)
+
+pub one_row : OneRow
+one_row w = let same = order_count w table in let one : length (rows_with w ROWS) ≤ 1 = one_counted 0 w ROWS refl in omega (arith, same, one, ap (λ rows. length (rows_with w rows)) same_table)
+
 pub table_holds : (w : ℕ) → Holds w ROWS
 unfolding row_of
-table_holds w = ((0, refl), refl)
+table_holds w = ((0, refl), ap (λ rows. found w rows) same_table ∙ order_found w table (one_row w))
 
 back_holds : (w : ℕ) (front : List Row) (row : Row) (back : List Row) → Holds w (front ++ row ∷ back) → row.base ≤ w → Holds w (row ∷ back)
 back_holds w front row back h large =

@@ -1,5 +1,5 @@
 -- What holds of each row of the table: by its name, and by whether an accumulator stands following it, it is found again.
-use Rattle.std.proofs.Common.{◌≡◌, ℕ, Bool, true, false, eqb, nat_lt, if◌then◌else◌, Option, Some, None, List, [], ◌∷◌, ◌++◌, slice_index, refl, ap, subst, cond}
+use Rattle.std.proofs.Common.{◌≡◌, ℕ, Bool, true, false, eqb, nat_lt, if◌then◌else◌, Option, Some, None, List, [], ◌∷◌, ◌++◌, slice_index, refl, ap, subst, ◌∙◌, cond}
 use Rattle.std.specs.Prelude.{codes, option_map}
 use Rattle.std.specs.List.{find}
 use Rattle.instructions.specs.declared.field.Field.{Field}
@@ -9,6 +9,7 @@ use Rattle.instructions.specs.declared.table.TheConstants.{ROWS}
 use Rattle.instructions.specs.Rows.{begins, row_of}
 use Rattle.instructions.specs.Names.{name_text}
 use Rattle.instructions.proofs.SplitLemmas.{free, clean as spotless}
+use Rattle.instructions.proofs.OrderLemmas.{table_holds}
 
 abbrev pub same_text : List ℕ → List ℕ → Bool
 same_text [] [] = true
@@ -70,4 +71,4 @@ sound_found p (r ∷ rows) o s e = sound_at p r o (p r) (find p rows) s.0 (sound
 
 pub row_sound : (w : ℕ) (o : Row) → row_of w ≡ Some o → Sound o
 unfolding row_of
-row_sound w o e = sound_found (λ r. begins r w) ROWS o each_sound e
+row_sound w o e = sound_found (λ r. begins r w) ROWS o each_sound ((table_holds w).1 ∙ e)

@@ -2,11 +2,12 @@
 --
 -- Nothing is lost or normalized: encoding what was decoded gives the same words. The first word alone decides the instruction and
 -- the length, if enough words follow it. At one address different words have different texts.
-use Rattle.std.specs.Prelude.{◌≡◌, ℕ, ◌+◌, ◌*◌, ◌<◌, ◌≤◌, Option, Some, None, List, [], ◌∷◌, ◌++◌, length, take, drop}
+use Rattle.std.specs.Prelude.{◌≡◌, ℕ, ◌+◌, ◌*◌, ◌<◌, ◌≤◌, nat_lt, if◌then◌else◌, Option, Some, None, List, [], ◌∷◌, ◌++◌, length, filter, take, drop}
 use Rattle.std.specs.List.{flat_map}
 use Rattle.instructions.specs.declared.table.Row.{Row}
 use Rattle.instructions.specs.declared.table.TheConstants.{ROWS}
-use Rattle.instructions.specs.Rows.{row_of}
+use Rattle.instructions.specs.Table.{table}
+use Rattle.instructions.specs.Rows.{begins, row_of}
 use Rattle.instructions.specs.declared.instruction.Instruction.{Instruction}
 use Rattle.instructions.specs.declared.line.Line.{Line}
 use Rattle.instructions.specs.declared.line.Line.TheVariants.{Plain, Decoded}
@@ -56,10 +57,28 @@ pub record TotalLaw : Type 0 where
   pub whole : (words : List ℕ) → flat_map words_of (lines words) ≡ words
   pub short : (line : Line) → (1 ≤ line_length line) × (line_length line ≤ 3)
 
+-- a row among others, before the first of them with a larger base
+abbrev pub placed : Row → List Row → List Row
+placed row [] = row ∷ []
+placed row (other ∷ rows) = if nat_lt row.base other.base then row ∷ (other ∷ rows) else other ∷ placed row rows
+
+-- rows in the order of their bases
+abbrev pub in_order : List Row → List Row
+in_order [] = []
+in_order (row ∷ rows) = placed row (in_order rows)
+
+-- the rows of the code, by which it decodes and encodes, are those of the table, in the order of their bases
+abbrev pub SameTable : Type 0
+SameTable = ROWS ≡ in_order table
+
+-- each word is in one row of the table at most
+abbrev pub OneRow : Type 0
+OneRow = (w : ℕ) → length (filter (λ row. begins row w) table) ≤ 1
+
 abbrev pub EachFound : List Row → Type 0
 EachFound [] = Unit {0}
 EachFound (row ∷ rows) = (row_of row.base ≡ Some row) × EachFound rows
 
 -- each row of the table is found at its base, so none is there in vain
-abbrev pub TableLaw : Type 0
-TableLaw = EachFound ROWS
+abbrev pub RowsAreFound : Type 0
+RowsAreFound = EachFound table

@@ -1,5 +1,6 @@
 pub mod Names
 pub mod Fields
+pub mod Table
 pub mod Rows
 pub mod Modes
 pub mod Operands

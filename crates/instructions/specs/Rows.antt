@@ -1,13 +1,13 @@
 -- The row of the table that a first word is in. (as(1), the handbook of the PDP-11/70)
 --
--- A word is in a row if it is the row's base plus what its own bits in the row's fields add. The table is `ROWS` of the code: what
--- it says of each instruction is data, and this is the rule by which it is read, in both directions.
+-- A word is in a row if it is the row's base plus what its own bits in the row's fields add. A word is in one row at most (`OneRow`
+-- of Laws), so the order of the table does not matter.
 use Rattle.std.specs.Prelude.{ℕ, ◌+◌, ◌*◌, ◌/◌, ◌%◌, Bool, eqb, Option, Some, None}
 use Rattle.std.specs.List.{find}
 use Rattle.instructions.specs.declared.field.Field.{Field}
 use Rattle.instructions.specs.declared.table.Row.{Row}
-use Rattle.instructions.specs.declared.table.TheConstants.{ROWS}
 use Rattle.instructions.specs.Fields.{place, size}
+use Rattle.instructions.specs.Table.{table}
 
 -- what a field adds to the base in a first word
 abbrev pub part : Option Field → ℕ → ℕ
@@ -18,4 +18,4 @@ unfoldable pub begins : Row → ℕ → Bool
 begins o w = eqb (o.base + part o.first w + part o.second w) w
 
 unfoldable pub row_of : ℕ → Option Row
-row_of w = find (λ o. begins o w) ROWS
+row_of w = find (λ o. begins o w) table

@@ -1,7 +1,7 @@
 //! Laws of lines: each is the contract of a function with an empty body, but for `words_again`.
 ghost use Rattle.std.specs.Prelude.{◌≡◌, ◌<◌, length, take, drop};
 ghost use Rattle.instructions.specs.Lines.{line_at, line_length, listed};
-ghost use Rattle.instructions.specs.Laws.{IdentityLaw, FirstWordLaw, TableLaw, TotalLaw, UnambiguousLaw, UnambiguousTextLaw};
+ghost use Rattle.instructions.specs.Laws.{IdentityLaw, FirstWordLaw, SameTable, OneRow, RowsAreFound, TotalLaw, UnambiguousLaw, UnambiguousTextLaw};
 
 use crate::line::{Words, decode, encode};
 
@@ -40,7 +40,13 @@ pub fn unambiguous_law()
     ensures texts { UnambiguousTextLaw }
 {}
 
-/// Each row of the table is found at its base, so none is there in vain. (own choice)
+/// The table of the code is that of the manual. (as(1), the handbook of the PDP-11/70)
+///
+/// - `same`: its rows are those of `table` in specs/Table, in the order of their bases.
+/// - `one`: each word is in one row at most.
+/// - `found`: each row is found at its base, so none is there in vain.
 pub fn table_law()
-    ensures { TableLaw }
+    ensures same { SameTable }
+    ensures one { OneRow }
+    ensures found { RowsAreFound }
 {}

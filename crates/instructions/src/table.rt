@@ -13,9 +13,9 @@ pub struct Row {
     pub second: Option<Field>,
 }
 
-/// All instructions, in the order of their first words; a word is in one row at most. Of several names that as(1) has for
-/// one, `Bcc` includes bec and bhis, `Bcs` bes and blo, and `Mul`, `Div`, `Ash`, `Ashc` are mpy, dvd, als, alsc. (as(1);
-/// instructions of other machines of the family are left out: own choice)
+/// All instructions, in the order of their first words; a word is in one row at most. `laws::table_law` compares them with the
+/// manual's table. Of several names that as(1) has for one, `Bcc` includes bec and bhis, `Bcs` bes and blo, and `Mul`, `Div`,
+/// `Ash`, `Ashc` are mpy, dvd, als, alsc. (as(1); instructions of other machines of the family are left out: own choice)
 pub static ROWS: [Row; 114] = [
     Row {
         operation: Operation::Halt,
