@@ -217,9 +217,10 @@ crates/lesson/out/lesson: crates.txt $(shell find $(LESSON_CRATES) -name out -pr
 check-manual: check-examples
 	cd man && mandoc -T lint *.1 *.3 *.5
 
-# the program with standard streams closed, and with words and files of each kind and number
+# the program with standard streams closed, and with words and files of each kind and number; and what it adds at a terminal
 check-streams: build/v7
 	sh tests/streams.sh
+	python3 tests/terminal.py build/v7
 
 # listings of the examples and of 1,000 made objects are turned back, and so are those of other files; 2,000 damaged listings
 # are tried, notes compared with computed ones, and maps with what v7 says of the links; DAMAGED files are tried besides
