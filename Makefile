@@ -258,7 +258,7 @@ check-examples: build/v7 build/v7-from-gnu build/v7-object build/v7-explain buil
 	cmp crates/v7_object/data/main.lst examples/main.lst
 	sh tests/manual.sh
 	python3 tests/statuses.py build/v7-from-gnu build/v7-lesson
-	for program in v7-from-gnu v7-object v7-explain; do \
+	for program in v7-from-gnu v7-object v7-explain v7-lesson; do \
 		test "$$(build/$$program --version)" = "$$program $(VERSION)" || { echo "$$program --version: not $(VERSION)"; exit 1; }; \
 	done
 
