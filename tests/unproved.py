@@ -18,7 +18,7 @@ import time
 from concurrent.futures import ThreadPoolExecutor, as_completed
 
 TOP = os.path.normpath(os.path.join(os.path.dirname(os.path.abspath(__file__)), ".."))
-TEXTS = ["trusted", "edits", "index", "quotes", "layers", "limits", "calling", "prose"]
+TEXTS = ["trusted", "edits", "index", "quotes", "layers", "limits", "calling", "prose", "links"]
 PROGRAMS = ["v7", "v7-from-gnu", "v7-object", "v7-explain"]
 # for a whole run of one crate, on a machine with other work too
 SECONDS = "1800"
