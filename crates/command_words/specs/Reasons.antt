@@ -4,8 +4,7 @@
 -- one, or a file, or `--`, or letters of options. The first argument, and in it the first letter, that cannot be read so is the
 -- reason; and if all can be read, it is what is missing at the end.
 use Rattle.std.specs.Prelude.{ℕ, ◌+◌, ◌==◌, ◌&&◌, ◌||◌, Bool, true, false, not, cond, nat_eq, nat_lt, if◌then◌else◌, List, [], ◌∷◌, drop, length, take, Option, Some, None, is_some, option_map, unwrap_or, Result, Ok, Err, bytes_eq, codes}
-use Rattle.std.specs.List.{list_any}
-use Rattle.std.specs.Io.{starts_with}
+use Rattle.std.specs.List.{list_any, starts_with}
 use Rattle.aout_core.specs.Words.{letter_of}
 use Rattle.clap.specs.Lexer.{strip_byte}
 use Rattle.link_options.specs.declared.flags.Flags.{Flags}
@@ -141,7 +140,7 @@ abbrev pub and_read : Result Progress Cause → (Progress → Result Progress Ca
 and_read (Err cause) next = Err cause
 and_read (Ok p) next = next p
 
--- the letters of an argument from a place on, up to one that takes a value
+-- letters of options from a place on, up to one that takes a value
 abbrev pub letters_met : Tool → Progress → ℕ → List ℕ → Result Progress Cause
 letters_met tool p place [] = Ok p
 letters_met tool p place (letter ∷ letters) =
@@ -163,7 +162,7 @@ ended p = record p { only_files = true }
 abbrev pub plain_met : Tool → Progress → List ℕ → Result Progress Cause
 plain_met tool p word =
     if p.only_files || nat_lt (length word) 2 || not (begins word (codes "-")) then file_met tool p
-    else (if not (begins word (codes "--")) then letters_met tool p 1 (drop 1 word)
+    else (if not (begins word (codes "--")) then letters_met tool p 0 (drop 1 word)
     else (if nat_lt 2 (length word) then Err NoLongOption
     else Ok (ended p)))
 

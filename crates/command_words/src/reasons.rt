@@ -1,5 +1,5 @@
 //! Why arguments are refused: the first reason, in their order.
-ghost use Rattle.std.specs.Prelude.{◌≡◌, drop, map, string_bytes};
+ghost use Rattle.std.specs.Prelude.{◌≡◌, map, string_bytes};
 ghost use Rattle.command_words.specs.Reasons.{end_met, first_reason, letters_met, plain_met, reason_from, unread, word_met};
 
 mod progress;
@@ -15,7 +15,7 @@ pub enum Cause {
     NoTool,
     /// An option of more than one letter; there are none.
     NoLongOption,
-    /// The tool has no option of this letter. The number is its place in the argument, in bytes.
+    /// The tool has no option of this letter. The number is its place after the hyphen of the argument, in bytes, from 0.
     NoOption(usize),
     /// The option of this letter has no value, neither in its own argument nor in the next one.
     NoValue(u8),
@@ -40,20 +40,22 @@ pub struct Reason {
     pub cause: Cause,
 }
 
-/// Reads the letters of an argument, which follow its hyphen, up to one that takes a value.
-fn read_letters(tool: Tool, before: Progress, word: &[u8]) -> Result<Progress, Cause>
-    ensures { result ≡ letters_met tool before 1 (drop 1 word.now) }
+/// Reads letters of options, up to one that takes a value.
+fn read_letters(tool: Tool, before: Progress, letters: &[u8]) -> Result<Progress, Cause>
+    ensures { result ≡ letters_met tool before 0 letters.now }
 {
     let mut progress = before;
-    for place in 1..word.len() {
-        let letter = word[place];
-        if tool.is_valued(letter) {
-            return progress.with_rest(letter, &word[place + 1..]);
+    for (place, letter) in letters.iter().enumerate() {
+        if tool.is_valued(*letter) {
+            return progress.with_rest(*letter, &letters[place + 1..]);
         }
-        if !tool.is_flag(letter) {
+        if !tool.is_flag(*letter) {
             return Err(Cause::NoOption(place));
         }
-        progress = progress.with_flag(tool, letter)?;
+        match progress.with_flag(tool, *letter) {
+            Ok(next) => progress = next,
+            Err(cause) => return Err(cause),
+        }
     }
     Ok(progress)
 }
@@ -66,7 +68,7 @@ fn read_plain(tool: Tool, progress: Progress, word: &[u8]) -> Result<Progress, C
         return progress.with_file(tool);
     }
     if !word.starts_with(b"--") {
-        return read_letters(tool, progress, word);
+        return read_letters(tool, progress, &word[1..]);
     }
     if word.len() > 2 {
         return Err(Cause::NoLongOption);
@@ -101,21 +103,28 @@ fn missing(tool: Tool, progress: Progress) -> Option<Cause>
 }
 
 /// The first reason to refuse the arguments after a tool's name, which is argument 0.
-fn reason_after(tool: Tool, words: &[String]) -> Option<Reason>
-    ensures { result ≡ reason_from tool unread 1 (map string_bytes (drop 1 words.now)) }
+fn reason_after(tool: Tool, rest: &[String]) -> Option<Reason>
+    ensures { result ≡ reason_from tool unread 1 (map string_bytes rest.now) }
 {
     let mut progress = Progress::new();
-    for at in 1..words.len() {
-        match read_word(tool, progress, words[at].as_bytes()) {
+    for (index, word) in rest.iter().enumerate() {
+        match read_word(tool, progress, word.as_bytes()) {
             Ok(next) => progress = next,
-            Err(cause) => return Some(Reason { at, cause }),
+            Err(cause) => {
+                return Some(Reason {
+                    at: index + 1,
+                    cause,
+                });
+            }
         }
     }
-    let cause = missing(tool, progress)?;
-    Some(Reason {
-        at: words.len(),
-        cause,
-    })
+    match missing(tool, progress) {
+        Some(cause) => Some(Reason {
+            at: rest.len() + 1,
+            cause,
+        }),
+        None => None,
+    }
 }
 
 /// The first reason to refuse the arguments after the program's name, in their order; `None` if there is none. They are read
@@ -124,15 +133,15 @@ fn reason_after(tool: Tool, words: &[String]) -> Option<Reason>
 pub fn first_reason(words: &[String]) -> Option<Reason>
     ensures { result ≡ first_reason (map string_bytes words.now) }
 {
-    let tool = match words.first() {
-        Some(word) => Tool::named(word.as_str()),
-        None => None,
+    let nameless = Reason {
+        at: 0,
+        cause: Cause::NoTool,
     };
-    match tool {
-        Some(tool) => reason_after(tool, words),
-        None => Some(Reason {
-            at: 0,
-            cause: Cause::NoTool,
-        }),
+    let Some((name, rest)) = words.split_first() else {
+        return Some(nameless);
+    };
+    match Tool::named(name.as_str()) {
+        Some(tool) => reason_after(tool, rest),
+        None => Some(nameless),
     }
 }

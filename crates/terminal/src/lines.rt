@@ -34,7 +34,7 @@ fn put_cause<H: Runtime>(rt: &H, word: &str, cause: Cause) -> io::Result<()> {
     match cause {
         Cause::NoTool => eprintln!(rt; "there is no command {word}"),
         Cause::NoLongOption => eprintln!(rt; "there is no option {word}"),
-        Cause::NoOption(place) => match letter_at(word, place) {
+        Cause::NoOption(place) => match letter_at(word, place.saturating_add(1)) {
             'l' => eprintln!(rt; "there is no option -l, as v7 reads no archives"),
             letter => eprintln!(rt; "there is no option -{letter}"),
         },
