@@ -3,6 +3,8 @@
 same commands through pipes, where each byte and status has to be that of the specification.
 
 usage: tests/terminal.py V7
+       tests/terminal.py -p         plants one fault after another in a copy of the code, compiles v7 without proof, and sees that
+                                    this script finds each: two minutes for a fault
 
 The terminal is a pseudo-terminal, by the module `pty`. What is expected here is written by hand: the lines of v7(1) and of
 v7-session(1). Options are those of the manual pages. Random command lines, always the same, show that a reason is given for those
@@ -12,6 +14,7 @@ import os
 import pty
 import random
 import re
+import select
 import shutil
 import subprocess
 import sys
@@ -19,7 +22,7 @@ import tempfile
 
 TOP = os.path.normpath(os.path.join(os.path.dirname(os.path.abspath(__file__)), ".."))
 TOOLS = ["ld", "nm", "session", "size", "strip"]
-SECONDS = 60
+SECONDS = 10
 RANDOM_LINES = 400
 
 # arguments that are refused, and the lines that follow `v7: usage` at a terminal
@@ -79,8 +82,28 @@ SESSION = [
     ("withdraw", "withdrew twice.o\n"),
 ]
 ENDINGS = ["quit", "exit", " quit ", None]
+ONE = "end of the session: 1 command, status 0: each was done, and no link had anything to report\n"
 REFUSED = "a line was refused, or a link had something to report"
 DONE = "each was done, and no link had anything to report"
+
+# faults to plant: a file, a text that is there once, and what takes its place
+PLANTED = [
+    ("v7/src/main.rt", "rt.stdin().is_terminal(), words", "true, words"),
+    ("v7/src/main.rt", "    if rt.stderr().is_terminal() {", "    if rt.stdout().is_terminal() {"),
+    ("v7/src/main.rt", "InvalidData && rt.stderr().is_terminal()", "InvalidData"),
+    ("terminal/src/lib.rt", "            prompts.end(status);\n", ""),
+    ("terminal/src/lib.rt", "            put_hint(rt, &fault);\n", ""),
+    ("terminal/src/pages.rt", "  -d         with -r, lays out commons too\n", ""),
+    ("terminal/src/pages.rt", "(Cause::NoTool, \"help\" | \"--help\")", "(Cause::NoTool, \"--help\")"),
+    ("terminal/src/lines.rt", "letter == b'o'", "letter != b'o'"),
+    ("terminal/src/lines.rt", "char::from(one), char::from(other)", "char::from(other), char::from(one)"),
+    ("terminal/src/lines.rt", "place.saturating_add(1)", "place"),
+    ("terminal/src/prompts.rt", "b\"\" => Typed::Nothing,", "b\"\" => Typed::Line,"),
+    ("terminal/src/prompts.rt", "b\"quit\" | b\"exit\"", "b\"exit\""),
+    ("terminal/src/prompts.rt", "line.trim_ascii()", "line.trim_ascii_end()"),
+    ("terminal/src/prompts.rt", "self.given = self.given.saturating_add(n);", "self.given = self.line.len();"),
+    ("terminal/src/prompts.rt", "self.lines.saturating_add(1)", "self.lines"),
+]
 
 failed = []
 
@@ -103,9 +126,9 @@ def plain(data):
 
 
 def read_to(master, ends):
-    """Reads from the terminal until what was read ends so, or until nobody can write any more."""
+    """Reads from the terminal until what was read ends so, nobody can write any more, or nothing comes for a while."""
     came = b""
-    while not (ends and came.endswith(ends)):
+    while not (ends and came.endswith(ends)) and select.select([master], [], [], SECONDS)[0]:
         try:
             data = os.read(master, 65536)
         except OSError:
@@ -139,7 +162,11 @@ class Terminal:
     def ended(self):
         """What the terminal shows to the end, what the pipe of standard output has, that of standard error, and the status."""
         rest = self.shown()
-        output, error = self.process.communicate(timeout=SECONDS)
+        try:
+            output, error = self.process.communicate(timeout=SECONDS)
+        except subprocess.TimeoutExpired:
+            self.process.kill()
+            output, error = self.process.communicate()
         os.close(self.master)
         return rest, plain(output or b""), plain(error or b""), self.process.returncode
 
@@ -285,6 +312,7 @@ def check_session():
         expect(f"{ending}: end", play(SESSION, ending), (summary(ending, count, 1), 1))
         done = [pair for pair in SESSION[:2] + SESSION[10:11]]
         expect(f"{ending}: end without a fault", play(done, ending), (summary(ending, 3, 0), 0))
+    expect("one command", play(SESSION[:1], "quit"), (ONE, 0))
     # lines that are typed ahead, and a last one without a newline
     terminal = Terminal(["session"])
     terminal.shown(b"v7> ")
@@ -292,7 +320,7 @@ def check_session():
     shown, _, _, status = terminal.ended()
     expect("typed ahead", (shown.replace("v7> ", ""), status), ("added k.o\nwithdrew k.o\n\n" + summary("", 3, 0), 0))
     check_mixed()
-    return 2 * len(ENDINGS) + 3
+    return 2 * len(ENDINGS) + 4
 
 
 def check_mixed():
@@ -312,15 +340,49 @@ def check_mixed():
     expect("session: standard error is a pipe", (shown, error, status), ("bad command\nadded k.o\n", "", 1))
 
 
-def main():
+def run_all():
+    """Plays everything in a copy of the examples; returns what is counted."""
     with tempfile.TemporaryDirectory() as folder:
         shutil.copytree(f"{TOP}/examples", f"{folder}/examples")
         os.chdir(f"{folder}/examples")
         with open("commands.txt", "w", encoding="utf-8") as script:
             script.write("add main.o\n")
-        os.environ["TERM"] = "dumb"
         counts = (check_help(), check_reasons(), check_random(), check_hints(), check_session())
         os.chdir(TOP)
+    return counts
+
+
+def found_in(file, old, new):
+    """The end of what this script says of a program with a fault; None if it finds nothing."""
+    from compiling import compile_program
+    with tempfile.TemporaryDirectory() as top:
+        for name in ("crates.txt", "HANDLES"):
+            shutil.copy(f"{TOP}/{name}", top)
+        shutil.copytree(f"{TOP}/crates", f"{top}/crates", ignore=shutil.ignore_patterns("out"))
+        with open(f"{top}/crates/{file}", encoding="utf-8") as source:
+            code = source.read()
+        if code.count(old) != 1:
+            sys.exit(f"{file}: the text to change is there {code.count(old)} times: {old}")
+        with open(f"{top}/crates/{file}", "w", encoding="utf-8") as source:
+            source.write(code.replace(old, new))
+        compile_program(top, "v7", top)
+        ran = subprocess.run([sys.executable, __file__, f"{top}/v7"], stdout=subprocess.PIPE, stderr=subprocess.STDOUT, text=True, check=False)
+    return ran.stdout.rstrip().split("\n")[-1] if ran.returncode else None
+
+
+def plant():
+    """Plants the faults; the status is 1 if one is not found."""
+    missed = 0
+    for file, old, new in PLANTED:
+        said = found_in(file, old, new)
+        print(f"{'found' if said else 'NOT FOUND'}: {file}: {old.strip()} -> {new.strip()}: {said}", flush=True)
+        missed += not said
+    print(f"{len(PLANTED) - missed} of {len(PLANTED)} planted faults are found")
+    return 1 if missed else 0
+
+
+def main():
+    counts = run_all()
     if failed:
         sys.exit(f"{len(failed)} of what a terminal shows differs")
     print("at a terminal: {} pages, {} reasons, {} refused of {} random lines, {} hints, {} sessions".format(
@@ -330,5 +392,7 @@ def main():
 if __name__ == "__main__":
     if len(sys.argv) != 2:
         sys.exit(__doc__)
+    if sys.argv[1] == "-p":
+        sys.exit(plant())
     V7 = os.path.abspath(sys.argv[1])
     main()

@@ -99,8 +99,9 @@ impl<'a, H: Runtime + AllocGlobal> Prompts<'a, H> {
             } else {
                 "a line was refused, or a link had something to report"
             };
+            let plural = if self.lines == 1 { "" } else { "s" };
             let _ = eprintln!(self.rt;
-                "end of the session: {} commands, status {status}: {what}",
+                "end of the session: {} command{plural}, status {status}: {what}",
                 self.lines
             );
         }
@@ -112,10 +113,12 @@ impl<H: Runtime + AllocGlobal> Read for Prompts<'_, H> {
         if self.given >= self.line.len() {
             self.next_line()?;
         }
-        let rest = &self.line[self.given..];
+        let Some(rest) = self.line.get(self.given..) else {
+            return Ok(0);
+        };
         let n = rest.len().min(buf.len());
         buf[..n].copy_from_slice(&rest[..n]);
-        self.given += n;
+        self.given = self.given.saturating_add(n);
         Ok(n)
     }
 }
