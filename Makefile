@@ -146,6 +146,7 @@ gate:
 	python3 tests/layers.py
 	python3 tests/limits.py
 	python3 tests/calling.py
+	python3 tests/links.py
 	python3 tests/gate_times.py rt ci
 
 # one claim proved again, and a broken line refused: docs/TRUST.md
@@ -223,9 +224,10 @@ crates/lesson/out/lesson: crates.txt $(shell find $(LESSON_CRATES) -name out -pr
 check-manual: check-examples
 	cd man && mandoc -T lint *.1 *.3 *.5
 
-# the program with standard streams closed, and with words and files of each kind and number
+# the program with standard streams closed, and with words and files of each kind and number; and what it adds at a terminal
 check-streams: build/v7
 	sh tests/streams.sh
+	python3 tests/terminal.py build/v7
 
 # listings of the examples and of 1,000 made objects are turned back, and so are those of other files; 2,000 damaged listings
 # are tried, notes compared with computed ones, and maps with what v7 says of the links; DAMAGED files are tried besides
@@ -272,7 +274,7 @@ check-examples: build/v7 build/v7-from-gnu build/v7-object build/v7-explain buil
 	cmp crates/v7_object/data/main.lst examples/main.lst
 	sh tests/manual.sh
 	python3 tests/statuses.py build/v7-from-gnu build/v7-lesson
-	for program in v7-from-gnu v7-object v7-explain; do \
+	for program in v7-from-gnu v7-object v7-explain v7-lesson; do \
 		test "$$(build/$$program --version)" = "$$program $(VERSION)" || { echo "$$program --version: not $(VERSION)"; exit 1; }; \
 	done
 

@@ -1,5 +1,6 @@
 #!/usr/bin/env python3
-"""Makes the packages of a release in dist: v7-VERSION-linux-x86_64.tar.gz, v7_VERSION_amd64.deb and SHA256SUMS.
+"""Makes the packages of a release in dist: v7-VERSION-linux-x86_64.tar.gz, v7_VERSION_amd64.deb and SHA256SUMS. Both have a README
+of their own, packaging/README.md.
 
 usage: packaging/dist.py           of what tests/prove.py has proved, or proves now
        packaging/dist.py --kept    of what is in build/proved and crates/v7_c/out, which it does not check: for trials
@@ -24,7 +25,7 @@ KEPT = "build/proved"
 # the program that a crate is, and its name in bin
 PROGRAMS = {"v7": "v7", "v7_from_gnu": "v7-from-gnu", "v7_object": "v7-object", "v7_explain": "v7-explain", "lesson": "v7-lesson"}
 PAGE_FILES = ["main.o", "twice.o", "k.o", "l.o", "double.o"]
-DOCUMENTS = ["README.md", "CHANGES.md", "CONTRIBUTING.md", "docs", "examples"]
+DOCUMENTS = ["CHANGES.md", "CONTRIBUTING.md", "docs", "examples"]
 TRIAL = "This is a trial: nothing was checked when these packages were made. Do not publish them.\n"
 
 
@@ -215,6 +216,7 @@ def documents(release, place, to):
             shutil.copytree(name, f"{to}/{name}", ignore=shutil.ignore_patterns(".gitignore", "__pycache__"))
         else:
             write(f"{to}/{name}", read(name, "rb"))
+    write(f"{to}/README.md", read("packaging/README.md").replace("@VERSION@", release.version))
     write(f"{to}/lesson.html", page(place))
     write(f"{to}/PROVENANCE", provenance(release, place))
     write(f"{to}/NOTICE", licences(release, place))
@@ -345,7 +347,9 @@ def main(words):
     with tempfile.TemporaryDirectory() as place:
         link(release, place)
         libraries(place)
-        tree(release, place, f"{place}/tar/{release.name}", "", "/lib")
+        top = f"{place}/tar/{release.name}"
+        tree(release, place, top, "", "/lib")
+        write(f"{top}/README.md", re.sub(r"\]\(", "](share/doc/v7/", read(f"{top}/share/doc/v7/README.md")))
         config(f"{place}/tar/{release.name}/lib/pkgconfig/v7.pc", "${pcfiledir}/../..", "${prefix}/lib")
         names = [f"{release.name}.tar.gz", f"v7_{release.version}_amd64.deb"]
         pack(release, f"{place}/tar", f"dist/{names[0]}")

@@ -11,9 +11,10 @@
 #
 # To run the packages, a folder with Debian's base is made by debootstrap, from the mirror of this machine; with a C compiler and
 # pkg-config, and without the kit, make and Python. Once the package for Debian is installed there, and once the tar is unpacked.
-# Both times the examples of the manual pages, the tutorial, the cases, and the C example with both libraries are run there; before
-# that, the commands of README. What drives the cases, tests/cases.py, runs outside. It skips those that watch a program, since the
-# programs of a package are linked statically. Wanted: root, Debian's debootstrap and lintian.
+# Both times the README of the release, the examples of the manual pages, the tutorial, the page for restorers, the cases, and the C
+# example with both libraries are run there; before that, the commands of README. What drives the cases, tests/cases.py, runs outside.
+# It skips those that watch a program, since the programs of a package are linked statically. Wanted: root, Debian's debootstrap and
+# lintian.
 set -u
 cd "$(dirname "$0")/.."
 top=$PWD
@@ -114,6 +115,21 @@ readme() {
     echo "README.md: $(wc -l <"$work/readme.sh") lines were run"
 }
 
+# the README of the release: what it links to and the paths that it names are there, and its commands come out as shown
+own_readme() {
+    page=$debian$share/doc/v7/README.md
+    [ -s "$page" ] && ! grep -q '@VERSION@' "$page" || { fail "the release has no README of its own"; return; }
+    for path in $(sed -n 's/^| `\([a-z][^`]*\)` .*/\1/p' "$page"); do
+        [ -e "$debian${share%/share}/$path" ] || fail "README.md of the release names $path, which is not there"
+    done
+    for path in $(grep -o '](\([^)]*\))' "$page" | tr -d '](\)'); do
+        [ -e "$(dirname "$page")/$path" ] || fail "README.md of the release links to $path, which is not there"
+    done
+    [ -e "$(dirname "$page")/NOTICE" ] || [ -e "$(dirname "$page")/copyright" ] || fail "there is neither NOTICE nor copyright"
+    grep -q '<script' "$(dirname "$page")/lesson.html" || fail "lesson.html is not the page of the lesson"
+    echo "README.md of the release: $(grep -c '^|' "$page") rows of paths and links"
+}
+
 # the examples of the manual pages that are installed, and the tutorial
 manual() {
     rm -rf "$debian/tmp/manual"
@@ -121,7 +137,7 @@ manual() {
     cp tests/manual.sh "$debian/tmp/manual/tests"
     inside sh -euc 'cd /tmp/manual && mkdir man && cp "$1"/man/man[15]/v7* man && { gunzip -q man/*.gz 2>/dev/null || :; }
         cp -r "$1/doc/v7/examples" . && for program in v7 v7-from-gnu v7-object v7-explain v7-lesson; do ln -s "$(command -v $program)" build; done
-        sh tests/manual.sh man/* "$1/doc/v7/docs/TUTORIAL.md"' sh "$share" || fail "an example of the manual or the tutorial differs"
+        sh tests/manual.sh man/* "$1/doc/v7/README.md" "$1/doc/v7/docs/TUTORIAL.md" "$1/doc/v7/docs/RESTORING.md"' sh "$share" || fail "an example of the manual or the tutorial differs"
 }
 
 # the cases, driven from outside: each program is a script that runs it in the folder
@@ -156,6 +172,7 @@ library() {
 # all of these with what is installed
 try_all() {
     echo "--- $1"
+    own_readme
     manual
     cases
     library

@@ -159,6 +159,10 @@ echo "the program of v7(3) lists what v7 nm lists"
 $CC -O2 -Wall -o by_c $compiles "$top/examples/c/link.c" "$archive" || exit 1
 $CC -O2 -Wall -o ran_by_c $compiles "$top/examples/c/session.c" "$archive" || exit 1
 links C ./by_c
+# it names what it cannot read or write
+./by_c out missing.o 2>&1 | grep -q '^missing\.o: ' || fail "the example in C says nothing of a file that is not there"
+./by_c missing/out main.o 2>&1 | grep -q '^missing/out: ' || fail "the example in C says nothing of a file that it cannot write"
+./by_c 2>&1 | grep -q '^usage: ' || fail "the example in C says nothing of missing arguments"
 session C ./ran_by_c
 $CC -O2 -Wall -o by_shared $compiles "$top/examples/c/link.c" $links || exit 1
 $CC -O2 -Wall -o ran_by_shared $compiles "$top/examples/c/session.c" $links || exit 1

@@ -9,7 +9,7 @@ os.chdir(os.path.join(os.path.dirname(os.path.abspath(__file__)), ".."))
 # the file and the name of each constant, and the texts that have its value, in place of {}
 LIMITS = [
     ("tool_options/src/forced.rt", "MOST", {
-        "docs/LINK.md": "| names after `-u` that differ once they are cut | {} (own) |",
+        "docs/LINK.md": "| names after `-u` that differ once they are cut | {} |",
         "man/v7.1": "More than {} different names after",
         "man/v7.3": "More than {} different names are forced;",
         "include/v7.h": "/* more than {} different names are forced;",
@@ -41,21 +41,21 @@ LIMITS = [
         "include/v7.h": "a word refers to a name with a number over {} */",
     }),
     ("command_words/src/lines.rt", "LINE_LIMIT", {
-        "docs/LINK.md": "lines of a session | {} bytes (own);",
+        "docs/LINK.md": "lines of a session | {} bytes;",
         "man/v7-session.1": "A line has more than {} bytes before its newline.",
     }),
     ("command_words/src/line_reader.rt", "LINES_LIMIT", {
-        "docs/LINK.md": "bytes (own); {} (own) | `line too long`",
+        "docs/LINK.md": "bytes; {} | `line too long`",
         "man/v7-session.1": "The script goes on after {} lines.",
     }),
     ("aout_core/src/block.rt", "BLOCK_SIZE", {
-        "docs/LINK.md": "| what is read or written at once | {} bytes (own) |",
+        "docs/LINK.md": "| what is read or written at once | {} bytes |",
     }),
     ("lesson/src/page.rt", "PAGE_LIMIT", {
-        "docs/LINK.md": "if it has every order of them | {} bytes (own);",
+        "docs/LINK.md": "if it has every order of them | {} bytes;",
     }),
     ("lesson/src/walk.rt", "ALL_ORDERS", {
-        "docs/LINK.md": "bytes (own); {} (own) | there is no page",
+        "docs/LINK.md": "bytes; {} | there is no page",
     }),
 ]
 

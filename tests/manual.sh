@@ -83,9 +83,19 @@ run() {
     cd "$top" || exit 2
 }
 
+# a page of the manual, on a terminal of 80 columns: groff has nothing to say
+formats() {
+    command -v groff >/dev/null && command -v man >/dev/null || { echo "$1: not formatted, as man or groff is missing"; return; }
+    MANWIDTH=80 man --warnings -l "$1" >/dev/null 2>"$room/warnings"
+    grep -v 'Unknown AT&T UNIX' "$room/warnings" >"$room/left" && { cat "$room/left"; echo "$1: groff warns"; failed=1; }
+}
+
 failed=0
 count=0
 skipped=0
+for page in man/*.[1-9]; do
+    [ ! -e "$page" ] || formats "$page"
+done
 for file in "$@"; do
     commands "$file"
     run "$file"

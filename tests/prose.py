@@ -295,9 +295,11 @@ def faults_of(path, text, checked, targets, run):
     lines = text.splitlines()
     for line, name, shown in habits_in(prose_of(path, lines)):
         yield line.number, f"{name}: {shown}"
-    if not path.endswith((".rt", ".antt")):
-        for number, raw in enumerate(lines, 1):
-            for fault in sorted(set(dead_in(path, raw))):
+    # code has paths and texts of its own; there only a document can be missing
+    is_code = path.endswith((".rt", ".antt"))
+    for number, raw in enumerate(lines, 1):
+        for fault in sorted(set(dead_in(path, raw))):
+            if not is_code or fault.endswith(".md"):
                 yield number, fault
     if path.endswith(".md"):
         yield from commands_in(path, lines, checked, targets, run)

@@ -216,10 +216,25 @@ def check_steps(*names):
     return len(steps)
 
 
+def check_lesson():
+    """Help, the version, and arguments that are refused by one line. Returns how many were tried."""
+    usage = "v7-lesson: usage: v7-lesson [-n STEP] FILE..., or v7-lesson -p FOLDER [-q QUESTIONS] FILE... >PAGE\n"
+    synopsis = ("usage: v7-lesson [-n STEP] FILE...\n       v7-lesson -p FOLDER [-q QUESTIONS] FILE... >PAGE\n"
+                "       v7-lesson --help | --version\n")
+    with open(os.path.join(os.path.dirname(EXAMPLES), "include", "v7.h"), encoding="utf-8") as header:
+        version = re.search(r'^#define V7_VERSION "(.*)"', header.read(), re.M)[1]
+    expect("--help", run(LESSON, "--help"), (0, synopsis, ""))
+    expect("--version", run(LESSON, "--version"), (0, f"v7-lesson {version}\n", ""))
+    for words in [], ["-n"], ["-z", "k.o"], ["-n", "x", "k.o"], [b"\xe9.o"], ["-n", "1", "--help", b"\xe9.o"]:
+        expect(f"{words}", run(LESSON, *words), (2, "", usage))
+    return 8
+
+
 with tempfile.TemporaryDirectory() as room:
     os.chdir(room)
     objects = check_refusals() + check_compiled() + check_linked() + check_folder()
     shown = check_steps("k.o", "l.o") + check_steps("main.o", "twice.o", "count.o") + check_steps("a.o")
+    asked = check_lesson()
     if failed:
         sys.exit(1)
-    print(f"v7-from-gnu: {objects} lines and statuses compared; v7-lesson: {shown} steps")
+    print(f"v7-from-gnu: {objects} lines and statuses compared; v7-lesson: {shown} steps, {asked} lines")

@@ -15,7 +15,7 @@ from concurrent.futures import ThreadPoolExecutor, as_completed, wait
 from compiling import CRATES, NotCompiled, compile_program
 
 TOP = os.path.normpath(os.path.join(os.path.dirname(os.path.abspath(__file__)), ".."))
-TEXTS = ["trusted", "edits", "index", "quotes", "layers", "limits", "calling", "prose"]
+TEXTS = ["trusted", "edits", "index", "quotes", "layers", "limits", "calling", "prose", "links"]
 # for a whole run of one crate, on a machine with other work too
 SECONDS = "1800"
 SIDE_BY_SIDE = 4

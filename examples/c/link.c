@@ -39,11 +39,15 @@ int main(int argc, char **argv)
     FILE *out;
     int i;
 
-    if (argc < 3)
+    if (argc < 3) {
+        fprintf(stderr, "usage: link OUT OBJECT...\n");
         return 2;
+    }
     for (i = 2; i < argc; i++)
-        if (!read_object(argv[i]))
+        if (!read_object(argv[i])) {
+            perror(argv[i]);
             return 2;
+        }
     /* without room the answer says how much is wanted */
     status = v7_link(0, none, 0, none, 0, objects, objects_size, none, 0, none, 0, &answer);
     if (answer.fault != V7_NO_ROOM) {
@@ -53,8 +57,10 @@ int main(int argc, char **argv)
     }
     room = malloc(answer.size + 1);
     report = malloc(answer.report_size + 1);
-    if (!room || !report || !(out = fopen(argv[1], "wb")))
+    if (!room || !report || !(out = fopen(argv[1], "wb"))) {
+        perror(argv[1]);
         return 2;
+    }
     status = v7_link(0, none, 0, none, 0, objects, objects_size, room, answer.size, report, answer.report_size, &answer);
     fwrite(room, 1, answer.size, out);
     fclose(out);

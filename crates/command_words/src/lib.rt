@@ -8,10 +8,12 @@ mod fault;
 mod line_reader;
 mod lines;
 mod link_words;
+mod reasons;
 mod words;
 
 pub use block_writer::BlockWriter;
 pub use fault::WordsFault;
 pub use line_reader::{LineReader, Stop};
 pub use lines::Line;
+pub use reasons::{Cause, Reason, Tool, first_reason};
 pub use words::{Call, parse};

@@ -21,22 +21,25 @@ mod walk;
 mod words;
 
 use anyhow::{Error, Result};
+use aout_core::show;
 use link_session::Session;
 use page::write_page;
 use std::process::ExitCode;
 use steps::play;
-use words::{Asked, Words, words_given};
+use words::{Asked, SYNOPSIS, Words, words_given};
 
-/// Does what the words ask for.
-fn run(rt: &HostRuntime, session: &mut Session) -> Result<()> {
+/// Does what the words ask for, and returns the status.
+fn run(rt: &HostRuntime, session: &mut Session) -> Result<u8> {
     let Words { asked, files } = words_given(rt)?;
     match asked {
-        Asked::Steps(shown) => play(rt, session, files, shown),
+        Asked::Show(shown) => return Ok(show(rt, "v7-lesson", SYNOPSIS, shown)),
+        Asked::Steps(shown) => play(rt, session, files, shown)?,
         Asked::Page(folder, questions) => {
             let questions = questions.as_ref().map(|path| path.as_str());
-            write_page(rt, session, folder.as_str(), questions, files)
+            write_page(rt, session, folder.as_str(), questions, files)?;
         }
     }
+    Ok(0)
 }
 
 /// Reports an error, and returns the status for it.
@@ -54,7 +57,7 @@ fn fail(rt: &HostRuntime, error: &Error) -> u8 {
 
 fn main(rt: HostRuntime) -> ExitCode {
     let status = match run(&rt, &mut Session::new(rt.alloc())) {
-        Ok(()) => 0,
+        Ok(status) => status,
         Err(error) => fail(&rt, &error),
     };
     ExitCode::from(status)

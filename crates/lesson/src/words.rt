@@ -1,13 +1,22 @@
 //! The arguments of the program.
 use anyhow::{Result, anyhow};
-use std::env;
+use aout_core::{Shown, shown_by};
+use std::{env, io};
 
 const USAGE: &str =
     "usage: v7-lesson [-n STEP] FILE..., or v7-lesson -p FOLDER [-q QUESTIONS] FILE... >PAGE";
 
+/// How the program is called, as `--help` shows it.
+pub(crate) const SYNOPSIS: &str = "usage: v7-lesson [-n STEP] FILE...
+       v7-lesson -p FOLDER [-q QUESTIONS] FILE... >PAGE
+       v7-lesson --help | --version
+";
+
 /// What is asked of the objects.
 #[derive(Drop)]
 pub(crate) enum Asked {
+    /// Nothing: how the program is called is shown, or its version.
+    Show(Shown),
     /// All steps as text, or the one of this number, from 1.
     Steps(Option<usize>),
     /// The page: the folder of its scripts and styles, and the file of its lessons, if it has any.
@@ -45,12 +54,29 @@ fn after_first(word: &str) -> Next {
     }
 }
 
+/// The arguments, with the program's name.
+fn arguments(rt: &HostRuntime) -> Result<env::Args> {
+    match env::args(rt) {
+        Ok(arguments) => Ok(arguments),
+        Err(error) => match error.kind() {
+            io::ErrorKind::OutOfMemory => Err(anyhow!("no memory")),
+            _ => Err(anyhow!("{USAGE}")),
+        },
+    }
+}
+
 /// The words after the program's name.
 pub(crate) fn words_given(rt: &HostRuntime) -> Result<Words> {
     let mut asked = Asked::Steps(None);
     let mut files = Vec::new(rt.alloc());
     let mut next = Next::First;
-    for word in env::args(rt)?.skip(1) {
+    for word in arguments(rt)?.skip(1) {
+        if next == Next::First
+            && let Some(shown) = shown_by(word.as_str())
+        {
+            asked = Asked::Show(shown);
+            return Ok(Words { asked, files });
+        }
         if next == Next::Step {
             // 0 if the word is not a number, and there is no such step
             asked = Asked::Steps(Some(word.as_str().parse::<usize>().unwrap_or(0)));

@@ -2,9 +2,11 @@
 #![tactic(auto)]
 
 use std::fs::File;
+use std::io::IsTerminal;
 use std::os::fd::AsRawFd;
 use std::process::ExitCode;
 use std::{env, fs, io};
+use terminal::command_at_terminal;
 use v7tools::{command, words};
 
 /// Opens a folder at each descriptor below 3 that is closed, since a file that a command opens would else take the place
@@ -21,13 +23,17 @@ fn hold_streams(rt: &HostRuntime) -> io::Result<Vec<File>> {
     Ok(held)
 }
 
-/// The status of the command. The streams are held until it has ended.
+/// The status of the command. The streams are held until it has ended. More is written only if standard error is a terminal.
 fn run(rt: &HostRuntime) -> io::Result<u8> {
     let _held = hold_streams(rt)?;
-    Ok(command(rt, words(rt.alloc(), env::args(rt)?)?))
+    let words = words(rt.alloc(), env::args(rt)?)?;
+    if rt.stderr().is_terminal() {
+        return Ok(command_at_terminal(rt, rt.stdin().is_terminal(), words));
+    }
+    Ok(command(rt, words))
 }
 
-/// Runs the command. Words that are not UTF-8 are refused with `usage`.
+/// Runs the command. Arguments that are not UTF-8 are refused with `usage`.
 fn main(rt: HostRuntime) -> ExitCode {
     match run(&rt) {
         Ok(status) => ExitCode::from(status),
@@ -38,6 +44,9 @@ fn main(rt: HostRuntime) -> ExitCode {
                 _ => "v7: /: cannot open\n",
             };
             let _ = rt.eprint(line);
+            if error.kind() == io::ErrorKind::InvalidData && rt.stderr().is_terminal() {
+                let _ = rt.eprint("an argument is not UTF-8\nv7 --help lists the commands\n");
+            }
             ExitCode::from(2)
         }
     }

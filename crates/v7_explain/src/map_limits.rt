@@ -86,7 +86,7 @@ fn put_linked(
     put_limit(text, "externals", names, MOST_NAMES as u64)
 }
 
-/// Adds the limits, with what all objects use of each. (docs/LIMITS.md)
+/// Adds the limits, with what all objects use of each. (docs/LINK.md)
 pub(crate) fn put_limits(
     text: &mut String,
     map: &LinkMap,

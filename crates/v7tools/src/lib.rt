@@ -19,6 +19,7 @@
 //! Functions:
 //!
 //! - `command`: does what the arguments ask for, with the system's files
+//! - `attempt`: the same, with the lines of a session from any reader, and the fault as a value
 //! - `perform`: the same over any `Office` and any streams
 //! - `words`, `parse`: the arguments of a program, and what they ask for
 //! - `load`: reads the file at a path
@@ -47,7 +48,7 @@ pub use link::emitting::emit;
 pub use link::linking::ld;
 pub use office::{Office, Stored};
 pub use parsing::parse;
-pub use program::{Outputs, command, perform};
+pub use program::{Outputs, attempt, command, perform};
 pub use session::commands::{Command, Step};
 pub use session::link_answers::link_answer;
 pub use session::script::Script;

@@ -112,6 +112,20 @@ pub fn perform<O: Office, R: Read + Drop, W: BufferedWrite, E: Write>(
     }
 }
 
+/// Does what `command` does, with the lines of a session from any reader, and returns a fault in place of writing its line.
+/// (own choice)
+pub fn attempt<H: Runtime + AllocGlobal, R: Read + Drop>(
+    rt: &H,
+    script: R,
+    words: Vec<String>,
+) -> Result<u8, CliFault>
+    ensures { IfOk result (λ status. status ≤ 1) }
+{
+    let mut office = Disk::new(rt);
+    let mut output = Wire::new(BlockWriter::new(io::writer(rt)));
+    run_words(rt.alloc(), &mut office, script, &mut output, words)
+}
+
 /// Does what the arguments ask for, and returns the status of the program (own choice):
 ///
 /// - 0, or 1 if there was something to report, or if a session refused a line or could not store a link.

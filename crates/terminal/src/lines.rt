@@ -1,0 +1,85 @@
+//! Lines after a fault: why arguments are refused, and what else looks into a file.
+use aout_core::ReadFault;
+use command_words::{Cause, Reason, Tool};
+use std::io;
+use std::rt::Runtime;
+use v7tools::CliFault;
+
+/// The name of a tool.
+fn name(tool: Tool) -> &'static str {
+    match tool {
+        Tool::Ld => "ld",
+        Tool::Nm => "nm",
+        Tool::Session => "session",
+        Tool::Size => "size",
+        Tool::Strip => "strip",
+    }
+}
+
+/// What the value of an option is.
+fn value_of(letter: u8) -> &'static str {
+    if letter == b'o' { "file" } else { "name" }
+}
+
+/// The first character of an argument from a place on.
+fn letter_at(word: &str, place: usize) -> char {
+    match word.get(place..) {
+        Some(rest) => rest.chars().next().unwrap_or('?'),
+        None => '?',
+    }
+}
+
+/// Writes the reason, without the name of the tool, as a line.
+fn put_cause<H: Runtime>(rt: &H, word: &str, cause: Cause) -> io::Result<()> {
+    match cause {
+        Cause::NoTool => eprintln!(rt; "there is no command {word}"),
+        Cause::NoLongOption => eprintln!(rt; "there is no option {word}"),
+        Cause::NoOption(place) => match letter_at(word, place.saturating_add(1)) {
+            'l' => eprintln!(rt; "there is no option -l, as v7 reads no archives"),
+            letter => eprintln!(rt; "there is no option -{letter}"),
+        },
+        Cause::NoValue(letter) => {
+            eprintln!(rt; "-{} needs a {}", char::from(letter), value_of(letter))
+        }
+        Cause::SecondValue(letter) => {
+            eprintln!(rt; "-{} takes one {}", char::from(letter), value_of(letter))
+        }
+        Cause::Excluded(one, other) => {
+            eprintln!(rt;
+                "-{} and -{} exclude each other",
+                char::from(one),
+                char::from(other)
+            )
+        }
+        Cause::ManyNames => eprintln!(rt; "-u takes at most 64 different names"),
+        Cause::NoFiles => eprintln!(rt; "it takes no file, and was given {word}"),
+        Cause::FileMissing => eprintln!(rt; "it needs a file"),
+    }
+}
+
+/// Writes why arguments are refused, and where help is: two lines.
+pub(crate) fn put_reason<H: Runtime>(rt: &H, tool: Option<Tool>, words: &[String], reason: Reason) {
+    let word = match words.get(reason.at) {
+        Some(word) => word.as_str(),
+        None => "",
+    };
+    let _ = match tool {
+        Some(tool) => eprint!(rt; "{}: ", name(tool)),
+        None => Ok(()),
+    };
+    let _ = put_cause(rt, word, reason.cause);
+    let _ = match tool {
+        Some(tool) => eprintln!(rt; "v7 {} --help shows how to call it", name(tool)),
+        None => eprintln!(rt; "v7 --help lists the commands"),
+    };
+}
+
+/// Writes a line after the fault of a file that `v7-explain` knows more of.
+pub(crate) fn put_hint<H: Runtime>(rt: &H, fault: &CliFault) {
+    let path = match fault {
+        CliFault::BadFile(_, ReadFault::Device) => return,
+        CliFault::BadFile(path, _) | CliFault::BadObject(path, _) => path,
+        _ => return,
+    };
+    let _ = eprintln!(rt; "v7-explain {path} says what this file is");
+}

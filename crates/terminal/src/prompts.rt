@@ -1,0 +1,124 @@
+//! The lines of a session as they are typed, with a prompt before each.
+ghost use Rattle.std.specs.Prelude.{◌≤◌};
+
+use std::io;
+use std::io::{BufRead, Input, Read};
+use std::rt::Runtime;
+
+const HELP: &str =
+    "add PATH, withdraw, externals, undefined and link PATH are the commands; quit ends the session\n";
+
+/// What a line asks for that a session does not know.
+#[derive(Clone, Copy, PartialEq, Eq)]
+enum Typed {
+    Help,
+    Quit,
+    Nothing,
+    /// The line is for the session.
+    Line,
+}
+
+/// What a line asks for; blanks around it do not count.
+fn asked_by(line: &[u8]) -> Typed {
+    match line.trim_ascii() {
+        b"" => Typed::Nothing,
+        b"help" | b"?" => Typed::Help,
+        b"quit" | b"exit" => Typed::Quit,
+        _ => Typed::Line,
+    }
+}
+
+/// Standard input as a script. `help` and `?` show a line of help, `quit` and `exit` end the script, and a blank line is passed
+/// over; all other lines are given as they are typed.
+#[derive(Drop)]
+pub(crate) struct Prompts<'a, H: Runtime> {
+    rt: &'a H,
+    input: <H as Input>::Reader,
+    /// The line that is being given, and how many of its bytes were.
+    line: Vec<u8>,
+    given: usize,
+    lines: u64,
+    is_begun: bool,
+    is_over: bool,
+}
+
+impl<'a, H: Runtime + AllocGlobal> Prompts<'a, H> {
+    pub(crate) fn new(rt: &'a H) -> Prompts<'a, H> {
+        Prompts {
+            rt,
+            input: rt.reader(),
+            line: Vec::new(rt.alloc()),
+            given: 0,
+            lines: 0,
+            is_begun: false,
+            is_over: false,
+        }
+    }
+
+    /// Reads lines up to one for the session; there is none at the end.
+    fn next_line(&mut self) -> io::Result<()> {
+        if !self.is_begun {
+            self.is_begun = true;
+            let _ = self.rt.eprint(HELP);
+        }
+        self.given = 0;
+        for _ in 0..u64::MAX {
+            self.line.clear();
+            if self.is_over {
+                return Ok(());
+            }
+            let _ = self.rt.eprint("v7> ");
+            let count = self.input.read_until(b'\n', &mut self.line)?;
+            if !self.line.ends_with(b"\n") {
+                self.is_over = true;
+                let _ = self.rt.eprint("\n");
+            }
+            if count == 0 {
+                return Ok(());
+            }
+            match asked_by(&self.line) {
+                Typed::Nothing => {}
+                Typed::Help => {
+                    let _ = self.rt.eprint(HELP);
+                }
+                Typed::Quit => self.is_over = true,
+                Typed::Line => {
+                    self.lines = self.lines.saturating_add(1);
+                    return Ok(());
+                }
+            }
+        }
+        Ok(())
+    }
+
+    /// Writes how a session ended, if there was one.
+    pub(crate) fn end(&self, status: u8) {
+        if self.is_begun {
+            let what = if status == 0 {
+                "each was done, and no link had anything to report"
+            } else {
+                "a line was refused, or a link had something to report"
+            };
+            let plural = if self.lines == 1 { "" } else { "s" };
+            let _ = eprintln!(self.rt;
+                "end of the session: {} command{plural}, status {status}: {what}",
+                self.lines
+            );
+        }
+    }
+}
+
+impl<H: Runtime + AllocGlobal> Read for Prompts<'_, H> {
+    fn read(&mut self, buf: &mut [u8]) -> io::Result<usize> {
+        if self.given >= self.line.len() {
+            self.next_line()?;
+        }
+        let Some(rest) = self.line.get(self.given..) else {
+            return Ok(0);
+        };
+        let n = rest.len().min(buf.len());
+        buf[..n].copy_from_slice(&rest[..n]);
+        self.given = self.given.saturating_add(n);
+        Ok(n)
+    }
+}
