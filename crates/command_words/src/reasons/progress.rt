@@ -4,8 +4,7 @@ ghost use Rattle.command_words.specs.Reasons.{and_flag, ended, excludes, excludi
 
 use super::{Cause, Tool};
 use aout_core::Name;
-use link_options::Flags;
-use link_session::Forced;
+use tool_options::{Flags, Forced};
 
 /// What has been read of the arguments of a tool.
 #[derive(Clone, Copy)]
