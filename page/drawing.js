@@ -4,8 +4,9 @@
 
 const ARROW_LANES = 8;
 const CHAIN_LANES = 3;
-// from the middle of a row, in pixels: where its arrow starts, and where others end
+// from the middle of a row, in pixels: where its arrow starts, and where others end; more for a word that refers to itself
 const APART = 2;
+const ITSELF = 6;
 
 function svg(name, attributes, ...children) {
     const element = document.createElementNS("http://www.w3.org/2000/svg", name);
@@ -14,52 +15,86 @@ function svg(name, attributes, ...children) {
     return element;
 }
 
-// the rows of the image in their order, with the titles of segments
+// the rows of the image in their order
 function rowOrder() {
     const order = new Map();
-    for (const row of document.querySelectorAll("#image .word, #image .segment > h3")) order.set(row, order.size);
+    for (const row of document.querySelectorAll("#image .word, #image .fold")) order.set(row, order.size);
     return order;
 }
 
-// the row that a word refers to, or the title of the segment if no word is at this place; null if it is folded
-function targetRow(state, word) {
-    if (word.kind < 1) return null;
-    const [segment, offset] = [SEGMENTS[word.kind], word.meant - (word.meant % 2)];
-    return byId(wordKey(segment, offset)) ?? (wordAt(state, segment, offset) ? null : document.querySelector(`#${segment} > h3`));
+// the row of a word, or the fold that has it
+function rowAt(place, part, index, id) {
+    const fold = byId(id) ? null : shownFolds.find((one) => one.place === place && one.part === part && one.start <= index && index < one.end);
+    return byId(fold ? fold.id : id);
 }
 
-// whether the arrow or the line of a word belongs to what is chosen, or to what the last step changed
-function wish(word, row, target, place) {
-    if (!chosen) return ["bound", "put-back", "new"].findIndex((change) => row.classList.contains(change));
-    if (chosen === row.id || (target && chosen === target.id)) return 0;
-    if (chosen.startsWith("name ")) return chosen === `name ${word.name}` || (target && target.id === place) ? 0 : -1;
-    return word.kind < 0 && shownWords.get(chosen)?.name === word.name ? 0 : -1;
+// the row of a place, or the fold that has it
+function rowOfPlace(state, id) {
+    if (!id || byId(id) || !isWordKey(id)) return byId(id);
+    const [part, offset] = id.split("-");
+    const word = wordAt(state, part, Number(offset));
+    return word && rowAt(word.place, part, word.index, id);
 }
 
-// the id of the row where the chosen name is defined
+// the id of the place that is chosen: that of the word, or of the definition of the name
 function chosenPlace(state) {
+    if (!chosen.startsWith("name ")) return chosen;
     const found = namesOf(state).find(({ name }) => chosen === `name ${name}`);
-    return found && PARTS.includes(found.kind) ? wordKey(found.kind, found.number - (found.number % 2)) : found && found.kind;
+    if (!found) return "";
+    if (PARTS.includes(found.kind)) return wordKey(found.kind, found.number - (found.number % 2));
+    if (found.kind === "bss") return `bss-${found.number}`;
+    const isThere = found.kind === "common" && isLinked(state) && symbolOf(state, found.i, view.layout).letter !== "C";
+    return isThere ? `common-${symbolOf(state, found.i, view.layout).value}` : "";
+}
+
+// the name that the choice is about: itself, or that for which the chosen word waits
+function chosenName(state) {
+    if (chosen.startsWith("name ")) return chosen.slice(5);
+    if (!isWordKey(chosen)) return "";
+    const word = wordAt(state, chosen.split("-")[0], Number(chosen.split("-")[1]));
+    return word && word.kind < 0 ? word.name : "";
+}
+
+// all words that refer to something, with the place that each refers to
+function allReferences(state) {
+    const layout = isLinked(state) ? view.layout : -1;
+    return state.list.flatMap((number, place) => PARTS.flatMap((part, which) => [...DATA.objects[number].references[part]].map(([index, reference]) => {
+        const id = wordKey(part, state.fronts[place][which] + 2 * index);
+        const own = DATA.objects[number].groupTargets[reference.group];
+        const to = idOfPlace(placeOf(state, state.referenceStarts[place] + reference.number, layout));
+        return { place, part, index, id, to, name: own.kind < 0 ? own.name : "" };
+    })));
+}
+
+// the words that refer to what is chosen, and the chosen word if it refers to something; none if nothing is chosen
+function chosenReferences(state) {
+    if (!chosen) return [];
+    const [name, target] = [chosenName(state), chosenPlace(state)];
+    return allReferences(state).filter((one) => one.id === chosen || (target && one.to === target) || (name && one.name === name && !(isWordKey(chosen) && one.to)));
+}
+
+// the words whose arrows are wanted: those that belong to the choice, or those that the last step changed or brought
+function wantedReferences(state) {
+    if (chosen) return chosenReferences(state).map((one) => ({ ...one, rank: 0 }));
+    const rank = (id) => ["bound", "put-back", "new"].findIndex((change) => byId(id)?.classList.contains(change));
+    return allReferences(state).map((one) => ({ ...one, rank: rank(one.id) })).filter((one) => one.rank >= 0);
 }
 
 // arrows that end at one row, and words that wait for one name, as bundles that share a lane
-function bundles(state) {
+function bundles(state, references) {
     const order = rowOrder();
     const found = { arrows: new Map(), chains: new Map() };
-    const place = chosenPlace(state);
-    for (const row of order.keys()) {
-        const word = shownWords.get(row.id);
-        if (!word) continue;
-        const target = targetRow(state, word);
-        const isLine = word.kind < 0 && view.layout < 0;
-        const rank = target || isLine ? wish(word, row, target, place) : -1;
-        if (rank < 0) continue;
-        const [all, key] = isLine ? [found.chains, word.name] : [found.arrows, target];
-        if (!all.has(key)) all.set(key, { key, rows: [], rank, places: isLine ? [] : [order.get(target)] });
+    for (const one of references) {
+        const [row, target] = [rowAt(one.place, one.part, one.index, one.id), rowOfPlace(state, one.to)];
+        const isLine = !one.to && one.name && view.layout < 0;
+        if (!row || !(target || isLine)) continue;
+        const [all, key] = isLine ? [found.chains, one.name] : [found.arrows, target];
+        if (!all.has(key)) all.set(key, { key, rows: [], count: 0, rank: one.rank, places: isLine ? [] : [order.get(target)] });
         const bundle = all.get(key);
-        bundle.rows.push(row);
+        bundle.count += 1;
+        if (!bundle.rows.includes(row)) bundle.rows.push(row);
         bundle.places.push(order.get(row));
-        bundle.rank = Math.min(bundle.rank, rank);
+        bundle.rank = Math.min(bundle.rank, one.rank);
     }
     return { arrows: [...found.arrows.values()], chains: [...found.chains.values()] };
 }
@@ -83,7 +118,8 @@ function boxOf(row, frame) {
 
 function arrow(row, target, lane, box, size) {
     const [from, to] = [box(row), box(target)];
-    const [y1, y2] = [from.middle - APART, to.middle + APART];
+    const apart = row === target ? ITSELF : APART;
+    const [y1, y2] = [from.middle - apart, to.middle + apart];
     const x = from.right + size.head + size.gap * lane;
     const bend = Math.min(size.gap, Math.abs(y2 - y1) / 2) * Math.sign(y2 - y1);
     const turn = Math.min(size.gap, x - from.right);
@@ -92,7 +128,7 @@ function arrow(row, target, lane, box, size) {
     const isOld = ["bound", "put-back"].some((change) => row.classList.contains(change));
     const group = svg("g", { class: isOld || chosen ? "arrow strong" : "arrow" }, svg("path", { class: "line", d: line }), svg("path", { class: "head", d: head }));
     group.dataset.from = row.id;
-    group.dataset.to = target.id || target.parentElement.id;
+    group.dataset.to = target.id;
     return group;
 }
 
@@ -114,17 +150,18 @@ function sizes() {
     return { gap, head: 0.7 * rem, dot: 0.75 * rem };
 }
 
-let drawn = { arrows: [], chains: [], left: 0 };
+let drawn = { arrows: [], chains: [], left: 0, references: [] };
 // the size of the image that was drawn over
 let drawnSize = "";
 const sizeText = ({ width, height }) => `${width} ${height}`;
 
 // chooses what is drawn, and says what is not
 function chooseDrawn(state) {
-    const { arrows, chains } = bundles(state);
+    const references = wantedReferences(state);
+    const { arrows, chains } = bundles(state, references);
     const kept = { arrows: giveLanes(arrows, ARROW_LANES), chains: giveLanes(chains.filter((chain) => chain.rows.length > 1), CHAIN_LANES) };
-    const count = (all) => all.reduce((sum, bundle) => sum + bundle.rows.length, 0);
-    drawn = { ...kept, left: count(arrows) - count(kept.arrows) };
+    const count = (all) => all.reduce((sum, bundle) => sum + bundle.count, 0);
+    drawn = { ...kept, left: count(arrows) - count(kept.arrows), references };
 }
 
 function draw() {
@@ -135,6 +172,7 @@ function draw() {
     const lines = drawn.arrows.flatMap(({ rows, key, lane }) => rows.map((row) => arrow(row, key, lane, box, size)));
     byId("drawing").replaceChildren(...lines, ...drawn.chains.map((chain) => chainLine(chain, box, size)));
     drawnSize = sizeText(frame);
+    showEnds();
 }
 
 // draws again when the layout changes: by size, zoom, fonts, and on paper
@@ -144,4 +182,5 @@ function watchLayout() {
     }).observe(byId("image"));
     document.fonts.ready.then(draw);
     for (const name of ["resize", "beforeprint", "afterprint"]) window.addEventListener(name, draw);
+    byId("stage").addEventListener("scroll", () => requestAnimationFrame(showEnds), { passive: true });
 }

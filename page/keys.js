@@ -1,8 +1,11 @@
 // Keys and clicks. Image, names and marks are each one stop of the tabulator, with arrow keys inside.
 "use strict";
 
-const KEYS = new Map([["w", "withdraw"], ["arrowleft", "back"], ["arrowright", "forth"], ["a", "addresses"], ["d", "decimal"]]);
+const KEYS = new Map([["w", "withdraw"], ["arrowleft", "back"], ["arrowright", "forth"], ["a", "addresses"], ["d", "decimal"], ["f", "flick"], ["m", "maps"],
+    ["l", "presenter"], ["g", "go"], ["b", "return"]]);
 [..."pnir"].forEach((key, i) => KEYS.set(key, `layout${i}`));
+// the keys that leave the state as it is, and act under an open question too
+const QUIET = new Set(["d", "l", "g", "b"]);
 const LISTS = ["image", "names", "marks"];
 
 // for each list the row that keys move from
@@ -31,7 +34,7 @@ function moveTo(list, row) {
     const key = row.dataset.key;
     if (key.startsWith("fold ")) setActive();
     else choose(key, list !== "image");
-    byId(active[list])?.scrollIntoView({ block: "nearest" });
+    if (byId(active[list])) bring(byId(active[list]));
 }
 
 // opens a fold, and makes its first word active
@@ -40,7 +43,7 @@ function openFold(key) {
     unfold(Number(object), part, Number(start), Number(end));
     const place = view.list.indexOf(Number(object));
     active.image = wordKey(part, stateNow().fronts[place][PARTS.indexOf(part)] + 2 * Number(start));
-    showChosen(true, "nearest", () => byId(active.image));
+    showChosen(true, () => byId(active.image));
 }
 
 // what Enter and a click do with a row
@@ -82,15 +85,48 @@ function watchList(list) {
     });
 }
 
+// from the question to the image, or to the first thing to press, and back
+function switchPlace() {
+    const guide = byId("guide");
+    if (guide.hidden || guide.contains(document.activeElement)) byId("image").focus({ preventScroll: true });
+    else {
+        showTab("guide");
+        (guide.querySelector("input, .choices button") ?? byId("next") ?? guide).focus();
+    }
+}
+
+// what a key does under a question: a digit chooses, or begins a number
+function questionKey(event, key) {
+    if (byId("number") && /^[0-9]$/.test(key)) byId("number").focus();
+    else if (/^[1-9]$/.test(key) && byId(`choice${key}`)) {
+        event.preventDefault();
+        byId(`choice${key}`).click();
+    }
+}
+
 // single keys, in small letters or with Caps Lock, if they are on
 function shortcut(event) {
     if (event.key === "Escape" && (view.guide >= 0 || chosen)) return chosen ? choose("", false) : closeGuide();
-    if (!areKeysOn || event.ctrlKey || event.metaKey || event.altKey || event.shiftKey) return undefined;
+    if (!areKeysOn || event.ctrlKey || event.metaKey || event.altKey || event.target.tagName === "INPUT") return undefined;
     const key = event.key.toLowerCase();
+    if (key === "/") {
+        event.preventDefault();
+        return byId("find").focus();
+    }
+    if (event.shiftKey) return undefined;
+    if (key === "q") return switchPlace();
+    if (isAsked() && !QUIET.has(key)) return key === "enter" ? pressNext(event) : questionKey(event, key);
     const element = byId(KEYS.get(key) ?? (/^[1-9]$/.test(key) ? `add${key}` : ""));
-    if (!element) return undefined;
+    if (!element) return key === "enter" ? pressNext(event) : undefined;
     event.preventDefault();
     return element.click();
+}
+
+// Enter goes on in a lesson, where no button and no row takes it
+function pressNext(event) {
+    if (event.target.closest?.("button, summary, a, [role=listbox]") || !byId("next")) return;
+    event.preventDefault();
+    byId("next").click();
 }
 
 function switchKeys() {
@@ -106,12 +142,30 @@ function watchBar() {
     const acts = {
         withdraw, back: () => history.back(), forth: () => history.forward(), keys: switchKeys, guides: () => closeGuide(true),
         addresses: () => show({ ...view, layout: other() }), decimal: () => show({ ...view, decimal: !view.decimal }),
-        fold: () => { opened.clear(); showChosen(true); },
+        fold: () => { opened.clear(); showChosen(true); }, flick, presenter: switchPresenter,
+        maps: () => { areMapsShown = !areMapsShown; showMaps(stateNow()); draw(); },
     };
     LAYOUTS.forEach((_, i) => { acts[`layout${i}`] = () => show({ ...view, layout: i }); });
     for (const [id, act] of Object.entries(acts)) {
         byId(id).addEventListener("click", () => { if (byId(id).getAttribute("aria-disabled") !== "true") act(); });
     }
+}
+
+// large words for a projector, without the legend
+function switchPresenter() {
+    const isOn = document.documentElement.classList.toggle("presenter");
+    byId("presenter").setAttribute("aria-pressed", String(isOn));
+    showChosen(true, firstChanged);
+}
+
+// in a narrow window the names, the objects and the lesson share one place
+function showTab(name) {
+    byId("page").dataset.tab = name;
+    for (const tab of ["names", "objects", "guide"]) byId(`tab-${tab}`).setAttribute("aria-pressed", String(tab === name));
+}
+
+function watchTabs() {
+    for (const tab of ["names", "objects", "guide"]) byId(`tab-${tab}`).addEventListener("click", () => showTab(tab));
 }
 
 function watchKeys() {

@@ -12,6 +12,10 @@ const WORD = 0o200000;
 const NAME_NUMBERS = 2 + 2 * LAYOUTS.length;
 const GROUP_NUMBERS = 3 + 2 * LAYOUTS.length;
 const LOCAL_NUMBERS = LAYOUTS.length;
+// how many numbers a word that refers to something has: its place in the image, and in each link
+const PLACE_NUMBERS = 1 + LAYOUTS.length;
+// the kinds of places, as the page's rows are called; those after the first three are followed by an offset or an address
+const PLACE_KINDS = ["", "text", "data", "bss", "text-end", "data-end", "bss-end", "text-beyond", "data-beyond", "bss-beyond", "common", "outside"];
 
 const RECORDS = new Map();
 const REFUSALS = new Map();
@@ -36,16 +40,60 @@ function ownTarget(target) {
     return { kind: -1, name: target.slice(1), pc: target[0] === "p" };
 }
 
+// the names that an object defines in its segments
+function labelsIn(flat) {
+    const labels = { text: [], data: [] };
+    for (let i = 0; i < flat.length; i += 4) labels[PARTS[flat[i]]].push({ index: flat[i + 1], isExternal: flat[i + 2] === 1, name: flat[i + 3] });
+    for (const part of PARTS) labels[part].sort((a, b) => a.index - b.index);
+    return labels;
+}
+
+// for each word of text the first word of its instruction
+function unitsOfText(object) {
+    const operands = new Set(object.operands);
+    const starts = [];
+    object.text.forEach((_, index) => starts.push(operands.has(index) && index > 0 ? starts[index - 1] : index));
+    return starts;
+}
+
+// for each word of data the first word of its text; a word of no text is alone
+function unitsOfData(object) {
+    const starts = object.data.map((_, index) => index);
+    object.strings = new Map();
+    for (let i = 0; i < object.texts.length; i += 3) {
+        const [end, count, text] = object.texts.slice(i, i + 3);
+        object.strings.set(end - count, text);
+        for (let index = end - count; index < end; index++) starts[index] = end - count;
+    }
+    return starts;
+}
+
+// the functions of a segment, or its variables: each from one label to the next
+function piecesOf(object, part) {
+    const starts = [...new Set([0, ...object.labels[part].map(({ index }) => index)])].filter((index) => index < object[part].length).sort((a, b) => a - b);
+    return starts.map((start, i) => {
+        const names = object.labels[part].filter(({ index }) => index === start).map(({ name }) => name);
+        return { start, end: starts[i + 1] ?? object[part].length, names };
+    });
+}
+
 // for each object the group of each word that refers to something, and to which place
 function prepare(object, number) {
     object.groupTargets = [];
+    object.referenceCount = 0;
     for (let i = 0; i < object.groups.length; i += 2) object.groupTargets.push(ownTarget(object.groups[i + 1]));
     object.references = {};
     for (const part of PARTS) {
         const flat = object[`${part}References`];
         object.references[part] = new Map();
-        for (let i = 0; i < flat.length; i += 3) object.references[part].set(flat[i], { group: flat[i + 1], meant: flat[i + 2] });
+        for (let i = 0; i < flat.length; i += 3) {
+            object.references[part].set(flat[i], { group: flat[i + 1], meant: flat[i + 2], number: object.referenceCount });
+            object.referenceCount += 1;
+        }
     }
+    object.labels = labelsIn(object.labels);
+    object.units = { text: unitsOfText(object), data: unitsOfData(object) };
+    object.pieces = { text: piecesOf(object, "text"), data: piecesOf(object, "data") };
     object.number = number;
     object.locals = object.symbols.filter((line) => line[7] === line[7].toLowerCase());
 }
@@ -58,7 +106,7 @@ function applied(before, [changed, added]) {
     return numbers;
 }
 
-const NOTHING = { names: [], groups: [], locals: [], nameList: [], fronts: [] };
+const NOTHING = { names: [], groups: [], locals: [], places: [], nameList: [], fronts: [] };
 
 // the state of a list of objects, which is there
 function stateOf(list) {
@@ -73,7 +121,9 @@ function stateOf(list) {
             names: applied(before.names, record.names),
             groups: applied(before.groups, record.groups),
             locals: applied(before.locals, record.locals),
+            places: applied(before.places, record.places),
             groupStarts: list.map((_, place) => groupStart(list, place)),
+            referenceStarts: list.map((_, place) => referenceStart(list, place)),
         });
     }
     return STATES.get(key);
@@ -82,6 +132,22 @@ function stateOf(list) {
 function groupStart(list, place) {
     const before = list.slice(0, place).map((object) => DATA.objects[object].groupTargets.length);
     return GROUP_NUMBERS * before.reduce((sum, count) => sum + count, 0);
+}
+
+function referenceStart(list, place) {
+    return list.slice(0, place).reduce((sum, object) => sum + DATA.objects[object].referenceCount, 0);
+}
+
+// the id of the row of a place, which v7-lesson has written as a number; "" if there is none
+function idOfPlace(number) {
+    const kind = PLACE_KINDS[Math.floor(number / WORD)];
+    return kind === "" || kind.endsWith("-end") ? kind : `${kind}-${number % WORD}`;
+}
+
+// the place that a word refers to, in the image or in a link
+function placeOf(state, reference, layout) {
+    const at = PLACE_NUMBERS * reference;
+    return (layout >= 0 && state.places[at + 1 + layout]) || state.places[at];
 }
 
 // a word of an object as it is given
@@ -99,11 +165,12 @@ function imageWord(state, place, part, index) {
     const own = ownWord(object, part, index);
     const offset = state.fronts[place][PARTS.indexOf(part)] + 2 * index;
     const reference = object.references[part].get(index);
-    const word = { place, part, index, offset, own, value: own.value, meant: own.meant, kind: 0, name: "", pc: false };
+    const word = { place, part, index, offset, own, value: own.value, meant: own.meant, kind: 0, name: "", pc: false, to: "" };
     if (!reference) return word;
     const at = state.groupStarts[place] + GROUP_NUMBERS * reference.group;
     const [value, meant, target] = state.groups.slice(at, at + 3);
-    return { ...word, at, value: (own.value + value) % WORD, meant: (own.meant + meant) % WORD, ...targetOf(target, state.nameList) };
+    const to = idOfPlace(placeOf(state, state.referenceStarts[place] + reference.number, isLinked(state) ? view.layout : -1));
+    return { ...word, at, to, value: (own.value + value) % WORD, meant: (own.meant + meant) % WORD, ...targetOf(target, state.nameList) };
 }
 
 // how the word of the object becomes that of a link: what is added, what is subtracted, and the word that comes
@@ -183,6 +250,9 @@ let view = START;
 // the key of the word, or the name, that is chosen
 let chosen = "";
 const stateNow = () => stateOf(view.list);
+// the state with the object that the last step withdrew, whose rows are shown as cut off
+const stateShown = () => (view.gone >= 0 ? stateOf([...view.list, view.gone]) : stateNow());
+const isLinked = (state) => view.layout >= 0 && !state.links[view.layout].refused;
 
 // ---- numbers and words as text
 const octal = (number) => number.toString(8).padStart(6, "0");

@@ -39,71 +39,122 @@ function stepText() {
 }
 
 function showBar() {
-    const isOff = { withdraw: view.list.length === 0, back: at === 0, forth: at === last };
+    const isOff = { withdraw: view.list.length === 0, back: at === 0, forth: at === last, flick: view.gone < 0 && view.list.length === 0 };
     for (const [id, off] of Object.entries(isOff)) byId(id).setAttribute("aria-disabled", String(off));
     byId("addresses").setAttribute("aria-pressed", String(view.layout >= 0));
     LAYOUTS.forEach((_, i) => byId(`layout${i}`).setAttribute("aria-pressed", String(view.layout === i)));
     byId("decimal").setAttribute("aria-pressed", String(view.decimal));
-    byId("image-title").textContent = view.layout < 0 ? "Merged image" : `Addresses, ld ${view.layout > 0 ? LAYOUTS[view.layout] : "with no option"}`;
+    byId("flick").setAttribute("aria-pressed", String(view.gone >= 0));
+    setText(byId("image-title"), view.layout < 0 ? "Merged image" : `Addresses, ld ${view.layout > 0 ? LAYOUTS[view.layout] : "with no option"}`);
 }
 
-// why the chosen word changed in the last step, or the first of those that did
-function explanation(state) {
-    const isBack = view.gone >= 0;
-    const marks = stateOf(isBack ? [...view.list, view.gone] : view.list).marks.map(markOf).filter((mark) => markSum(mark, isBack));
-    const inOrder = marks.toSorted((a, b) => PARTS.indexOf(a.part) - PARTS.indexOf(b.part) || a.offset - b.offset);
-    const mark = chosen ? marks.find((one) => markKey(one) === chosen) : inOrder[0];
-    if (!mark) return [];
+// why a word changed in the last step
+function markText(state, mark) {
     const { part, offset, name, bound } = mark;
     const [word, where] = [wordAt(state, part, offset), `The word at ${part} ${shown(offset)}`];
-    const bind = `${where} waited for ${name}. ${name} is at ${shown(bound)} now, so the linker added this to the word: ${markSum(mark, false)}.`;
-    const notes = [isBack ? `${where} waits for ${name} again, so ${shown(bound)} was subtracted from it: ${markSum(mark, true)}.` : bind];
-    if (word.pc && word.kind === 1) notes.push(`With pc, this is the distance from ${shown(offset + 2)}, the place after the word, to ${shown(word.meant)}.`);
-    if (marks.length > 1 && !chosen) notes.push(`${counted(marks.length - 1, "other word")} changed too: choose one to see why.`);
-    return notes;
+    if (view.gone >= 0) return `${where} waits for ${name} again, so ${shown(bound)} was subtracted from it: ${markSum(mark, true)}.`;
+    const distance = word.pc && word.kind === 1 ? `, the distance from ${shown(offset + 2)} to ${shown(word.meant)}` : "";
+    return `${where} waited for ${name}. This is at ${shown(bound)} now, so the linker added it: ${markSum(mark, false)}${distance}.`;
 }
 
-function showNotes(state) {
+// the marks of words that the last step made or put back, in the order of the image
+function wordMarks() {
+    const marks = stateShown().marks.map(markOf).filter((mark) => markSum(mark, view.gone >= 0));
+    return marks.sort((a, b) => PARTS.indexOf(a.part) - PARTS.indexOf(b.part) || a.offset - b.offset);
+}
+
+// what the last step brought or cut off
+function broughtText() {
+    const list = view.gone >= 0 ? [...view.list, view.gone] : view.list;
+    if (list.length === 0) return "";
+    const name = label(list[list.length - 1]);
+    if (view.gone >= 0) return `${cutText(list) || "Nothing"} of ${name} cut off.`;
+    return `${name} brought ${cutText(list) || "nothing"}.`;
+}
+
+// the sentence above the image: why the chosen word changed, or the first of those that did, and what came or went
+function sentence(state) {
     const refused = view.layout >= 0 ? state.links[view.layout].refused : "";
-    byId("refused").hidden = !refused;
-    byId("refused").textContent = refused ? `refused: ${refused}` : "";
-    const notes = [];
-    if (isLinked(state) && view.list.length > 0) notes.push("Each sum is the word of the object + the address of what it refers to (\u2212 how far the word has moved, with pc) = the word of the link.");
-    else notes.push(...explanation(state));
+    if (refused) return [`refused: ${refused}`];
+    if (isLinked(state) && view.list.length > 0) return ["Each sum is the word of the object + the address of what it refers to (\u2212 how far the word has moved, with pc) = the word of the link."];
+    const marks = wordMarks();
+    const mark = marks.find((one) => markKey(one) === chosen) ?? (chosen ? null : marks[0]);
+    const notes = mark ? [markText(state, mark)] : chosen ? [] : [broughtText()];
+    if (mark && marks.length > 1 && !chosen) notes.push(`${counted(marks.length - 1, "other word")} changed too.`);
+    if (!mark && !chosen && view.gone < 0 && view.list.length > 0) notes.push(waitingText(state));
     if (drawn.left > 0) notes.push(`${counted(drawn.left, "arrow")} more: choose a word to see its own.`);
     if (view.guide < 0 && view.list.length === 1 && view.gone < 0) notes.push("Now add another object, and look at which words change.");
-    byId("note").textContent = notes.join(" ");
+    return notes.filter(Boolean);
 }
 
-// shows the image, and what is chosen in it; rows are kept as long as all that has to be shown is there. Then it leads to a
-// row, and draws last, when nothing moves any more
-function showChosen(isAnew, place = "", lead = () => null) {
+// for how many names how many words wait
+function waitingText(state) {
+    const waiting = allReferences(state).filter((one) => !one.to && one.name && isWaiting(state, one));
+    const names = new Set(waiting.map(({ name }) => name));
+    if (waiting.length === 0) return "No word waits for a name.";
+    return `${counted(waiting.length, "word")} ${waiting.length === 1 ? "waits" : "wait"} for ${names.size > 3 ? counted(names.size, "name") : [...names].join(", ")}.`;
+}
+
+const isWaiting = (state, { place, part, index }) => imageWord(state, place, part, index).kind < 0;
+
+function showNotes(state) {
+    const refused = view.layout >= 0 && state.links[view.layout].refused;
+    byId("note").classList.toggle("refused", Boolean(refused));
+    setText(byId("note"), sentence(state).join(" "));
+}
+
+// brings a row onto the stage, if it is not wholly there: so rows stay where they are, if they can
+function bring(row) {
+    const rooms = [".stage", ".names", ".known"].map((name) => row?.closest(name)).filter((one) => one && getComputedStyle(one).overflowY === "auto");
+    const [box, room] = [row?.getBoundingClientRect(), rooms[0]?.getBoundingClientRect()];
+    if (!box || !room || (box.top >= room.top && box.bottom <= room.bottom)) return;
+    row.scrollIntoView({ block: box.height > room.height ? "start" : "center" });
+}
+
+// shows the image, and what is chosen in it; rows are kept as long as all that has to be shown is there. Then it brings a row
+// onto the stage, and draws last, when nothing moves any more
+function showChosen(isAnew, lead = () => null) {
     const state = stateNow();
     const changed = changesOf(view);
-    if (isAnew || [...mustShow(state, changed)].some((key) => /^(text|data)-/.test(key) && !byId(key))) showImage(state, changed);
+    if (isAnew || [...mustShow(state, changed)].some((key) => isWordKey(key) && !byId(key)) || shownFolds.length > 0) showImage(state, changed);
     chooseDrawn(state);
     showNotes(state);
     const selected = document.querySelectorAll(`[aria-selected=true], [data-key="${CSS.escape(chosen)}"]`);
     for (const row of selected) row.setAttribute("aria-selected", String(row.dataset.key === chosen));
     setActive();
-    document.documentElement.style.scrollPaddingTop = `${byId("top").offsetHeight + 8}px`;
-    lead()?.scrollIntoView({ block: place });
+    showStrip(state);
+    bring(lead());
     draw();
 }
+
+// the first row that the last step changed
+const firstChanged = () => byId("image").querySelector(".word.bound, .word.put-back") ?? byId("image").querySelector(".word.new, .fold.new, .word.cut-off, .fold.cut-off");
 
 function showAll() {
     const state = stateNow();
     const changed = changesOf(view);
+    const focus = document.activeElement;
     chosen = "";
-    byId("status").textContent = [stepText(), verdict()].filter(Boolean).join(". ");
+    origin = "";
+    clearFound();
+    setText(byId("status"), [stepText(), verdict()].filter(Boolean).join(". "));
     showBar();
     showGuide();
-    document.body.classList.toggle("guided", view.guide > 0);
+    document.body.classList.toggle("guided", view.guide >= 0);
     showCards();
     showNames(state, changed);
     showMarks();
     showLink(state);
-    showChosen(true, "center", () => byId("image").querySelector(".bound, .put-back, .word.new"));
+    showMaps(state);
+    showChosen(true, firstChanged);
+    bring(byId("names").querySelector(".changed, .put-back, .new"));
+    say([stepText(), byId("note").textContent, guideText()]);
+    if (focus && focus !== document.body && !focus.checkVisibility?.()) byId("image").focus({ preventScroll: true });
+}
+
+// says something to a reader of the screen, in one place
+function say(sentences) {
+    setText(byId("live"), sentences.filter(Boolean).join(" ").replace(/\s+/g, " "));
 }
 
 // ---- steps
@@ -132,10 +183,16 @@ function withdraw() {
     if (view.list.length > 0) step({ ...view, list: view.list.slice(0, -1), gone: view.list[view.list.length - 1] });
 }
 
+// shows what was before the last step, or after it, in the same rows
+function flick() {
+    if (view.gone >= 0) show({ ...view, list: [...view.list, view.gone], gone: -1 });
+    else if (view.list.length > 0) show({ ...view, list: view.list.slice(0, -1), gone: view.list[view.list.length - 1] });
+}
+
 // chooses a word or a name; one that is folded is shown
 function choose(key, isLed) {
     chosen = key;
-    showChosen(false, "nearest", () => (isLed ? byId(key) ?? byId(chosenPlace(stateNow())) : null));
+    showChosen(false, () => (isLed ? byId(isWordKey(key) ? key : chosenPlace(stateNow())) : null));
 }
 
 window.addEventListener("popstate", (event) => {
@@ -151,11 +208,14 @@ function begin() {
     last = at;
     view = viewOf(location.hash.slice(1));
     history.replaceState({ at }, "", location.hash || "#");
-    const [wide, middle] = ["64em", "48em"].map((width) => window.matchMedia(`(min-width: ${width})`));
-    const fold = () => [byId("more").open, byId("folded").open] = [wide.matches, middle.matches];
-    for (const query of [wide, middle]) query.addEventListener("change", fold);
+    const wide = window.matchMedia("(min-width: 64em)");
+    const fold = () => { byId("more").open = wide.matches; };
+    wide.addEventListener("change", fold);
     fold();
     watchKeys();
+    watchFind();
+    watchEnds();
+    watchTabs();
     showAll();
     if (wide.matches) for (const object of DATA.objects) if (object.text.length + object.data.length <= FEW) byId("cards").children[object.number].querySelector("details").open = true;
     watchLayout();

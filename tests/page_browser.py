@@ -48,7 +48,7 @@ class Chromium:
         """`text` is the size of text that the browser is set to, in pixels."""
         options = webdriver.ChromeOptions()
         options.add_experimental_option("prefs", {"webkit": {"webprefs": {"default_font_size": text}}})
-        for word in ("--headless=new", "--no-sandbox", "--disable-dev-shm-usage", "--disable-gpu"):
+        for word in ("--headless=new", "--no-sandbox", "--disable-dev-shm-usage", "--disable-gpu", "--disable-ipc-flooding-protection"):
             options.add_argument(word)
         options.set_capability("goog:loggingPrefs", {"browser": "ALL"})
         self.driver = self.begin(options)
@@ -101,6 +101,11 @@ class Chromium:
 
     def click(self, name):
         self.driver.find_element("id", name).click()
+
+    def press_at(self, x, y):
+        """Presses the mouse at a spot of the window."""
+        for kind in ("mousePressed", "mouseReleased"):
+            self.driver.execute_cdp_cmd("Input.dispatchMouseEvent", {"type": kind, "x": x, "y": y, "button": "left", "clickCount": 1})
 
     def back(self):
         self.driver.back()

@@ -10,7 +10,7 @@ const image = document.getElementById("image");
 const seen = (element) => element.checkVisibility({ visibilityProperty: true }) && element.getClientRects().length > 0;
 const middle = (box) => (box.top + box.bottom) / 2;
 const spot = (path, length) => path.getPointAtLength(length).matrixTransform(path.getScreenCTM());
-const rowBox = (id) => (document.getElementById(id).querySelector("h3") ?? document.getElementById(id)).getBoundingClientRect();
+const rowBox = (id) => document.getElementById(id).getBoundingClientRect();
 
 // the boxes of all text of an element, line by line
 function textBoxes(element) {
@@ -76,7 +76,8 @@ const FRAMES = ".word, .fold, .name, .mark, .card, button, .segment > h3, .owner
 for (const frame of document.querySelectorAll(FRAMES)) {
     if (!seen(frame)) continue;
     const outer = frame.getBoundingClientRect();
-    const column = frame.closest("main, section:not(.card), header").getBoundingClientRect();
+    if (frame.closest(".adds, .strip, .maps, #stubs")) continue;
+    const column = (frame.closest(".stage, main, .side, .known, header") ?? document.body).getBoundingClientRect();
     if (outer.right > column.right + 1) fault(`${frame.id || frame.className} is wider than its column`);
     for (const { box, text } of textBoxes(frame)) {
         counts.texts += 1;

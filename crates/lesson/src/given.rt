@@ -4,6 +4,7 @@ use crate::files::{bytes_at, object_in};
 use crate::fronts::Fronts;
 use crate::json::put_words;
 use crate::parts::{place_meant, put_name_meant, target_number};
+use crate::shapes::{put_labels, put_operands, put_texts};
 use crate::sources::put_sources;
 use crate::symbols::put_lines;
 use anyhow::Result;
@@ -200,6 +201,9 @@ fn put_file(
     put_references(out, "textReferences", given, Segment::TextSeg)?;
     put_references(out, "dataReferences", given, Segment::DataSeg)?;
     put_instructions(alloc, out, file)?;
+    put_operands(alloc, out, file)?;
+    put_labels(out, given, file.symbols())?;
+    put_texts(alloc, out, file)?;
     out.put_key("symbols")?;
     put_lines(alloc, out, file.symbols())
 }

@@ -12,11 +12,39 @@ use std::alloc::{AllocError, Global};
 pub(crate) struct Link {
     bases: Bases,
     pub(crate) outcome: Result<Linked, LinkFault>,
+    /// Whether text and data each have their own addresses, from 0 on.
+    pub(crate) is_split: bool,
     /// The externals, by first mention; none if the link is refused.
     pub(crate) externals: Vec<Symbol>,
 }
 
 impl Link {
+    /// Where the segments begin and end.
+    pub(crate) fn bases(&self) -> &Bases {
+        &self.bases
+    }
+
+    /// The address of a name, if it has one.
+    pub(crate) fn address(&self, index: u16) -> Option<u16> {
+        match self.externals.get(usize::from(index)) {
+            Some(symbol) if symbol.segment() != Segment::Undefined => Some(symbol.value),
+            _ => None,
+        }
+    }
+
+    /// The segment in which a name has its address, if it has one in a segment.
+    pub(crate) fn segment(&self, index: u16) -> Option<Segment> {
+        match self.externals.get(usize::from(index)) {
+            Some(symbol) => match symbol.segment() {
+                Segment::TextSeg => Some(Segment::TextSeg),
+                Segment::DataSeg => Some(Segment::DataSeg),
+                Segment::BssSeg => Some(Segment::BssSeg),
+                _ => None,
+            },
+            None => None,
+        }
+    }
+
     /// The address at which a segment with words begins; 0 if the link is refused since its data begins later than all addresses.
     pub(crate) fn start(&self, segment: Segment) -> u16 {
         match segment {
@@ -34,7 +62,12 @@ static LINKS: [(Layout, bool); 4] = [
     (Layout::Plain, true),
 ];
 
-fn link_of(alloc: Global, session: &Session, options: &Options) -> Result<Link, AllocError> {
+fn link_of(
+    alloc: Global,
+    session: &Session,
+    options: &Options,
+    is_split: bool,
+) -> Result<Link, AllocError> {
     let outcome = finish(alloc, session, options);
     let externals = match &outcome {
         Ok(_) => link_externals(alloc, session, options)?,
@@ -44,6 +77,7 @@ fn link_of(alloc: Global, session: &Session, options: &Options) -> Result<Link, 
     Ok(Link {
         bases: link_bases(session, options),
         outcome,
+        is_split,
         externals: externals.unwrap_or(Vec::new(alloc)),
     })
 }
@@ -53,7 +87,8 @@ pub(crate) fn links_of(alloc: Global, session: &Session) -> Result<Vec<Link>, Al
     let mut links = Vec::new(alloc);
     for (layout, relocatable) in &LINKS {
         if let Ok(options) = Options::new(*layout, *relocatable, Keep::All, None) {
-            links.push(link_of(alloc, session, &options)?)?;
+            let is_split = *layout == Layout::Split;
+            links.push(link_of(alloc, session, &options, is_split)?)?;
         }
     }
     Ok(links)

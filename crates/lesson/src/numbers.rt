@@ -3,9 +3,10 @@ use crate::fronts::Fronts;
 use crate::given::{Given, Reference, words_of};
 use crate::links::Link;
 use crate::parts::{place_meant, state_numbers, target_number};
+use crate::places::{NO_PLACE, image_place, link_place};
 use anyhow::{Result, anyhow};
 use aout_core::{Segment, Symbol};
-use link_session::Session;
+use link_session::{Cell, Session};
 use reports::JsonWriter;
 use std::alloc::{AllocError, Global};
 use symtools::letter;
@@ -20,6 +21,8 @@ pub(crate) struct Numbers {
     groups: Vec<u32>,
     /// For each object and each of its local symbols the value in each link.
     locals: Vec<u32>,
+    /// For each object and each of its words that refer to something, the place in the image, and that in each link.
+    places: Vec<u32>,
 }
 
 /// A session, with what is computed from it.
@@ -37,6 +40,7 @@ impl Numbers {
             names: Vec::new(alloc),
             groups: Vec::new(alloc),
             locals: Vec::new(alloc),
+            places: Vec::new(alloc),
         }
     }
 
@@ -53,6 +57,7 @@ impl Numbers {
         for (object, fronts) in list.iter().zip(computed.fronts) {
             if let Some(given) = givens.get(*object) {
                 push_object(alloc, &mut numbers.groups, computed, given, fronts)?;
+                push_places(&mut numbers.places, computed, given, fronts)?;
             }
         }
         Ok(numbers)
@@ -65,7 +70,9 @@ impl Numbers {
         out.put_key("groups")?;
         put_changes(out, &before.groups, &self.groups)?;
         out.put_key("locals")?;
-        put_changes(out, &before.locals, &self.locals)
+        put_changes(out, &before.locals, &self.locals)?;
+        out.put_key("places")?;
+        put_changes(out, &before.places, &self.places)
     }
 }
 
@@ -136,6 +143,65 @@ fn push_local(out: &mut Vec<u32>, links: &[Link], symbol: &Symbol, place: usize)
     Ok(())
 }
 
+/// The cell at an offset of a merged segment.
+pub(crate) fn cell_at(session: &Session, segment: Segment, offset: u16) -> Option<Cell> {
+    let cells = match segment {
+        Segment::DataSeg => session.data_cells(),
+        _ => session.text_cells(),
+    };
+    cells.get(usize::from(offset / 2)).copied()
+}
+
+/// The word at an offset of a merged segment in a link, if the link is not refused.
+pub(crate) fn linked_word(link: &Link, segment: Segment, offset: u16) -> Option<u16> {
+    match &link.outcome {
+        Ok(linked) => words_of(&linked.file, segment)
+            .get(usize::from(offset / 2))
+            .copied(),
+        Err(_) => None,
+    }
+}
+
+/// Adds the places that the words of an object refer to.
+fn push_places(
+    out: &mut Vec<u32>,
+    computed: Computed<'_>,
+    given: &Given,
+    fronts: &Fronts,
+) -> Result<(), AllocError> {
+    for reference in &given.references {
+        let segment = reference.segment;
+        let offset = reference.offset.wrapping_add(fronts.starts.of(segment));
+        let cell = cell_at(computed.session, segment, offset);
+        let in_image = cell.map_or(NO_PLACE, |cell| image_place(computed.session, cell, offset));
+        out.push(in_image)?;
+        push_link_places(out, computed.links, segment, offset, cell, in_image)?;
+    }
+    Ok(())
+}
+
+/// Adds the places that a word refers to in the links.
+fn push_link_places(
+    out: &mut Vec<u32>,
+    links: &[Link],
+    segment: Segment,
+    offset: u16,
+    cell: Option<Cell>,
+    in_image: u32,
+) -> Result<(), AllocError> {
+    for link in links {
+        let place = match (cell, linked_word(link, segment, offset)) {
+            (Some(cell), Some(word)) => {
+                let address = link.start(segment).wrapping_add(offset);
+                link_place(link, cell, word, address, in_image)
+            }
+            _ => NO_PLACE,
+        };
+        out.push(place)?;
+    }
+    Ok(())
+}
+
 /// Adds the numbers of a word.
 fn push_word(
     out: &mut Vec<u32>,
@@ -146,12 +212,7 @@ fn push_word(
 ) -> Result<()> {
     let Reference { segment, word, .. } = reference;
     let offset = reference.offset.wrapping_add(fronts.starts.of(segment));
-    let place = usize::from(offset / 2);
-    let cells = match segment {
-        Segment::DataSeg => computed.session.data_cells(),
-        _ => computed.session.text_cells(),
-    };
-    let Some(cell) = cells.get(place) else {
+    let Some(cell) = cell_at(computed.session, segment, offset) else {
         return Err(anyhow!("{}: word {offset} is not in the image", given.path));
     };
     let meant = place_meant(cell.value, cell.pc, offset);
@@ -162,10 +223,7 @@ fn push_word(
         // how far the word itself has moved
         let moved = link.start(segment).wrapping_add(fronts.shifts.of(segment));
         let minus = if cell.pc { moved } else { 0 };
-        let last = match &link.outcome {
-            Ok(linked) => words_of(&linked.file, segment).get(place).copied(),
-            Err(_) => None,
-        };
+        let last = linked_word(link, segment, offset);
         let plus = last.unwrap_or(word).wrapping_sub(word).wrapping_add(minus);
         out.push(u32::from(plus))?;
         out.push(u32::from(minus))?;

@@ -13,11 +13,17 @@ use std::io::{self, Write};
 const PAGE_LIMIT: usize = 5_000_000;
 
 /// The scripts of the page, in the order in which they run.
-static SCRIPTS: [&str; 6] = [
+static SCRIPTS: [&str; 12] = [
     "state.js",
+    "rows.js",
+    "image.js",
     "layout.js",
     "drawing.js",
+    "ends.js",
+    "search.js",
+    "maps.js",
     "lesson.js",
+    "questions.js",
     "keys.js",
     "steps.js",
 ];

@@ -1,12 +1,14 @@
 //! The questions of lessons: a text file, of which each line is checked against the objects as it is read.
 use crate::files::text_at;
 use crate::given::Given;
+use crate::keys::{Act, Asked, Wanted, WordPlace, changed_words, put_answer};
+use crate::numbers::cell_at;
 use crate::walk::ALL_ORDERS;
 use anyhow::{Result, anyhow};
-use aout_core::Name;
+use aout_core::{Name, Segment};
 use link_session::Session;
 use reports::JsonWriter;
-use std::alloc::Global;
+use std::alloc::{AllocError, Global};
 
 /// What the lines before have begun.
 #[derive(Clone, Copy, PartialEq, Eq)]
@@ -16,6 +18,8 @@ enum Begun {
     /// A question, in this line, which has no answer yet.
     Question(usize),
     Answers,
+    /// A question, in this line, whose answer the next step gives.
+    Computed(usize),
 }
 
 /// A file of questions that is read, with the session that its steps make.
@@ -26,6 +30,11 @@ struct Reader<'a> {
     session: Session,
     list: Vec<usize>,
     begun: Begun,
+    /// What the question before the next step asks of it.
+    wanted: Wanted,
+    /// The words that the file gives as its answer, and the number.
+    words: Vec<WordPlace>,
+    number: Option<u16>,
 }
 
 /// The links that a line can ask for.
@@ -70,21 +79,59 @@ impl<'a> Reader<'a> {
     /// An answer that is a word: its segment and its offset, in octal digits.
     fn put_answer_word(&mut self, out: &mut JsonWriter, text: &str) -> Result<()> {
         self.answer()?;
-        let (segment, digits) = text.split_once(' ').unwrap_or((text, ""));
-        let cells = match segment {
-            "text" => self.session.text_cells(),
-            "data" => self.session.data_cells(),
-            _ => &[],
-        };
-        match u16::from_str_radix(digits, 8) {
-            Ok(offset) if offset % 2 == 0 && usize::from(offset / 2) < cells.len() => {
-                out.put_text("word")?;
-                out.put_text(segment)?;
-                out.put_number(u64::from(offset))?;
-                Ok(())
-            }
+        let word = self.word_at(text)?;
+        out.put_text("word")?;
+        word.put(out)?;
+        Ok(())
+    }
+
+    /// A word of the image, by its segment and its offset in octal digits.
+    fn word_at(&self, text: &str) -> Result<WordPlace> {
+        match WordPlace::parse(text) {
+            Some(word) if word.is_in(&self.session) => Ok(word),
             _ => Err(anyhow!("there is no word {text}")),
         }
+    }
+
+    /// A word that the file gives as one of those that the next step changes.
+    fn answer_word(&mut self, text: &str) -> Result<()> {
+        let word = self.word_at(text)?;
+        self.words.push(word)?;
+        Ok(())
+    }
+
+    /// An answer that is a number, in octal digits.
+    fn answer_number(&mut self, text: &str) -> Result<()> {
+        if !matches!(self.wanted, Wanted::Value(_) | Wanted::Where(_)) {
+            return Err(anyhow!("an answer to no question"));
+        }
+        match u16::from_str_radix(text, 8) {
+            Ok(number) => {
+                self.number = Some(number);
+                Ok(())
+            }
+            Err(_) => Err(anyhow!("there is no number {text}")),
+        }
+    }
+
+    /// A question: one of the step after it, or one that has its answers in the file.
+    fn put_ask(&mut self, out: &mut JsonWriter, line: usize, text: &str) -> Result<()> {
+        let (word, rest) = text.split_once(' ').unwrap_or((text, ""));
+        let rest = rest.trim();
+        let (wanted, said) = match word {
+            "changes" => (Wanted::Changes, rest),
+            "value" => wanted_value(rest)?,
+            "where" => wanted_name(rest)?,
+            _ => (Wanted::Nothing, text),
+        };
+        self.wanted = wanted;
+        self.words = Vec::new(self.alloc);
+        self.number = None;
+        self.begun = match wanted {
+            Wanted::Nothing => Begun::Question(line),
+            _ => Begun::Computed(line),
+        };
+        self.put_said(out, "ask", said)
     }
 
     /// An answer that is a name.
@@ -109,7 +156,7 @@ impl<'a> Reader<'a> {
     }
 
     /// The step that adds an object.
-    fn put_add(&mut self, out: &mut JsonWriter, name: &str) -> Result<()> {
+    fn add(&mut self, name: &str) -> Result<Act> {
         let Some(object) = self.object_named(name) else {
             return Err(anyhow!("no step adds {name}"));
         };
@@ -119,42 +166,63 @@ impl<'a> Reader<'a> {
             }
         }
         self.list.push(object)?;
-        out.put_text("add")?;
-        out.put_number(object as u64)?;
-        Ok(())
+        Ok(Act::Add(object))
+    }
+
+    /// The step that withdraws an object.
+    fn withdraw(&mut self) -> Result<Act> {
+        if self.session.withdraw().is_none() {
+            return Err(anyhow!("there is nothing to withdraw"));
+        }
+        let _ = self.list.pop();
+        Ok(Act::Withdraw)
     }
 
     /// The step that shows a link.
-    fn put_link(&mut self, out: &mut JsonWriter, name: &str) -> Result<()> {
+    fn link(&self, name: &str) -> Result<Act> {
         match LAYOUTS.iter().position(|layout| *layout == name) {
-            Some(layout) => {
-                out.put_text("link")?;
-                out.put_number(layout as u64)?;
-                Ok(())
-            }
+            Some(layout) => Ok(Act::Link(layout)),
             None => Err(anyhow!("there is no link {name}")),
+        }
+    }
+
+    /// The word that a question is about, before the step.
+    fn word_before(&self) -> u16 {
+        match self.wanted {
+            Wanted::Value(word) => cell_at(&self.session, word.segment, word.offset).map_or(
+                0,
+                |cell| cell.value,
+            ),
+            _ => 0,
         }
     }
 
     /// A line that makes a step.
     fn put_step(&mut self, out: &mut JsonWriter, word: &str, rest: &str) -> Result<()> {
         self.begun = Begun::Lesson;
-        match word {
-            "add" => self.put_add(out, rest),
-            "withdraw" => {
-                if self.session.withdraw().is_none() {
-                    return Err(anyhow!("there is nothing to withdraw"));
-                }
-                let _ = self.list.pop();
-                out.put_text(word)?;
-                Ok(())
-            }
-            "link" => self.put_link(out, rest),
-            _ => {
-                out.put_text("image")?;
-                Ok(())
-            }
-        }
+        let before = self.word_before();
+        let overwritten = changed_words(self.alloc, &self.session)?;
+        let act = match word {
+            "add" => self.add(rest)?,
+            "withdraw" => self.withdraw()?,
+            "link" => self.link(rest)?,
+            _ => Act::Image,
+        };
+        let changed = match act {
+            Act::Add(_) => changed_words(self.alloc, &self.session)?,
+            Act::Withdraw => overwritten,
+            _ => Vec::new(self.alloc),
+        };
+        let asked = Asked {
+            wanted: self.wanted,
+            words: &self.words,
+            number: self.number,
+            before,
+        };
+        put_answer(self.alloc, out, &self.session, asked, act, &changed)?;
+        self.wanted = Wanted::Nothing;
+        put_act(out, act)?;
+        Ok(())
     }
 
     /// A line that has this word first.
@@ -173,26 +241,92 @@ impl<'a> Reader<'a> {
         {
             return Err(anyhow!("the question of line {asked} has no answer"));
         }
+        if let Begun::Computed(asked) = self.begun
+            && !matches!(
+                word,
+                "word" | "number" | "add" | "withdraw" | "link" | "image"
+            )
+        {
+            return Err(anyhow!("the question of line {asked} has no step"));
+        }
+        match word {
+            "add" | "withdraw" | "link" | "image" => self.put_step(out, word, rest),
+            "number" => self.answer_number(rest),
+            "word" if matches!(self.begun, Begun::Computed(_)) => self.answer_word(rest),
+            _ => self.put_words(out, line, word, rest),
+        }
+    }
+
+    /// A line that is neither a step nor a number.
+    fn put_words(
+        &mut self,
+        out: &mut JsonWriter,
+        line: usize,
+        word: &str,
+        rest: &str,
+    ) -> Result<()> {
         out.begin_list()?;
         match word {
             "lesson" => self.put_lesson(out, rest)?,
             "say" => self.put_said(out, word, rest)?,
-            "ask" => {
-                self.begun = Begun::Question(line);
-                self.put_said(out, word, rest)?;
-            }
+            "ask" => self.put_ask(out, line, rest)?,
             "word" => self.put_answer_word(out, rest)?,
             "name" => self.put_answer_name(out, rest)?,
-            "right" | "wrong" => {
+            "right" | "wrong" | "because" => {
                 self.answer()?;
                 self.put_said(out, word, rest)?;
             }
-            "add" | "withdraw" | "link" | "image" => self.put_step(out, word, rest)?,
             _ => return Err(anyhow!("{word} begins no line of a lesson")),
         }
         out.end_list()?;
         Ok(())
     }
+}
+
+/// A question of a word's value, and its text.
+fn wanted_value(text: &str) -> Result<(Wanted, &str)> {
+    let (segment, rest) = text.split_once(' ').unwrap_or((text, ""));
+    let (digits, said) = rest.trim_start().split_once(' ').unwrap_or((rest, ""));
+    let offset = u16::from_str_radix(digits, 8).unwrap_or(1);
+    let segment = match segment {
+        "text" => Segment::TextSeg,
+        "data" => Segment::DataSeg,
+        _ => return Err(anyhow!("value is followed by text or data, an offset and a text")),
+    };
+    if offset % 2 == 1 {
+        return Err(anyhow!("value is followed by text or data, an offset and a text"));
+    }
+    Ok((Wanted::Value(WordPlace { segment, offset }), said.trim()))
+}
+
+/// A question of a name's place, and its text.
+fn wanted_name(text: &str) -> Result<(Wanted, &str)> {
+    let (name, said) = text.split_once(' ').unwrap_or((text, ""));
+    if name.is_empty() {
+        return Err(anyhow!("where is followed by a name and a text"));
+    }
+    Ok((
+        Wanted::Where(Name::from_bytes(name.as_bytes())),
+        said.trim(),
+    ))
+}
+
+/// Adds a step.
+fn put_act(out: &mut JsonWriter, act: Act) -> Result<(), AllocError> {
+    out.begin_list()?;
+    match act {
+        Act::Add(object) => {
+            out.put_text("add")?;
+            out.put_number(object as u64)?;
+        }
+        Act::Link(layout) => {
+            out.put_text("link")?;
+            out.put_number(layout as u64)?;
+        }
+        Act::Withdraw => out.put_text("withdraw")?,
+        Act::Image => out.put_text("image")?,
+    }
+    out.end_list()
 }
 
 /// Adds the lines of a text, and returns the number of the line that a fault is in.
@@ -208,10 +342,11 @@ fn put_lines(reader: &mut Reader<'_>, out: &mut JsonWriter, path: &str, text: &s
             return Err(anyhow!("{path}: line {number}: {fault}"));
         }
     }
-    if let Begun::Question(asked) = reader.begun {
-        return Err(anyhow!("{path}: line {asked}: the question has no answer"));
+    match reader.begun {
+        Begun::Question(asked) => Err(anyhow!("{path}: line {asked}: the question has no answer")),
+        Begun::Computed(asked) => Err(anyhow!("{path}: line {asked}: the question has no step")),
+        _ => Ok(()),
     }
-    Ok(())
 }
 
 /// Adds the lessons in the file at a path, as a list of its lines.
@@ -229,6 +364,9 @@ pub(crate) fn put_questions(
         session: Session::new(alloc),
         list: Vec::new(alloc),
         begun: Begun::Nothing,
+        wanted: Wanted::Nothing,
+        words: Vec::new(alloc),
+        number: None,
     };
     out.begin_list()?;
     put_lines(&mut reader, out, path, text.as_str())?;
