@@ -173,10 +173,10 @@ room: build/v7
 
 # times of the session and of ld on a large input; and where valgrind is installed, the instructions of a heavy link, and how
 # those of each kind of work grow
-bench: build/v7 build/v7-explain crates/bench/out/bench
+bench: build/v7 build/v7-explain build/v7-from-gnu build/v7-object crates/bench/out/bench
 	crates/bench/out/bench full
 	python3 tests/heavy.py build/v7
-	python3 tests/scaling.py build/v7 build/v7-explain
+	python3 tests/scaling.py build/v7 build/v7-explain build/v7-from-gnu build/v7-object
 
 # instructions of adding an object and withdrawing it, on an empty session and on a full one; needs valgrind
 instructions: crates/bench/out/bench

@@ -1,5 +1,6 @@
 #!/usr/bin/env python3
-"""Makes the objects of a heavy link, and counts by valgrind the instructions of linking them, plain and with -i.
+"""Makes the objects of a heavy link, and counts by valgrind the instructions of linking them, plain and with -i; with the least time
+of a processor in 60 runs. tests/counting.py says how.
 
 There are 200 objects with 65,000 bytes of text. Each defines 20 names, and 12,869 words refer to names of other objects,
 taken by a sequence of numbers that is the same each time. With -i the objects have 65,000 bytes of data more.
@@ -8,12 +9,11 @@ usage: tests/heavy.py PROGRAM
 """
 import glob
 import os
-import re
-import shutil
 import struct
-import subprocess
 import sys
 import tempfile
+
+from counting import counted, is_installed, milliseconds
 
 OBJECTS = 200
 NAMES = 20
@@ -57,32 +57,28 @@ def object_file(index, others, has_data):
     return struct.pack(f"<{len(body)}H", *body) + table
 
 
-def count(program, options, has_data):
-    """Links the objects in this folder by valgrind, and answers how many instructions it took."""
+def measure(program, options, has_data):
+    """Links the objects in this folder, and answers what it took."""
     others = numbers()
     for index in range(OBJECTS):
         with open(f"{index:03d}.o", "wb") as file:
             file.write(object_file(index, others, has_data))
-    words = [program, "ld", *options, "-o", "out", *sorted(glob.glob("*.o"))]
-    run = subprocess.run(
-        ["valgrind", "--tool=callgrind", "--callgrind-out-file=counts", *words], capture_output=True, text=True, check=False
-    )
+    command = [program, "ld", *options, "-o", "out", *sorted(glob.glob("*.o"))]
+    run, instructions = counted(command)
     if run.returncode != 0:
         sys.exit(f"the link ended with status {run.returncode}: {run.stderr}")
-    with open("counts", encoding="utf-8") as file:
-        return int(re.search(r"^summary: (\d+)", file.read(), re.M)[1])
+    return f"{instructions} instructions, {milliseconds(command):.2f} ms"
 
 
 def main():
     program = os.path.abspath(sys.argv[1])
-    if not shutil.which("valgrind"):
-        print("instructions are counted where valgrind is installed")
+    if not is_installed():
         return
     with tempfile.TemporaryDirectory() as folder:
         os.chdir(folder)
         print(f"a link of {OBJECTS} objects with {2 * WORDS} bytes of text and {OBJECTS * NAMES} names:")
-        print(f"plain: {count(program, [], False)} instructions")
-        print(f"with -i, and {2 * WORDS} bytes of data more: {count(program, ['-i'], True)} instructions")
+        print(f"plain: {measure(program, [], False)}")
+        print(f"with -i, and {2 * WORDS} bytes of data more: {measure(program, ['-i'], True)}")
 
 
 if __name__ == "__main__":

@@ -1,20 +1,14 @@
 #!/bin/sh
 # Counts the instructions of adding an object and withdrawing it, for one that binds nothing, on an empty session and on one
-# of 200 objects, by valgrind. Each count is that of 1,100 times less that of 100 times, so what the program does before and
-# behind drops out. It prints both for one time, and their ratio.
+# of 200 objects, by valgrind: tests/counting.py. Each count is that of 1,100 times less that of 100 times, so what the program
+# does before and behind drops out. It prints both for one time, and their ratio.
 set -eu
 program=$1
-if ! command -v valgrind >/dev/null; then
-    echo "valgrind is needed" >&2
-    exit 1
-fi
-work=$(mktemp -d)
-trap 'rm -rf "$work"' EXIT
+folder=$(dirname "$0")
 
 # the instructions of a whole run
 instructions() {
-    valgrind --tool=callgrind --callgrind-out-file="$work/out" "$program" "$@" 2>"$work/log"
-    sed -n 's/^summary: //p' "$work/out"
+    python3 "$folder/counting.py" "$program" "$@"
 }
 
 # those of one addition with its withdrawal

@@ -10,9 +10,10 @@ usage: tests/room.py PROGRAM
 import os
 import re
 import struct
-import subprocess
 import sys
 import tempfile
+
+from counting import valgrind
 
 # a word and its relocation word as they are read
 READ = 2 + 2
@@ -40,7 +41,7 @@ def write_object(path, words, names):
 
 def asked(program, words, path):
     """How many bytes the program asks for, all together."""
-    run = subprocess.run(["valgrind", program, *words, path], capture_output=True, text=True, check=False)
+    run = valgrind([program, *words, path])
     return int(re.search(r"([\d,]+) bytes allocated", run.stderr)[1].replace(",", ""))
 
 

@@ -7,20 +7,23 @@ A kind of work is done at four sizes, the largest at least 16 times the smallest
 work, its start and the files before it, is subtracted. The exponent is the slope, by least squares, of the logarithm of the
 instructions over that of the size: 1.00 if twice as much takes twice as long, 2.00 if it takes four times as long.
 
-usage: tests/scaling.py V7 V7-EXPLAIN [KIND ..]
+tests/counting.py says how instructions are counted.
+
+usage: tests/scaling.py V7 V7-EXPLAIN V7-FROM-GNU V7-OBJECT [KIND ..]
 """
 import math
 import os
 import re
-import shutil
 import struct
-import subprocess
 import sys
 import tempfile
 from concurrent.futures import ThreadPoolExecutor
 
+from counting import counted, is_installed, profiled
+from gnu_form import gnu_named
+
 MOST_SYMBOLS = 5461
-DEFINED, WANTED = 0o42, 0o40
+DEFINED, WANTED, LOCAL = 0o42, 0o40, 0o2
 PLAIN = [(7, 0)] * 100
 MOST_WORDS = 32767
 # instructions as compilers write them: moves, calls, tests, branches and arithmetic
@@ -34,6 +37,11 @@ DECODE = "instructions::line::decode"
 def names(first, count, kind=DEFINED):
     """So many symbols with names of their own."""
     return [(f"n{number:05d}", kind, 0) for number in range(first, first + count)]
+
+
+def long_names(first, count, kind=DEFINED):
+    """The same with names that are cut at eight bytes."""
+    return [(f"{name}_long", kind, value) for name, kind, value in names(first, count, kind)]
 
 
 def reference(number):
@@ -53,8 +61,9 @@ def text(count):
 class Work:
     """What a command does, in a folder of its own."""
 
-    def __init__(self, v7, explain, folder):
-        self.v7, self.explain, self.folder = v7, explain, folder
+    def __init__(self, programs, folder):
+        self.v7, self.explain, self.from_gnu, self.to_object = programs
+        self.folder = folder
 
     def object(self, name, words=(), symbols=()):
         """Writes an object: its text, each word with its relocation word, and its symbols, each with type word and value."""
@@ -66,6 +75,13 @@ class Work:
                 file.write(struct.pack("<8sHH", symbol.encode(), kind, value))
         return name
 
+    def gnu_object(self, name, words, symbols):
+        """Writes an object in GNU's form with the same."""
+        rows = [(symbol.encode(), kind, value) for symbol, kind, value in symbols]
+        with open(f"{self.folder}/{name}", "wb") as file:
+            file.write(gnu_named([word for word, _ in words], [reloc for _, reloc in words], rows))
+        return name
+
     def of_names(self, count, most):
         """Objects that define so many names in all."""
         return [self.object(f"n{first}.o", [], names(first, min(most, count - first))) for first in range(0, count, most)]
@@ -73,6 +89,10 @@ class Work:
     def of_words(self, count):
         """One object more, each of 100 words and 10 names."""
         return [self.object(f"o{number}.o", PLAIN, names(10 * number, 10)) for number in range(count + 1)]
+
+    def convert(self, *files):
+        os.mkdir(f"{self.folder}/converted")
+        return [self.from_gnu, "-q", "-o", "converted", *files], ""
 
     def link(self, *files):
         return [self.v7, "ld", "-s", "-o", "out", *files], ""
@@ -142,6 +162,31 @@ class Work:
         symbols = [(name, *((WANTED, 0) if number % 2 else (DEFINED, 2 * number))) for number, (name, _, _) in enumerate(names(0, size))]
         return [self.explain, "-m", self.object("mapped.o", words, symbols)], ""
 
+    def converted(self, size):
+        """Converts so many objects in GNU's form, of 100 words and 10 names, each of which refers to a name of the one before."""
+        files = []
+        for number in range(size + 1):
+            symbols = [*long_names(10 * number, 10), *long_names(10 * max(number - 1, 0), 1, WANTED)]
+            files.append(self.gnu_object(f"o{number}.o", [*PLAIN[1:], reference(10)], symbols))
+        return self.convert(*files)
+
+    def symbols(self, size):
+        """Converts an object in GNU's form of so many symbols, each second one a local, and three words for each. A word refers to
+        one of the others, of the first 4,096 symbols."""
+        rows = [(name, *((LOCAL, 2 * number) if number % 2 else (WANTED, 0))) for number, (name, _, _) in enumerate(long_names(0, size))]
+        most = min(size, 4096) // 2
+        words = [reference(2 * (7 * number % most)) for number in range(3 * size)]
+        return self.convert(self.gnu_object("symbols.o", words, rows))
+
+    def read_back(self, size):
+        """Makes an object of the listing of so many words, each of which refers to a name of its own, up to 4,096."""
+        wanted = names(0, min(size, 4096), WANTED)
+        words = [f"{2 * number:o} 0 {reference(number % 4096)[1]:o}" for number in range(size)]
+        symbols = [f"{number:o} {name} {kind:o} 0" for number, (name, kind, _) in enumerate(wanted)]
+        with open(f"{self.folder}/listing", "w", encoding="ascii") as file:
+            file.write("\n".join(["text", *words, "symbols", *symbols, ""]))
+        return [self.to_object, "listing", "read.o"], ""
+
 
 KINDS = {
     "objects": [20, 80, 160, 320],
@@ -156,6 +201,9 @@ KINDS = {
     "labels": [341, 1365, 2730, MOST_SYMBOLS],
     "maps": [20, 80, 160, 320],
     "mapped": [341, 1365, 2730, MOST_SYMBOLS],
+    "converted": [20, 80, 160, 320],
+    "symbols": [341, 1365, 2730, MOST_SYMBOLS],
+    "read_back": [512, 2048, 8192, MOST_WORDS],
 }
 # their status is 1: an addition is refused, or names stay undefined
 REPORTS = ("refused", "mapped")
@@ -164,23 +212,19 @@ REPORTS = ("refused", "mapped")
 def count(programs, kind, size):
     """How many instructions a command takes."""
     with tempfile.TemporaryDirectory() as folder:
-        command, script = getattr(Work(*programs, folder), kind)(size)
-        words = ["valgrind", "--tool=callgrind", "--callgrind-out-file=counts", *command]
-        run = subprocess.run(words, input=script, cwd=folder, capture_output=True, text=True, check=False)
+        command, script = getattr(Work(programs, folder), kind)(size)
+        run, instructions = counted(command, folder, script)
         if run.returncode != (1 if kind in REPORTS and size > 0 else 0):
             sys.exit(f"{kind} of size {size} ended with status {run.returncode}: {run.stderr}")
-        with open(f"{folder}/counts", encoding="utf-8") as file:
-            return int(re.search(r"^summary: (\d+)", file.read(), re.M)[1])
+        return instructions
 
 
-def decoding(explain):
+def decoding(programs):
     """How many instructions it takes to decode the longest text once, by what each call of `decode` takes; None without such calls."""
     with tempfile.TemporaryDirectory() as folder:
-        path = Work("", explain, folder).object("text.o", text(MOST_WORDS))
-        words = ["valgrind", "--tool=callgrind", "--callgrind-out-file=counts", "--compress-strings=no", explain, "-d", path]
-        run = subprocess.run(words, cwd=folder, capture_output=True, text=True, check=True)
-        with open(f"{folder}/counts", encoding="utf-8") as file:
-            calls = re.findall(rf"^cfn={DECODE}\ncalls=(\d+).*\n\S+ (\d+)$", file.read(), re.M)
+        path = Work(programs, folder).object("text.o", text(MOST_WORDS))
+        run, profile = profiled([programs[1], "-d", path], folder, options=["--compress-strings=no"])
+        calls = re.findall(rf"^cfn={DECODE}\ncalls=(\d+).*\n\S+ (\d+)$", profile, re.M)
     # a line without a slash in front is a line of the text
     lines = sum(not line.startswith("/") for line in run.stdout.splitlines())
     made, cost = (sum(int(it[at]) for it in calls) for at in (0, 1))
@@ -201,19 +245,17 @@ def line(programs, kind):
     return f"{kind:10} {exponent:5.2f}   " + ", ".join(f"{size:,}: {cost:,}" for size, cost in costs)
 
 
-def main(v7, explain, *kinds):
-    if not shutil.which("valgrind"):
-        print("instructions are counted where valgrind is installed")
+def main(*words):
+    if not is_installed():
         return
-    programs = os.path.abspath(v7), os.path.abspath(explain)
+    programs, kinds = [os.path.abspath(word) for word in words[:4]], words[4:]
     print("how instructions grow: the exponent, and the instructions at four sizes")
     with ThreadPoolExecutor(os.cpu_count()) as pool:
         for row in pool.map(lambda kind: line(programs, kind), kinds or KINDS):
             print(row, flush=True)
     if not kinds:
-        path = programs[1]
         listed = count(programs, "texts", MOST_WORDS) - count(programs, "texts", 0)
-        print(f"{2 * MOST_WORDS:,} bytes of text: {decoding(path) or 'unknown'} instructions to decode, {listed:,} to list")
+        print(f"{2 * MOST_WORDS:,} bytes of text: {decoding(programs) or 'unknown'} instructions to decode, {listed:,} to list")
 
 
 if __name__ == "__main__":

@@ -1,0 +1,27 @@
+"""Objects in the form of GNU's assembler for the PDP-11 (`pdp11-aout`), for the scripts that make some."""
+import struct
+
+
+def long(number):
+    """A number of 32 bits as GNU's form has it: its high word first."""
+    return struct.pack("<HH", number >> 16, number & 65535)
+
+
+def symbol(place, kind, value):
+    return long(place) + struct.pack("<BBH", kind, 0, value)
+
+
+def gnu_object(words, relocation, symbols, strings):
+    """An object: words of text, relocation words, symbols, and their names as the bytes that follow the length."""
+    header = [0o407, 2 * len(words), 0, 0, 8 * len(symbols), 0, 0, 0]
+    numbers = struct.pack(f"<{8 + 2 * len(words)}H", *header, *words, *relocation)
+    return numbers + b"".join(symbols) + long(4 + len(strings)) + strings
+
+
+def gnu_named(words, relocation, rows):
+    """The same of rows: a name, a type and a value."""
+    symbols, strings = [], b""
+    for name, kind, value in rows:
+        symbols.append(symbol(4 + len(strings), kind, value))
+        strings += name + b"\0"
+    return gnu_object(words, relocation, symbols, strings)
