@@ -3,6 +3,7 @@
 
 usage: tests/wrong_bodies.py [-j N] [CRATE ..]   tries all edits of these crates, or of all, and notes in
                                                  tests/wrong-bodies.seen each crate whose edits are all refused
+       tests/wrong_bodies.py [-j N] CRATE/EDIT ..  tries these edits alone, and notes nothing
        tests/wrong_bodies.py [-j N] -c           tries those of the crates that have changed since they were noted; an
                                                  error if the file does not tell which those are
        tests/wrong_bodies.py [-j N] --try        tries this script: tests/wrong_bodies_tried.py
@@ -253,10 +254,11 @@ class Answer:
 class Trial:
     """The edits of a crate, tried in copies."""
 
-    def __init__(self, crate, kit, slots):
+    def __init__(self, crate, kit, slots, only):
         self.crate, self.kit, self.slots = crate, kit, slots
         self.folder = f"crates/{crate.name}"
-        self.edits = [Edit(self.folder, path) for path in edits.edits_of(crate.name)]
+        found = [Edit(self.folder, path) for path in edits.edits_of(crate.name)]
+        self.edits = [it for it in found if not only or {crate.name, f"{crate.name}/{it.name}"} & only]
         self.results, self.apart, self.copies = {}, set(), 0
 
     def check(self, texts, kept=None, without=None):
@@ -445,15 +447,16 @@ def note(passed):
         file.writelines(f"{crate} {found[crate]}\n" for crate in with_edits() if crate in found)
 
 
-def try_edits(names, jobs):
-    """Tries the edits of crates once the libraries below are proved. The trials, and whether all edits are refused, by crate."""
+def try_edits(names, jobs, only=()):
+    """Tries the edits of crates, or only some, by name, once the libraries below are proved. The trials, and whether all edits are
+    refused, by crate."""
     os.makedirs(prove.KEPT, exist_ok=True)
     slots = threading.Semaphore(jobs)
     with tempfile.TemporaryDirectory(prefix="wrong-bodies-") as place:
         kit, crates = Kit(place), {it.name: it for it in prove.crates_under(*names)}
         needed = {below for name in names for below in crates[name].below}
         below = Below([it for it in crates.values() if it in needed], kit, slots)
-        trials = {name: Trial(crates[name], kit, slots) for name in names}
+        trials = {name: Trial(crates[name], kit, slots, only) for name in names}
 
         def run(trial):
             return all([below.lanes[it].result() for it in trial.crate.below]) and trial.run()
@@ -471,11 +474,11 @@ def minutes():
     return sum(it.ru_utime + it.ru_stime for it in used) / 60
 
 
-def whole(names, jobs):
-    """Tries the edits of crates, prints a summary, and returns the crates whose edits are all refused, with their digests."""
+def whole(names, jobs, only=()):
+    """Tries the edits of crates, or only some, prints a summary, and returns the crates whose edits are all refused, with their digests."""
     was = {name: digest(name) for name in names}
     begun = time.monotonic()
-    trials, passed = try_edits(names, jobs)
+    trials, passed = try_edits(names, jobs, only)
     for name in names:
         if not passed[name]:
             failed = [edit for edit, fault in trials[name].results.items() if fault]
@@ -487,6 +490,32 @@ def whole(names, jobs):
     return {name: was[name] for name in names if passed[name]}
 
 
+def changed_alone(jobs):
+    """Tries the edits of the crates that have changed. The status to end with."""
+    try:
+        names = have_changed()
+    except Untold as why:
+        print(f"{SEEN} does not tell which crates have changed: {why}. `make wrong-bodies` writes it", file=sys.stderr)
+        return 1
+    print(f"changed since their wrong bodies were refused: {' '.join(names) or 'no crate'}", flush=True)
+    return 0 if not names or len(whole(names, jobs)) == len(names) else 1
+
+
+def named(names, jobs):
+    """Tries the edits of crates, or those that are named CRATE/EDIT. The status to end with."""
+    known = {f"{crate}/{os.path.basename(path)[:-len('.edit')]}" for crate in with_edits() for path in edits.edits_of(crate)}
+    strange = set(names) - known - set(with_edits())
+    if strange:
+        print(f"no crate with edits, or no edit: {' '.join(sorted(strange))}", file=sys.stderr)
+        return 2
+    crates = sorted({name.split("/")[0] for name in names}) or with_edits()
+    only = set(names) if any("/" in name for name in names) else set()
+    passed = whole(crates, jobs, only)
+    if not only:
+        note(passed)
+    return 0 if len(passed) == len(crates) else 1
+
+
 def main(words):
     if "-h" in words or "--help" in words:
         print(__doc__.strip())
@@ -496,26 +525,12 @@ def main(words):
         return 2
     os.chdir(prove.ROOT)
     jobs = int(words[words.index("-j") + 1]) if "-j" in words else 2
-    names = [word for at, word in enumerate(words) if not word.startswith("-") and words[at - 1:at] != ["-j"]]
     if "--try" in words:
         import wrong_bodies_tried
         return wrong_bodies_tried.main(jobs)
-    strange = set(names) - set(with_edits())
-    if strange:
-        print(f"no crate with edits: {' '.join(sorted(strange))}", file=sys.stderr)
-        return 2
     if "-c" in words:
-        try:
-            names = have_changed()
-        except Untold as why:
-            print(f"{SEEN} does not tell which crates have changed: {why}. `make wrong-bodies` writes it", file=sys.stderr)
-            return 1
-        print(f"changed since their wrong bodies were refused: {' '.join(names) or 'no crate'}", flush=True)
-        return 0 if not names or len(whole(names, jobs)) == len(names) else 1
-    names = names or with_edits()
-    passed = whole(names, jobs)
-    note(passed)
-    return 0 if len(passed) == len(names) else 1
+        return changed_alone(jobs)
+    return named([word for at, word in enumerate(words) if not word.startswith("-") and words[at - 1:at] != ["-j"]], jobs)
 
 
 if __name__ == "__main__":
