@@ -3,7 +3,7 @@
 -- The first argument names a tool. Each other one is read by what was read before it: it is the value of an option that waits for
 -- one, or a file, or `--`, or letters of options. The first argument, and in it the first letter, that cannot be read so is the
 -- reason; and if all can be read, it is what is missing at the end.
-use Rattle.std.specs.Prelude.{ℕ, ◌+◌, ◌==◌, ◌&&◌, ◌||◌, Bool, true, false, not, cond, nat_eq, nat_lt, if◌then◌else◌, List, [], ◌∷◌, drop, length, take, Option, Some, None, is_some, option_map, unwrap_or, Result, Ok, Err, bytes_eq, codes}
+use Rattle.std.specs.Prelude.{ℕ, ◌+◌, ◌==◌, ◌&&◌, ◌||◌, Bool, true, false, not, nat_eq, nat_lt, if◌then◌else◌, List, [], ◌∷◌, drop, length, Option, Some, None, is_some, option_map, unwrap_or, Result, Ok, Err, bytes_eq, codes}
 use Rattle.std.specs.List.{list_any, starts_with}
 use Rattle.aout_core.specs.Words.{letter_of}
 use Rattle.clap.specs.Lexer.{strip_byte}
