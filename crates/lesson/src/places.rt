@@ -74,7 +74,7 @@ pub(crate) fn image_place(session: &Session, cell: Cell, offset: u16) -> u32 {
     }
 }
 
-/// The row at an address. A link with `-i` has two rooms of addresses: `in_text` says whether that of text is meant.
+/// The row at an address. A link with `-i` has two address spaces: `in_text` says whether that of text is meant.
 fn row_at(bases: &Bases, is_split: bool, in_text: bool, address: u16) -> Option<u32> {
     let at = u64::from(address);
     if (in_text || !is_split) && at < bases.text_end {
