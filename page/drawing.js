@@ -150,6 +150,45 @@ function sizes() {
     return { gap, head: 0.7 * rem, dot: 0.75 * rem };
 }
 
+// the word whose distance is drawn: the chosen one, or the first that was bound
+function distanceWord() {
+    const row = chosen ? byId(chosen) : byId("image").querySelector(".word.bound");
+    const word = row && shownWords.get(row.id);
+    return word && word.pc && word.kind > 0 && view.layout < 0 ? word : null;
+}
+
+// a bracket from the place after a word to the place that it refers to, with the distance that the word holds
+function bracket(state, box, size) {
+    const word = distanceWord();
+    const [next, target] = word ? [byId(wordKey(word.part, word.offset + 2)), rowOfPlace(state, word.to)] : [];
+    if (!next || !target || !shownWords.has(target.id)) return [];
+    const [from, to] = [box(next), box(target)];
+    const x = from.left - size.dot - size.gap * (CHAIN_LANES + 1);
+    const text = svg("text", { x: x - 3, y: (from.middle + to.middle) / 2 + 4, "text-anchor": "end" }, shown(word.value));
+    const group = svg("g", { class: "bracket" }, svg("path", { class: "line", d: `M ${x + 6} ${from.middle} H ${x} V ${to.middle} H ${x + 6}` }), text);
+    group.dataset.from = next.id;
+    group.dataset.to = target.id;
+    return [group];
+}
+
+// on purpose there moves: an object that is added, from its card to each of its segments
+function showMoves() {
+    const number = view.list[view.list.length - 1];
+    const card = byId("cards").children[number];
+    if (view.gone >= 0 || !card || !isLaidOut(card) || view.layout >= 0 || matchMedia("(prefers-reduced-motion: reduce)").matches) return;
+    const from = card.getBoundingClientRect();
+    for (const part of PARTS) {
+        const owner = byId(`${part}-of-${number}`);
+        if (!owner || !owner.animate || sideOf(owner, seenPart()) !== 0) continue;
+        const to = owner.getBoundingClientRect();
+        const flying = make("div", "flying", owner.textContent);
+        flying.style.cssText = `left: ${to.left}px; top: ${to.top}px`;
+        document.body.append(flying);
+        const moves = [{ transform: `translate(${from.left - to.left}px, ${from.top - to.top}px)` }, { transform: "none" }];
+        flying.animate(moves, { duration: 500, easing: "ease-in-out" }).finished.then(() => flying.remove(), () => flying.remove());
+    }
+}
+
 let drawn = { arrows: [], chains: [], left: 0, references: [] };
 // the size of the image that was drawn over
 let drawnSize = "";
@@ -170,7 +209,7 @@ function draw() {
     const boxes = new Map();
     const box = (row) => boxes.get(row) ?? boxes.set(row, boxOf(row, frame)).get(row);
     const lines = drawn.arrows.flatMap(({ rows, key, lane }) => rows.map((row) => arrow(row, key, lane, box, size)));
-    byId("drawing").replaceChildren(...lines, ...drawn.chains.map((chain) => chainLine(chain, box, size)));
+    byId("drawing").replaceChildren(...lines, ...drawn.chains.map((chain) => chainLine(chain, box, size)), ...(innerWidth < 1280 ? [] : bracket(stateNow(), box, size)));
     drawnSize = sizeText(frame);
     showEnds();
 }

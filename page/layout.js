@@ -82,7 +82,7 @@ function showCards() {
 
 // the next object that can be added is seen among the buttons of a narrow window
 function showNext(adds, next) {
-    if (!next || !adds.checkVisibility?.()) return;
+    if (!next || !isLaidOut(adds)) return;
     const [box, room] = [next.getBoundingClientRect(), adds.getBoundingClientRect()];
     if (box.right > room.right) adds.scrollLeft += box.right - room.right + 8;
     if (box.left < room.left) adds.scrollLeft -= room.left - box.left + 8;

@@ -3,6 +3,9 @@
 
 const byId = (id) => document.getElementById(id);
 
+// whether an element is laid out
+const isLaidOut = (element) => element.getClientRects().length > 0;
+
 function make(tag, className, ...children) {
     const element = document.createElement(tag);
     if (className) element.className = className;

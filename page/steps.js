@@ -45,6 +45,7 @@ function showBar() {
     LAYOUTS.forEach((_, i) => byId(`layout${i}`).setAttribute("aria-pressed", String(view.layout === i)));
     byId("decimal").setAttribute("aria-pressed", String(view.decimal));
     byId("flick").setAttribute("aria-pressed", String(view.gone >= 0));
+    byId("flick").firstChild.textContent = view.gone >= 0 ? "After " : "Before ";
     setText(byId("image-title"), view.layout < 0 ? "Merged image" : `Addresses, ld ${view.layout > 0 ? LAYOUTS[view.layout] : "with no option"}`);
 }
 
@@ -79,12 +80,28 @@ function sentence(state) {
     if (isLinked(state) && view.list.length > 0) return ["Each sum is the word of the object + the address of what it refers to (\u2212 how far the word has moved, with pc) = the word of the link."];
     const marks = wordMarks();
     const mark = marks.find((one) => markKey(one) === chosen) ?? (chosen ? null : marks[0]);
-    const notes = mark ? [markText(state, mark)] : chosen ? [] : [broughtText()];
+    const notes = [mark ? markText(state, mark) : chosen ? chosenText(state) : broughtText()];
     if (mark && marks.length > 1 && !chosen) notes.push(`${counted(marks.length - 1, "other word")} changed too.`);
     if (!mark && !chosen && view.gone < 0 && view.list.length > 0) notes.push(waitingText(state));
     if (drawn.left > 0) notes.push(`${counted(drawn.left, "arrow")} more: choose a word to see its own.`);
     if (view.guide < 0 && view.list.length === 1 && view.gone < 0) notes.push("Now add another object, and look at which words change.");
     return notes.filter(Boolean);
+}
+
+// what the chosen word is, or where the chosen name is
+function chosenText(state) {
+    if (chosen.startsWith("name ")) {
+        const known = namesOf(state).find(({ name }) => chosen === `name ${name}`);
+        return known ? `${known.name} is ${stateText(known.kind, known.number)}. ${counted(drawn.references.length, "word")} refer${drawn.references.length === 1 ? "s" : ""} to it.` : "";
+    }
+    if (!isWordKey(chosen)) return "";
+    const word = wordAt(state, chosen.split("-")[0], Number(chosen.split("-")[1]));
+    if (!word) return "";
+    const where = `The word at ${word.part} ${shown(word.offset)}`;
+    if (word.kind < 0) return `${where} waits for ${nameText(word)}, which no object has defined.`;
+    if (word.kind === 0 && !word.pc) return `${where} refers to nothing: it stays as it is.`;
+    const name = word.own.kind < 0 ? `${nameText(word.own)}, ` : "";
+    return `${where} refers to ${name}${targetText(word)}${placeText(word, sizeOf(state, SEGMENTS[word.kind]))}${word.pc ? ", and holds the distance to it from the place after the word" : ""}.`;
 }
 
 // for how many names how many words wait
@@ -149,7 +166,7 @@ function showAll() {
     showChosen(true, firstChanged);
     bring(byId("names").querySelector(".changed, .put-back, .new"));
     say([stepText(), byId("note").textContent, guideText()]);
-    if (focus && focus !== document.body && !focus.checkVisibility?.()) byId("image").focus({ preventScroll: true });
+    if (focus && focus !== document.body && !isLaidOut(focus)) byId("image").focus({ preventScroll: true });
 }
 
 // says something to a reader of the screen, in one place
@@ -165,6 +182,7 @@ function step(newView) {
     view = newView;
     history.pushState({ at }, "", `#${hashOf(view)}`);
     showAll();
+    showMoves();
 }
 
 // shows the same step in another way
@@ -208,9 +226,9 @@ function begin() {
     last = at;
     view = viewOf(location.hash.slice(1));
     history.replaceState({ at }, "", location.hash || "#");
-    const wide = window.matchMedia("(min-width: 64em)");
-    const fold = () => { byId("more").open = wide.matches; };
-    wide.addEventListener("change", fold);
+    const [wide, widest] = ["64em", "84em"].map((width) => window.matchMedia(`(min-width: ${width})`));
+    const fold = () => { byId("more").open = widest.matches; };
+    widest.addEventListener("change", fold);
     fold();
     watchKeys();
     watchFind();

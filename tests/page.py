@@ -1,7 +1,8 @@
 #!/usr/bin/env python3
 """Opens the page of the lesson in Chromium, from the disk, and compares what it shows, in every state, with what `v7-lesson`
 prints for the same objects, and the addresses with what `v7 ld` and `v7 nm` say. Then it looks at the layout in many sizes, in
-Firefox too if it is installed, and takes the tour and the lessons by keys alone. Pictures of three states go to docs/pictures.
+Firefox too if it is installed, takes the tour and the lessons by keys alone, and measures the stage with sixteen objects. The
+pictures of docs/pictures are compared with the page. Faults are planted, and have to be found.
 
 usage: tests/page.py LESSON V7 PAGE QUESTIONS FILE...     PAGE is the folder with the scripts and the styles; five FILEs
 """
@@ -13,15 +14,17 @@ import struct
 import subprocess
 import sys
 import tempfile
+import traceback
 from itertools import permutations
 
+import page_pictures
 from page_browser import Chromium, Keys, firefox
 from page_layout import PLANTS, look, look_everywhere, look_in_firefox
-from page_objects import object_like_c, ten
+from page_objects import object_like_c, sixteen
+from page_stage import stage
 from page_use import use_all
 
 LAYOUTS = {"plain": [], "-n": ["-n"], "-i": ["-i"], "-r": ["-r"]}
-PICTURES = "docs/pictures"
 
 # what the page shows, as lines of text; a word is its segment and the texts of its parts
 READ = """
@@ -283,15 +286,6 @@ def by_keyboard(tools, page, files):
     compare_state(tools, page, "1, and arrows", 2, [files[1], files[0]])
 
 
-def pictures(page):
-    """Pictures of three states."""
-    os.makedirs(PICTURES, exist_ok=True)
-    states = {"first": "", "bound": "objects=1,2", "addresses": "objects=1,2,3,4&addresses=-n"}
-    for name, address in states.items():
-        page.open("#" + address)
-        page.picture(f"{PICTURES}/{name}.png")
-
-
 def states_in(path):
     with open(path, encoding="utf-8") as file:
         text = file.read()
@@ -433,6 +427,20 @@ QUESTIONS = [
     ("lesson One\nword text 0", 2, "an answer to no question"),
     ("lesson One\nask", 2, "ask is followed by a text"),
     ("# One\nlesson One\nshow main.o", 3, "show begins no line of a lesson"),
+    ("lesson One\nadd main.o\nask changes Which?\nword text 4\nadd twice.o", 5, "the word at 4 does not change"),
+    ("lesson One\nadd main.o\nadd twice.o\nask changes Which?\nword text 2\nwithdraw", 6, "the word at 2 does not change"),
+    ("lesson One\nadd main.o\nask value text 6 What?\nnumber 4\nadd twice.o", 5, "the number is 2"),
+    ("lesson One\nadd main.o\nask value text 12 What?\nimage", 4, "after the step there is no such word"),
+    ("lesson One\nadd main.o\nask value bss 0 What?\nimage", 3, "value is followed by text or data, an offset and a text"),
+    ("lesson One\nadd main.o\nask where _count Where?\nnumber 12\nlink -r", 5, "the name is nowhere"),
+    ("lesson One\nadd k.o\nadd l.o\nask where _x Where?\nnumber 2\nlink plain", 6, "the number is 6"),
+    ("lesson One\nadd main.o\nask where _y Where?\nlink plain", 4, "after the step there is no such name"),
+    ("lesson One\nadd main.o\nask changes Which?\nsay This.", 4, "the question of line 3 has no step"),
+    ("lesson One\nask changes Which?", 2, "the question has no step"),
+    ("lesson One\nask where", 2, "where is followed by a name and a text"),
+    ("lesson One\nask changes", 2, "ask is followed by a text"),
+    ("lesson One\nask Which?\nbecause so", 3, "the question of line 2 has no answer"),
+    ("lesson One\nask changes Which?\nnumber 2\nimage", 3, "an answer to no question"),
 ]
 
 
@@ -446,25 +454,48 @@ def bad_questions(tools, files):
         same(f"questions: {text}", (done.returncode, done.stdout, done.stderr), (2, "", f"v7-lesson: {path}: line {line}: {fault}\n"))
 
 
-def lesson_answers(tools, path):
-    """The answers of the lessons are true: the word that a question names is the one that its step changes."""
+def changed_by(states, here, word, rest):
+    """The words that a step changes, and the list after it."""
+    longer = [*here, rest[0]] if word == "add" else here
+    marks = [[mark[0], mark[1]] for mark in states[tuple(longer)]["marks"] if mark[0] != "name"]
+    return marks, longer if word == "add" else here[:-1]
+
+
+def lesson_answers(tools, path, files):
+    """The answers of the lessons are what the programs say of the objects."""
     data, _ = states_in(path)
     states = {tuple(state["list"]): state for state in data["states"] if "marks" in state}
-    here, asked, words = [], "", []
+    here, asked, compared_here = [], None, 0
     for word, *rest in data["lessons"]:
         if word == "lesson":
             here = []
-        elif word == "ask":
-            asked, words = rest[0], []
-        elif word == "word":
-            words.append(tuple(rest))
-        elif word in ("add", "withdraw"):
-            longer = [*here, rest[0]] if word == "add" else here
-            marks = [(mark[0], mark[1]) for mark in states[tuple(longer)]["marks"] if mark[0] != "name"]
-            if words and ("change" in asked or "put back" in asked):
-                same(f"the answer to: {asked}", sorted(words), sorted(marks))
-            here, words = (longer if word == "add" else here[:-1]), []
-    same("lessons", sum(line[0] == "lesson" for line in data["lessons"]), 3)
+        elif word in ("changes", "value", "where"):
+            asked = [word, *rest]
+        elif word in ("add", "withdraw", "link", "image"):
+            marks, after = changed_by(states, here, word, rest) if word in ("add", "withdraw") else ([], here)
+            if asked:
+                same(f"the answer to {asked}, {word}", answer_said(tools, asked, [files[number] for number in after], word, rest, marks), asked)
+                compared_here += 1
+            here, asked = after, None
+    same("lessons", (sum(line[0] == "lesson" for line in data["lessons"]), compared_here >= 12), (9, True))
+
+
+def answer_said(tools, asked, files, word, rest, marks):
+    """A question with the answer that the programs give."""
+    kind, *about = asked
+    if kind == "changes":
+        return ["changes", *(part for mark in marks for part in mark)]
+    if word == "link":
+        linked = tools.link(list(LAYOUTS.values())[rest[0]], files)
+        lines = [line for line in linked["table"].splitlines() if line[9:] == about[0] and line[7] not in "UC"]
+        number = int(lines[0][:6], 8) if lines else None
+        if kind == "value":
+            number = linked["segments"][about[0]][about[1] // 2]
+    else:
+        lines = [line.split() for line in tools.step(len(files), files)]
+        found = [line for line in lines if line[:2] == [about[0], f"{about[1]:06o}"]] if kind == "value" else []
+        number = int(found[0][2], 8) if found else None
+    return ["where", about[0], number] if kind == "where" else ["value", about[0], about[1], number, asked[4]]
 
 
 def full(tools, files):
@@ -481,18 +512,22 @@ def full(tools, files):
     page.quit()
 
 
-def layouts(tools, default, files, five):
-    """The layout of three pages, in all sizes and in both browsers; and faults that are planted."""
-    folder = os.path.join(tools.room, "ten")
+def sixteen_objects(tools):
+    """The paths of sixteen objects, which are those of tests/data/page."""
+    folder = os.path.join(tools.room, "sixteen")
     os.makedirs(folder)
-    for name, content in ten().items():
+    for name, content in sixteen().items():
         with open(os.path.join(os.path.dirname(os.path.abspath(__file__)), "data", "page", name), "rb") as stored:
             same(f"tests/data/page/{name}", stored.read() == content, True)
         with open(os.path.join(folder, name), "wb") as out:
             out.write(content)
-    compiled = tools.page_of(sorted(os.path.join(folder, name) for name in os.listdir(folder)), "ten.html")
+    return sorted(os.path.join(folder, name) for name in os.listdir(folder))
+
+
+def layouts(tools, default, files, five, compiled):
+    """The layout of three pages, in all sizes and in both browsers; and faults that are planted."""
     program_page = tools.page_of(files, "program.html")
-    pages = {"the default page": default, "five objects": program_page, "five of 500 words": five, "ten objects": compiled}
+    pages = {"the default page": default, "five objects": program_page, "five of 500 words": five, "sixteen objects": compiled}
     page = Page()
     counts = look_everywhere(page, pages, faults)
     for what, script in PLANTS.items():
@@ -512,39 +547,58 @@ def layouts(tools, default, files, five):
         same("nothing was counted in Firefox of", [name for name, count in counts.items() if count == 0], [])
     else:
         print("not looked at in Firefox, as it is not installed: Debian's package is firefox-esr")
-    return compiled
+
+
+def compare_states(tools, files, default):
+    """Each state of five objects, and of some larger ones."""
+    page = Page(tools.page_of(files[:4]))
+    clicks(tools, page, files)
+    by_keyboard(tools, page, files)
+    page.open("")
+    walk(tools, page, files[:4], [])
+    page.quit()
+    page = Page(default)
+    every_state(tools, page, files)
+    page_pictures.compare(page, same)
+    page.quit()
+    program(tools, program_files(files))
+    large(tools, files)
+    full(tools, files)
+    print(f"{compared} things of states were compared", flush=True)
+
+
+def program_files(files):
+    """Five objects of one program."""
+    return [os.path.join(os.path.dirname(files[0]), name) for name in ("start.o", "print.o", "main.o", "twice.o", "count.o")]
+
+
+def check(tools, questions, files):
+    """All that is looked at."""
+    scripts(tools.page)
+    refusals(tools, files)
+    bad_questions(tools, files)
+    counts(tools, files)
+    default = tools.page_of(files, "default.html", questions)
+    lesson_answers(tools, default, files)
+    many = sixteen_objects(tools)
+    compiled = tools.page_of(many, "sixteen.html")
+    same("bytes of sixteen objects", os.path.getsize(compiled) <= 1_000_000, True)
+    page = Page(default)
+    use_all(page, default, compiled, same)
+    stage(tools, page, compiled, many, LAYOUTS, same)
+    page.quit()
+    compare_states(tools, files, default)
+    layouts(tools, default, program_files(files), five_of_500(tools), compiled)
 
 
 def main():
     lesson, v7, page_folder, questions, *files = sys.argv[1:]
     with tempfile.TemporaryDirectory() as room:
-        tools = Tools(lesson, v7, page_folder, room)
-        scripts(page_folder)
-        refusals(tools, files)
-        bad_questions(tools, files)
-        counts(tools, files)
-        default = tools.page_of(files, "default.html", questions)
-        lesson_answers(tools, default)
-        page = Page(tools.page_of(files[:4]))
-        clicks(tools, page, files)
-        by_keyboard(tools, page, files)
-        page.open("")
-        walk(tools, page, files[:4], [])
-        page.quit()
-        page = Page(default)
-        every_state(tools, page, files)
-        pictures(page)
-        page.quit()
-        examples = os.path.dirname(files[0])
-        five = [os.path.join(examples, name) for name in ("start.o", "print.o", "main.o", "twice.o", "count.o")]
-        program(tools, five)
-        large(tools, files)
-        full(tools, files)
-        print(f"{compared} things of states were compared", flush=True)
-        compiled = layouts(tools, default, five, five_of_500(tools))
-        page = Page(default)
-        use_all(page, default, compiled, same)
-        page.quit()
+        try:
+            check(Tools(lesson, v7, page_folder, room), questions, files)
+        except Exception as error:  # the faults that were found are printed all the same
+            faults.append(f"{type(error).__name__}: {error}")
+            traceback.print_exc()
     print(f"{compared} things were compared")
     for fault in faults[:20]:
         print(fault)

@@ -134,12 +134,12 @@ STATES = {
                          "objects=1,2,5&addresses=plain&lesson=2&done=4"],
     "five objects": ["objects=1", "objects=1,2", "objects=1,2,3,4,5", "objects=1,2,3,4,5&addresses=-i", "objects=1,2,3,4&withdrawn=5"],
     "five of 500 words": ["objects=1", "objects=1,2,3,4,5", "objects=5,4,3,2,1&addresses=plain", "objects=1,2,3,4&withdrawn=5"],
-    "ten objects": [f"objects={','.join(map(str, range(1, count + 1)))}" for count in (1, 2, 4, 7, 10)]
+    "sixteen objects": [f"objects={','.join(map(str, range(1, count + 1)))}" for count in (1, 2, 4, 7, 16)]
     + ["objects=1,2,3,4,5,6,7,8,9,10&addresses=-r", "objects=1,2,3,4,5,6,7,8,9&withdrawn=10"],
 }
 # names and words that are chosen besides, each in the last state but one of its page
 CHOSEN = {"the default page": ["name _count", "text-6"], "five objects": ["name left", "text-2", "text-46"], "five of 500 words": ["name _errno", "name csv"],
-          "ten objects": ["name csv", "name _errno", "text-0", "name _v3"]}
+          "sixteen objects": ["name csv", "name _errno", "text-0", "name _v3"]}
 CHOOSE = "choose(arguments[0], true);"
 GO = "location.hash = arguments[0] || '#'; return true;"
 THERE = "return location.hash.replace('#', '') === arguments[0] && hashOf(view) === arguments[0]"
@@ -158,7 +158,7 @@ PAPER = r"""
 const faults = [];
 const drawn = [...document.querySelectorAll("#drawing")].filter((element) => element.checkVisibility()).length;
 if (drawn) faults.push("arrows are on the paper");
-for (const row of document.querySelectorAll(".word")) {
+for (const row of document.querySelectorAll(".word:not(.spot):not(.cut-off)")) {
     const word = wordAt(stateNow(), row.id.split("-")[0], Number(row.id.split("-")[1]));
     const said = [...row.querySelectorAll(".target, .place")].filter((part) => part.checkVisibility()).map((part) => part.textContent).join("");
     if (word.kind > 0 && !said.startsWith(SEGMENTS[word.kind] + " ")) faults.push(`${row.id} says ${said}`);

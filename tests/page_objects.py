@@ -2,7 +2,7 @@
 """Makes objects like those of a C compiler: functions with calls, jumps, variables, strings and tables of pointers, of which
 about a third of the words refer to something. No compiler made them: sizes and references are what the page needs.
 
-usage: tests/page_objects.py FOLDER     writes the ten objects that tests/data/page has
+usage: tests/page_objects.py FOLDER     writes the sixteen objects that tests/data/page has
 """
 import os
 import random
@@ -10,7 +10,7 @@ import struct
 import sys
 
 TEXT, DATA, BSS, EXTERNAL, PC = 0o2, 0o4, 0o6, 0o10, 0o1
-COUNT = 10
+COUNT = 16
 FUNCTIONS = 4
 
 
@@ -116,12 +116,12 @@ def object_like_c(number, size, count):
     return Maker(number, size, count).make()
 
 
-def ten():
-    """Ten objects of 60 to 330 words, by their names."""
-    return {f"part{number}.o": object_like_c(number, 60 + 30 * number, COUNT) for number in range(COUNT)}
+def sixteen():
+    """Sixteen objects of 100 to 325 words, by their names."""
+    return {f"part{number:02}.o": object_like_c(number, 100 + 15 * number, COUNT) for number in range(COUNT)}
 
 
 if __name__ == "__main__":
-    for file, content in ten().items():
+    for file, content in sixteen().items():
         with open(os.path.join(sys.argv[1], file), "wb") as out:
             out.write(content)

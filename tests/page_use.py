@@ -313,6 +313,82 @@ def texts(page, default, same):
     page.media("", "light")
 
 
+# takes away what Firefox ESR 102 or Chromium 100 lack, of all that a script could call; roles and labels are no properties then
+OLD = r"""
+for (const name of ["toSorted", "toReversed", "toSpliced", "with", "group", "groupToMap", "fromAsync"]) { delete Array.prototype[name]; delete Array[name]; }
+for (const name of ["findLast", "findLastIndex"]) delete Array.prototype[name];
+delete Element.prototype.checkVisibility;
+for (const name of Object.getOwnPropertyNames(Element.prototype)) if (/^(aria[A-Z]|role$)/.test(name)) delete Element.prototype[name];
+for (const name of ["union", "intersection", "difference", "symmetricDifference", "isSubsetOf"]) delete Set.prototype[name];
+delete Object.groupBy; delete Map.groupBy; delete Promise.withResolvers; delete URL.canParse; delete String.prototype.isWellFormed;
+delete Element.prototype.setHTMLUnsafe; delete HTMLElement.prototype.showPopover; delete Document.prototype.startViewTransition;
+"""
+OLD_SEEN = """
+const rows = [...document.querySelectorAll("#image .word")];
+choose("text-6", true);
+return { rows: rows.length, roles: rows.filter((row) => row.getAttribute("role") === "option" && row.getAttribute("aria-label")).length,
+    chosen: document.querySelectorAll("#image [aria-selected=true]").length, groups: document.querySelectorAll("#image [role=group][aria-label]").length,
+    arrows: document.querySelectorAll("g.arrow").length, sentence: document.getElementById("note").textContent.length > 20 };
+"""
+LABEL_AS_PROPERTY = "addEventListener('DOMContentLoaded', () => { withAttributes = (element, all) => { for (const name in all) element[name === 'id' ? 'id' : name.replace(/-(.)/, (_, c) => c.toUpperCase())] = all[name]; return element; }; showAll(); });"
+
+
+def old_browser(page, default, same):
+    """The oldest browsers, by taking away what they lack: words have roles and labels, and can be chosen. A label as a property is seen."""
+    for script, is_right in ((OLD, True), (OLD + LABEL_AS_PROPERTY, False)):
+        kept = page.before_loading(script)
+        page.load(default)
+        page.open("#objects=1,2")
+        page.type("3", "w")
+        same("steps in an old browser", page.run("return view.list.length"), 2)
+        page.type("w", "2")
+        seen = page.run(OLD_SEEN)
+        wanted = {"rows": 7, "roles": 7, "chosen": 1, "groups": 1, "arrows": 1, "sentence": True}
+        same(f"an old browser{'' if is_right else ', a label as a property'}", seen == wanted, is_right)
+        page.as_before(kept)
+    page.load(default)
+
+
+def presenter(page, default, same):
+    """Large words for a projector: at least 28 pixels, two objects in view, no legend."""
+    page.load(default)
+    page.size(1920, 1080)
+    page.open("#objects=1,2")
+    page.type("l")
+    page.settle()
+    seen = page.run("const size = (name) => parseFloat(getComputedStyle(document.querySelector(name)).fontSize); const stage = document.getElementById('stage').getBoundingClientRect();"
+                    "return [size('#image .word'), size('#note'), document.getElementById('legend').checkVisibility(), [...document.querySelectorAll('#image .word')].every((row) => row.getBoundingClientRect().bottom <= stage.bottom)]")
+    same("words for a projector", (seen[0] >= 28, seen[1] >= 24, seen[2:]), (True, True, [False, True]))
+    page.size(1280, 720)
+
+
+def paper(page, default, same):
+    """A lesson on paper, without answers and with them."""
+    page.load(default)
+    page.run("window.print = () => {}")
+    page.open("#lesson=2&done=0")
+    page.run("window.print = () => { window.printed = document.body.classList.contains('handout'); }")
+    texts = []
+    for name in ("handout", "answers"):
+        page.click(name)
+        texts.append(page.run("return document.getElementById('paper').textContent"))
+    asked = page.run("return GUIDES[2].steps.filter((step) => step.ask).map((step) => step.ask)")
+    same("the handout is printed", page.run("return [window.printed, document.body.classList.contains('handout'), view.guide, view.done]"), [True, False, 2, 0])
+    same("questions on paper", [ask for ask in asked for text in texts if ask not in text], [])
+    same("answers on paper", ("Answer: text 000006" in texts[1], "Answer: text 000006" in texts[0]), (True, False))
+
+
+def motion(page, default, same):
+    """An object moves from its card to its segments, unless the system asks for less motion."""
+    page.load(default)
+    page.size(1366, 768)
+    for value, count in (("no-preference", 1), ("reduce", 0)):
+        page.driver.execute_cdp_cmd("Emulation.setEmulatedMedia", {"features": [{"name": "prefers-reduced-motion", "value": value}]})
+        page.open("")
+        same(f"what moves, {value}", page.run("addObject(0); return document.querySelectorAll('.flying').length"), count)
+    page.media("")
+
+
 def use_all(page, default, compiled, same):
     first_view(page, same)
     roles(page, same)
@@ -324,3 +400,7 @@ def use_all(page, default, compiled, same):
     numbers(page, default, same)
     leads(page, default, same)
     texts(page, default, same)
+    presenter(page, default, same)
+    paper(page, default, same)
+    motion(page, default, same)
+    old_browser(page, default, same)

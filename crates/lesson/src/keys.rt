@@ -80,13 +80,24 @@ pub(crate) fn changed_words(
     Ok(words)
 }
 
+/// The word of a link.
+fn value_in_link(
+    alloc: Global,
+    session: &Session,
+    layout: usize,
+    word: WordPlace,
+) -> Result<Option<u16>, AllocError> {
+    let links = links_of(alloc, session)?;
+    match links.get(layout) {
+        Some(link) => Ok(linked_word(link, word.segment, word.offset)),
+        None => Ok(None),
+    }
+}
+
 /// A word after a step: in the image, or in the link that the step shows.
 fn value_after(alloc: Global, session: &Session, act: Act, word: WordPlace) -> Result<u16> {
     let value = match act {
-        Act::Link(layout) => match links_of(alloc, session)?.get(layout) {
-            Some(link) => linked_word(link, word.segment, word.offset),
-            None => None,
-        },
+        Act::Link(layout) => value_in_link(alloc, session, layout, word)?,
         _ => cell_at(session, word.segment, word.offset).map(|cell| cell.value),
     };
     match value {
@@ -102,10 +113,8 @@ fn place_after(alloc: Global, session: &Session, act: Act, name: &Name) -> Resul
         return Err(anyhow!("after the step there is no such name"));
     };
     if let Act::Link(layout) = act {
-        return match links_of(alloc, session)?.get(layout) {
-            Some(link) => Ok(link.address(index)),
-            None => Ok(None),
-        };
+        let links = links_of(alloc, session)?;
+        return Ok(links.get(layout).and_then(|link| link.address(index)));
     }
     match session.external(index) {
         Some((_, State::Defined(_, offset))) => Ok(Some(offset)),
