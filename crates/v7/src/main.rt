@@ -1,6 +1,8 @@
 //! The program `v7`: the object tools of PDP-11 Unix, each named by the first argument.
 #![tactic(auto)]
 
+mod terminal;
+
 use std::fs::File;
 use std::io::IsTerminal;
 use std::os::fd::AsRawFd;

@@ -1,9 +1,5 @@
 //! The program at a terminal: pages of help, why arguments are refused, what else looks into a file, and a session with a prompt.
 //! Nothing of this is written if standard error is not a terminal.
-//!
-//! - `command_at_terminal`: what `v7tools::command` does, and all this around it
-#![tactic(auto)]
-
 ghost use Rattle.std.specs.Prelude.{◌≤◌};
 
 mod lines;
@@ -56,7 +52,7 @@ fn refuse<H: Runtime + AllocGlobal>(rt: &H, words: &[String], reason: Reason) {
 /// Does what the arguments ask for, for a reader at a terminal, and returns the status of the program. It is that of
 /// `v7tools::command`, but 0 if a page of help or the version is asked for, which go to standard output. `is_typed`: standard
 /// input is a terminal too, so a session has a prompt. (own choice)
-pub fn command_at_terminal<H: Runtime + AllocGlobal>(
+pub(crate) fn command_at_terminal<H: Runtime + AllocGlobal>(
     rt: &H,
     is_typed: bool,
     words: Vec<String>,
