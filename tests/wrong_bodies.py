@@ -251,6 +251,16 @@ class Answer:
         return reached
 
 
+def run(words, folder):
+    """Runs a command in a folder. Its status, what it prints, and the seconds of a processor that it takes."""
+    how = {"stdin": subprocess.DEVNULL, "stdout": subprocess.PIPE, "stderr": subprocess.STDOUT}
+    with subprocess.Popen(words, cwd=folder, **how) as process:
+        said = process.stdout.read().decode(errors="replace")
+        _, status, used = os.wait4(process.pid, 0)
+        process.returncode = os.WEXITSTATUS(status) if os.WIFEXITED(status) else -os.WTERMSIG(status)
+    return process.returncode, said, used.ru_utime + used.ru_stime
+
+
 class Trial:
     """The edits of a crate, tried in copies."""
 
@@ -259,7 +269,7 @@ class Trial:
         self.folder = f"crates/{crate.name}"
         found = [Edit(self.folder, path) for path in edits.edits_of(crate.name)]
         self.edits = [it for it in found if not only or {crate.name, f"{crate.name}/{it.name}"} & only]
-        self.results, self.apart, self.copies = {}, set(), 0
+        self.results, self.apart, self.copies, self.seconds = {}, set(), 0, 0
 
     def check(self, texts, kept=None, without=None):
         """Checks a copy of the crate with these texts, over what other copies left, and without a folder of proofs."""
@@ -273,10 +283,10 @@ class Trial:
                 with open(f"{copy}/{path}", "w", encoding="utf-8") as file:
                     file.write(text)
             words = self.kit.check(self.crate) + (["--incremental", kept] if kept else [])
-            how = {"stdin": subprocess.DEVNULL, "stdout": subprocess.PIPE, "stderr": subprocess.STDOUT}
-            ran = subprocess.run(words, cwd=copy, **how)
+            status, said, seconds = run(words, copy)
         self.copies += 1
-        return Answer(self.crate.name, ran.returncode, ran.stdout.decode(errors="replace"))
+        self.seconds += seconds
+        return Answer(self.crate.name, status, said)
 
     def end(self, edit, fault, line=""):
         """Notes what came of an edit, and prints it."""
@@ -313,10 +323,10 @@ class Trial:
                 shutil.copytree(f"{self.folder}/out/incremental", kept, dirs_exist_ok=True)
             while waiting:
                 chosen, texts = self.next_copy(waiting)
-                begun = time.monotonic()
+                before = self.seconds
                 answer = self.check(texts, kept)
-                took = time.monotonic() - begun
-                print(f"{self.crate.name}: copy {self.copies}, {len(chosen)} edits, {took:.0f} seconds", flush=True)
+                took = f"{self.seconds - before:.0f} seconds of a processor"
+                print(f"{self.crate.name}: copy {self.copies}, {len(chosen)} edits, {took}", flush=True)
                 for name in [] if chosen[0].alone else answer.others_refused(chosen):
                     print(f"{self.crate.name}: copy {self.copies}: {name} is refused too, and no edit changes it", flush=True)
                 again = [it for it in chosen if not self.has_ended(it, chosen, answer)]
@@ -448,7 +458,7 @@ def note(passed):
 
 
 def try_edits(names, jobs, only=()):
-    """Tries the edits of crates, or only some, by name, once the libraries below are proved. The trials, and whether all edits are
+    """Tries the edits of crates, or only some, once the libraries below are proved. The trials, and whether all edits are
     refused, by crate."""
     os.makedirs(prove.KEPT, exist_ok=True)
     slots = threading.Semaphore(jobs)
@@ -475,14 +485,15 @@ def minutes():
 
 
 def whole(names, jobs, only=()):
-    """Tries the edits of crates, or only some, prints a summary, and returns the crates whose edits are all refused, with their digests."""
+    """Tries the edits of crates, or only some, and prints a summary. The digests of the crates whose edits are all refused."""
     was = {name: digest(name) for name in names}
     begun = time.monotonic()
     trials, passed = try_edits(names, jobs, only)
-    for name in names:
-        if not passed[name]:
-            failed = [edit for edit, fault in trials[name].results.items() if fault]
-            print(f"{name}: FAILED: {' '.join(failed) or 'a library below it is not proved'}")
+    for name, trial in trials.items():
+        failed = [edit for edit, fault in trial.results.items() if fault]
+        fault = "" if passed[name] else f": FAILED: {' '.join(failed) or 'a library below it is not proved'}"
+        print(f"{name}: {len(trial.results) - len(failed)} of {len(trial.edits)} refused, in {trial.copies} copies, "
+              f"{trial.seconds:.0f} seconds of a processor{fault}")
     results = [not fault for trial in trials.values() for fault in trial.results.values()]
     copies = sum(trial.copies for trial in trials.values())
     print(f"{sum(results)} of {sum(len(it.edits) for it in trials.values())} wrong bodies refused, in {copies} copies of "
