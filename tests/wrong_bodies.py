@@ -10,8 +10,8 @@ usage: tests/wrong_bodies.py [-j N] [CRATE ..]   tries all edits of these crates
 
 A wrong body is an edit in must-fail/ or wrong-bodies/ of a crate: tests/edits.py has its form. A copy has at most one edit for
 each function. It is checked once, by the kit's `rattle`, with the libraries below it as tests/prove.py proves them and keeps
-them, and over what `rt check` of the crate and its earlier copies left. For each edit, the script then reads whether the prover
-refuses the function itself. If it only says that the function calls another one that is not proved, the edit goes into a later
+them, and over what `rt check` of the crate left, or else its earlier copies. For each edit, the script then reads whether the
+prover refuses the function itself. If it only says that the function calls another one that is not proved, the edit goes into a later
 copy without the edits of that one. An edit outside of functions, as of a constant or a definition, has a copy for itself.
 
 It is an error if an edit does not fit its crate, if the prover cannot read the text that it makes, if its function is proved,
@@ -268,22 +268,26 @@ class Trial:
         self.crate, self.kit, self.slots = crate, kit, slots
         self.folder = f"crates/{crate.name}"
         found = [Edit(self.folder, path) for path in edits.edits_of(crate.name)]
+        self.kept = None
         self.edits = [it for it in found if not only or {crate.name, f"{crate.name}/{it.name}"} & only]
         self.results, self.apart, self.copies, self.seconds = {}, set(), 0, 0
 
-    def check(self, texts, kept=None, without=None):
-        """Checks a copy of the crate with these texts, over what other copies left, and without a folder of proofs."""
+    def check(self, texts, without=()):
+        """Checks a copy of the crate with these texts and without some folders of proofs, over what `rt check` of the crate left, or
+        else the copies before it."""
         with self.slots, tempfile.TemporaryDirectory(prefix="wrong-body-") as copy:
+            kept, left = self.kept, f"{self.folder}/out/incremental"
+            if os.path.isdir(left):
+                kept = shutil.copytree(left, f"{copy}/out/incremental")
             for part in ("src", "specs", "proofs"):
                 if os.path.isdir(f"{self.folder}/{part}"):
                     shutil.copytree(f"{self.folder}/{part}", f"{copy}/{part}")
-            for path in without or []:
+            for path in without:
                 shutil.rmtree(f"{copy}/{path}", ignore_errors=True)
             for path, text in texts.items():
                 with open(f"{copy}/{path}", "w", encoding="utf-8") as file:
                     file.write(text)
-            words = self.kit.check(self.crate) + (["--incremental", kept] if kept else [])
-            status, said, seconds = run(words, copy)
+            status, said, seconds = run([*self.kit.check(self.crate), "--incremental", kept], copy)
         self.copies += 1
         self.seconds += seconds
         return Answer(self.crate.name, status, said)
@@ -317,14 +321,11 @@ class Trial:
             if edit.misfit:
                 self.end(edit, "it cannot be made", edit.misfit)
         waiting = sorted((it for it in self.edits if not it.misfit), key=lambda it: it.alone)
-        with tempfile.TemporaryDirectory(prefix="wrong-bodies-") as kept:
-            if os.path.isdir(f"{self.folder}/out/incremental"):
-                # (what `rt check` of the crate left)
-                shutil.copytree(f"{self.folder}/out/incremental", kept, dirs_exist_ok=True)
+        with tempfile.TemporaryDirectory(prefix="wrong-bodies-") as self.kept:
             while waiting:
                 chosen, texts = self.next_copy(waiting)
                 before = self.seconds
-                answer = self.check(texts, kept)
+                answer = self.check(texts)
                 took = f"{self.seconds - before:.0f} seconds of a processor"
                 print(f"{self.crate.name}: copy {self.copies}, {len(chosen)} edits, {took}", flush=True)
                 for name in [] if chosen[0].alone else answer.others_refused(chosen):
@@ -370,7 +371,7 @@ class Trial:
             self.end(edit, "refused only for its shape", line)
             return
         folders = [f"proofs/{'/'.join(it)}" for it in self.proofs_of(function)]
-        right, wrong = self.check({}, None, folders), self.check(edits.changed(edit.changes, self.folder), None, folders)
+        right, wrong = self.check({}, folders), self.check(edits.changed(edit.changes, self.folder), folders)
         more = wrong.open_goals(function) - right.open_goals(function)
         if wrong.is_told and more:
             self.end(edit, "", f"without its proof `{min(more)}` is open, and not with the right body")
