@@ -172,7 +172,7 @@ class Answer:
             place = PLACE.match(line)
             if said:
                 self.verdicts[said[1]] = said[2]
-            elif place and (": error" in line or line.startswith("note: ")):
+            elif place and (": error" in line or "it is not proved" in line):
                 self.places.append((place[1], int(place[2]), place[3]))
 
     @property
