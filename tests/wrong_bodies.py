@@ -10,8 +10,8 @@ usage: tests/wrong_bodies.py [-j N] [CRATE ..]   tries all edits of these crates
 
 A wrong body is an edit in must-fail/ or wrong-bodies/ of a crate: tests/edits.py has its form. A copy has at most one edit for
 each function. It is checked once, by the kit's `rattle`, with the libraries below it as tests/prove.py proves them and keeps
-them, and over what `rt check` of the crate and its earlier copies left. For each edit, the script then reads whether the prover
-refuses the function itself. If it only says that the function calls another one that is not proved, the edit goes into a later
+them, and over what `rt check` of the crate left, or else its earlier copies. For each edit, the script then reads whether the
+prover refuses the function itself. If it only says that the function calls another one that is not proved, the edit goes into a later
 copy without the edits of that one. An edit outside of functions, as of a constant or a definition, has a copy for itself.
 
 It is an error if an edit does not fit its crate, if the prover cannot read the text that it makes, if its function is proved,
@@ -172,7 +172,7 @@ class Answer:
             place = PLACE.match(line)
             if said:
                 self.verdicts[said[1]] = said[2]
-            elif place and (": error" in line or line.startswith("note: ")):
+            elif place and (": error" in line or "it is not proved" in line):
                 self.places.append((place[1], int(place[2]), place[3]))
 
     @property
@@ -251,6 +251,16 @@ class Answer:
         return reached
 
 
+def run(words, folder):
+    """Runs a command in a folder. Its status, what it prints, and the seconds of a processor that it takes."""
+    how = {"stdin": subprocess.DEVNULL, "stdout": subprocess.PIPE, "stderr": subprocess.STDOUT}
+    with subprocess.Popen(words, cwd=folder, **how) as process:
+        said = process.stdout.read().decode(errors="replace")
+        _, status, used = os.wait4(process.pid, 0)
+        process.returncode = os.WEXITSTATUS(status) if os.WIFEXITED(status) else -os.WTERMSIG(status)
+    return process.returncode, said, used.ru_utime + used.ru_stime
+
+
 class Trial:
     """The edits of a crate, tried in copies."""
 
@@ -258,25 +268,29 @@ class Trial:
         self.crate, self.kit, self.slots = crate, kit, slots
         self.folder = f"crates/{crate.name}"
         found = [Edit(self.folder, path) for path in edits.edits_of(crate.name)]
+        self.kept = None
         self.edits = [it for it in found if not only or {crate.name, f"{crate.name}/{it.name}"} & only]
-        self.results, self.apart, self.copies = {}, set(), 0
+        self.results, self.apart, self.copies, self.seconds = {}, set(), 0, 0
 
-    def check(self, texts, kept=None, without=None):
-        """Checks a copy of the crate with these texts, over what other copies left, and without a folder of proofs."""
+    def check(self, texts, without=()):
+        """Checks a copy of the crate with these texts and without some folders of proofs, over what `rt check` of the crate left, or
+        else the copies before it."""
         with self.slots, tempfile.TemporaryDirectory(prefix="wrong-body-") as copy:
+            kept, left = self.kept, f"{self.folder}/out/incremental"
+            if os.path.isdir(left):
+                kept = shutil.copytree(left, f"{copy}/out/incremental")
             for part in ("src", "specs", "proofs"):
                 if os.path.isdir(f"{self.folder}/{part}"):
                     shutil.copytree(f"{self.folder}/{part}", f"{copy}/{part}")
-            for path in without or []:
+            for path in without:
                 shutil.rmtree(f"{copy}/{path}", ignore_errors=True)
             for path, text in texts.items():
                 with open(f"{copy}/{path}", "w", encoding="utf-8") as file:
                     file.write(text)
-            words = self.kit.check(self.crate) + (["--incremental", kept] if kept else [])
-            how = {"stdin": subprocess.DEVNULL, "stdout": subprocess.PIPE, "stderr": subprocess.STDOUT}
-            ran = subprocess.run(words, cwd=copy, **how)
+            status, said, seconds = run([*self.kit.check(self.crate), "--incremental", kept], copy)
         self.copies += 1
-        return Answer(self.crate.name, ran.returncode, ran.stdout.decode(errors="replace"))
+        self.seconds += seconds
+        return Answer(self.crate.name, status, said)
 
     def end(self, edit, fault, line=""):
         """Notes what came of an edit, and prints it."""
@@ -307,16 +321,13 @@ class Trial:
             if edit.misfit:
                 self.end(edit, "it cannot be made", edit.misfit)
         waiting = sorted((it for it in self.edits if not it.misfit), key=lambda it: it.alone)
-        with tempfile.TemporaryDirectory(prefix="wrong-bodies-") as kept:
-            if os.path.isdir(f"{self.folder}/out/incremental"):
-                # (what `rt check` of the crate left)
-                shutil.copytree(f"{self.folder}/out/incremental", kept, dirs_exist_ok=True)
+        with tempfile.TemporaryDirectory(prefix="wrong-bodies-") as self.kept:
             while waiting:
                 chosen, texts = self.next_copy(waiting)
-                begun = time.monotonic()
-                answer = self.check(texts, kept)
-                took = time.monotonic() - begun
-                print(f"{self.crate.name}: copy {self.copies}, {len(chosen)} edits, {took:.0f} seconds", flush=True)
+                before = self.seconds
+                answer = self.check(texts)
+                took = f"{self.seconds - before:.0f} seconds of a processor"
+                print(f"{self.crate.name}: copy {self.copies}, {len(chosen)} edits, {took}", flush=True)
                 for name in [] if chosen[0].alone else answer.others_refused(chosen):
                     print(f"{self.crate.name}: copy {self.copies}: {name} is refused too, and no edit changes it", flush=True)
                 again = [it for it in chosen if not self.has_ended(it, chosen, answer)]
@@ -360,7 +371,7 @@ class Trial:
             self.end(edit, "refused only for its shape", line)
             return
         folders = [f"proofs/{'/'.join(it)}" for it in self.proofs_of(function)]
-        right, wrong = self.check({}, None, folders), self.check(edits.changed(edit.changes, self.folder), None, folders)
+        right, wrong = self.check({}, folders), self.check(edits.changed(edit.changes, self.folder), folders)
         more = wrong.open_goals(function) - right.open_goals(function)
         if wrong.is_told and more:
             self.end(edit, "", f"without its proof `{min(more)}` is open, and not with the right body")
@@ -448,7 +459,7 @@ def note(passed):
 
 
 def try_edits(names, jobs, only=()):
-    """Tries the edits of crates, or only some, by name, once the libraries below are proved. The trials, and whether all edits are
+    """Tries the edits of crates, or only some, once the libraries below are proved. The trials, and whether all edits are
     refused, by crate."""
     os.makedirs(prove.KEPT, exist_ok=True)
     slots = threading.Semaphore(jobs)
@@ -475,14 +486,15 @@ def minutes():
 
 
 def whole(names, jobs, only=()):
-    """Tries the edits of crates, or only some, prints a summary, and returns the crates whose edits are all refused, with their digests."""
+    """Tries the edits of crates, or only some, and prints a summary. The digests of the crates whose edits are all refused."""
     was = {name: digest(name) for name in names}
     begun = time.monotonic()
     trials, passed = try_edits(names, jobs, only)
-    for name in names:
-        if not passed[name]:
-            failed = [edit for edit, fault in trials[name].results.items() if fault]
-            print(f"{name}: FAILED: {' '.join(failed) or 'a library below it is not proved'}")
+    for name, trial in trials.items():
+        failed = [edit for edit, fault in trial.results.items() if fault]
+        fault = "" if passed[name] else f": FAILED: {' '.join(failed) or 'a library below it is not proved'}"
+        print(f"{name}: {len(trial.results) - len(failed)} of {len(trial.edits)} refused, in {trial.copies} copies, "
+              f"{trial.seconds:.0f} seconds of a processor{fault}")
     results = [not fault for trial in trials.values() for fault in trial.results.values()]
     copies = sum(trial.copies for trial in trials.values())
     print(f"{sum(results)} of {sum(len(it.edits) for it in trials.values())} wrong bodies refused, in {copies} copies of "
