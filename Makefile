@@ -205,8 +205,9 @@ page: build/v7-lesson
 	build/v7-lesson -p page $(addprefix -q ,$(LESSONS)) $(or $(FILES),$(PAGE_FILES)) >build/lesson.new || { rm build/lesson.new; exit 2; }
 	mv build/lesson.new build/lesson.html
 
-# opens the page in Chromium, goes through all its states, and compares them with what v7-lesson, v7 ld and v7 nm print; looks
-# at its layout in many sizes, in Firefox too; and takes its lessons by keys. It needs Debian's chromium, chromium-driver and
+# opens the page in Chromium, goes through all its states, and compares them with what v7-lesson, v7 ld and v7 nm print; measures
+# its stage with sixteen objects, looks at its layout in many sizes, in Firefox too, takes its lessons by keys, and compares
+# docs/pictures with it. It needs Debian's chromium, chromium-driver and
 # python3-selenium, and firefox-esr for Firefox
 check-page: build/v7 build/v7-lesson
 	python3 tests/page.py build/v7-lesson build/v7 page examples/lessons.txt $(PAGE_FILES)

@@ -98,9 +98,14 @@ function switchPlace() {
 // what a key does under a question: a digit chooses, or begins a number
 function questionKey(event, key) {
     if (byId("number") && /^[0-9]$/.test(key)) byId("number").focus();
+    else if (byId("number") && key === "n" && byId("choice1")) {
+        byId("choice1").click();
+        byId("next").focus();
+    }
     else if (/^[1-9]$/.test(key) && byId(`choice${key}`)) {
         event.preventDefault();
         byId(`choice${key}`).click();
+        byId("next").focus();
     }
 }
 

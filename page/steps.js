@@ -166,7 +166,8 @@ function showAll() {
     showChosen(true, firstChanged);
     bring(byId("names").querySelector(".changed, .put-back, .new"));
     say([stepText(), byId("note").textContent, guideText()]);
-    if (focus && focus !== document.body && !isLaidOut(focus)) byId("image").focus({ preventScroll: true });
+    const isLost = document.activeElement === document.body || !isLaidOut(document.activeElement);
+    if (isLost && focus && focus !== document.body) byId("image").focus({ preventScroll: true });
 }
 
 // says something to a reader of the screen, in one place

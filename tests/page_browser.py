@@ -44,7 +44,7 @@ def wait_for(page, script, *words):
 class Chromium:
     name = "Chromium"
 
-    def __init__(self, path="", width=1280, height=720, text=16):
+    def __init__(self, path="", width=1366, height=768, text=16):
         """`text` is the size of text that the browser is set to, in pixels."""
         options = webdriver.ChromeOptions()
         options.add_experimental_option("prefs", {"webkit": {"webprefs": {"default_font_size": text}}})

@@ -111,7 +111,7 @@ PLANTS = {
     "an arrow 4 pixels lower": "const path = document.querySelector('g.arrow .line'); path.setAttribute('transform', 'translate(0 5)');",
     "an arrow head 5 pixels higher": "document.querySelector('g.arrow .head').setAttribute('transform', 'translate(0 -7)');",
     "an arrow over the words": "const path = document.querySelector('g.arrow .line'); const d = path.getAttribute('d').split(' '); "
-    "path.setAttribute('d', `M ${d[1]} ${d[2]} h -400 h 400 ` + d.slice(3).join(' '));",
+    "path.setAttribute('d', `M ${d[1]} ${d[2] - 9} h -400 h 400 ` + d.slice(3).join(' '));",
     "a text that leaves its frame": "document.querySelector('.word .meaning').style.cssText = 'position: relative; left: 60rem';",
     "badges that overlap": "for (const tag of document.querySelectorAll('.tag')) tag.style.cssText = 'position: fixed; top: 9rem; left: 9rem';",
     "a word that is wider than the page": "document.querySelector('.word').style.width = '300rem';",

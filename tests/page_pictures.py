@@ -35,7 +35,7 @@ const pixels = async (text) => {
 
 def make(page, folder):
     """Pictures of some states, in a folder."""
-    page.size(1280, 720)
+    page.size(1366, 768)
     for name, address in STATES.items():
         page.open("#" + address)
         page.settle()

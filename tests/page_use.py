@@ -77,10 +77,10 @@ def roles(page, same):
 def stops(page, compiled, same):
     """Image, names and marks are one stop each; arrow keys move inside."""
     page.load(compiled)
-    page.open("#objects=1,2,3,4,5,6,7,8,9,10")
-    same("stops of ten objects", page.run(STOPS) < 60, True)
+    page.open("#objects=1,2,3,4,5,6,7,8,9,10,11,12,13,14,15,16")
+    same("stops of sixteen objects", page.run(STOPS) < 60, True)
     same("stops in the image", page.run("return document.querySelectorAll('#image [tabindex], #image button').length"), 0)
-    same("a tenth object has no key", page.run("return [...document.querySelectorAll('.card')].map((card) => card.querySelectorAll('kbd').length)"), [1] * 9 + [0])
+    same("a tenth object has no key", page.run("return [...document.querySelectorAll('.card')].map((card) => card.querySelectorAll('kbd').length)"), [1] * 9 + [0] * 7)
     page.run("document.getElementById('image').focus()")
     rows = page.run("return [...document.querySelectorAll('#image [role=option]')].map((row) => row.id)")
     page.type(Keys.HOME)
@@ -170,7 +170,7 @@ def tour(page, default, same):
 RIGHT = """
 const wait = nextStep();
 if (wait.kind === "value" || (wait.kind === "where" && wait.number !== null)) return [...wait.number.toString(8)];
-return [String(1 + choicesOf(wait).findIndex((choice) => choice.isRight))];
+return [wait.kind === "where" ? "n" : String(1 + choicesOf(wait).findIndex((choice) => choice.isRight))];
 """
 WRONG = "return choicesOf(nextStep()).findIndex((choice) => !choice.isRight) + 1;"
 
@@ -227,7 +227,7 @@ def lessons(page, default, same):
     same("a wrong answer", page.run("return document.querySelector('#guide .is-wrong').textContent").startswith("You chose"), True)
     page.back()
     page.wait("return view.done === 1")
-    same("Back in a lesson", page.run("return [view.list, document.querySelector('#guide .ask').textContent.slice(0, 10)]"), [[0], "Which word"])
+    same("Back in a lesson", page.run("return [view.list, document.querySelector('#guide .ask').textContent.slice(0, 10)]"), [[0], "Why is the"])
 
 
 NUMBERS = {"12": 10, "10.": 10, "0xa": 10, "0x0A": 10, "9": 9, "-2": 65534, "177776": 65534, "0o12": 10, "x": None, "1g": None}
@@ -267,7 +267,7 @@ def leads(page, default, same):
         seen = page.run("const button = document.querySelector('#adds button:not([aria-disabled=true])'), box = button.getBoundingClientRect(); button.click(); return box.top >= 0 && box.bottom <= innerHeight")
         same(f"on a phone the buttons stay, {number}", (seen, page.run("return view.list.length")), (True, number))
         same(f"on a phone the image is seen, {number}", page.run("const box = document.querySelector('.word.new').getBoundingClientRect(); return box.top < innerHeight && box.bottom > 0"), True)
-    page.size(1280, 720)
+    page.size(1366, 768)
     page.open("#objects=1,2,3,4")
     fill = page.run("const row = document.querySelector('.word').getBoundingClientRect(), main = document.getElementById('main').getBoundingClientRect(); return row.width / main.width")
     same("the image fills its column", fill > 0.6, True)
@@ -303,7 +303,7 @@ def texts(page, default, same):
         page.open("#objects=1,2")
         sizes.append(page.run("return parseFloat(getComputedStyle(document.querySelector('.word')).fontSize) * devicePixelRatio"))
     same("zoom of 200 % makes text twice as large", sizes[1], 2 * sizes[0])
-    page.size(1280, 720)
+    page.size(1366, 768)
     for scheme in ("light", "dark"):
         page.media("", scheme)
         for state in ("", "#objects=1,2", "#objects=1&withdrawn=2", "#objects=1&lesson=1&done=1"):
@@ -359,7 +359,7 @@ def presenter(page, default, same):
     seen = page.run("const size = (name) => parseFloat(getComputedStyle(document.querySelector(name)).fontSize); const stage = document.getElementById('stage').getBoundingClientRect();"
                     "return [size('#image .word'), size('#note'), document.getElementById('legend').checkVisibility(), [...document.querySelectorAll('#image .word')].every((row) => row.getBoundingClientRect().bottom <= stage.bottom)]")
     same("words for a projector", (seen[0] >= 28, seen[1] >= 24, seen[2:]), (True, True, [False, True]))
-    page.size(1280, 720)
+    page.size(1366, 768)
 
 
 def paper(page, default, same):

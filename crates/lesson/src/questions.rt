@@ -117,12 +117,12 @@ impl<'a> Reader<'a> {
     /// A question: one of the step after it, or one that has its answers in the file.
     fn put_ask(&mut self, out: &mut JsonWriter, line: usize, text: &str) -> Result<()> {
         let (word, rest) = text.split_once(' ').unwrap_or((text, ""));
-        let rest = rest.trim();
-        let (wanted, said) = match word {
-            "changes" => (Wanted::Changes, rest),
-            "value" => wanted_value(rest)?,
-            "where" => wanted_name(rest)?,
-            _ => (Wanted::Nothing, text),
+        let wanted = wanted_of(word, rest)?;
+        let said = match wanted {
+            Wanted::Nothing => text,
+            Wanted::Changes => rest,
+            Wanted::Where(_) => without_word(rest),
+            Wanted::Value(_) => without_word(without_word(rest)),
         };
         self.wanted = wanted;
         self.words = Vec::new(self.alloc);
@@ -131,7 +131,7 @@ impl<'a> Reader<'a> {
             Wanted::Nothing => Begun::Question(line),
             _ => Begun::Computed(line),
         };
-        self.put_said(out, "ask", said)
+        self.put_said(out, "ask", said.trim())
     }
 
     /// An answer that is a name.
@@ -283,32 +283,47 @@ impl<'a> Reader<'a> {
     }
 }
 
-/// A question of a word's value, and its text.
-fn wanted_value(text: &str) -> Result<(Wanted, &str)> {
+/// A text without its first word.
+fn without_word(text: &str) -> &str {
+    match text.trim_start().split_once(' ') {
+        Some((_, rest)) => rest,
+        None => "",
+    }
+}
+
+/// What a question asks, by its first word and what follows it.
+fn wanted_of(word: &str, rest: &str) -> Result<Wanted> {
+    match word {
+        "changes" => Ok(Wanted::Changes),
+        "value" => wanted_value(rest.trim_start()),
+        "where" => wanted_name(rest.trim_start()),
+        _ => Ok(Wanted::Nothing),
+    }
+}
+
+/// A question of a word's value.
+fn wanted_value(text: &str) -> Result<Wanted> {
     let (segment, rest) = text.split_once(' ').unwrap_or((text, ""));
-    let (digits, said) = rest.trim_start().split_once(' ').unwrap_or((rest, ""));
-    let offset = u16::from_str_radix(digits, 8).unwrap_or(1);
+    let rest = rest.trim_start();
+    let (digits, _) = rest.split_once(' ').unwrap_or((rest, ""));
     let segment = match segment {
         "text" => Segment::TextSeg,
         "data" => Segment::DataSeg,
         _ => return Err(anyhow!("value is followed by text or data, an offset and a text")),
     };
-    if offset % 2 == 1 {
-        return Err(anyhow!("value is followed by text or data, an offset and a text"));
+    match u16::from_str_radix(digits, 8) {
+        Ok(offset) if offset % 2 == 0 => Ok(Wanted::Value(WordPlace { segment, offset })),
+        _ => Err(anyhow!("value is followed by text or data, an offset and a text")),
     }
-    Ok((Wanted::Value(WordPlace { segment, offset }), said.trim()))
 }
 
-/// A question of a name's place, and its text.
-fn wanted_name(text: &str) -> Result<(Wanted, &str)> {
-    let (name, said) = text.split_once(' ').unwrap_or((text, ""));
+/// A question of a name's place.
+fn wanted_name(text: &str) -> Result<Wanted> {
+    let (name, _) = text.split_once(' ').unwrap_or((text, ""));
     if name.is_empty() {
         return Err(anyhow!("where is followed by a name and a text"));
     }
-    Ok((
-        Wanted::Where(Name::from_bytes(name.as_bytes())),
-        said.trim(),
-    ))
+    Ok(Wanted::Where(Name::from_bytes(name.as_bytes())))
 }
 
 /// Adds a step.
