@@ -1,7 +1,7 @@
 #!/usr/bin/env python3
 """Compares what docs/PROOFS.md quotes of the code, and docs/LIBRARY.md of the examples, with these. A block that is indented by four
 blanks quotes the file whose path, in backquotes, is the last one before it; its comments are the page's own. A block of commands
-is not a quotation."""
+is not a quotation. docs/TRUST.md has the theorem as README.md states it, word for word."""
 import os
 import re
 import sys
@@ -38,8 +38,29 @@ def faults_in(page, text):
     return count, faults
 
 
+def items(text):
+    """The items of the lists of a text, each as one line."""
+    found = re.findall(r"^- (.*(?:\n  .*)*)", text, re.M)
+    return [" ".join(item.split()) for item in found]
+
+
+def theorem_faults(page, text):
+    """The items of README.md's claim that a page does not have."""
+    with open("README.md", encoding="utf-8") as file:
+        claim = file.read().split("\n## The claim\n")[1].split("\n## ")[0]
+    faults = [f"{page}: the theorem is not that of README.md: {item}" for item in items(claim) if item not in items(text)]
+    return faults if items(claim) else ["README.md: the claim has no list"]
+
+
 def main():
-    failed = False
+    with open("docs/TRUST.md", encoding="utf-8") as file:
+        trust = file.read()
+    faults = theorem_faults("docs/TRUST.md", trust)
+    if not theorem_faults("docs/TRUST.md", trust.replace("earlier state exactly", "earlier state")):
+        faults.append("tests/quotes.py: a changed theorem is not found")
+    for fault in faults:
+        print(fault)
+    failed = bool(faults)
     for page, known, changed in PAGES:
         with open(page, encoding="utf-8") as file:
             text = file.read()

@@ -19,8 +19,8 @@ import sys
 # folders of what loops and private functions do
 INTERNAL = ["internal"]
 
-# definitions name no constants of the code, but for the ids by which `command_words` knows its options, and the table of
-# `instructions`, which is data that a reader compares with the manual
+# definitions name no constants of the code, but for the ids by which `command_words` knows its options, and the rows of
+# `instructions`, in the law that compares them with the definition's table
 IDS = [("command_words", "words"), ("command_words", "link_words"), ("instructions", "table")]
 
 os.chdir(os.path.join(os.path.dirname(os.path.abspath(__file__)), ".."))

@@ -22,3 +22,4 @@ mod MemoryOfCalls
 mod ConversionExamples
 mod TextExamples
 mod InstructionExamples
+mod TableExamples

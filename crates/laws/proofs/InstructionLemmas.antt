@@ -33,11 +33,11 @@ relocs_by : (b : Bool) (words relocs size : ℕ) → b ≡ true → 2 * words �
 relocs_by true words relocs size e long same = omega arith
 relocs_by false words relocs size e long same = absurd cc
 
-relocs_long : (k : Contents) → IsObject k → length k.text_reloc ≡ length k.text_words
+pub relocs_long : (k : Contents) → IsObject k → length k.text_reloc ≡ length k.text_words
 relocs_long k is =
     relocs_by (eqb k.header.flag 0) (length k.text_words) (length k.text_reloc) k.header.text_size (well_formed_parts k is.well).0 is.fits.text is.fits.text_relocation
 
-reloc_inside : (rs : List Reloc) (i : ℕ) → i < length rs → (r : Reloc) × (slice_get rs i ≡ Some r)
+pub reloc_inside : (rs : List Reloc) (i : ℕ) → i < length rs → (r : Reloc) × (slice_get rs i ≡ Some r)
 reloc_inside [] i h = absurd (omega arith)
 reloc_inside (r ∷ rs) zero h = (r, refl)
 reloc_inside (r ∷ rs) (suc i) h = reloc_inside rs i (omega arith)
@@ -71,7 +71,7 @@ module _ (forced : List (List ℕ)) (os : List Contents) (o : Choices) (x : Outc
   start before = total TextSeg before / 2
 
   -- each word of the text of k, and what is in its place
-  linked_pairs : (before : List Contents) (k : Contents) (after : List Contents) → os ≡ before ++ k ∷ after → IsObject k →
+  pub linked_pairs : (before : List Contents) (k : Contents) (after : List Contents) → os ≡ before ++ k ∷ after → IsObject k →
       Pairs (IsLinkedWord x.file l.rows os before k) 0 k.text_words (drop (total TextSeg before / 2) x.file.text_words)
   linked_pairs before k after e is i q w v at word there =
       let same : q ≡ i = omega arith in
@@ -84,14 +84,14 @@ module _ (forced : List (List ℕ)) (os : List Contents) (o : Choices) (x : Outc
         there = sym (get_from x.file.text_words (total TextSeg before / 2) i) ∙ there;
       })
 
-  linked_same : (before : List Contents) (k : Contents) (after : List Contents) → os ≡ before ++ k ∷ after → IsObject k → AllByRecursion IsWord k.text_words →
+  pub linked_same : (before : List Contents) (k : Contents) (after : List Contents) → os ≡ before ++ k ∷ after → IsObject k → AllByRecursion IsWord k.text_words →
       Pairs (Same (λ place. is_relocated (slice_get k.text_reloc place))) 0 k.text_words (drop (total TextSeg before / 2) x.file.text_words)
   linked_same before k after e is small i q w v at word there still =
       let p = linked_pairs before k after e is i q w v at word there in
       unmoved x.file l.rows os before k q w v p.reloc (word_small k.text_words i w small word) (moves_low k.text_reloc q p.reloc p.at still) p.is p.there
 
   -- where the text of k begins and ends in that of the file
-  text_room : (before : List Contents) (k : Contents) (after : List Contents) → os ≡ before ++ k ∷ after → IsObject k → total TextSeg before / 2 + length k.text_words ≤ length x.file.text_words
+  pub text_room : (before : List Contents) (k : Contents) (after : List Contents) → os ≡ before ++ k ∷ after → IsObject k → total TextSeg before / 2 + length k.text_words ≤ length x.file.text_words
   text_room before k after e is =
       let sum : total TextSeg os ≡ total TextSeg before + (0 + k.header.text_size + total TextSeg after) =
       ap (λ (ys : List Contents). total TextSeg ys) e ∙ sum_by-append (size_of TextSeg) before (k ∷ after)

@@ -16,7 +16,9 @@ pub mod ReorderedAdditions
 pub mod ReorderedMeanings
 pub mod SingleDefinitions
 mod InstructionLemmas
+mod StandLemmas
 mod OperandWordLemmas
+mod OperandPlaceLemmas
 pub mod CallLemmas
 pub mod RunLemmas
 pub mod DiskLemmas

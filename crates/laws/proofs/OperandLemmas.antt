@@ -58,7 +58,7 @@ by_pc false start own n w more = alone w more
 
 -- a word that is loaded finds more by what was added to it
 module _ (file : Contents) (rows : List Symbol) (os before : List Contents) (k : Contents) where
-  loaded_finds : (segment : Segment) → HasWords segment → (i w : ℕ) (r : Reloc) (l : IsLoaded file rows os before k segment i w r) → FindsMore file os before k segment i w r l.added
+  pub loaded_finds : (segment : Segment) → HasWords segment → (i w : ℕ) (r : Reloc) (l : IsLoaded file rows os before k segment i w r) → FindsMore file os before k segment i w r l.added
   loaded_finds TextSeg has i w r l = record {
     address = l.address;
     place = l.place;
@@ -123,14 +123,14 @@ module _ (forced : List (List ℕ)) (os : List Contents) (o : Choices) (unkept :
       by_test false e = absurd (cc)
 
 -- a word that refers to a name finds the address of the name's external symbol more
-record FindsAddress (file : Contents) (os before : List Contents) (k : Contents) (segment : Segment) (i w : ℕ) (r : Reloc) : Type 0 where
-  symbol : Symbol
-  row : Symbol
-  named : slice_get k.symbols (symbol_number r) ≡ Some symbol
-  found : entry_of file.symbols symbol.name ≡ Some row
-  more : FindsMore file os before k segment i w r (address_in row)
+pub record FindsAddress (file : Contents) (os before : List Contents) (k : Contents) (segment : Segment) (i w : ℕ) (r : Reloc) : Type 0 where
+  pub symbol : Symbol
+  pub row : Symbol
+  pub named : slice_get k.symbols (symbol_number r) ≡ Some symbol
+  pub found : entry_of file.symbols symbol.name ≡ Some row
+  pub more : FindsMore file os before k segment i w r (address_in row)
 
-address_found : (forced : List (List ℕ)) (before : List Contents) (k : Contents) (after : List Contents) (o : Choices) (x : Outcome) →
+pub address_found : (forced : List (List ℕ)) (before : List Contents) (k : Contents) (after : List Contents) (o : Choices) (x : Outcome) →
     AllByRecursion IsObject (before ++ k ∷ after) → o.keep ≢ Nothing → link forced (before ++ k ∷ after) o ≡ Ok x →
     (segment : Segment) (i w : ℕ) (r : Reloc) → slice_get (segment_words segment k) i ≡ Some w → slice_get (segment_relocs segment k) i ≡ Some r →
     kind_of r ≡ Some kinds.External → FindsAddress x.file (before ++ k ∷ after) before k segment i w r
@@ -195,7 +195,7 @@ module _ (h : Header) (os before : List Contents) (k : Contents) where
   unmoved : (total n : ℕ) → total ≡ 0 → plus (0 + n) 0 ≡ (0 + total + n) % 65536
   unmoved total n e = omega arith
 
-  any_place : (segment : Segment) (n : ℕ) → IsPlace h os before k segment n (address_of h os before k segment n)
+  pub any_place : (segment : Segment) (n : ℕ) → IsPlace h os before k segment n (address_of h os before k segment n)
   any_place TextSeg n = place_at h os before k TextSeg tt n
   any_place DataSeg n = place_at h os before k DataSeg tt n
   any_place BssSeg n = place_at h os before k BssSeg tt n
@@ -204,7 +204,7 @@ module _ (h : Header) (os before : List Contents) (k : Contents) where
   any_place Other n = record { sum = refl; symbol = unmoved (total Other before) n (no_room Other (λ c. refl) before) }
 
 -- a definition gives its value
-defined_address : (row : Symbol) (segment : Segment) → row.type_bits ≡ external_type segment → address_in row ≡ row.value
+pub defined_address : (row : Symbol) (segment : Segment) → row.type_bits ≡ external_type segment → address_in row ≡ row.value
 defined_address row TextSeg e = ap (λ (t : ℕ). cond (eqb (t % 32) 0) 0 row.value) e
 defined_address row DataSeg e = ap (λ (t : ℕ). cond (eqb (t % 32) 0) 0 row.value) e
 defined_address row BssSeg e = ap (λ (t : ℕ). cond (eqb (t % 32) 0) 0 row.value) e
@@ -213,7 +213,7 @@ defined_address row Absolute e = ap (λ (t : ℕ). cond (eqb (t % 32) 0) 0 row.v
 defined_address row Other e = ap (λ (t : ℕ). cond (eqb (t % 32) 0) 0 row.value) e
 
 -- a byte of an object is in its segment of the program
-byte_in : (forced : List (List ℕ)) (os : List Contents) (o : Choices) (x : Outcome) → AllByRecursion IsObject os → link forced os o ≡ Ok x →
+pub byte_in : (forced : List (List ℕ)) (os : List Contents) (o : Choices) (x : Outcome) → AllByRecursion IsObject os → link forced os o ≡ Ok x →
     (front : List Contents) (c : Contents) (back : List Contents) → os ≡ front ++ c ∷ back → (space : Space) (segment : Segment) → is_usable_in x.file.header.magic segment space ≡ true → (n : ℕ) → n < size_of segment c →
     is_in x.file.header space segment (address_of x.file.header os front c segment n) ≡ true
 byte_in forced os o x good linked front c back all space segment there n inside = by_segment segment there inside

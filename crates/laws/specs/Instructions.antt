@@ -3,7 +3,7 @@
 -- If a link changes no word at which a line of an object's text begins, and no instruction of it is cut, the words of that text in the
 -- linked file are the same instructions, at the same distances: line by line the same operations, modes, registers and numbers. An
 -- operand word may be another one, and is then the word that relocation makes of it.
-use Rattle.std.specs.Prelude.{◌≡◌, ℕ, ◌+◌, ◌*◌, ◌/◌, List, [], ◌∷◌, ◌++◌, length, drop, Some, slice_get}
+use Rattle.std.specs.Prelude.{◌≡◌, ℕ, ◌+◌, ◌*◌, ◌/◌, false, List, [], ◌∷◌, ◌++◌, length, drop, Some, slice_get}
 use Rattle.std.specs.List.{AllByRecursion}
 use Rattle.aout_core.specs.declared.symbol.Symbol.{Symbol}
 use Rattle.aout_core.specs.declared.symbol.Segment.TheVariants.{TextSeg}
@@ -16,9 +16,10 @@ use Rattle.link_out.specs.Results.{Outcome}
 use Rattle.link_out.specs.relation.Relocated.{IsRelocated}
 use Rattle.link_out.specs.relation.LinkedFrom.{IsLinkedFrom}
 use Rattle.instructions.specs.declared.line.Line.{Line}
-use Rattle.instructions.specs.Lines.{lines}
+use Rattle.instructions.specs.Instructions.{instruction_of}
+use Rattle.instructions.specs.Lines.{lines, line_of}
 use Rattle.instructions.specs.Relocated.{is_relocated}
-use Rattle.instructions.specs.Alike.{AlikeLines, AreWhole}
+use Rattle.instructions.specs.Alike.{AlikeLine, AlikeLines, AreWhole, is_cut}
 
 -- no word at which a line of the text begins is relocated, and no instruction is cut
 pub record HasWholeText (k : Contents) : Type 0 where
@@ -59,3 +60,17 @@ AreLinesOf file rows os before (k ∷ after) all =
 abbrev pub TextsAreKept : Type 0
 TextsAreKept = (forced : List (List ℕ)) (os : List Contents) (o : Choices) (x : Outcome) →
     AllByRecursion IsObject os → AllByRecursion HasWholeText os → (l : IsLinkedFrom forced os o x) → AreLinesOf x.file l.rows os [] os (lines x.file.text_words)
+
+-- the file has that first word i words after the text of k begins in it, and the same instruction there
+pub record KeepsLineAt (file : Contents) (rows : List Symbol) (os before : List Contents) (k : Contents) (i w : ℕ) (following : List ℕ) : Type 0 where
+  pub more : List ℕ
+  pub there : drop (total TextSeg before / 2 + i) file.text_words ≡ w ∷ more
+  pub alike : AlikeLine (IsLinkedWord file rows os before k) i (line_of (instruction_of w) w following) (line_of (instruction_of w) w more)
+
+-- wherever an instruction begins in the text of k, if its first word is not relocated and it is not cut, it is in the file; nothing is
+-- asked of any other word
+abbrev pub InstructionsStand : Type 0
+InstructionsStand = (forced : List (List ℕ)) (before : List Contents) (k : Contents) (after : List Contents) (o : Choices) (x : Outcome) →
+    AllByRecursion IsObject (before ++ k ∷ after) → AllByRecursion IsWord k.text_words → (l : IsLinkedFrom forced (before ++ k ∷ after) o x) →
+    (i w : ℕ) (following : List ℕ) → drop i k.text_words ≡ w ∷ following → is_relocated (slice_get k.text_reloc i) ≡ false →
+    is_cut (instruction_of w) following ≡ false → KeepsLineAt x.file l.rows (before ++ k ∷ after) before k i w following

@@ -6,5 +6,6 @@ pub mod Operands
 pub mod Orders
 pub mod Instructions
 pub mod OperandWords
+pub mod OperandPlaces
 pub mod Disks
 pub mod StepsByCommands

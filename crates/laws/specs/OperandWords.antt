@@ -3,7 +3,7 @@
 -- The machine takes an operand word by the mode: in 67 and 77 it adds the address after the word; in 27, 37 and as an index it uses the
 -- word as it is. An assembler sets the pc bit of the relocation word in the first case alone. Then what the machine finds in the
 -- program is what it would find in the object, moved as the name or the segment was.
-use Rattle.std.specs.Prelude.{◌≡◌, ◌≢◌, ℕ, ◌+◌, ◌*◌, ◌/◌, ◌%◌, Bool, true, false, if◌then◌else◌, List, [], ◌∷◌, ◌++◌, drop, Some, Ok, slice_get}
+use Rattle.std.specs.Prelude.{◌≡◌, ◌≢◌, ℕ, ◌+◌, ◌*◌, ◌%◌, Bool, true, false, if◌then◌else◌, List, ◌∷◌, ◌++◌, Some, Ok, slice_get}
 use Rattle.std.specs.List.{AllByRecursion}
 use Rattle.aout_core.specs.declared.symbol.Symbol.{Symbol}
 use Rattle.aout_core.specs.declared.symbol.Segment.{Segment}
@@ -14,7 +14,6 @@ use Rattle.aout_core.specs.declared.reloc.Kind.TheVariants as kinds
 use Rattle.aout_core.specs.Contents.{Contents}
 use Rattle.aout_core.specs.Words.{plus}
 use Rattle.aout_core.specs.WellFormed.{kind_of, is_pc_relative, symbol_number}
-use Rattle.link_session.specs.Starts.{total}
 use Rattle.link_session.specs.Sessions.{IsObject}
 use Rattle.tool_options.specs.declared.options.Keep.TheVariants.{Nothing}
 use Rattle.tool_options.specs.Choices.{Choices}
@@ -25,13 +24,9 @@ use Rattle.instructions.specs.declared.operation.Operation.{Operation}
 use Rattle.instructions.specs.declared.mode.Addressing.{Addressing}
 use Rattle.instructions.specs.declared.mode.Addressing.TheVariants.{Immediate, Absolute, Relative, RelativeDeferred, Indexed}
 use Rattle.instructions.specs.Instructions.{jumps}
-use Rattle.instructions.specs.declared.line.Line.{Line}
-use Rattle.instructions.specs.Lines.{lines}
-use Rattle.instructions.specs.Alike.{AlikeLines}
 use Rattle.laws.specs.Core.{Space, of_instructions, of_data, IsWordAt}
 use Rattle.laws.specs.CoreLaws.{IsPlace}
-use Rattle.laws.specs.Instructions.{HasWholeText}
-use Rattle.laws.specs.Operands.{segment_meant, Calls, Defines, is_usable_in, Arrives}
+use Rattle.laws.specs.Operands.{segment_meant}
 
 -- modes 67 and 77
 abbrev pub is_relative : Addressing → Bool
@@ -82,30 +77,3 @@ OperandsGiveSegments = (forced : List (List ℕ)) (before : List Contents) (k : 
     (i w : ℕ) (r : Reloc) → slice_get k.text_words i ≡ Some w → slice_get k.text_reloc i ≡ Some r →
     (a : Addressing) → is_pc_relative r ≡ is_relative a → (kind : Kind) (meant : Segment) → kind_of r ≡ Some kind → segment_meant kind ≡ Some meant →
     GivesMore x.file (before ++ k ∷ after) before k a i w (move_in x.file.header (before ++ k ∷ after) before k meant)
-
--- word i of the text of k is w, and the file has v in its place: what that word gives the machine, by any addressing that its
--- relocation word suits
-pub record GivesOperand (file : Contents) (os before : List Contents) (k : Contents) (i w v : ℕ) : Type 0 where
-  pub reloc : Reloc
-  pub word : slice_get k.text_words i ≡ Some w
-  pub at : slice_get k.text_reloc i ≡ Some reloc
-  pub there : slice_get file.text_words (total TextSeg before / 2 + i) ≡ Some v
-  pub names : (a : Addressing) → is_pc_relative reloc ≡ is_relative a → kind_of reloc ≡ Some kinds.External → GivesName file os before k a i w reloc
-  pub segments : (a : Addressing) → is_pc_relative reloc ≡ is_relative a → (kind : Kind) (meant : Segment) → kind_of reloc ≡ Some kind → segment_meant kind ≡ Some meant →
-      GivesMore file os before k a i w (move_in file.header os before k meant)
-
--- the operand words of the instructions of k, line by line: the same instruction is there in the file, and finds the same by its
--- operands, moved so
-abbrev pub LinesGiveOperands : Type 0
-LinesGiveOperands = (forced : List (List ℕ)) (before : List Contents) (k : Contents) (after : List Contents) (o : Choices) (x : Outcome) →
-    AllByRecursion IsObject (before ++ k ∷ after) → o.keep ≢ Nothing → o.relocatable ≡ false → link forced (before ++ k ∷ after) o ≡ Ok x → HasWholeText k →
-    (front : List Line) × ((back : List Line) × ((lines (drop (total TextSeg before / 2) x.file.text_words) ≡ front ++ back)
-    × AlikeLines (GivesOperand x.file (before ++ k ∷ after) before k) 0 (lines k.text_words) front))
-
--- an instruction with mode 67 of a name finds its definition in the space in which it looks, if that may be used there: a jump or a
--- call in that of instructions, any other in that of data
-abbrev pub InstructionsArrive : Type 0
-InstructionsArrive = (forced : List (List ℕ)) (os : List Contents) (o : Choices) (x : Outcome) → AllByRecursion IsObject os → o.keep ≢ Nothing → link forced os o ≡ Ok x → x.report.multiples ≡ [] →
-    (before : List Contents) (k : Contents) (after : List Contents) → os ≡ before ++ k ∷ after → (front : List Contents) (c : Contents) (back : List Contents) → os ≡ front ++ c ∷ back →
-    (operation : Operation) (to : Segment) (i n : ℕ) (name : List ℕ) → Calls k TextSeg i name → Defines c name to n →
-    is_usable_in x.file.header.magic to (space_used operation Relative) ≡ true → Arrives x.file (space_used operation Relative) os before k TextSeg i front c to n

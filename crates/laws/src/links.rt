@@ -1,8 +1,9 @@
 //! Laws of loaded programs, lists and orders: each is the contract of a function with an empty body.
 ghost use Rattle.laws.specs.CoreLaws.{SegmentsLieApart, SpacesAreOne, AddressesFit, WordsAreLoaded, WordsOfRowsAreLoaded, KeepChangesNothing, StrippedIsLoaded, BssIsZero, CommonsAreZero, NothingElse};
 ghost use Rattle.laws.specs.Operands.{NamesAreFound, SegmentsAreFound, CallsArrive};
-ghost use Rattle.laws.specs.Instructions.{InstructionsAreKept, TextsAreKept};
-ghost use Rattle.laws.specs.OperandWords.{OperandsGiveNames, OperandsGiveSegments, LinesGiveOperands, InstructionsArrive};
+ghost use Rattle.laws.specs.Instructions.{InstructionsAreKept, TextsAreKept, InstructionsStand};
+ghost use Rattle.laws.specs.OperandWords.{OperandsGiveNames, OperandsGiveSegments};
+ghost use Rattle.laws.specs.OperandPlaces.{OperandsStand, JumpsArrive, PointersToSegments, PointersToNames};
 ghost use Rattle.laws.specs.Listings.{UndefinedAreListed, UndefinedLines, RowLines, ExternalsAreListed, SizesAreSums};
 ghost use Rattle.laws.specs.Orders.{OrderAddsAlike, OrderLinksAlike, OrderRefusesAlike, OrderKeepsSizes, OrderReportsAlike, OrderFindsEntry, OrderKeepsMeanings, OrderKeepsReferents, OnceInAnyOrder};
 
@@ -49,15 +50,27 @@ pub fn operand_law()
     ensures calls { CallsArrive }
 {}
 
-/// Linking preserves the instructions of an object if none of the lines of its text begins with a relocated word, and none of its
-/// instructions is cut. (ld(1), the handbook of the PDP-11/70)
+/// Linking preserves instructions: wherever an instruction begins in the text of an object, it is in the linked text too, if its first
+/// word is not relocated and the object's text does not end within it. Nothing is asked of any other word, so arguments of `sys`, tables
+/// of addresses and other data in text do not matter. (ld(1), the handbook of the PDP-11/70)
 ///
-/// - `kept`: in any link, with `-r` and with `-s` too, the file's text decoded from where that of the object begins has its lines
-///   first: as many words each, with the same operations, modes, registers and numbers. An operand word is the word that
-///   relocation makes of that of the object.
+/// - `stand`: in any link, with `-r` and with `-s` too, the file's text has at the place of that word the same operation, modes,
+///   registers and numbers. An operand word is the word that relocation makes of that of the object.
+/// - `operands`: by the addressing that the first word has, each operand that has a word is the address of the byte to which it
+///   refers: so much beyond a segment of its own object or beyond a name, wherever its definition is. The pc bit of the relocation word
+///   suits the mode: it is set in modes 67 and 77 alone, or the word is not relocated, and there a distance within the text. A byte is
+///   in the space in which the machine looks: for `jmp` and `jsr` in modes 37 and 67 that of instructions, and else that of data. Names
+///   need a link that keeps symbols, without `-r` or with a definition, which requires that no name is multiply defined.
+/// - `jumps`: so in a link that keeps symbols, and if no name is multiply defined, `jmp` and `jsr` of a name by modes 37 and 67 arrive
+///   at its definition in the space of instructions. With split spaces a byte is there only if it is of text.
+/// - `kept`: if no line of a sweep from the start of an object's text begins with a relocated word, and no instruction is cut, the file's
+///   text decoded from where that of the object begins has its lines first, as many words each.
 /// - `texts`: if this is so of all objects, the file's text decoded from its beginning has the lines of the objects in order, and
 ///   no others.
 pub fn instruction_law()
+    ensures stand { InstructionsStand }
+    ensures operands { OperandsStand }
+    ensures jumps { JumpsArrive }
     ensures kept { InstructionsAreKept }
     ensures texts { TextsAreKept }
 {}
@@ -70,18 +83,20 @@ pub fn instruction_law()
 ///   external symbol more than it does in the object.
 /// - `segments`: a word that refers to a segment of its object gives it more by how far that segment was moved; an absolute one
 ///   the same as there.
-/// - `lines`: so do the operand words of an object whose instructions the link preserves: the file's text decoded from where that
-///   of the object begins has the same instructions first, and each operand word gives the machine what `names` and
-///   `segments` say.
-/// - `arrive`: in a link that keeps symbols, and if no name is multiply defined, an instruction with mode 67 of a name, and
-///   nothing beyond it, finds the definition of the name in the space in which it looks: `jmp` and `jsr` in that of
-///   instructions, any other in that of data. With split spaces this requires that the definition is in that space, or
-///   absolute.
 pub fn operand_word_law()
     ensures names { OperandsGiveNames }
     ensures segments { OperandsGiveSegments }
-    ensures lines { LinesGiveOperands }
-    ensures arrive { InstructionsArrive }
+{}
+
+/// A word of text or data that is not relative to the pc is a pointer: in the program it is the address of the byte to which it refers in
+/// its object. (ld(1))
+///
+/// - `segments`: in any link, the address of the same byte of a segment of its own object.
+/// - `names`: in a link that keeps symbols, and if no name is multiply defined, that of the definition of its name, as in a table of
+///   functions.
+pub fn pointer_law()
+    ensures segments { PointersToSegments }
+    ensures names { PointersToNames }
 {}
 
 /// Lists agree with links: what nm and size show for a linked file is what its link reported, and what its objects

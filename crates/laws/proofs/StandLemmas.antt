@@ -1,0 +1,64 @@
+-- An instruction stands in a linked file wherever it begins in an object.
+use Rattle.std.proofs.Common.{◌≡◌, ℕ, zero, suc, ◌+◌, ◌-◌, ◌*◌, ◌/◌, ◌%◌, ◌<◌, ◌≤◌, Bool, true, false, nat_lt, if◌then◌else◌, List, [], ◌∷◌, ◌++◌, length, drop, Option, Some, None, refl, sym, ◌∙◌, ap, subst, arith}
+use Rattle.std.specs.Prelude.{slice_get}
+use Rattle.std.specs.List.{AllByRecursion}
+use Rattle.std.proofs.lemmas.Bool.Decides.{nat_tests}
+use Rattle.std.proofs.lemmas.List.{length-drop}
+use Rattle.aout_core.specs.declared.symbol.Symbol.{Symbol}
+use Rattle.aout_core.specs.declared.symbol.Segment.TheVariants.{TextSeg}
+use Rattle.aout_core.specs.Contents.{Contents, IsWord}
+use Rattle.link_session.specs.Starts.{total}
+use Rattle.link_session.specs.Sessions.{IsObject}
+use Rattle.link_session.proofs.ListLemmas.{all_split}
+use Rattle.link_options.specs.Choices.{Choices}
+use Rattle.link_out.specs.Results.{Outcome}
+use Rattle.link_out.specs.relation.LinkedFrom.{IsLinkedFrom}
+use Rattle.instructions.specs.declared.instruction.Instruction.{Instruction}
+use Rattle.instructions.specs.declared.line.Line.{Line}
+use Rattle.instructions.specs.declared.line.Line.TheVariants.{Plain, Decoded}
+use Rattle.instructions.specs.Operands.{takes_word}
+use Rattle.instructions.specs.Instructions.{instruction_of, word_count_of, following_words}
+use Rattle.instructions.specs.Lines.{word_for, line_of}
+use Rattle.instructions.specs.Relocated.{is_relocated}
+use Rattle.instructions.specs.Alike.{AlikeWords, AlikeLine, is_cut}
+use Rattle.instructions.proofs.AlikeLemmas.{Pairs, Same, drop_twice, pairs_from, line_alike}
+use Rattle.laws.specs.Instructions.{IsLinkedWord, KeepsLineAt, InstructionsStand}
+use Rattle.laws.proofs.InstructionLemmas.{linked_pairs, linked_same, text_room}
+
+-- what stands at a place of another text
+record StandsIn (P : ℕ → ℕ → ℕ → Type 0) (i w : ℕ) (f gs : List ℕ) : Type 0 where
+  pub more : List ℕ
+  pub there : gs ≡ w ∷ more
+  pub alike : AlikeLine P i (line_of (instruction_of w) w f) (line_of (instruction_of w) w more)
+
+stands_by : (P : ℕ → ℕ → ℕ → Type 0) (moves : ℕ → Bool) (i w : ℕ) (f gs : List ℕ) → length (w ∷ f) ≤ length gs →
+    Pairs P i (w ∷ f) gs → Pairs (Same moves) i (w ∷ f) gs → moves i ≡ false → is_cut (instruction_of w) f ≡ false → StandsIn P i w f gs
+stands_by P moves i w f [] more pairs same still whole = absurd (omega arith)
+stands_by P moves i w f (v ∷ g) more pairs same still whole =
+    let e : v ≡ w = same 0 i w v (omega arith) refl refl still in
+    let tails : length f ≤ length g = omega arith in
+    record {
+      more = g;
+      there = ap (λ n. n ∷ g) e;
+      alike = line_alike P i (instruction_of w) w f g whole tails (subst (λ n. Pairs P i (w ∷ f) (n ∷ g)) e pairs);
+    }
+
+pub instructions_stand : InstructionsStand
+instructions_stand forced before k after o x all small l i w f here still whole =
+    let os : List Contents = before ++ k ∷ after in
+    let is : IsObject k = (all_split IsObject before (k ∷ after) all).1.0 in
+    let n : ℕ = total TextSeg before / 2 in
+    let vs : List ℕ = drop n x.file.text_words in
+    let P : ℕ → ℕ → ℕ → Type 0 = IsLinkedWord x.file l.rows os before k in
+    let moves : ℕ → Bool = λ place. is_relocated (slice_get k.text_reloc place) in
+    let none : 0 + i ≡ i = omega arith in
+    let pairs : Pairs (IsLinkedWord x.file l.rows os before k) i (w ∷ f) (drop i vs) =
+    subst (λ m. Pairs (IsLinkedWord x.file l.rows os before k) m (w ∷ f) (drop i vs)) none (subst (λ ws. Pairs (IsLinkedWord x.file l.rows os before k) (0 + i) ws (drop i vs)) here (pairs_from P 0 i k.text_words vs (linked_pairs forced os o x all l before k after refl is))) in
+    let same : Pairs (Same moves) i (w ∷ f) (drop i vs) =
+    subst (λ m. Pairs (Same moves) m (w ∷ f) (drop i vs)) none (subst (λ ws. Pairs (Same moves) (0 + i) ws (drop i vs)) here (pairs_from (Same moves) 0 i k.text_words vs (linked_same forced os o x all l before k after refl is small))) in
+    let here_long : length (drop i k.text_words) ≡ length (w ∷ f) = ap (λ (ws : List ℕ). length ws) here in
+    let space = text_room forced os o x all l before k after refl is in
+    let long : length (w ∷ f) ≤ length (drop i vs) =
+    omega (arith, here_long, space, length-drop i k.text_words, length-drop i vs, length-drop n x.file.text_words) in
+    let s = stands_by P moves i w f (drop i vs) long pairs same still whole in
+    record { more = s.more; there = sym (drop_twice n i x.file.text_words) ∙ s.there; alike = s.alike }

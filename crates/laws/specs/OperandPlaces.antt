@@ -1,0 +1,167 @@
+-- What the operands of the instructions of a linked program are. (ld(1), the handbook of the PDP-11/70)
+--
+-- An operand word of an object refers to a byte: one of a segment of its own object, or one so far beyond a name. In the program, by
+-- the addressing that the first word has, the operand is the address of that byte. That is the effective address in modes 67 and 37,
+-- the address of a pointer in mode 77, and a number in mode 27 and as an index. The machine looks in the space that the instruction
+-- uses.
+use Rattle.std.specs.Prelude.{◌≡◌, ◌≢◌, ℕ, ◌+◌, ◌*◌, ◌%◌, ◌<◌, ◌⊎◌, true, false, if◌then◌else◌, List, [], ◌∷◌, ◌++◌, drop, Option, Some, None, Ok, slice_get}
+use Rattle.std.specs.List.{AllByRecursion}
+use Rattle.aout_core.specs.declared.symbol.Symbol.{Symbol}
+use Rattle.aout_core.specs.declared.symbol.Segment.{Segment}
+use Rattle.aout_core.specs.declared.symbol.Segment.TheVariants.{TextSeg}
+use Rattle.aout_core.specs.declared.reloc.Reloc.{Reloc}
+use Rattle.aout_core.specs.declared.reloc.Kind.{Kind}
+use Rattle.aout_core.specs.declared.reloc.Kind.TheVariants as kinds
+use Rattle.aout_core.specs.Contents.{Contents}
+use Rattle.aout_core.specs.Words.{plus}
+use Rattle.aout_core.specs.WellFormed.{kind_of, is_pc_relative, symbol_number}
+use Rattle.link_session.specs.Starts.{size_of, own}
+use Rattle.link_session.specs.Sessions.{IsObject}
+use Rattle.link_session.specs.Cells.{segment_words, segment_relocs}
+use Rattle.link_options.specs.declared.options.Keep.TheVariants.{Nothing}
+use Rattle.link_options.specs.Choices.{Choices}
+use Rattle.link_out.specs.Results.{Outcome}
+use Rattle.link_out.specs.function.Link.{link}
+use Rattle.link_out.specs.relation.Relocated.{entry_of}
+use Rattle.instructions.specs.declared.operation.Operation.{Operation}
+use Rattle.instructions.specs.declared.mode.Addressing.{Addressing}
+use Rattle.instructions.specs.declared.mode.Addressing.TheVariants.{Absolute, Relative}
+use Rattle.instructions.specs.declared.operand.Operand.{Operand}
+use Rattle.instructions.specs.declared.operand.Operand.TheVariants.{General}
+use Rattle.instructions.specs.declared.instruction.Instruction.{Instruction}
+use Rattle.instructions.specs.Modes.{addressing}
+use Rattle.instructions.specs.Instructions.{instruction_of, jumps, word_count_of}
+use Rattle.instructions.specs.Alike.{is_cut}
+use Rattle.laws.specs.Core.{Space, of_instructions, is_in, IsWordAt}
+use Rattle.laws.specs.CoreLaws.{space_of, IsPlace}
+use Rattle.laws.specs.Operands.{operand, segment_meant, Defines, is_usable_in}
+use Rattle.laws.specs.OperandWords.{is_relative, machine_value, space_used}
+
+-- how an operand uses its word, if it has one
+abbrev pub addressing_of : Option Operand → Option Addressing
+addressing_of (Some (General m r)) = addressing m r
+addressing_of _ = None
+
+-- a word that is not relocated is a distance within the text, if the machine adds the address after it
+abbrev pub within_text : Option Kind → Option Kind
+within_text (Some kinds.Absolute) = Some kinds.TextSeg
+within_text _ = None
+
+-- what an operand word refers to: what its relocation word says, if that has the pc bit in modes 67 and 77, and in no other mode
+abbrev pub kind_meant : Addressing → Reloc → Option Kind
+kind_meant a r =
+    if is_relative a then (if is_pc_relative r then kind_of r else within_text (kind_of r))
+    else (if is_pc_relative r then None else kind_of r)
+
+-- a number that k has or makes, of a word of this kind, is the address in k of byte n of a segment of k; an absolute one is n itself
+pub record IsOwnByte (k : Contents) (kind : Option Kind) (number : ℕ) (to : Segment) (n : ℕ) : Type 0 where
+  pub meant : Kind
+  pub is : kind ≡ Some meant
+  pub segment : segment_meant meant ≡ Some to
+  pub byte : number ≡ (own k to + n) % 65536
+
+-- or so many bytes beyond a name that c defines, it means byte n of a segment of c
+pub record IsNamedByte (k c : Contents) (kind : Option Kind) (r : Reloc) (number : ℕ) (to : Segment) (n : ℕ) : Type 0 where
+  pub is : kind ≡ Some kinds.External
+  pub symbol : Symbol
+  pub named : slice_get k.symbols (symbol_number r) ≡ Some symbol
+  pub start : ℕ
+  pub defined : Defines c symbol.name to start
+  pub byte : plus (own c to + start) number ≡ (own c to + n) % 65536
+
+-- a number that the program has or makes is the address of that byte in the program; if this space has that segment, the byte is
+-- loaded there
+pub record IsAddress (file : Contents) (os front : List Contents) (c : Contents) (to : Segment) (n : ℕ) (space : Space) (number : ℕ) : Type 0 where
+  pub address : ℕ
+  pub place : IsPlace file.header os front c to n address
+  pub is : number ≡ address % 65536
+  pub loaded : is_usable_in file.header.magic to space ≡ true → n < size_of to c → is_in file.header space to address ≡ true
+
+-- a number is as far beyond the value of a name as it is beyond the name in k
+pub record IsBeyondName (file k : Contents) (r : Reloc) (number in_k : ℕ) : Type 0 where
+  pub symbol : Symbol
+  pub row : Symbol
+  pub named : slice_get k.symbols (symbol_number r) ≡ Some symbol
+  pub found : entry_of file.symbols symbol.name ≡ Some row
+  pub is : number ≡ plus row.value in_k
+
+-- word i of the text of k is the operand word of an operand with this addressing. In the program the word at its place gives the
+-- machine the address of the byte to which it refers in k, by its segment or by its name
+pub record HasOperand (os : List Contents) (o : Choices) (x : Outcome) (before : List Contents) (k : Contents) (operation : Operation) (a : Addressing) (i : ℕ) : Type 0 where
+  pub w : ℕ
+  pub r : Reloc
+  pub word_in : slice_get k.text_words i ≡ Some w
+  pub reloc_in : slice_get k.text_reloc i ≡ Some r
+  pub address : ℕ
+  pub place : IsPlace x.file.header os before k TextSeg (2 * i) address
+  pub word : ℕ
+  pub stands : IsWordAt x.file of_instructions address word
+  pub segments : (to : Segment) (n : ℕ) → IsOwnByte k (kind_meant a r) (machine_value a (2 * i + 2) w) to n →
+      IsAddress x.file os before k to n (space_used operation a) (machine_value a (address + 2) word)
+  -- by its name, in a link that keeps symbols: the value of the name's symbol, without relocation, and so much
+  pub values : o.keep ≢ Nothing → o.relocatable ≡ false → kind_meant a r ≡ Some kinds.External →
+      IsBeyondName x.file k r (machine_value a (address + 2) word) (machine_value a (2 * i + 2) w)
+  -- and the definition, wherever it is, if no name is multiply defined
+  pub names : o.keep ≢ Nothing → x.report.multiples ≡ [] → (front : List Contents) (c : Contents) (back : List Contents) → os ≡ front ++ c ∷ back →
+      (to : Segment) (n : ℕ) → IsNamedByte k c (kind_meant a r) r (machine_value a (2 * i + 2) w) to n →
+      IsAddress x.file os front c to n (space_used operation a) (machine_value a (address + 2) word)
+
+-- an operand of an instruction whose first word is word i, and the place of its operand word, if it has one
+abbrev pub IsOperand : Instruction → ℕ → Option Operand → ℕ → Type 0
+IsOperand instruction i operand p =
+    ((operand ≡ instruction.first) × (p ≡ i + 1)) ⊎ ((operand ≡ instruction.second) × (p ≡ i + 1 + word_count_of instruction.first))
+
+-- wherever an instruction begins in the text of k, and is not cut, each operand that has a word; nothing is asked of any other word
+abbrev pub OperandsStand : Type 0
+OperandsStand = (forced : List (List ℕ)) (before : List Contents) (k : Contents) (after : List Contents) (o : Choices) (x : Outcome) →
+    AllByRecursion IsObject (before ++ k ∷ after) → link forced (before ++ k ∷ after) o ≡ Ok x →
+    (i w : ℕ) (following : List ℕ) → drop i k.text_words ≡ w ∷ following → (instruction : Instruction) → instruction_of w ≡ Some instruction →
+    is_cut (instruction_of w) following ≡ false → (operand : Option Operand) (p : ℕ) → IsOperand instruction i operand p → (a : Addressing) → addressing_of operand ≡ Some a →
+    HasOperand (before ++ k ∷ after) o x before k instruction.row.operation a p
+
+-- modes 67 and 37, by which a jump or a call names where it goes
+abbrev pub IsDirect : Addressing → Type 0
+IsDirect a = (a ≡ Relative) ⊎ (a ≡ Absolute)
+
+-- a jump or a call of k whose operand word is word p, in the program
+pub record JumpArrives (x : Outcome) (os before : List Contents) (k : Contents) (a : Addressing) (p : ℕ) (front : List Contents) (c : Contents) (to : Segment) (n : ℕ) : Type 0 where
+  pub address : ℕ
+  pub place : IsPlace x.file.header os before k TextSeg (2 * p) address
+  pub word : ℕ
+  pub stands : IsWordAt x.file of_instructions address word
+  pub arrives : IsAddress x.file os front c to n of_instructions (machine_value a (address + 2) word)
+
+-- a jump or a call by one of these modes to a name arrives at its definition, in the space of instructions
+abbrev pub JumpsArrive : Type 0
+JumpsArrive = (forced : List (List ℕ)) (before : List Contents) (k : Contents) (after : List Contents) (o : Choices) (x : Outcome) →
+    AllByRecursion IsObject (before ++ k ∷ after) → o.keep ≢ Nothing → link forced (before ++ k ∷ after) o ≡ Ok x → x.report.multiples ≡ [] →
+    (i w : ℕ) (following : List ℕ) → drop i k.text_words ≡ w ∷ following → (instruction : Instruction) → instruction_of w ≡ Some instruction →
+    is_cut (instruction_of w) following ≡ false → jumps instruction.row.operation ≡ true →
+    (operand : Option Operand) (p : ℕ) → IsOperand instruction i operand p → (a : Addressing) → addressing_of operand ≡ Some a → IsDirect a →
+    (u : ℕ) (r : Reloc) → slice_get k.text_words p ≡ Some u → slice_get k.text_reloc p ≡ Some r →
+    (front : List Contents) (c : Contents) (back : List Contents) → before ++ k ∷ after ≡ front ++ c ∷ back →
+    (to : Segment) (n : ℕ) → IsNamedByte k c (kind_meant a r) r (machine_value a (2 * p + 2) u) to n →
+    JumpArrives x (before ++ k ∷ after) before k a p front c to n
+
+-- word i of a segment of k, which is not relative to the pc, has the address of a byte in the program: a pointer
+pub record Points (x : Outcome) (os before : List Contents) (k : Contents) (from : Segment) (i : ℕ) (front : List Contents) (c : Contents) (to : Segment) (n : ℕ) : Type 0 where
+  pub address : ℕ
+  pub place : IsPlace x.file.header os before k from (2 * i) address
+  pub word : ℕ
+  pub stands : IsWordAt x.file (space_of from) address word
+  pub points : (space : Space) → IsAddress x.file os front c to n space (operand false address word)
+
+-- a word of text or data that refers to a segment of its object points to the same byte of it in the program
+abbrev pub PointersToSegments : Type 0
+PointersToSegments = (forced : List (List ℕ)) (before : List Contents) (k : Contents) (after : List Contents) (o : Choices) (x : Outcome) →
+    AllByRecursion IsObject (before ++ k ∷ after) → link forced (before ++ k ∷ after) o ≡ Ok x →
+    (from : Segment) (i w : ℕ) (r : Reloc) → slice_get (segment_words from k) i ≡ Some w → slice_get (segment_relocs from k) i ≡ Some r → is_pc_relative r ≡ false →
+    (to : Segment) (n : ℕ) → IsOwnByte k (kind_of r) (w % 65536) to n → Points x (before ++ k ∷ after) before k from i before k to n
+
+-- one that refers to a name points to the definition, as a table of functions does
+abbrev pub PointersToNames : Type 0
+PointersToNames = (forced : List (List ℕ)) (before : List Contents) (k : Contents) (after : List Contents) (o : Choices) (x : Outcome) →
+    AllByRecursion IsObject (before ++ k ∷ after) → o.keep ≢ Nothing → link forced (before ++ k ∷ after) o ≡ Ok x → x.report.multiples ≡ [] →
+    (from : Segment) (i w : ℕ) (r : Reloc) → slice_get (segment_words from k) i ≡ Some w → slice_get (segment_relocs from k) i ≡ Some r → is_pc_relative r ≡ false →
+    (front : List Contents) (c : Contents) (back : List Contents) → before ++ k ∷ after ≡ front ++ c ∷ back →
+    (to : Segment) (n : ℕ) → IsNamedByte k c (kind_of r) r (w % 65536) to n → Points x (before ++ k ∷ after) before k from i front c to n
