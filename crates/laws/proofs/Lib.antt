@@ -19,6 +19,7 @@ mod InstructionLemmas
 mod StandLemmas
 mod OperandWordLemmas
 mod OperandPlaceLemmas
+mod ShownInstructionLemmas
 pub mod CallLemmas
 pub mod RunLemmas
 pub mod DiskLemmas
