@@ -16,9 +16,10 @@ pub mod ReorderedAdditions
 pub mod ReorderedMeanings
 pub mod SingleDefinitions
 mod InstructionLemmas
-mod StandLemmas
+pub mod StandLemmas
 mod OperandWordLemmas
-mod OperandPlaceLemmas
+pub mod OperandPlaceLemmas
+mod ShownInstructionLemmas
 pub mod CallLemmas
 pub mod RunLemmas
 pub mod DiskLemmas

@@ -7,5 +7,6 @@ pub mod Orders
 pub mod Instructions
 pub mod OperandWords
 pub mod OperandPlaces
+pub mod ShownInstructions
 pub mod Disks
 pub mod StepsByCommands

@@ -4,6 +4,7 @@ ghost use Rattle.laws.specs.Operands.{NamesAreFound, SegmentsAreFound, CallsArri
 ghost use Rattle.laws.specs.Instructions.{InstructionsAreKept, TextsAreKept, InstructionsStand};
 ghost use Rattle.laws.specs.OperandWords.{OperandsGiveNames, OperandsGiveSegments};
 ghost use Rattle.laws.specs.OperandPlaces.{OperandsStand, JumpsArrive, PointersToSegments, PointersToNames};
+ghost use Rattle.laws.specs.ShownInstructions.{ProgramsShowInstructions};
 ghost use Rattle.laws.specs.Listings.{UndefinedAreListed, UndefinedLines, RowLines, ExternalsAreListed, SizesAreSums};
 ghost use Rattle.laws.specs.Orders.{OrderAddsAlike, OrderLinksAlike, OrderRefusesAlike, OrderKeepsSizes, OrderReportsAlike, OrderFindsEntry, OrderKeepsMeanings, OrderKeepsReferents, OnceInAnyOrder};
 
@@ -73,6 +74,14 @@ pub fn instruction_law()
     ensures jumps { JumpsArrive }
     ensures kept { InstructionsAreKept }
     ensures texts { TextsAreKept }
+{}
+
+/// What a disassembly shows at a word of an object that is not relocated, it shows of the program at the place of that word: a line with
+/// the same operation, modes, registers and numbers, if the object's text does not end within the instruction. An operand is the one of
+/// `instruction_law`, shown by the names that the file has for it. With `-r` the program is an object too, and nothing is said. (own
+/// choice)
+pub fn disassembly_law()
+    ensures { ProgramsShowInstructions }
 {}
 
 /// What the machine makes of an operand word of a linked program: in modes 67 and 77 the sum of the word and the address after it, in 27,
