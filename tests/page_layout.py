@@ -95,7 +95,13 @@ function apart(boxes, what) {
         }
     }
 }
-const badges = [...document.querySelectorAll(".page .tag, .page .badge, .page kbd, .page .label")].filter(seen);
+// what has been scrolled out of its part of the page is not seen
+function isClipped(element) {
+    const room = element.closest(".stage, .names, .side, .known")?.getBoundingClientRect();
+    const box = element.getBoundingClientRect();
+    return room !== undefined && (box.top < room.top || box.bottom > room.bottom);
+}
+const badges = [...document.querySelectorAll(".page .tag, .page .badge, .page kbd, .page .label")].filter((badge) => seen(badge) && !isClipped(badge));
 counts.badges = badges.length;
 apart(badges.map((badge) => ({ box: badge.getBoundingClientRect(), text: badge.textContent })), "the badges");
 for (const row of document.querySelectorAll(".word, .name, .card .head, .mark")) if (seen(row)) apart(textBoxes(row), "the texts");
