@@ -227,7 +227,7 @@ function begin() {
     last = at;
     view = viewOf(location.hash.slice(1));
     history.replaceState({ at }, "", location.hash || "#");
-    const [wide, widest] = ["64em", "84em"].map((width) => window.matchMedia(`(min-width: ${width})`));
+    const [wide, widest] = ["80em", "84em"].map((width) => window.matchMedia(`(min-width: ${width})`));
     const fold = () => { byId("more").open = widest.matches; };
     widest.addEventListener("change", fold);
     fold();

@@ -95,7 +95,13 @@ function apart(boxes, what) {
         }
     }
 }
-const badges = [...document.querySelectorAll(".page .tag, .page .badge, .page kbd, .page .label")].filter(seen);
+// what has been scrolled out of its part of the page is not seen
+function isClipped(element) {
+    const room = element.closest(".stage, .names, .side, .known")?.getBoundingClientRect();
+    const box = element.getBoundingClientRect();
+    return room !== undefined && (box.top < room.top || box.bottom > room.bottom);
+}
+const badges = [...document.querySelectorAll(".page .tag, .page .badge, .page kbd, .page .label")].filter((badge) => seen(badge) && !isClipped(badge));
 counts.badges = badges.length;
 apart(badges.map((badge) => ({ box: badge.getBoundingClientRect(), text: badge.textContent })), "the badges");
 for (const row of document.querySelectorAll(".word, .name, .card .head, .mark")) if (seen(row)) apart(textBoxes(row), "the texts");
@@ -131,7 +137,7 @@ FIREFOX_WIDTHS = [390, 820, 1280, 1920]
 STATES = {
     "the default page": ["", "objects=1", "objects=1,2", "objects=1&withdrawn=2", "objects=3,4", "objects=4,3,1,2,5&addresses=-n", "objects=3,4&withdrawn=1",
                          "objects=1,2&addresses=-r&numbers=decimal", "tour=1", "objects=1,2&tour=4", "objects=1&lesson=1&done=1",
-                         "objects=1,2,5&addresses=plain&lesson=2&done=4"],
+                         "objects=1,2,5&addresses=plain&lesson=5&done=4"],
     "five objects": ["objects=1", "objects=1,2", "objects=1,2,3,4,5", "objects=1,2,3,4,5&addresses=-i", "objects=1,2,3,4&withdrawn=5"],
     "five of 500 words": ["objects=1", "objects=1,2,3,4,5", "objects=5,4,3,2,1&addresses=plain", "objects=1,2,3,4&withdrawn=5"],
     "sixteen objects": [f"objects={','.join(map(str, range(1, count + 1)))}" for count in (1, 2, 4, 7, 16)]

@@ -10,7 +10,7 @@ use Rattle.aout_core.specs.Contents.{Contents, IsWord}
 use Rattle.link_session.specs.Starts.{total}
 use Rattle.link_session.specs.Sessions.{IsObject}
 use Rattle.link_session.proofs.ListLemmas.{all_split}
-use Rattle.link_options.specs.Choices.{Choices}
+use Rattle.tool_options.specs.Choices.{Choices}
 use Rattle.link_out.specs.Results.{Outcome}
 use Rattle.link_out.specs.relation.LinkedFrom.{IsLinkedFrom}
 use Rattle.instructions.specs.declared.instruction.Instruction.{Instruction}
