@@ -21,7 +21,8 @@ pub(crate) enum Wanted {
     Nothing,
     Changes,
     Value(WordPlace),
-    Where(Name),
+    /// The place of a name.
+    Where,
 }
 
 /// What a step does.
@@ -173,10 +174,22 @@ fn compare_key(key: Option<u16>, answer: Option<u16>) -> Result<()> {
 #[derive(Clone, Copy)]
 pub(crate) struct Asked<'a> {
     pub(crate) wanted: Wanted,
+    /// The name whose place is asked for.
+    pub(crate) name: &'a Name,
     pub(crate) words: &'a [WordPlace],
     pub(crate) number: Option<u16>,
     /// The word that is asked for, before the step.
     pub(crate) before: u16,
+}
+
+/// The words that a file gives as changed have to be among those that are.
+fn compare_words(words: &[WordPlace], changed: &[WordPlace]) -> Result<()> {
+    for word in words {
+        if !changed.contains(word) {
+            return Err(anyhow!("the word at {:o} does not change", word.offset));
+        }
+    }
+    Ok(())
 }
 
 /// Adds the answer to what is asked, after the step that changed these words. A key that is wrong is a fault.
@@ -191,11 +204,7 @@ pub(crate) fn put_answer(
     match asked.wanted {
         Wanted::Nothing => {}
         Wanted::Changes => {
-            for word in asked.words {
-                if !changed.contains(word) {
-                    return Err(anyhow!("the word at {:o} does not change", word.offset));
-                }
-            }
+            compare_words(asked.words, changed)?;
             put_changes(out, changed)?;
         }
         Wanted::Value(word) => {
@@ -203,10 +212,10 @@ pub(crate) fn put_answer(
             compare_key(asked.number, Some(value))?;
             put_value(out, word, value, asked.before)?;
         }
-        Wanted::Where(name) => {
-            let place = place_after(alloc, session, act, &name)?;
+        Wanted::Where => {
+            let place = place_after(alloc, session, act, asked.name)?;
             compare_key(asked.number, place)?;
-            put_where(out, &name, place)?;
+            put_where(out, asked.name, place)?;
         }
     }
     Ok(())

@@ -32,6 +32,8 @@ struct Reader<'a> {
     begun: Begun,
     /// What the question before the next step asks of it.
     wanted: Wanted,
+    /// The name whose place it asks for.
+    name: Name,
     /// The words that the file gives as its answer, and the number.
     words: Vec<WordPlace>,
     number: Option<u16>,
@@ -102,7 +104,7 @@ impl<'a> Reader<'a> {
 
     /// An answer that is a number, in octal digits.
     fn answer_number(&mut self, text: &str) -> Result<()> {
-        if !matches!(self.wanted, Wanted::Value(_) | Wanted::Where(_)) {
+        if !matches!(self.wanted, Wanted::Value(_) | Wanted::Where) {
             return Err(anyhow!("an answer to no question"));
         }
         match u16::from_str_radix(text, 8) {
@@ -121,10 +123,11 @@ impl<'a> Reader<'a> {
         let said = match wanted {
             Wanted::Nothing => text,
             Wanted::Changes => rest,
-            Wanted::Where(_) => without_word(rest),
+            Wanted::Where => without_word(rest),
             Wanted::Value(_) => without_word(without_word(rest)),
         };
         self.wanted = wanted;
+        self.name = name_in(rest);
         self.words = Vec::new(self.alloc);
         self.number = None;
         self.begun = match wanted {
@@ -215,6 +218,7 @@ impl<'a> Reader<'a> {
         };
         let asked = Asked {
             wanted: self.wanted,
+            name: &self.name,
             words: &self.words,
             number: self.number,
             before,
@@ -317,13 +321,20 @@ fn wanted_value(text: &str) -> Result<Wanted> {
     }
 }
 
+/// The name that a text begins with.
+fn name_in(text: &str) -> Name {
+    let text = text.trim_start();
+    let (name, _) = text.split_once(' ').unwrap_or((text, ""));
+    Name::from_bytes(name.as_bytes())
+}
+
 /// A question of a name's place.
 fn wanted_name(text: &str) -> Result<Wanted> {
     let (name, _) = text.split_once(' ').unwrap_or((text, ""));
     if name.is_empty() {
         return Err(anyhow!("where is followed by a name and a text"));
     }
-    Ok(Wanted::Where(Name::from_bytes(name.as_bytes())))
+    Ok(Wanted::Where)
 }
 
 /// Adds a step.
@@ -380,6 +391,7 @@ pub(crate) fn put_questions(
         list: Vec::new(alloc),
         begun: Begun::Nothing,
         wanted: Wanted::Nothing,
+        name: name_in(""),
         words: Vec::new(alloc),
         number: None,
     };
