@@ -157,6 +157,24 @@ def check_folder():
     return 13
 
 
+def check_order():
+    """The first file that cannot go beside those before it is named, with the first of these. Returns how many commands were tried."""
+    os.mkdir("three")
+    with open("three/c.o", "wb") as file:
+        file.write(OTHER)
+    alike = "___udivmodsi4 is equal in eight bytes to ___udivmodhi4 of one/a.o"
+    rows = [
+        (("one/a.o", "two/c.o", "three/c.o"), 1, f"three/c.o: {alike}"),
+        (("two/c.o", "one/a.o", "three/c.o"), 2, "three/c.o: a second file of this name"),
+        (("one/a.o", "one/b.o", "missing.o"), 1, f"one/b.o: {alike}"),
+        (("missing.o", "one/a.o", "one/b.o"), 2, "missing.o: cannot open"),
+        (("one/a.o", "one/b.o", "three/c.o"), 1, f"one/b.o: {alike}"),
+    ]
+    for paths, status, line in rows:
+        expect(f"{paths}", run(FROM_GNU, "-q", "-o", "to", *paths), (status, "", f"v7-from-gnu: {line}\n"))
+    return len(rows)
+
+
 def check_refusals():
     """All reasons; returns how many objects were tried."""
     converts("good", GOOD, [], "")
@@ -209,7 +227,7 @@ def check_lesson():
 
 with tempfile.TemporaryDirectory() as room:
     os.chdir(room)
-    objects = check_refusals() + check_compiled() + check_linked() + check_folder()
+    objects = check_refusals() + check_compiled() + check_linked() + check_folder() + check_order()
     shown = check_steps("k.o", "l.o") + check_steps("main.o", "twice.o", "count.o") + check_steps("a.o")
     asked = check_lesson()
     if failed:

@@ -5,3 +5,6 @@ pub mod FitsLemmas
 pub mod ReferenceLemmas
 pub mod DistinctLemmas
 pub mod LawLemmas
+pub mod AlikeLemmas
+pub mod ClashLemmas
+pub mod RankLemmas

@@ -32,3 +32,20 @@ first_clash_under first h second k =
 
 abbrev pub first_clash : List ℕ → List ℕ → Option Clash
 first_clash first second = first_clash_under first (header_in (take 16 first)) second (header_in (take 16 second))
+
+-- a clash with the file of this number
+abbrev pub clash_in : ℕ → Option Clash → Option (ℕ × Clash)
+clash_in k None = None
+clash_in k (Some clash) = Some (k, clash)
+
+abbrev pub found_first : Option (ℕ × Clash) → Option (ℕ × Clash) → Option (ℕ × Clash)
+found_first None later = later
+found_first (Some found) later = Some found
+
+-- the first of these files, from number k on, with which a file clashes
+abbrev pub clash_among_from : ℕ → List (List ℕ) → List ℕ → Option (ℕ × Clash)
+clash_among_from k [] bytes = None
+clash_among_from k (f ∷ files) bytes = found_first (clash_in k (first_clash f bytes)) (clash_among_from (k + 1) files bytes)
+
+abbrev pub clash_among : List (List ℕ) → List ℕ → Option (ℕ × Clash)
+clash_among files bytes = clash_among_from 0 files bytes

@@ -1,2 +1,5 @@
 -- Definitions for the code alone: what its private functions do. No contract of a public function leads here.
 pub mod Sizes
+pub mod AlikeNames
+pub mod Files
+pub mod Ranks

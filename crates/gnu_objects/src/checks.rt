@@ -1,17 +1,22 @@
 //! What is wrong with an object in GNU's form.
-ghost use Rattle.std.specs.Prelude.{◌≡◌, ◌+◌, ◌≤◌, ◌<◌, ◌^◌, length, slice_get};
+ghost use Rattle.std.specs.Prelude.{◌≡◌, ◌+◌, ◌≤◌, ◌<◌, ◌^◌, IfOk, length, slice_get};
 ghost use Rattle.aout_core.specs.Encoding.{symbols_at, file_length};
 ghost use Rattle.gnu_objects.specs.GnuRefusals.{size_refusal, header_refusal, strings_refusal, symbol_refusal, first_bad_symbol, linked_refusal, count_refusal};
+ghost use Rattle.gnu_objects.specs.GnuForm.{name_at};
 ghost use Rattle.gnu_objects.specs.internal.Sizes.{HasWholeSizes, IsObjectHeader};
-ghost use Rattle.gnu_objects.specs.GnuRefusals.{alike_refusal, first_alike, dropped_refusal, word_refusal, first_dropped_word, table_refusal};
+ghost use Rattle.gnu_objects.specs.internal.AlikeNames.{found, alike_among};
+ghost use Rattle.gnu_objects.specs.GnuRefusals.{alike_at, first_alike, refused_first, dropped_refusal, word_refusal, first_dropped_word, table_refusal};
 
+use crate::alike::{AlikeNames, found, put_symbol};
 use crate::bytes::long_at;
 use crate::names::{is_stab, name_at};
 use crate::refusal::{Refusal, Size};
-use crate::staying::{alike_with, count, counts, refers};
+use crate::staying::{count, counts, refers};
 use crate::symbols::GnuSymbol;
 use crate::tables::Tables;
 use aout_core::Header;
+use indexmap::IndexMap;
+use std::alloc::{AllocError, Global};
 
 /// Where the symbols begin.
 pub(crate) fn symbols_at(header: &Header) -> usize
@@ -133,33 +138,51 @@ fn count_refusal(count: u16) -> Option<Refusal>
     }
 }
 
-/// What is wrong with an external and those after it.
-fn alike_refusal(strings: &[u8], n: u16, symbol: &GnuSymbol, rest: &[GnuSymbol]) -> Option<Refusal>
-    requires { n + 1 + length rest.now < 2 ^ 16 }
-    ensures { result ≡ alike_refusal strings.now n symbol.now rest.now }
+fn alike_at(n: u16, other: Option<u16>) -> Option<Refusal>
+    ensures { result ≡ alike_at n other }
 {
-    if !counts(strings, true, symbol) {
-        return None;
-    }
-    let name = name_at(strings, symbol.place);
-    match alike_with(strings, true, name, n + 1, rest) {
+    match other {
         Some(m) => Some(Refusal::AlikeNames(n, m)),
         None => None,
     }
 }
 
-/// The first two externals whose names are alike.
-fn first_alike(strings: &[u8], symbols: &[GnuSymbol]) -> Option<Refusal>
-    requires { length symbols.now < 2 ^ 16 }
-    ensures { result ≡ first_alike strings.now 0 symbols.now }
+/// What is wrong with an external, of the names of those after it.
+fn alike_refusal(names: &AlikeNames, strings: &[u8], n: u16, symbol: &GnuSymbol) -> Option<Refusal>
+    ensures { result ≡ alike_among strings.now n symbol.now (found names.now (name_at strings.now symbol.now.place)) }
 {
-    for (n, symbol) in symbols.iter().enumerate() {
-        let refusal = alike_refusal(strings, n as u16, symbol, &symbols[n + 1..]);
-        if refusal.is_some() {
-            return refusal;
-        }
+    if !counts(strings, true, symbol) {
+        return None;
     }
-    None
+    alike_at(n, found(names, name_at(strings, symbol.place)))
+}
+
+/// The first of two refusals.
+fn refused_first(first: Option<Refusal>, later: Option<Refusal>) -> Option<Refusal>
+    ensures { result ≡ refused_first first later }
+{
+    if first.is_some() { first } else { later }
+}
+
+/// The first two externals whose names are alike.
+pub(crate) fn first_alike(
+    alloc: Global,
+    strings: &[u8],
+    symbols: &[GnuSymbol],
+) -> Result<Option<Refusal>, AllocError>
+    requires { length symbols.now < 2 ^ 16 }
+    ensures { IfOk result (λ refusal. refusal ≡ first_alike strings.now 0 symbols.now) }
+{
+    let mut names = IndexMap::new(alloc);
+    let mut first = None;
+    let mut n = symbols.len();
+    while n > 0 {
+        n -= 1;
+        let symbol = &symbols[n];
+        first = refused_first(alike_refusal(&names, strings, n as u16, symbol), first);
+        put_symbol(&mut names, strings, true, n as u16, symbol)?;
+    }
+    Ok(first)
 }
 
 /// What is wrong with a word that refers to this symbol, if it does not stay.
@@ -225,6 +248,7 @@ pub(crate) fn table_refusal(drops: bool, header: &Header, tables: &Tables<'_>) -
     requires symbols { length tables.now.symbols.now < 2 ^ 16 }
     requires flags { length tables.now.flags.now ≡ length tables.now.symbols.now }
     requires words { length tables.now.words.now ≤ 2 ^ 16 }
+    requires alike { tables.now.alike ≡ first_alike tables.now.strings.now 0 tables.now.symbols.now }
     ensures { result ≡ table_refusal drops header.now tables.now.strings.now tables.now.symbols.now tables.now.words.now tables.now.flags.now }
 {
     let Tables {
@@ -232,6 +256,7 @@ pub(crate) fn table_refusal(drops: bool, header: &Header, tables: &Tables<'_>) -
         symbols,
         words,
         flags,
+        alike,
     } = *tables;
     if let Some(refusal) = first_bad_symbol(strings, drops, symbols) {
         return Some(refusal);
@@ -242,8 +267,8 @@ pub(crate) fn table_refusal(drops: bool, header: &Header, tables: &Tables<'_>) -
     if let Some(refusal) = count_refusal(count(flags) as u16) {
         return Some(refusal);
     }
-    if let Some(refusal) = first_alike(strings, symbols) {
-        return Some(refusal);
+    if alike.is_some() {
+        return alike;
     }
     first_dropped_word(strings, symbols, flags, words)
 }

@@ -5,11 +5,11 @@ ghost use Rattle.aout_core.specs.Parts.{contents_of};
 ghost use Rattle.aout_core.specs.Encoding.{file_length};
 ghost use Rattle.gnu_objects.specs.GnuForm.{symbols_of, relocation_of};
 ghost use Rattle.gnu_objects.specs.Staying.{count};
-ghost use Rattle.gnu_objects.specs.GnuRefusals.{sizes_refusal, table_refusal};
+ghost use Rattle.gnu_objects.specs.GnuRefusals.{first_alike, sizes_refusal, table_refusal};
 ghost use Rattle.gnu_objects.specs.internal.Sizes.{IsObjectHeader};
 ghost use Rattle.gnu_objects.specs.Converted.{converted, converted_header, converted_symbol, converted_symbols, converted_by, converted_with, contents_with, object_of};
 
-use crate::checks::table_refusal;
+use crate::checks::{first_alike, table_refusal};
 use crate::names::name_at;
 use crate::options::Options;
 use crate::refusal::Refusal;
@@ -75,6 +75,7 @@ fn parts_with(
         symbols,
         words,
         flags,
+        ..
     } = *tables;
     let text = usize::from(header.text_size / 2);
     let data = usize::from(header.data_size / 2);
@@ -112,6 +113,7 @@ fn object_with(
     requires words { length tables.now.words.now ≡ header.now.text_size / 2 + header.now.data_size / 2 }
     requires few { length tables.now.words.now ≤ 2 ^ 16 }
     requires flags { length tables.now.flags.now ≡ length tables.now.symbols.now }
+    requires alike { tables.now.alike ≡ first_alike tables.now.strings.now 0 tables.now.symbols.now }
     ensures value { result ≢ Err Refusal.Memory → result ≡ converted_by drops bytes.now header.now tables.now.strings.now
         tables.now.symbols.now tables.now.words.now tables.now.flags.now }
     ensures refused { IfSome (table_refusal drops header.now tables.now.strings.now tables.now.symbols.now tables.now.words.now tables.now.flags.now) (λ refusal. result ≡ Err refusal) }
@@ -145,6 +147,7 @@ fn convert_rows(
         symbols,
         words,
         flags: &flags,
+        alike: first_alike(alloc, strings, symbols)?,
     };
     object_with(alloc, options.drops_debugger, bytes, header, &tables)
 }

@@ -15,12 +15,12 @@
 //! - `Refusal`, `Size`: why an object is refused, and which size is wrong
 //! - `Remark`, `Clash`: what there is to say of a name, and two names that would be one
 //! - `GnuSymbol`: a symbol in GNU's form
+//! - `Together`: files that are to be linked together, of which no two have names that would be one
 //!
 //! Functions:
 //!
 //! - `convert`: the object of the Seventh Edition
 //! - `remarks`: the external names that are cut, and the locals that go because of their names
-//! - `first_clash`: the first names of two files that would be one in a link
 //! - `place_of`: the byte of the file that a refusal names
 //! - `whole_name`: the whole name of a symbol
 //!
@@ -32,10 +32,12 @@
 //! of its name in a table of strings after the symbols. docs/OBJECTS.md explains how such objects are made.
 #![tactic(auto)]
 
+mod alike;
 mod bytes;
 mod checks;
 mod clash;
 mod conversion;
+mod file_table;
 pub mod laws;
 mod names;
 mod options;
@@ -45,13 +47,15 @@ mod remark;
 mod staying;
 mod symbols;
 mod tables;
+mod together;
 mod whole;
 mod words;
 
-pub use clash::{Clash, first_clash};
+pub use clash::Clash;
 pub use conversion::convert;
 pub use options::{Locals, Options};
 pub use places::{place_of, whole_name};
 pub use refusal::{Refusal, Size};
 pub use remark::{Remark, remarks};
 pub use symbols::GnuSymbol;
+pub use together::Together;

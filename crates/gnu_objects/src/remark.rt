@@ -1,14 +1,15 @@
 //! What there is to say of names that are cut, and of locals that go because of their names.
-ghost use Rattle.std.specs.Prelude.{◌≡◌, ◌++◌, ◌<◌, ◌^◌, IfOk, IfErr, IfSome, OnOk, Err, None, length};
+ghost use Rattle.std.specs.Prelude.{◌≡◌, ◌++◌, ◌<◌, ◌^◌, false, IfOk, IfErr, IfSome, OnOk, Err, None, length};
 ghost use Rattle.std.specs.Option.{option_to_list};
 ghost use Rattle.gnu_objects.specs.declared.refusal.Refusal.TheVariants.{Memory};
 ghost use Rattle.gnu_objects.specs.GnuRefusals.{sizes_refusal};
 ghost use Rattle.gnu_objects.specs.Remarks.{cut_remark, dropped_remark, remark_of, remarks_of, remarks};
 
+use crate::alike::NamedSymbols;
 use crate::names::{is_stab, name_at};
 use crate::options::Locals;
 use crate::refusal::Refusal;
-use crate::staying::{alike_with, is_chosen, is_external};
+use crate::staying::{is_chosen, is_external};
 use crate::symbols::GnuSymbol;
 use crate::whole::{relocation_of, strings_of, symbols_of, whole_header};
 use std::alloc::{AllocError, Global};
@@ -43,22 +44,21 @@ fn dropped_remark(n: u16, other: Option<u16>) -> Option<Remark>
 
 fn remark_of(
     locals: Locals,
-    strings: &[u8],
-    symbols: &[GnuSymbol],
+    named: &NamedSymbols<'_>,
     words: &[u16],
     n: u16,
     symbol: &GnuSymbol,
 ) -> Option<Remark>
-    requires { length symbols.now < 2 ^ 16 }
-    ensures { result ≡ remark_of locals strings.now symbols.now words.now n symbol.now }
+    requires { named.now.externals ≡ false }
+    ensures { result ≡ remark_of locals named.now.strings.now named.now.symbols.now words.now n symbol.now }
 {
-    let name = name_at(strings, symbol.place);
-    if is_stab(strings, symbol) {
+    let name = name_at(named.strings, symbol.place);
+    if is_stab(named.strings, symbol) {
         None
     } else if is_external(symbol) {
         cut_remark(n, name)
     } else if is_chosen(locals, words, n) {
-        dropped_remark(n, alike_with(strings, false, name, 0, symbols))
+        dropped_remark(n, named.alike_with(name))
     } else {
         None
     }
@@ -83,9 +83,10 @@ fn remarks_of(
     requires { length symbols.now < 2 ^ 16 }
     ensures { IfOk result (λ v. v.items ≡ remarks_of locals strings.now symbols.now words.now) }
 {
+    let named = NamedSymbols::new(alloc, strings, false, symbols)?;
     let mut remarks = Vec::new(alloc);
     for (n, symbol) in symbols.iter().enumerate() {
-        let remark = remark_of(locals, strings, symbols, words, n as u16, symbol);
+        let remark = remark_of(locals, &named, words, n as u16, symbol);
         put_remark(&mut remarks, remark)?;
     }
     Ok(remarks)

@@ -1,8 +1,9 @@
 //! Which symbols stay in the table.
-ghost use Rattle.std.specs.Prelude.{◌≡◌, ◌+◌, ◌≤◌, ◌<◌, ◌^◌, IfOk, length, map, take};
-ghost use Rattle.gnu_objects.specs.Staying.{is_external, refers, is_needed, is_chosen, counts, alike_with, collides, stays, staying, count, kept};
+ghost use Rattle.std.specs.Prelude.{◌≡◌, ◌≤◌, ◌<◌, ◌^◌, false, IfOk, length};
+ghost use Rattle.gnu_objects.specs.Staying.{is_external, refers, is_needed, is_chosen, counts, collides, stays, staying, count, kept};
 
-use crate::names::{are_alike, is_stab, name_at};
+use crate::alike::NamedSymbols;
+use crate::names::{is_stab, name_at};
 use crate::options::Locals;
 use crate::symbols::GnuSymbol;
 use std::alloc::{AllocError, Global};
@@ -44,48 +45,27 @@ pub(crate) fn counts(strings: &[u8], externals: bool, symbol: &GnuSymbol) -> boo
     !is_stab(strings, symbol) && (!externals || is_external(symbol))
 }
 
-/// The first of these symbols, counted from `m`, whose name is alike with this one: of all but those for a debugger, or
-/// of the externals.
-pub(crate) fn alike_with(
-    strings: &[u8],
-    externals: bool,
-    name: &[u8],
-    m: u16,
-    rest: &[GnuSymbol],
-) -> Option<u16>
-    requires { m + length rest.now < 2 ^ 16 }
-    ensures { result ≡ alike_with strings.now externals name.now m rest.now }
+fn collides(named: &NamedSymbols<'_>, symbol: &GnuSymbol) -> bool
+    requires { named.now.externals ≡ false }
+    ensures { result ≡ collides named.now.strings.now named.now.symbols.now symbol.now }
 {
-    for (k, symbol) in rest.iter().enumerate() {
-        if counts(strings, externals, symbol) && are_alike(name, name_at(strings, symbol.place)) {
-            return Some(m + k as u16);
-        }
-    }
-    None
-}
-
-fn collides(strings: &[u8], symbols: &[GnuSymbol], symbol: &GnuSymbol) -> bool
-    requires { length symbols.now < 2 ^ 16 }
-    ensures { result ≡ collides strings.now symbols.now symbol.now }
-{
-    alike_with(strings, false, name_at(strings, symbol.place), 0, symbols).is_some()
+    let name = name_at(named.strings, symbol.place);
+    named.alike_with(name).is_some()
 }
 
 /// Whether symbol `n` stays.
 fn stays(
     locals: Locals,
-    strings: &[u8],
-    symbols: &[GnuSymbol],
+    named: &NamedSymbols<'_>,
     words: &[u16],
     n: u16,
     symbol: &GnuSymbol,
 ) -> bool
-    requires { length symbols.now < 2 ^ 16 }
-    ensures { result ≡ stays locals strings.now symbols.now words.now n symbol.now }
+    requires { named.now.externals ≡ false }
+    ensures { result ≡ stays locals named.now.strings.now named.now.symbols.now words.now n symbol.now }
 {
-    !is_stab(strings, symbol)
-        && (is_external(symbol)
-            || (is_chosen(locals, words, n) && !collides(strings, symbols, symbol)))
+    !is_stab(named.strings, symbol)
+        && (is_external(symbol) || (is_chosen(locals, words, n) && !collides(named, symbol)))
 }
 
 /// For each symbol whether it stays.
@@ -100,9 +80,10 @@ pub(crate) fn staying(
     ensures value { IfOk result (λ v. v.items ≡ staying locals strings.now symbols.now words.now) }
     ensures count { IfOk result (λ v. length v.items ≡ length symbols.now) }
 {
+    let named = NamedSymbols::new(alloc, strings, false, symbols)?;
     let mut flags = Vec::new(alloc);
     for (n, symbol) in symbols.iter().enumerate() {
-        flags.push(stays(locals, strings, symbols, words, n as u16, symbol))?;
+        flags.push(stays(locals, &named, words, n as u16, symbol))?;
     }
     Ok(flags)
 }

@@ -3,7 +3,8 @@ use crate::arguments::Choices;
 use crate::faults::{Failure, Fault, device_fault, file_fault, refused};
 use crate::lines::{clash_line, remark_line};
 use aout_core::{DeviceFault, Object, Wire, read_all, write_file};
-use gnu_objects::{convert, first_clash, remarks};
+use gnu_objects::{Clash, Together, convert, remarks};
+use indexmap::IndexSet;
 use std::fs;
 
 /// A file, and the object that it becomes.
@@ -81,42 +82,95 @@ fn name_in(path: &str) -> &str {
     }
 }
 
-/// Whether a file may be converted beside one before it: neither has the other's name in the folder, nor an external that
-/// would become one with an external of the other.
-fn beside(rt: &HostRuntime, first: &Converted, second: &Converted) -> Result<(), Fault> {
+/// The files before a file that is to be converted with them.
+#[derive(Drop)]
+struct Before<'a> {
+    files: &'a [Converted],
+    /// The name that each of them has in the folder.
+    names: IndexSet<String>,
+    objects: Together<'a>,
+}
+
+/// The line for a file with an external that would become one with an external of an earlier file.
+fn clashing(rt: &HostRuntime, first: &Converted, second: &Converted, clash: Clash) -> Fault {
     let path = second.path.as_str();
-    if name_in(first.path.as_str()) == name_in(path) {
-        return Err(device_fault(rt, path, "a second file of this name"));
-    }
-    match first_clash(rt.alloc(), &first.bytes, &second.bytes) {
-        Ok(None) => Ok(()),
-        Ok(Some(clash)) => {
-            let other = first.path.as_str();
-            match clash_line(rt.alloc(), other, &first.bytes, path, &second.bytes, clash) {
-                Ok(line) => Err(Fault::Failed(Failure { line, status: 1 })),
-                Err(_) => Err(Fault::Memory),
-            }
-        }
-        Err(_) => Err(Fault::Memory),
+    let other = first.path.as_str();
+    match clash_line(rt.alloc(), other, &first.bytes, path, &second.bytes, clash) {
+        Ok(line) => Fault::Failed(Failure { line, status: 1 }),
+        Err(_) => Fault::Memory,
     }
 }
 
-/// Reads and converts each file, which has to go beside each one before it.
+/// Puts a file beside those before it: the first of them that has its name in the folder, or an external that would become one
+/// with an external of the file, is a fault.
+fn put_beside<'a>(
+    rt: &HostRuntime,
+    before: &mut Before<'a>,
+    file: &'a Converted,
+) -> Result<(), Fault> {
+    let path = file.path.as_str();
+    let Ok(name) = String::from_str(rt.alloc(), name_in(path)) else {
+        return Err(Fault::Memory);
+    };
+    let Ok((earlier, is_new)) = before.names.insert_full(name) else {
+        return Err(Fault::Memory);
+    };
+    let Ok(found) = before.objects.add(rt.alloc(), &file.bytes) else {
+        return Err(Fault::Memory);
+    };
+    match found {
+        Some((number, clash)) if is_new || number < earlier => match before.files.get(number) {
+            Some(first) => Err(clashing(rt, first, file, clash)),
+            None => Ok(()),
+        },
+        _ if is_new => Ok(()),
+        _ => Err(device_fault(rt, path, "a second file of this name")),
+    }
+}
+
+/// Whether the files may be converted together: no two of them have one name in the folder, or externals that would become one.
+fn may_be_together(rt: &HostRuntime, files: &[Converted]) -> Result<(), Fault> {
+    let mut before = Before {
+        files,
+        names: IndexSet::new(rt.alloc()),
+        objects: Together::new(rt.alloc()),
+    };
+    for file in files {
+        put_beside(rt, &mut before, file)?;
+    }
+    Ok(())
+}
+
+/// Reads and converts each file, up to the first that cannot be: its fault is the second part.
+fn read_and_convert_each(
+    rt: &HostRuntime,
+    choices: &Choices,
+    paths: Vec<String>,
+) -> (Vec<Converted>, Result<(), Fault>) {
+    let mut files = Vec::new(rt.alloc());
+    for path in paths {
+        match read_and_convert(rt, choices, path) {
+            Ok(file) => {
+                if files.push(file).is_err() {
+                    return (files, Err(Fault::Memory));
+                }
+            }
+            Err(fault) => return (files, Err(fault)),
+        }
+    }
+    (files, Ok(()))
+}
+
+/// Reads and converts each file, which has to go beside each one before it. The first file that cannot be converted, or cannot
+/// go there, has the fault.
 fn converted_together(
     rt: &HostRuntime,
     choices: &Choices,
     paths: Vec<String>,
 ) -> Result<Vec<Converted>, Fault> {
-    let mut files = Vec::new(rt.alloc());
-    for path in paths {
-        let file = read_and_convert(rt, choices, path)?;
-        for earlier in &files {
-            beside(rt, earlier, &file)?;
-        }
-        if files.push(file).is_err() {
-            return Err(Fault::Memory);
-        }
-    }
+    let (files, read) = read_and_convert_each(rt, choices, paths);
+    may_be_together(rt, &files)?;
+    read?;
     Ok(files)
 }
 

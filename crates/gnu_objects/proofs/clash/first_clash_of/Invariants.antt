@@ -1,9 +1,12 @@
-use Rattle.std.proofs.Common.{◌≡◌, drop}
+use Rattle.std.proofs.Common.{◌≡◌, drop, take}
+use Rattle.aout_core.specs.Decoding.{header_in}
+use Rattle.gnu_objects.specs.GnuForm.{strings_of, symbols_of}
 use Rattle.gnu_objects.specs.Clashes.{first_clash_from}
+use Rattle.gnu_objects.specs.internal.Files.{clashes_with}
 use Rattle.gnu_objects.proofs.clash.first_clash_of.Given as goal
 
 -- the symbols so far clash with none
 abbrev pub invariant-loop-n : goal.invariant-loop-n
 invariant-loop-n l =
-    first_clash_from l.strings l.other.strings.now l.other.symbols.now 0 l.symbols
-    ≡ first_clash_from l.strings l.other.strings.now l.other.symbols.now l.n (drop l.n l.symbols)
+    clashes_with l.file l.other.strings.now l.other.symbols.now
+    ≡ first_clash_from (strings_of l.file (header_in (take 16 l.file))) l.other.strings.now l.other.symbols.now l.n (drop l.n (symbols_of l.file (header_in (take 16 l.file))))
