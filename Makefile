@@ -257,7 +257,7 @@ crates/library_uses/out/library_uses: $(SOURCES)
 	python3 tests/prove.py library_uses $@
 	touch $@
 
-# plants the bugs of docs/CASES.md, or those that BUGS names, one after another, and sees that the cases find each: one to two
+# plants the bugs of docs/internals/PLANTED.md, or those that BUGS names, one after another, and sees that the cases find each: one to two
 # minutes for a bug, with no proof
 planted:
 	python3 tests/planted.py $(BUGS)
