@@ -5,6 +5,7 @@
 #        tests/dist.sh twice FOLDER            builds them twice, and leaves them in FOLDER/one and FOLDER/two
 #        tests/dist.sh run DIST                runs the packages of the folder DIST
 #        OBJECTS=FOLDER tests/dist.sh ..       a trial: takes the objects of programs and libv7_c.a from this folder, and proves nothing
+#        BASE=FOLDER tests/dist.sh ..          copies Debian's base from this folder, which debootstrap has made, as make_debian does
 #
 # The two builds are of one commit, in two folders, with two file masks, languages and time zones; by two users, if the first is root;
 # and on two dates, if faketime is installed.
@@ -90,9 +91,13 @@ debian=$work/debian
 
 # Debian's base, from the mirror of this machine
 make_debian() {
-    mirror=$(apt-get indextargets --format '$(REPO_URI) $(CODENAME)' 'Created-By: Packages' | head -1)
-    debootstrap --variant=minbase --include=gcc,libc6-dev,pkg-config "${mirror#* }" "$debian" "${mirror% *}" >"$work/debootstrap.txt" 2>&1 ||
-        { tail -20 "$work/debootstrap.txt"; stop "debootstrap failed"; }
+    if [ -n "${BASE:-}" ]; then
+        cp -a "$BASE" "$debian" || stop "BASE is not a folder that can be copied"
+    else
+        mirror=$(apt-get indextargets --format '$(REPO_URI) $(CODENAME)' 'Created-By: Packages' | head -1)
+        debootstrap --variant=minbase --include=gcc,libc6-dev,pkg-config "${mirror#* }" "$debian" "${mirror% *}" >"$work/debootstrap.txt" 2>&1 ||
+            { tail -20 "$work/debootstrap.txt"; stop "debootstrap failed"; }
+    fi
     for absent in python3 make rt; do
         [ ! -e "$debian/usr/bin/$absent" ] || fail "the folder has $absent"
     done
