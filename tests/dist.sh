@@ -127,12 +127,25 @@ own_readme() {
     for path in $(sed -n 's/^| `\([a-z][^`]*\)` .*/\1/p' "$page"); do
         [ -e "$debian${share%/share}/$path" ] || fail "README.md of the release names $path, which is not there"
     done
-    for path in $(grep -o '](\([^)]*\))' "$page" | tr -d '](\)'); do
-        [ -e "$(dirname "$page")/$path" ] || fail "README.md of the release links to $path, which is not there"
+    for readme in "$page" "$debian${share%/share}/README.md"; do
+        [ -e "$readme" ] || continue
+        for path in $(grep -o '](\([^)]*\))' "$readme" | tr -d '](\)'); do
+            [ -e "$(dirname "$readme")/$path" ] || fail "README.md of the release links to $path, which is not there"
+        done
     done
     [ -e "$(dirname "$page")/NOTICE" ] || [ -e "$(dirname "$page")/copyright" ] || fail "there is neither NOTICE nor copyright"
     grep -q '<script' "$(dirname "$page")/lesson.html" || fail "lesson.html is not the page of the lesson"
     echo "README.md of the release: $(grep -c '^|' "$page") rows of paths and links"
+}
+
+# the first commands of the README of the release, which are typed in the folder of the archive, and then a link
+first_link() {
+    awk '/^## The first link/ { on = 1 } on && /^    / { found = 1; print substr($0, 5); next } found { exit }' "$page" >"$debian/tmp/first.sh"
+    [ "$(wc -l <"$debian/tmp/first.sh")" -eq 2 ] || fail "README.md of the release has no first commands"
+    inside sh -euc 'cd "$0" && rm -rf /tmp/home && mkdir /tmp/home && HOME=/tmp/home && . /tmp/first.sh && test "$PWD" = /tmp/home/v7-examples &&
+        v7 ld -o program main.o twice.o count.o && v7 size program' "${share%/share}" >"$work/first.txt" 2>&1
+    [ "$(cat "$work/first.txt")" = '14+2+0 = 16b = 020b' ] || { cat "$work/first.txt"; fail "the first commands of the README of the release fail"; }
+    echo "README.md of the release: $(wc -l <"$debian/tmp/first.sh") lines were run"
 }
 
 # the examples of the manual pages that are installed, and the tutorial
@@ -178,6 +191,7 @@ library() {
 try_all() {
     echo "--- $1"
     own_readme
+    first_link
     manual
     cases
     library
