@@ -138,6 +138,16 @@ own_readme() {
     echo "README.md of the release: $(grep -c '^|' "$page") rows of paths and links"
 }
 
+# the processors that both READMEs name: the programs have instructions of x86-64-v2, and none of a later level
+processors() {
+    grep -q 'x86-64-v2' README.md && grep -q 'x86-64-v2' "$page" || fail "a README does not name the processors"
+    find "$debian${share%/share}/lib" -path '*/v7/*.o' -exec objdump -d --no-show-raw-insn {} + >"$work/instructions.txt"
+    grep -qw 'ptest' "$work/instructions.txt" || fail "no program needs x86-64-v2"
+    later='v[a-z0-9]+|andn|bextr|bls(i|r|msk)|bzhi|lzcnt|movbe|mulx|pdep|pext|rorx|sarx|shlx|shrx'
+    ! grep -E "$(printf '\t')($later)[lq]?( |\$)" "$work/instructions.txt" || fail "a program needs more than x86-64-v2"
+    echo "the programs run on x86-64-v2: $(wc -l <"$work/instructions.txt") lines were read"
+}
+
 # the first commands of the README of the release, which are typed in the folder of the archive, and then a link
 first_link() {
     awk '/^## The first link/ { on = 1 } on && /^    / { found = 1; print substr($0, 5); next } found { exit }' "$page" >"$debian/tmp/first.sh"
@@ -191,6 +201,7 @@ library() {
 try_all() {
     echo "--- $1"
     own_readme
+    processors
     first_link
     manual
     cases
