@@ -5,6 +5,7 @@
 #        tests/dist.sh twice FOLDER            builds them twice, and leaves them in FOLDER/one and FOLDER/two
 #        tests/dist.sh run DIST                runs the packages of the folder DIST
 #        OBJECTS=FOLDER tests/dist.sh ..       a trial: takes the objects of programs and libv7_c.a from this folder, and proves nothing
+#        PROVED=FOLDER tests/dist.sh ..        begins with what tests/prove.py has kept in this folder, and proves only what has changed
 #        BASE=FOLDER tests/dist.sh ..          copies Debian's base from this folder, which debootstrap has made, as make_debian does
 #
 # The two builds are of one commit, in two folders, with two file masks, languages and time zones; by two users, if the first is root;
@@ -54,6 +55,7 @@ build() {
     mask=$2
     shift 2
     git clone -q "$top" "$to" || exit 1
+    [ -z "${PROVED:-}" ] || { mkdir -p "$to/build/proved" && cp "$PROVED"/* "$to/build/proved"; } || exit 1
     if [ -n "${OBJECTS:-}" ]; then
         take_objects "$to"
         make="python3 packaging/dist.py --kept"
