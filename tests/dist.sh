@@ -5,7 +5,7 @@
 #        tests/dist.sh twice FOLDER            builds them twice, and leaves them in FOLDER/one and FOLDER/two
 #        tests/dist.sh run DIST                runs the packages of the folder DIST
 #        OBJECTS=FOLDER tests/dist.sh ..       a trial: takes the objects of programs and libv7_c.a from this folder, and proves nothing
-#        PROVED=FOLDER tests/dist.sh ..        begins with what tests/prove.py has kept in this folder, and proves only what has changed
+#        PROVED=CHECKOUT tests/dist.sh ..      begins with what tests/prove.py has left in this checkout, and proves only what has changed
 #        BASE=FOLDER tests/dist.sh ..          copies Debian's base from this folder, which debootstrap has made, as make_debian does
 #
 # The two builds are of one commit, in two folders, with two file masks, languages and time zones; by two users, if the first is root;
@@ -49,13 +49,22 @@ take_objects() {
     done
 }
 
+# puts what was proved, and built of it, where tests/prove.py looks for it; what has other sources it proves again
+take_proved() {
+    mkdir -p "$1/build/proved"
+    cp "$PROVED"/build/proved/* "$1/build/proved"
+    for path in v7/out/v7 v7_from_gnu/out/v7_from_gnu v7_object/out/v7_object v7_explain/out/v7_explain lesson/out/lesson v7_c/out/libv7_c.a; do
+        [ ! -f "$PROVED/crates/$path" ] || { mkdir -p "$1/crates/${path%/*}" && cp "$PROVED/crates/$path" "$1/crates/$path"; }
+    done
+}
+
 # a clone, and its packages, which are made with this file mask by the words that follow
 build() {
     to=$1
     mask=$2
     shift 2
     git clone -q "$top" "$to" || exit 1
-    [ -z "${PROVED:-}" ] || { mkdir -p "$to/build/proved" && cp "$PROVED"/* "$to/build/proved"; } || exit 1
+    [ -z "${PROVED:-}" ] || take_proved "$to"
     if [ -n "${OBJECTS:-}" ]; then
         take_objects "$to"
         make="python3 packaging/dist.py --kept"
