@@ -3,8 +3,8 @@
 same commands through pipes, where each byte and status has to be that of the specification.
 
 usage: tests/terminal.py V7
-       tests/terminal.py -p         plants one fault after another in a copy of the code, compiles v7 without proof, and sees that
-                                    this script finds each: two minutes for a fault
+       tests/terminal.py -p [FILE]  plants one fault after another in a copy of the code, or those in files of this name, compiles v7
+                                    without proof, and sees that this script finds each: two minutes for a fault
 
 The terminal is a pseudo-terminal, by the module `pty`. What is expected here is written by hand: the lines of v7(1) and of
 v7-session(1). Options are those of the manual pages. Random command lines, always the same, show that a reason is given for those
@@ -96,7 +96,7 @@ PLANTED = [
     ("v7/src/terminal/pages.rt", "  -d         with -r, lays out commons too\n", ""),
     ("v7/src/terminal/pages.rt", "(Cause::NoTool, \"help\" | \"--help\")", "(Cause::NoTool, \"--help\")"),
     ("v7/src/terminal/lines.rt", "letter == b'o'", "letter != b'o'"),
-    ("v7/src/terminal/lines.rt", "char::from(one), char::from(other)", "char::from(other), char::from(one)"),
+    ("v7/src/terminal/lines.rt", "Cause::Excluded(one, other) => {", "Cause::Excluded(other, one) => {"),
     ("v7/src/terminal/lines.rt", "place.saturating_add(1)", "place"),
     ("v7/src/terminal/prompts.rt", "b\"\" => Typed::Nothing,", "b\"\" => Typed::Line,"),
     ("v7/src/terminal/prompts.rt", "b\"quit\" | b\"exit\"", "b\"exit\""),
@@ -352,6 +352,17 @@ def run_all():
     return counts
 
 
+def code_of(file):
+    with open(f"{TOP}/crates/{file}", encoding="utf-8") as source:
+        return source.read()
+
+
+def check_planted():
+    """Each fault fits the code: its text is there once."""
+    for file, old, _ in PLANTED:
+        expect(f"a fault to plant in {file}: {old.strip()}", code_of(file).count(old), 1)
+
+
 def found_in(file, old, new):
     """The end of what this script says of a program with a fault; None if it finds nothing."""
     from compiling import compile_program
@@ -359,29 +370,29 @@ def found_in(file, old, new):
         for name in ("crates.txt", "HANDLES"):
             shutil.copy(f"{TOP}/{name}", top)
         shutil.copytree(f"{TOP}/crates", f"{top}/crates", ignore=shutil.ignore_patterns("out"))
-        with open(f"{top}/crates/{file}", encoding="utf-8") as source:
-            code = source.read()
-        if code.count(old) != 1:
-            sys.exit(f"{file}: the text to change is there {code.count(old)} times: {old}")
         with open(f"{top}/crates/{file}", "w", encoding="utf-8") as source:
-            source.write(code.replace(old, new))
+            source.write(code_of(file).replace(old, new))
         compile_program(top, "v7", top)
         ran = subprocess.run([sys.executable, __file__, f"{top}/v7"], stdout=subprocess.PIPE, stderr=subprocess.STDOUT, text=True, check=False)
     return ran.stdout.rstrip().split("\n")[-1] if ran.returncode else None
 
 
-def plant():
-    """Plants the faults; the status is 1 if one is not found."""
-    missed = 0
-    for file, old, new in PLANTED:
+def plant(name):
+    """Plants the faults in files whose names end so; the status is 1 if one is not found."""
+    check_planted()
+    if failed:
+        sys.exit(f"{len(failed)} of the faults to plant do not fit the code")
+    missed, planted = 0, [fault for fault in PLANTED if fault[0].endswith(name)]
+    for file, old, new in planted:
         said = found_in(file, old, new)
         print(f"{'found' if said else 'NOT FOUND'}: {file}: {old.strip()} -> {new.strip()}: {said}", flush=True)
         missed += not said
-    print(f"{len(PLANTED) - missed} of {len(PLANTED)} planted faults are found")
-    return 1 if missed else 0
+    print(f"{len(planted) - missed} of {len(planted)} planted faults are found")
+    return 1 if missed or not planted else 0
 
 
 def main():
+    check_planted()
     counts = run_all()
     if failed:
         sys.exit(f"{len(failed)} of what a terminal shows differs")
@@ -390,9 +401,9 @@ def main():
 
 
 if __name__ == "__main__":
+    if sys.argv[1:2] == ["-p"] and len(sys.argv) <= 3:
+        sys.exit(plant("".join(sys.argv[2:])))
     if len(sys.argv) != 2:
         sys.exit(__doc__)
-    if sys.argv[1] == "-p":
-        sys.exit(plant())
     V7 = os.path.abspath(sys.argv[1])
     main()
