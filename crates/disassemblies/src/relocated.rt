@@ -1,6 +1,6 @@
 //! What relocation words refer to.
 ghost use Rattle.std.specs.Prelude.{◌≡◌, ◌<◌, ◌++◌, OnOk, string_bytes};
-ghost use Rattle.disassemblies.specs.Naming.{referred, is_unmoved, object_address, object_reference, meant, segment_word, referred_text, from_the_pc, relocated_text};
+ghost use Rattle.disassemblies.specs.Naming.{referred, is_unmoved, object_address, object_reference, segment_word, referred_text, from_the_pc, relocated_text};
 
 use crate::names::Names;
 use crate::naming::{after, reference_at, reference_beyond};
@@ -67,17 +67,6 @@ pub(crate) fn object_reference(
     }
 }
 
-/// The address or the number that a word at an address stands for.
-fn meant(reloc: Reloc, word: u16, address: u16) -> u16
-    ensures { result ≡ meant reloc word address }
-{
-    if reloc.is_pc() {
-        word.wrapping_add(address).wrapping_add(2)
-    } else {
-        word
-    }
-}
-
 fn segment_word(reloc: Reloc) -> &'static str
     ensures { result.now ≡ segment_word reloc }
 {
@@ -117,7 +106,7 @@ pub(crate) fn put_relocated(
 ) -> Result<(), AllocError>
     ensures { OnOk result (string_bytes text.new ≡ string_bytes text.old ++ relocated_text names.now.symbols.now reloc word address) }
 {
-    let number = meant(reloc, word, address);
+    let number = reloc.target(word, address);
     put_six_digits(text, word)?;
     text.push_str(" / ")?;
     put_referred(text, referred(names, reloc, number), reloc, number)?;

@@ -11,13 +11,13 @@ use Rattle.aout_core.specs.declared.reloc.Kind.{Kind}
 use Rattle.aout_core.specs.declared.reloc.Kind.TheVariants.{External}
 use Rattle.aout_core.specs.Contents.{Contents}
 use Rattle.aout_core.specs.Encoding.{relocation_at, symbols_at, file_length}
-use Rattle.aout_core.specs.WellFormed.{is_wanted, kind_of, masked_type, segment_of}
+use Rattle.aout_core.specs.WellFormed.{is_undefined, kind_of, masked_type, segment_of}
 use Rattle.aout_core.specs.Words.{plus}
+use Rattle.aout_core.specs.Addresses.{data_start_in, target}
 use Rattle.findings.specs.declared.finding.FindingKind.TheVariants.{IgnoredEntry, IgnoredWord, BytesAfterTable, IgnoredRelocationBits, OutsideReference, EmptyName, UnprintableName, BytesAfterName, RepeatedName, IgnoredTypeBits, UnknownType, OddCommon, OutsideValue}
 use Rattle.findings.specs.Found.{Found, found_if}
 use Rattle.findings.specs.OddTexts.{entry_text, unused_text, bytes_after_text, ignored_bits_text, outside_reference_text, symbol_title, empty_name_text, hidden_text, rest_text, repeated_text, type_bits_text, unknown_type_text, common_text, outside_value_text}
-use Rattle.findings.specs.Segments.{data_from, has_address, segment_meant}
-use Rattle.findings.specs.Words.{meant}
+use Rattle.findings.specs.Segments.{has_address, segment_meant}
 
 -- the entry point of a file with relocation, the unused word, and bytes after the table
 abbrev pub odd_header : Header → ℕ → List Found
@@ -36,7 +36,7 @@ ignores_number (Some _) = true
 abbrev pub odd_word : Header → ℕ → ℕ → ℕ → Reloc → List Found
 odd_word h place address word r =
     found_if (nat_le 0o20 r.0 && ignores_number (kind_of r)) place IgnoredRelocationBits (ignored_bits_text r.0 address)
-    ++ found_if (not (has_address h (segment_meant (kind_of r)) (meant address word r))) place OutsideReference (outside_reference_text h (segment_meant (kind_of r)) address (meant address word r))
+    ++ found_if (not (has_address h (segment_meant (kind_of r)) (target r word address))) place OutsideReference (outside_reference_text h (segment_meant (kind_of r)) address (target r word address))
 
 -- the words of a segment from number n on, by their relocation words; number 0 has this address, and its relocation word this byte
 abbrev pub odd_words : Header → ℕ → ℕ → List ℕ → ℕ → List Reloc → List Found
@@ -75,7 +75,7 @@ abbrev pub odd_fields : Header → List ℕ → ℕ → Symbol → List Found
 odd_fields h title place s =
     found_if (nat_le 0o100 s.type_bits) (place + 8) IgnoredTypeBits (type_bits_text title s.type_bits)
     ++ found_if (not (has_type s)) (place + 8) UnknownType (unknown_type_text title s.type_bits)
-    ++ found_if (is_wanted (Some s) && eqb (s.value % 2) 1) (place + 10) OddCommon (common_text title s.value)
+    ++ found_if (is_undefined s && eqb (s.value % 2) 1) (place + 10) OddCommon (common_text title s.value)
     ++ found_if (not (has_address h (segment_of s) s.value)) (place + 10) OutsideValue (outside_value_text h (segment_of s) title s.value)
 
 -- the number of the first symbol that has a name, where the first of them has number n; names are equal in eight bytes
@@ -103,5 +103,5 @@ abbrev pub odd : List ℕ → Contents → List Found
 odd bytes c =
     odd_header c.header (length bytes)
     ++ odd_words c.header (relocation_at c.header) 0 c.text_words 0 c.text_reloc
-    ++ odd_words c.header (relocation_at c.header + c.header.text_size) (data_from c.header % 65536) c.data_words 0 c.data_reloc
+    ++ odd_words c.header (relocation_at c.header + c.header.text_size) (data_start_in c.header % 65536) c.data_words 0 c.data_reloc
     ++ odd_symbols c bytes 0 c.symbols

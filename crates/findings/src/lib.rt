@@ -25,7 +25,6 @@ mod odd_texts;
 mod other_files;
 mod places;
 mod text;
-mod words;
 mod wrong;
 
 pub use finding::{Finding, FindingKind, finding_text, put_findings};
@@ -34,5 +33,4 @@ pub use kind::kind_text;
 pub use odd::odd_of;
 pub use other_files::{header_of, is_of_gnu, likeness};
 pub use text::{put_name, put_note};
-pub use words::{is_wanted, meant};
 pub use wrong::{wrong_bytes, wrong_words};

@@ -8,7 +8,7 @@ ghost use Rattle.std.specs.Ordering.{nat_cmp};
 ghost use Rattle.aout_core.specs.declared.symbol.Symbol.{Symbol};
 ghost use Rattle.aout_core.specs.Contents.{Fits};
 ghost use Rattle.aout_core.specs.Encoding.{relocation_at};
-ghost use Rattle.aout_core.specs.WellFormed.{is_wanted, kind_of, segment_of};
+ghost use Rattle.aout_core.specs.WellFormed.{is_undefined, kind_of, segment_of};
 ghost use Rattle.findings.specs.declared.finding.FindingKind.TheVariants.{EmptyName, UnprintableName, BytesAfterName, IgnoredTypeBits, UnknownType, OddCommon, OutsideValue, IgnoredRelocationBits};
 ghost use Rattle.findings.specs.Found.{all_found, found_if};
 ghost use Rattle.findings.specs.Segments.{has_address, segment_meant};
@@ -22,9 +22,7 @@ use crate::odd_texts::{
     type_bits_text, unknown_type_text, unused_text,
 };
 use crate::places::{Places, has_address, symbol_at};
-use crate::words::{is_wanted, meant};
 use aout_core::{File, Header, Kind, Name, Reloc, Segment, Symbol};
-use listings::data_start;
 use std::alloc::{AllocError, Global};
 use std::collections::BTreeMap;
 
@@ -55,10 +53,10 @@ fn find_common(
     at: &Titled<'_>,
 ) -> Result<(), AllocError>
     requires { at.now.place < 2 ^ 32 }
-    ensures { OnOk result (all_found findings.new.items ≡ all_found findings.old.items ++ found_if (is_wanted (Some at.now.symbol.now) && eqb (at.now.symbol.now.value % 2) 1) (at.now.place + 10) OddCommon (common_text at.now.title.now at.now.symbol.now.value)) }
+    ensures { OnOk result (all_found findings.new.items ≡ all_found findings.old.items ++ found_if (is_undefined at.now.symbol.now && eqb (at.now.symbol.now.value % 2) 1) (at.now.place + 10) OddCommon (common_text at.now.title.now at.now.symbol.now.value)) }
 {
     let size = at.symbol.value;
-    if !is_wanted(at.symbol) || size % 2 == 0 {
+    if !at.symbol.is_undefined() || size % 2 == 0 {
         return Ok(());
     }
     let text = common_text(alloc, at.title, size)?;
@@ -354,7 +352,7 @@ fn find_word(
     find_reloc_bits(alloc, findings, at)?;
     let address = at.address;
     let segment = segment_meant(at.reloc.kind());
-    let target = meant(at.word, at.reloc, address);
+    let target = at.reloc.target(at.word, address);
     if has_address(header, segment, target) {
         return Ok(());
     }
@@ -440,7 +438,7 @@ pub fn odd_of(alloc: Global, bytes: &[u8], file: &File) -> Result<Vec<Finding>, 
     };
     find_words(alloc, &mut findings, header, &text)?;
     let data = Contents {
-        start: (data_start(header.magic, text_size) % 65536) as u16,
+        start: (header.data_start() % 65536) as u16,
         words: file.data_words(),
         relocs: file.data_reloc(),
         place: relocation + text_size,

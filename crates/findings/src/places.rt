@@ -1,12 +1,12 @@
 //! The places of the parts of a file, by the sizes in its header, and their addresses in memory.
 ghost use Rattle.std.specs.Prelude.{◌≡◌, ◌+◌, ◌^◌, ◌<◌, ◌&&◌, nat_le};
+ghost use Rattle.aout_core.specs.Addresses.{data_start_in};
 ghost use Rattle.aout_core.specs.Encoding.{relocation_at, symbols_at, file_length};
-ghost use Rattle.findings.specs.Segments.{data_from, data_to, bss_to, has_address, segment_from, segment_to};
+ghost use Rattle.findings.specs.Segments.{data_to, bss_to, has_address, segment_from, segment_to};
 ghost use Rattle.findings.specs.Odd.{symbol_at};
 ghost use Rattle.findings.specs.OddTexts.{segment_name};
 
 use aout_core::{Header, Segment};
-use listings::data_start;
 
 /// The bytes of a file at which its parts begin, and the first after them.
 #[derive(Clone, Copy)]
@@ -86,13 +86,13 @@ impl Segments {
     pub(crate) fn of(header: &Header) -> Segments
         ensures text_start { result.text.start ≡ 0 }
         ensures text_end { result.text.end ≡ header.now.text_size }
-        ensures data_start { result.«data».start ≡ data_from header.now }
+        ensures data_start { result.«data».start ≡ data_start_in header.now }
         ensures data_end { result.«data».end ≡ data_to header.now }
         ensures bss_start { result.bss.start ≡ data_to header.now }
         ensures bss_end { result.bss.end ≡ bss_to header.now }
     {
         let text_end = u32::from(header.text_size);
-        let data = data_start(header.magic, usize::from(header.text_size)) as u32;
+        let data = header.data_start() as u32;
         let data_end = data + u32::from(header.data_size);
         let bss_end = data_end + u32::from(header.bss_size);
         Segments {

@@ -14,7 +14,6 @@ use crate::octal::SixDigits;
 use crate::other_files::header_of;
 use crate::places::Places;
 use crate::text::shown;
-use crate::words::is_wanted;
 use aout_core::{File, Header, Kind, ReadFault, Reloc, Symbol};
 use disassemblies::{NamedFile, line_start, line_starts, put_line_text};
 use std::alloc::{AllocError, Global};
@@ -179,7 +178,7 @@ fn bad_kind(symbols: &[Symbol], reloc: Reloc) -> Option<FindingKind>
     match reloc.kind() {
         None => Some(FindingKind::BadRelocation),
         Some(Kind::External) => match symbols.get(usize::from(reloc.number())) {
-            Some(symbol) if is_wanted(symbol) => None,
+            Some(symbol) if symbol.is_undefined() => None,
             _ => Some(FindingKind::BadSymbolNumber),
         },
         Some(_) => None,

@@ -3,7 +3,7 @@ use crate::decoded::put_instructions;
 use crate::files::{bytes_at, object_in};
 use crate::fronts::Fronts;
 use crate::json::put_words;
-use crate::parts::{place_meant, put_name_meant, target_number};
+use crate::parts::{put_name_meant, target_number};
 use crate::shapes::{put_labels, put_operands, put_texts};
 use crate::sources::put_sources;
 use crate::symbols::put_lines;
@@ -55,7 +55,7 @@ impl Given {
     pub(crate) fn meant(&self, reference: Reference) -> u16 {
         let start = self.alone.own(reference.segment);
         let address = reference.offset.wrapping_add(start);
-        place_meant(reference.word, reference.reloc.is_pc(), address)
+        reference.reloc.target(reference.word, address)
     }
 }
 

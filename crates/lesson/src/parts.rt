@@ -1,5 +1,5 @@
 //! Words, names and states as JSON.
-use aout_core::{Name, Segment};
+use aout_core::{Name, Segment, pc_target};
 use link_session::{Cell, Session, State, Target};
 use reports::JsonWriter;
 use std::alloc::AllocError;
@@ -7,11 +7,7 @@ use std::alloc::AllocError;
 /// What a word refers to is a number in its segment: that of its value, counted from the word after it if it is
 /// relative to the pc.
 pub(crate) fn place_meant(value: u16, pc: bool, offset: u16) -> u16 {
-    if pc {
-        value.wrapping_add(offset).wrapping_add(2)
-    } else {
-        value
-    }
+    if pc { pc_target(value, offset) } else { value }
 }
 
 /// What a word refers to or waits for, as a number: twice that of the segment, from 0 for a number to 3 for bss, or from 8 on

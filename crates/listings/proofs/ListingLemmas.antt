@@ -15,7 +15,8 @@ use Rattle.listings.specs.declared.fault.Section.TheVariants.{InText, InData, In
 use Rattle.listings.specs.Octal.{octal, short_octal, number}
 use Rattle.listings.specs.Columns.{lines_in, Row, row_of, column, from_third, from_fourth}
 use Rattle.listings.specs.Names.{shown_name}
-use Rattle.listings.specs.Drafts.{Segment, Draft, empty_segment, empty_draft, finished, data_start}
+use Rattle.aout_core.specs.Addresses.{data_start}
+use Rattle.listings.specs.Drafts.{Segment, Draft, empty_segment, empty_draft, finished}
 use Rattle.listings.specs.Listing.{Remarks, gap, wide, remarked, word_line, word_lines, symbol_lines, named_line, unusual, note_lines, head_lines, text_lines, data_lines, bss_lines, table_lines, listing_lines, listing}
 use Rattle.listings.specs.Reading.{◌>>=◌, in_column, named, is_label, row_read, lines_read, file_of, read}
 use Rattle.listings.proofs.OctalLemmas.{IsNumber, octal_again, short_again, octal_digits, short_digits}

@@ -9,10 +9,10 @@ use Rattle.aout_core.specs.declared.header.Header.{Header}
 use Rattle.aout_core.specs.declared.reloc.Reloc.{Reloc}
 use Rattle.aout_core.specs.declared.symbol.Symbol.{Symbol}
 use Rattle.aout_core.specs.Contents.{Contents}
+use Rattle.aout_core.specs.Addresses.{data_start_in}
 use Rattle.listings.specs.declared.part.Part.{Part}
 use Rattle.listings.specs.declared.part.Part.TheVariants as parts
 use Rattle.listings.specs.Octal.{octal, short_octal}
-use Rattle.listings.specs.Drafts.{data_start}
 use Rattle.listings.specs.Names.{shown_name}
 
 -- remarks for people beside a file; readers pass over them
@@ -78,7 +78,7 @@ abbrev pub text_lines : Remarks → Contents → List (List ℕ)
 text_lines x c = codes "text" ∷ word_lines x parts.Text 0 0 c.text_words c.text_reloc
 
 abbrev pub data_lines : Remarks → Contents → List (List ℕ)
-data_lines x c = codes "data" ∷ word_lines x parts.Data 0 (data_start c.header.magic c.header.text_size) c.data_words c.data_reloc
+data_lines x c = codes "data" ∷ word_lines x parts.Data 0 (data_start_in c.header) c.data_words c.data_reloc
 
 abbrev pub bss_lines : Header → List (List ℕ)
 bss_lines h = gap 0 (codes "bss") (short_octal h.bss_size) ∷ (unusual 0 (codes "entry") h.entry_point ++ unusual 0 (codes "unused") h.unused)

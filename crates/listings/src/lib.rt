@@ -17,7 +17,6 @@
 //!
 //! - `write_listing`: the listing of a file, with remarks
 //! - `read_listing`: the file of a listing
-//! - `data_start`: the address at which data begins
 //! - `put_name`: appends a name as a listing shows it
 //! - `put_octal`, `put_short_octal`: append a word in six octal digits, or without zeros in front
 //!
@@ -40,7 +39,6 @@ mod remark;
 mod rows;
 mod write;
 
-pub use draft::data_start;
 pub use fault::{Fault, ListingFault, Reason};
 pub use part::Part;
 pub use read::read_listing;

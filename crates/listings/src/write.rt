@@ -5,7 +5,6 @@ ghost use Rattle.listings.specs.Names.{shown_byte, shown_name};
 ghost use Rattle.listings.specs.Listing.{note_lines, gap, wide, word_columns, word_line, word_lines, symbol_numbers, symbol_line, symbol_lines, named_line, unusual, head_lines, text_lines, data_lines, bss_lines, table_lines, text_of, listing};
 ghost use Rattle.listings.specs.Reading.{read};
 
-use crate::draft::data_start;
 use crate::part::Part;
 use crate::remark::Remark;
 use aout_core::laws::sound_law;
@@ -361,7 +360,7 @@ fn put_data<R: Remark>(remarks: &R, text: &mut Vec<u8>, file: &File) -> Result<(
         remarks,
         text,
         Part::Data,
-        data_start(header.magic, usize::from(header.text_size)),
+        header.data_start(),
         file.data_words(),
         file.data_reloc(),
     )

@@ -1,6 +1,6 @@
 //! What a listing remarks of a file.
 ghost use Rattle.std.specs.Prelude.{◌≡◌, ◌<◌, ◌+◌, ◌*◌, ◌%◌, ◌++◌, ◌∷◌, [], length, map, slice_get, slice_index, string_bytes, OnOk, IfOk};
-ghost use Rattle.listings.specs.Drafts.{data_start};
+ghost use Rattle.aout_core.specs.Addresses.{data_start_in};
 ghost use Rattle.listings.specs.Listing.{remarked, note_lines, text_of};
 ghost use Rattle.disassemblies.specs.Lines.{line_text_in};
 ghost use Rattle.disassemblies.specs.Labels.{label_lines};
@@ -9,7 +9,7 @@ ghost use Rattle.v7_explain.specs.Said.{printed_byte, printed, is_plain, word_sa
 use crate::words_in::put_word_text;
 use aout_core::{File, Reloc, Symbol};
 use disassemblies::{NamedFile, is_start, line_in, put_labels, put_line_text};
-use listings::{Part, Remark, data_start};
+use listings::{Part, Remark};
 use std::alloc::{AllocError, Global};
 use symtools::letter;
 
@@ -145,12 +145,12 @@ fn text_spot(file: &File, place: usize) -> Spot
 
 fn data_spot(file: &File, place: usize) -> Spot
     requires { place < length file.now.data_words }
-    ensures at { result.at ≡ (data_start file.now.header.magic file.now.header.text_size + 2 * place) % 65536 }
+    ensures at { result.at ≡ (data_start_in file.now.header + 2 * place) % 65536 }
     ensures word { result.word ≡ slice_index file.now.data_words place }
     ensures reloc { result.reloc ≡ slice_get file.now.data_reloc place }
 {
     let header = file.header();
-    let start = data_start(header.magic, usize::from(header.text_size));
+    let start = header.data_start();
     let words = file.data_words();
     Spot {
         at: ((start + 2 * place) % 65536) as u16,

@@ -6,7 +6,6 @@ ghost use Rattle.listings.specs.Names.{shown_name};
 ghost use Rattle.v7_explain.specs.Said.{number_said, symbol_said, addend_said, target_said, pc_said, word_said};
 
 use aout_core::{Kind, Name, Reloc, Symbol};
-use findings::{is_wanted, meant};
 use itoa::Buffer;
 use listings::{put_name, put_octal, put_short_octal};
 use std::alloc::AllocError;
@@ -51,7 +50,7 @@ fn put_numbered_name(
 fn put_known(text: &mut Vec<u8>, number: u16, symbol: &Symbol) -> Result<(), AllocError>
     ensures { OnOk result (text.new.items ≡ text.old.items ++ symbol_said number (Some symbol.now)) }
 {
-    if is_wanted(symbol) {
+    if symbol.is_undefined() {
         put_name(text, &symbol.name)
     } else {
         put_numbered_name(text, b"not wanted: symbol ", number, &symbol.name)
@@ -92,7 +91,7 @@ fn put_number(text: &mut Vec<u8>, at: u16, word: u16, reloc: Reloc) -> Result<()
     ensures { OnOk result (text.new.items ≡ text.old.items ++ number_said at word reloc) }
 {
     if reloc.is_pc() {
-        put_address(text, b"the number ", meant(word, reloc, at))
+        put_address(text, b"the number ", reloc.target(word, at))
     } else {
         text.extend_from_slice(b"a number")
     }
@@ -108,7 +107,7 @@ fn put_meaning(
 ) -> Result<(), AllocError>
     ensures { OnOk result (text.new.items ≡ text.old.items ++ target_said symbols.now at word reloc (kind_of reloc)) }
 {
-    let place = meant(word, reloc, at);
+    let place = reloc.target(word, at);
     match reloc.kind() {
         Some(Kind::Absolute) => put_number(text, at, word, reloc),
         Some(Kind::TextSeg) => put_address(text, b"text ", place),

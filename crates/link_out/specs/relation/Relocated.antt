@@ -12,6 +12,7 @@ use Rattle.aout_core.specs.declared.reloc.Reloc.{Reloc}
 use Rattle.aout_core.specs.declared.reloc.Kind.{Kind}
 use Rattle.aout_core.specs.declared.reloc.Kind.TheVariants as kinds
 use Rattle.aout_core.specs.Contents.{Contents}
+use Rattle.aout_core.specs.Addresses.{next_boundary}
 use Rattle.aout_core.specs.Words.{plus, minus}
 use Rattle.aout_core.specs.WellFormed.{is_external, masked_type, kind_of, is_pc_relative, symbol_number}
 use Rattle.link_session.specs.Starts.{total, own}
@@ -21,7 +22,7 @@ use Rattle.link_session.specs.Cells.{segment_words}
 abbrev pub data_base_in : Header → ℕ
 data_base_in h =
     if eqb h.magic 0o407 then h.text_size
-    else (if eqb h.magic 0o410 then (h.text_size + 0o17777) / 0o20000 * 0o20000
+    else (if eqb h.magic 0o410 then next_boundary h.text_size
     else 0)
 
 -- where a segment begins in core, by the header and the objects' bytes of bss
