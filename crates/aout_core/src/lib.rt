@@ -13,6 +13,7 @@
 //!
 //! - `File`, `Parts`: a file in memory, and the parts that make one
 //! - `Header`: the eight words that a file begins with
+//! - `Part`: text or data, the parts that have words
 //! - `Reloc`, `Kind`: a relocation word, and what it refers to
 //! - `Symbol`, `Segment`, `Name`: a symbol, where its value counts from, and a name of at most eight bytes
 //! - `Object`, `ObjectFault`: a file that can be linked, and why a file cannot
@@ -53,6 +54,7 @@ mod name;
 mod object;
 mod object_reader;
 mod outgoing;
+mod part;
 mod reader;
 mod reloc;
 pub mod samples;
@@ -71,6 +73,7 @@ pub use header::Header;
 pub use name::Name;
 pub use object::{Object, ObjectFault};
 pub use object_reader::{NoObject, read_object};
+pub use part::Part;
 pub use reader::read_file;
 pub use reloc::{Kind, Reloc};
 pub use shown::{Shown, VERSION, show, shown_by};

@@ -8,8 +8,8 @@ use Rattle.aout_core.specs.declared.symbol.Symbol.{Symbol}
 use Rattle.aout_core.specs.Contents.{Contents}
 use Rattle.aout_core.specs.Words.{plus}
 use Rattle.aout_core.specs.WellFormed.{kind_of, symbol_number}
-use Rattle.link_maps.specs.declared.references.Part.{Part}
-use Rattle.link_maps.specs.declared.references.Part.TheVariants.{Text, Data}
+use Rattle.aout_core.specs.declared.part.Part.{Part}
+use Rattle.aout_core.specs.declared.part.Part.TheVariants.{Text, Data}
 use Rattle.link_maps.specs.declared.references.Before.{Before}
 use Rattle.link_maps.specs.declared.references.Reference.{Reference}
 use Rattle.link_maps.specs.References.{is_external_kind, line_of, before_line, refers_to, reference_at, reference_by, references_in, references_of, references_to}

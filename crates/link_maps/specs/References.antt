@@ -16,8 +16,8 @@ use Rattle.aout_core.specs.WellFormed.{segment_of, segment_number, kind_of, symb
 use Rattle.disassemblies.specs.Lines.{line_text_in}
 use Rattle.disassemblies.specs.Starts.{line_start}
 use Rattle.link_session.specs.Starts.{own}
-use Rattle.link_maps.specs.declared.references.Part.{Part}
-use Rattle.link_maps.specs.declared.references.Part.TheVariants.{Text, Data}
+use Rattle.aout_core.specs.declared.part.Part.{Part}
+use Rattle.aout_core.specs.declared.part.Part.TheVariants.{Text, Data}
 use Rattle.link_maps.specs.declared.references.Before.{Before}
 use Rattle.link_maps.specs.declared.references.Reference.{Reference}
 

@@ -8,16 +8,9 @@ ghost use Rattle.link_maps.specs.internal.Labels.{is_higher, first_from, AreSort
 ghost use Rattle.link_maps.specs.internal.Lists.{lists_of, each_more, by_symbol};
 
 use crate::labels::nearest;
-use aout_core::{File, Kind, Name, Reloc, Symbol};
+use aout_core::{File, Kind, Name, Part, Reloc, Symbol};
 use disassemblies::{NamedFile, line_start, put_line_text};
 use std::alloc::{AllocError, Global};
-
-/// A part of a file that has words.
-#[derive(Clone, Copy, Debug, PartialEq, Eq)]
-pub enum Part {
-    Text,
-    Data,
-}
 
 /// The label before a line.
 #[derive(Clone, Copy, Debug)]

@@ -21,8 +21,8 @@ use Rattle.listings.specs.Listing.{Remarks, gap, wide, remarked, word_line, word
 use Rattle.listings.specs.Reading.{◌>>=◌, in_column, named, is_label, row_read, lines_read, file_of, read}
 use Rattle.listings.proofs.OctalLemmas.{IsNumber, octal_again, short_again, octal_digits, short_digits}
 use Rattle.listings.proofs.ColumnLemmas.{IsColumn, ink, number_column, row_two, line_of_column, line_gap, line_last, lines_again}
-use Rattle.listings.specs.declared.part.Part.{Part}
-use Rattle.listings.specs.declared.part.Part.TheVariants as parts
+use Rattle.aout_core.specs.declared.part.Part.{Part}
+use Rattle.aout_core.specs.declared.part.Part.TheVariants as parts
 use Rattle.listings.specs.Laws.{IsLine, IsLabel, AreRemarks}
 use Rattle.listings.proofs.NameLemmas.{name_column}
 use Rattle.listings.proofs.RowLemmas.{Reads, reads_nil, reads_one, reads_both, reads_more, entry_row, Enters, AreRelocs, line_with, line_alone, words_with, words_alone, symbols_read}

@@ -11,7 +11,7 @@ use Rattle.listings.specs.Octal.{octal, short_octal, number}
 use Rattle.listings.specs.Columns.{row_of, column, from_third, from_fourth}
 use Rattle.listings.specs.Names.{shown_name, name_of}
 use Rattle.listings.specs.Drafts.{Segment, Draft}
-use Rattle.listings.specs.declared.part.Part.{Part}
+use Rattle.aout_core.specs.declared.part.Part.{Part}
 use Rattle.listings.specs.Laws.{IsLabel, AreRemarks}
 use Rattle.listings.specs.Listing.{Remarks, gap, wide, remarked, word_line, word_lines, symbol_line, symbol_lines}
 use Rattle.listings.specs.Reading.{Mistake, ◌>>=◌, relocs_of, with_word, word_entry, symbol_entry, entry_in, row_read, in_line, lines_read}

@@ -4,7 +4,7 @@ use Rattle.std.specs.Prelude.{Option, slice_get}
 use Rattle.std.proofs.lemmas.List.{drop_more}
 use Rattle.std.proofs.Math.Seq.{drop-length}
 use Rattle.aout_core.specs.declared.reloc.Reloc.{Reloc}
-use Rattle.listings.specs.declared.part.Part.{Part}
+use Rattle.aout_core.specs.declared.part.Part.{Part}
 use Rattle.listings.specs.Listing.{Remarks, word_line, word_lines, text_of}
 
 get_dropped : (i : ℕ) (rs : List Reloc) → slice_get (drop i rs) 0 ≡ slice_get rs i

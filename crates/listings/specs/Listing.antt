@@ -10,8 +10,8 @@ use Rattle.aout_core.specs.declared.reloc.Reloc.{Reloc}
 use Rattle.aout_core.specs.declared.symbol.Symbol.{Symbol}
 use Rattle.aout_core.specs.Contents.{Contents}
 use Rattle.aout_core.specs.Addresses.{data_start_in}
-use Rattle.listings.specs.declared.part.Part.{Part}
-use Rattle.listings.specs.declared.part.Part.TheVariants as parts
+use Rattle.aout_core.specs.declared.part.Part.{Part}
+use Rattle.aout_core.specs.declared.part.Part.TheVariants as parts
 use Rattle.listings.specs.Octal.{octal, short_octal}
 use Rattle.listings.specs.Names.{shown_name}
 

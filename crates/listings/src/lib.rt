@@ -11,7 +11,6 @@
 //!
 //! - `ListingFault`, `Fault`, `Reason`: why a listing was not read: its first mistake, by line, column and reason
 //! - `Remark`, `Nothing`: what a listing remarks beside the file, and no remarks
-//! - `Part`: text or data, the parts that have words
 //!
 //! Functions:
 //!
@@ -33,14 +32,12 @@ mod draft;
 mod fault;
 pub mod laws;
 mod numbers;
-mod part;
 mod read;
 mod remark;
 mod rows;
 mod write;
 
 pub use fault::{Fault, ListingFault, Reason};
-pub use part::Part;
 pub use read::read_listing;
 pub use remark::{Nothing, Remark};
 pub use write::{put_name, put_octal, put_short_octal, write_listing};

@@ -3,8 +3,7 @@ ghost use Rattle.std.specs.Prelude.{◌≡◌, ◌++◌, [], OnOk};
 ghost use Rattle.listings.specs.Listing.{Remarks, no_remarks, remarked, note_lines, text_of};
 ghost use Rattle.listings.specs.Laws.{AreRemarks};
 
-use crate::part::Part;
-use aout_core::Symbol;
+use aout_core::{Part, Symbol};
 use std::alloc::AllocError;
 
 /// What a listing says to people beside the file. Reading a listing skips it.

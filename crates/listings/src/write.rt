@@ -5,10 +5,9 @@ ghost use Rattle.listings.specs.Names.{shown_byte, shown_name};
 ghost use Rattle.listings.specs.Listing.{note_lines, gap, wide, word_columns, word_line, word_lines, symbol_numbers, symbol_line, symbol_lines, named_line, unusual, head_lines, text_lines, data_lines, bss_lines, table_lines, text_of, listing};
 ghost use Rattle.listings.specs.Reading.{read};
 
-use crate::part::Part;
 use crate::remark::Remark;
 use aout_core::laws::sound_law;
-use aout_core::{File, Header, Name, Reloc, Symbol};
+use aout_core::{File, Header, Name, Part, Reloc, Symbol};
 use std::alloc::{AllocError, Global};
 
 fn octal_digit(number: u16) -> u8

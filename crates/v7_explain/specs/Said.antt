@@ -13,8 +13,8 @@ use Rattle.symtools.specs.SymbolLines.{letter}
 use Rattle.listings.specs.Octal.{digit, octal, short_octal}
 use Rattle.listings.specs.Names.{shown_name}
 use Rattle.aout_core.specs.Contents.{Contents}
-use Rattle.listings.specs.declared.part.Part.{Part}
-use Rattle.listings.specs.declared.part.Part.TheVariants as parts
+use Rattle.aout_core.specs.declared.part.Part.{Part}
+use Rattle.aout_core.specs.declared.part.Part.TheVariants as parts
 use Rattle.aout_core.specs.Addresses.{data_start_in, target}
 use Rattle.listings.specs.Listing.{Remarks}
 use Rattle.instructions.specs.Lines.{line_length}

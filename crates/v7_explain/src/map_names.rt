@@ -1,11 +1,10 @@
 //! Names of the map: who defines a name, who makes it a common, and who refers to it.
 use crate::map_text::{put_front, put_item};
-use aout_core::{Name, Symbol};
+use aout_core::{Name, Part, Symbol};
 use disassemblies::NamedFile;
 use findings::put_name;
 use link_maps::{
-    Before, LinkMap, Objects, Part, Places, Reference, Use, put_line_of, row_of, stays_undefined,
-    telling,
+    Before, LinkMap, Objects, Places, Reference, Use, put_line_of, row_of, stays_undefined, telling,
 };
 use std::alloc::AllocError;
 use std::fmt::Write;

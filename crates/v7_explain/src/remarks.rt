@@ -7,9 +7,9 @@ ghost use Rattle.disassemblies.specs.Labels.{label_lines};
 ghost use Rattle.v7_explain.specs.Said.{printed_byte, printed, is_plain, word_said, reloc_said, text_said, data_said, labels_said};
 
 use crate::words_in::put_word_text;
-use aout_core::{File, Reloc, Symbol};
+use aout_core::{File, Part, Reloc, Symbol};
 use disassemblies::{NamedFile, is_start, line_in, put_labels, put_line_text};
-use listings::{Part, Remark};
+use listings::Remark;
 use std::alloc::{AllocError, Global};
 use symtools::letter;
 

@@ -4,8 +4,8 @@ use Rattle.std.specs.List.{AllByRecursion}
 use Rattle.std.proofs.lemmas.Bool.{ltb-false}
 use Rattle.std.specs.Prelude.{◌*◌, ◌&&◌, eqb, nat_lt, if◌then◌else◌, length}
 use Rattle.aout_core.specs.Contents.{Contents}
-use Rattle.listings.specs.declared.part.Part.{Part}
-use Rattle.listings.specs.declared.part.Part.TheVariants as parts
+use Rattle.aout_core.specs.declared.part.Part.{Part}
+use Rattle.aout_core.specs.declared.part.Part.TheVariants as parts
 use Rattle.listings.specs.Laws.{IsLine, IsLabel, AreRemarks}
 use Rattle.instructions.specs.Lines.{line_length}
 use Rattle.instructions.proofs.LineLemmas.{length_from}
