@@ -29,7 +29,7 @@ use Rattle.link_session.proofs.UpdateLemmas.{unmentioned}
 use Rattle.tool_options.specs.declared.options.Keep.TheVariants.{Nothing}
 use Rattle.tool_options.specs.Choices.{Choices, lays_commons}
 use Rattle.link_out.specs.Layouts.{Bases, base}
-use Rattle.link_out.specs.Results.{Findings}
+use Rattle.link_out.specs.Results.{ReportNames}
 use Rattle.link_out.specs.relation.NameStates.{HasState, IsWanted}
 use Rattle.link_out.specs.relation.Relocated.{data_base_in, entry_of, external_type, IsRelocated}
 use Rattle.link_out.specs.relation.LinkedTable.{shown, undefined_row}
@@ -194,7 +194,7 @@ meanings_kept forced os ps o x y h others r none name known = by_state (state (m
         }
 
     single : multiple_names (mentions forced os) ≡ []
-    single = ap (λ (f : Findings). f.multiples) (made_report (plan forced os o) os x h.one) ∙ none
+    single = ap (λ (f : ReportNames). f.multiples) (made_report (plan forced os o) os x h.one) ∙ none
 
     -- the definition that is the first in the other order is one in this
     by_state : (s : State) → state (mentions forced os) name ≡ s → (t : State) → state (mentions forced ps) name ≡ t → HasState (mentions forced os) name s → MeansTheSame forced os ps o x y name

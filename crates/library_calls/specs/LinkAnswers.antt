@@ -10,7 +10,7 @@ use Rattle.link_session.specs.Limits.{refusal}
 use Rattle.tool_options.specs.Choices.{Choices}
 use Rattle.link_out.specs.function.Link.{Outcome, link}
 use Rattle.link_out.specs.Steps.{and_then, refused_as, unless}
-use Rattle.link_out.specs.Results.{Findings}
+use Rattle.link_out.specs.Results.{ReportNames}
 use Rattle.link_out.specs.function.Reports.{report_text, status_of}
 use Rattle.library_calls.specs.declared.cause.Cause.{Cause}
 use Rattle.library_calls.specs.declared.cause.Cause.TheVariants.{NotAdded, NotLinked}
@@ -93,7 +93,7 @@ entry_findings None = []
 entry_findings (Some name) = finding_of 3 name ∷ []
 
 -- in the order of the lines
-abbrev pub all_findings : Findings → List Finding
+abbrev pub all_findings : ReportNames → List Finding
 all_findings f = ((map (finding_of 1) f.multiples ++ map (finding_of 2) f.reserved) ++ entry_findings f.entry_bad) ++ map (finding_of 4) f.undefined
 
 abbrev pub found_of : Outcome → Output Finding

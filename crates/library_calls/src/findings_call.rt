@@ -1,6 +1,6 @@
 //! The link of objects whose report is a list.
 ghost use Rattle.std.specs.Prelude.{◌≡◌, ◌≢◌, map, Ok, Err, IfOk, IfErr};
-ghost use Rattle.link_out.specs.Outcomes.{findings_of, outcome_of};
+ghost use Rattle.link_out.specs.Outcomes.{report_names, outcome_of};
 ghost use Rattle.library_calls.specs.LinkAnswers.{all_findings, each_of, entry_findings, finding_of, found_each, found_of, founds_of};
 ghost use Rattle.library_calls.specs.MemoryWanted.{LinkOfEachMayRunOut};
 ghost use Rattle.library_calls.specs.declared.cause.Cause.TheVariants.{Memory};
@@ -66,7 +66,7 @@ fn entry_findings(alloc: Global, entry: &Option<Name>) -> Result<Vec<Finding>, A
 
 /// What is reported of a link, in the order of its lines.
 fn all_findings(alloc: Global, report: &Report) -> Result<Vec<Finding>, AllocError>
-    ensures { IfOk result (λ found. found.items ≡ all_findings (findings_of report.now)) }
+    ensures { IfOk result (λ found. found.items ≡ all_findings (report_names report.now)) }
 {
     let mut found = named(alloc, 1, &report.multiples)?;
     found.extend_from_slice(&named(alloc, 2, &report.reserved)?)?;

@@ -19,7 +19,7 @@ use Rattle.link_out.specs.Layouts.{data_base}
 use Rattle.link_out.specs.function.Plans.{Plan, plan, commons_laid}
 use Rattle.link_out.specs.function.Tables.{local_rows, external_row, external_rows, rows_kept, table, final_reloc, final_relocs, has_far_in, has_far_word}
 use Rattle.link_out.specs.function.Words.{final_words}
-use Rattle.link_out.specs.function.Reports.{findings, reserved_names, undefined_names, entry_word, entry_found_bad}
+use Rattle.link_out.specs.function.Reports.{report_of, reserved_names, undefined_names, entry_word, entry_found_bad}
 use Rattle.link_out.specs.internal.InOrder.{finals_from, room_in}
 use Rattle.link_out.specs.function.Link.{Outcome, linked_header, linked_file, link}
 use Rattle.link_out.specs.relation.Relocated.{data_base_in, base_in, IsEntry}
@@ -125,7 +125,7 @@ module _ (forced : List (List ℕ)) (os : List Contents) (o : Choices) where
     relocs_long true rs n e = e
     relocs_long false rs n e = refl
 
-    reported : IsReported forced os o (record { file = linked_file p os; report = findings p })
+    reported : IsReported forced os o (record { file = linked_file p os; report = report_of p })
     reported = record {
       others = others_of ms;
       picked = others_picked ms;
@@ -135,7 +135,7 @@ module _ (forced : List (List ℕ)) (os : List Contents) (o : Choices) where
       none = λ r. ap (λ (t : Bool). let ns : List (List ℕ) = cond t [] (undefined_names ms) in ns) r;
     }
 
-    linked : IsLinkedFrom forced os o (record { file = linked_file p os; report = findings p })
+    linked : IsLinkedFrom forced os o (record { file = linked_file p os; report = report_of p })
     linked = record {
       rows = external_rows p;
       holds = file_filled forced os o good;
@@ -257,7 +257,7 @@ module _ (forced : List (List ℕ)) (os : List Contents) (o : Choices) where
         by_test true e = l.report.none e
         by_test false e = undefined_are ms (externals forced os) x.report.undefined (l.report.undefined e)
 
-    report_same : findings p ≡ x.report
+    report_same : report_of p ≡ x.report
     report_same = λ i. record {
       multiples = sym (l.report.multiples ∙ ap (λ (ks : List Mention). map (λ m. m.name) ks) (others_are ms l.report.others l.report.picked)) i;
       reserved = sym (reserved_are ms x.report.reserved l.report.reserved) i;

@@ -1,8 +1,8 @@
 use Rattle.std.proofs.Common.{◌∙◌, sym, ap}
 use Rattle.link_out.specs.function.Reports.{entry_word, entry_found_bad}
 use Rattle.link_out.specs.internal.InOrder.{plan_of}
-use Rattle.link_out.proofs.FindingLemmas.{entry_at, entry_nowhere}
-use Rattle.link_out.proofs.findings.entry_point.Goals as goal
+use Rattle.link_out.proofs.ReportNameLemmas.{entry_at, entry_nowhere}
+use Rattle.link_out.proofs.report.entry_point.Goals as goal
 
 pub returns-in-Some-address_in_text-clause-address : goal.returns-in-Some-address_in_text-clause-address
 returns-in-Some-address_in_text-clause-address c =

@@ -5,9 +5,9 @@ ghost use Rattle.link_session.specs.Mentions.{externals};
 ghost use Rattle.link_session.specs.Undo.{image_of};
 ghost use Rattle.link_out.specs.internal.FromCells as from_cells;
 ghost use Rattle.link_out.specs.internal.Entries.{text_address, text_address_at};
-ghost use Rattle.link_out.specs.function.Reports.{entry_word, entry_found_bad, findings};
+ghost use Rattle.link_out.specs.function.Reports.{entry_word, entry_found_bad, report_of};
 ghost use Rattle.link_out.specs.internal.InOrder.{missing_among, plan_of};
-ghost use Rattle.link_out.specs.Outcomes.{findings_of};
+ghost use Rattle.link_out.specs.Outcomes.{report_names};
 
 use crate::finals::Final;
 use crate::linked::Report;
@@ -43,7 +43,7 @@ fn undefined_names(
     session: &Session,
     options: &Options,
 ) -> Result<Vec<Name>, AllocError>
-    ensures { IfOk result (λ names. names.items ≡ (findings (plan_of session.now options.now)).undefined) }
+    ensures { IfOk result (λ names. names.items ≡ (report_of (plan_of session.now options.now)).undefined) }
 {
     if options.is_relocatable() {
         return Ok(Vec::new(alloc));
@@ -98,7 +98,7 @@ pub(crate) fn report_of(
     entry_bad: Option<Name>,
 ) -> Result<Report, AllocError>
     requires { entry_bad ≡ entry_found_bad (plan_of session.now options.now) options.now.entry }
-    ensures { IfOk result (λ report. findings_of report ≡ findings (plan_of session.now options.now)) }
+    ensures { IfOk result (λ report. report_names report ≡ report_of (plan_of session.now options.now)) }
 {
     Ok(Report {
         multiples: session.multiples().to_vec(alloc)?,

@@ -3,8 +3,8 @@ use Rattle.std.proofs.lemmas.Result.{IfOk-weaker}
 use Rattle.link_session.specs.Labelled.{objects}
 use Rattle.link_session.specs.Mentions.{mentions}
 use Rattle.link_out.specs.function.Reports.{undefined_names}
-use Rattle.link_out.proofs.FindingLemmas.{missing-in_order}
-use Rattle.link_out.proofs.findings.undefined_names.Goals as goal
+use Rattle.link_out.proofs.ReportNameLemmas.{missing-in_order}
+use Rattle.link_out.proofs.report.undefined_names.Goals as goal
 
 pub returns : goal.returns
 returns c =

@@ -3,7 +3,7 @@ use Rattle.std.proofs.lemmas.Iterator.{items_from_collect, YieldsList-from_map}
 use Rattle.std.proofs.lemmas.Iterator.Consumers.{YieldsList-at, YieldsList-from_first, YieldsList-from_filter}
 use Rattle.link_session.specs.Undo.{image_of}
 use Rattle.link_out.specs.function.Reports.{is_missing}
-use Rattle.link_out.proofs.findings.missing.Goals as goal
+use Rattle.link_out.proofs.report.missing.Goals as goal
 
 pub returns : goal.returns
 returns c =
