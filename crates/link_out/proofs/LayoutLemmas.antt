@@ -30,7 +30,8 @@ use Rattle.link_out.specs.function.Tables.{moved_value, moved_local, local_rows,
 use Rattle.link_out.specs.function.Reports.{entry_word, entry_found_bad, report_of}
 use Rattle.link_out.specs.Results.{Outcome}
 use Rattle.link_out.specs.function.Link.{linked_header, linked_file, link}
-use Rattle.link_out.specs.relation.Relocated.{data_base_in, base_in}
+use Rattle.aout_core.specs.Addresses.{data_start_in}
+use Rattle.link_out.specs.relation.Relocated.{base_in}
 use Rattle.link_out.specs.laws.CommonsAndLayouts.{IsShifted, AreShifted, DifferInPlace}
 use Rattle.link_out.proofs.PartialLemmas.{IsProper, state_is_proper}
 use Rattle.link_out.proofs.MoveLemmas.{data_begun, rest_back}
@@ -89,10 +90,10 @@ module _ (forced : List (List ℕ)) (os : List Contents) (o : Choices) (layout :
   ms = mentions forced os
 
   -- where data and bss begin
-  data_p : data_base_in g ≡ p.at.data_start
+  data_p : data_start_in g ≡ p.at.data_start
   data_p = sym (data_begun o.layout (total TextSeg os))
 
-  data_q : data_base_in h ≡ q.at.data_start
+  data_q : data_start_in h ≡ q.at.data_start
   data_q = sym (data_begun layout (total TextSeg os))
 
   bss_p : base_in g bss BssSeg ≡ p.at.data_end + commons_laid o ms
