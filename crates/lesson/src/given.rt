@@ -18,7 +18,7 @@ pub(crate) static SEGMENTS: [Segment; 2] = [Segment::TextSeg, Segment::DataSeg];
 
 /// A word of an object that refers to something.
 #[derive(Clone, Copy)]
-pub(crate) struct Reference {
+pub(crate) struct RelocatedWord {
     pub(crate) segment: Segment,
     /// Its place in the segment, in bytes.
     pub(crate) offset: u16,
@@ -36,9 +36,9 @@ pub(crate) struct Given {
     /// Where its segments would be without other objects.
     pub(crate) alone: Fronts,
     /// The words that refer to something, those of text first.
-    pub(crate) references: Vec<Reference>,
+    pub(crate) references: Vec<RelocatedWord>,
     /// The first word of each group.
-    pub(crate) groups: Vec<Reference>,
+    pub(crate) groups: Vec<RelocatedWord>,
 }
 
 impl Given {
@@ -52,7 +52,7 @@ impl Given {
     }
 
     /// The place that a word refers to.
-    pub(crate) fn meant(&self, reference: Reference) -> u16 {
+    pub(crate) fn meant(&self, reference: RelocatedWord) -> u16 {
         let start = self.alone.own(reference.segment);
         let address = reference.offset.wrapping_add(start);
         reference.reloc.target(reference.word, address)
@@ -113,7 +113,7 @@ fn gather_word(
         .groups
         .iter()
         .position(|first| first.segment == segment && first.reloc == reloc);
-    let reference = Reference {
+    let reference = RelocatedWord {
         segment,
         offset,
         word,
@@ -128,7 +128,11 @@ fn gather_word(
 }
 
 /// Adds a group: 0 for text and 1 for data, and what its words refer to.
-fn put_group(out: &mut JsonWriter, symbols: &[Symbol], first: Reference) -> Result<(), AllocError> {
+fn put_group(
+    out: &mut JsonWriter,
+    symbols: &[Symbol],
+    first: RelocatedWord,
+) -> Result<(), AllocError> {
     let pc = first.reloc.is_pc();
     out.put_number(u64::from(first.segment == Segment::DataSeg))?;
     let target = match first.reloc.kind() {

@@ -1,6 +1,6 @@
 //! The numbers of a state. The page has, for each state, only those that differ from the state before it.
 use crate::fronts::Fronts;
-use crate::given::{Given, Reference, words_of};
+use crate::given::{Given, RelocatedWord, words_of};
 use crate::links::Link;
 use crate::parts::{place_meant, state_numbers, target_number};
 use crate::places::{NO_PLACE, image_place, link_place};
@@ -208,9 +208,9 @@ fn push_word(
     computed: Computed<'_>,
     given: &Given,
     fronts: &Fronts,
-    reference: Reference,
+    reference: RelocatedWord,
 ) -> Result<()> {
-    let Reference { segment, word, .. } = reference;
+    let RelocatedWord { segment, word, .. } = reference;
     let offset = reference.offset.wrapping_add(fronts.starts.of(segment));
     let Some(cell) = cell_at(computed.session, segment, offset) else {
         return Err(anyhow!("{}: word {offset} is not in the image", given.path));

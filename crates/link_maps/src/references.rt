@@ -22,7 +22,7 @@ pub struct Before {
 
 /// A word that refers to a symbol.
 #[derive(Clone, Copy, Debug)]
-pub struct Reference {
+pub struct ReferringWord {
     pub part: Part,
     /// The place of the word in the part, in bytes.
     pub offset: u16,
@@ -102,7 +102,7 @@ fn before_line(lined: &Lined<'_>, part: Part, line: u16) -> Option<Before>
 pub fn put_line_of(
     text: &mut String,
     named: &NamedFile<'_>,
-    reference: &Reference,
+    reference: &ReferringWord,
 ) -> Result<(), AllocError>
     ensures { OnOk result (string_bytes text.new ≡ string_bytes text.old ++ text_of_line named.now reference.now.part reference.now.line) }
 {
@@ -114,7 +114,7 @@ pub fn put_line_of(
 }
 
 /// An empty list for each of so many symbols.
-fn empty_lists(alloc: Global, count: usize) -> Result<Vec<Vec<Reference>>, AllocError>
+fn empty_lists(alloc: Global, count: usize) -> Result<Vec<Vec<ReferringWord>>, AllocError>
     ensures { IfOk result (λ lists. lists_of lists.items ≡ replicate count []) }
 {
     let mut lists = Vec::new(alloc);
@@ -133,7 +133,7 @@ fn has_symbol(reloc: Reloc) -> bool
 
 /// Appends a word to the list of the symbol that it refers to, if it refers to one of these.
 fn put_word(
-    lists: &mut Vec<Vec<Reference>>,
+    lists: &mut Vec<Vec<ReferringWord>>,
     lined: &Lined<'_>,
     part: Part,
     offset: u16,
@@ -148,7 +148,7 @@ fn put_word(
     let line = line_of(lined.starts, part, offset);
     let before = before_line(lined, part, line);
     if let Some(list) = lists.get_mut(usize::from(reloc.number())) {
-        list.push(Reference {
+        list.push(ReferringWord {
             part,
             offset,
             line,
@@ -160,7 +160,7 @@ fn put_word(
 
 /// Appends the words of a part, each to the list of the symbol that it refers to.
 fn put_words(
-    lists: &mut Vec<Vec<Reference>>,
+    lists: &mut Vec<Vec<ReferringWord>>,
     lined: &Lined<'_>,
     part: Part,
 ) -> Result<(), AllocError>
@@ -182,7 +182,7 @@ fn put_words(
 pub(crate) fn references_by_symbol(
     alloc: Global,
     lined: &Lined<'_>,
-) -> Result<Vec<Vec<Reference>>, AllocError>
+) -> Result<Vec<Vec<ReferringWord>>, AllocError>
     requires { AreSorted lined.now.file.now.symbols lined.now.text_labels.now lined.now.data_labels.now }
     ensures { IfOk result (λ lists. lists_of lists.items ≡ by_symbol lined.now.starts.now lined.now.file.now 0 (length lined.now.file.now.symbols)) }
 {

@@ -4,7 +4,8 @@ use aout_core::{Name, Part, Symbol};
 use disassemblies::NamedFile;
 use findings::put_name;
 use link_maps::{
-    Before, LinkMap, Objects, Places, Reference, Use, put_line_of, row_of, stays_undefined, telling,
+    Before, LinkMap, Objects, Places, ReferringWord, Use, put_line_of, row_of, stays_undefined,
+    telling,
 };
 use std::alloc::AllocError;
 use std::fmt::Write;
@@ -64,7 +65,7 @@ fn put_instruction(
     text: &mut String,
     file: &NamedFile<'_>,
     places: &Places,
-    reference: &Reference,
+    reference: &ReferringWord,
 ) -> Result<(), AllocError> {
     if reference.before.is_none() {
         let address = places.address(reference.part, reference.line);
@@ -79,7 +80,7 @@ fn put_reference(
     text: &mut String,
     file: &NamedFile<'_>,
     places: &Places,
-    reference: &Reference,
+    reference: &ReferringWord,
 ) -> Result<(), AllocError> {
     let part = match reference.part {
         Part::Text => "text",
