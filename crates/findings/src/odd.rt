@@ -21,7 +21,7 @@ use crate::odd_texts::{
     outside_reference_text, outside_value_text, repeated_text, rest_text, symbol_title,
     type_bits_text, unknown_type_text, unused_text,
 };
-use crate::places::{Places, has_address, symbol_at};
+use crate::places::{FilePlaces, has_address, symbol_at};
 use aout_core::{File, Header, Kind, Name, Reloc, Segment, Symbol};
 use std::alloc::{AllocError, Global};
 use std::collections::BTreeMap;
@@ -412,7 +412,7 @@ fn find_ignored(
         let text = unused_text(alloc, unused)?;
         find(findings, 12, FindingKind::IgnoredWord, text)?;
     }
-    let end = Places::of(header).end;
+    let end = FilePlaces::of(header).end;
     if size <= end {
         return Ok(());
     }
@@ -427,7 +427,7 @@ pub fn odd_of(alloc: Global, bytes: &[u8], file: &File) -> Result<Vec<Finding>, 
 {
     let mut findings = Vec::new(alloc);
     let header = file.header();
-    let relocation = Places::of(header).relocation;
+    let relocation = FilePlaces::of(header).relocation;
     let text_size = usize::from(header.text_size);
     find_ignored(alloc, &mut findings, header, bytes.len())?;
     let text = Contents {

@@ -10,7 +10,7 @@ use aout_core::{Header, Segment};
 
 /// The bytes of a file at which its parts begin, and the first after them.
 #[derive(Clone, Copy)]
-pub(crate) struct Places {
+pub(crate) struct FilePlaces {
     pub(crate) text: usize,
     pub(crate) data: usize,
     pub(crate) relocation: usize,
@@ -18,9 +18,9 @@ pub(crate) struct Places {
     pub(crate) end: usize,
 }
 
-impl Places {
+impl FilePlaces {
     /// The places that a header announces.
-    pub(crate) fn of(header: &Header) -> Places
+    pub(crate) fn of(header: &Header) -> FilePlaces
         ensures second { result.«data» ≡ 16 + header.now.text_size }
         ensures relocation { result.relocation ≡ relocation_at header.now }
         ensures symbols { result.symbols ≡ symbols_at header.now }
@@ -37,7 +37,7 @@ impl Places {
         } else {
             relocation
         };
-        Places {
+        FilePlaces {
             text,
             data,
             relocation,
@@ -53,7 +53,7 @@ pub(crate) fn symbol_at(header: &Header, number: usize) -> usize
     ensures value { result ≡ symbol_at header.now number }
     ensures small { result < 2 ^ 21 }
 {
-    Places::of(header).symbols + 12 * number
+    FilePlaces::of(header).symbols + 12 * number
 }
 
 /// Addresses at which a segment begins and ends.

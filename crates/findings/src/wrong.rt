@@ -12,7 +12,7 @@ ghost use Rattle.findings.specs.internal.BadWords.{bad_text, all_bad};
 use crate::finding::{Finding, FindingKind, find};
 use crate::octal::SixDigits;
 use crate::other_files::header_of;
-use crate::places::Places;
+use crate::places::FilePlaces;
 use crate::text::shown;
 use aout_core::{File, Header, Kind, ReadFault, Reloc, Symbol};
 use disassemblies::{NamedFile, line_start, line_starts, put_line_text};
@@ -74,7 +74,7 @@ fn find_sizes(alloc: Global, findings: &mut Vec<Finding>, header: &Header) -> Re
 fn part_at(header: &Header, place: usize) -> &'static str
     ensures { result.now ≡ part_at header.now place }
 {
-    let places = Places::of(header);
+    let places = FilePlaces::of(header);
     if place < places.data {
         "text"
     } else if place < places.relocation {
@@ -92,7 +92,7 @@ fn truncated_text(alloc: Global, header: &Header, size: usize) -> Result<String,
     ensures { IfOk result (λ text. string_bytes text ≡ truncated_text header.now size) }
 {
     let part = part_at(header, size);
-    let end = Places::of(header).end;
+    let end = FilePlaces::of(header).end;
     format!(in alloc;
         "truncated: the file ends here, in {part}; by its header it has 0{end:o} ({end}) bytes"
     )
@@ -220,7 +220,7 @@ fn bad_words_of(alloc: Global, file: &File) -> Result<Vec<BadWord>, AllocError>
     ensures { IfOk result (λ list. all_bad file.now list.items ≡ all_bad_words file.now) }
 {
     let mut list = Vec::new(alloc);
-    let place = Places::of(file.header()).relocation;
+    let place = FilePlaces::of(file.header()).relocation;
     let text = file.text_reloc();
     put_bad(&mut list, file, place, 0, text)?;
     put_bad(&mut list, file, place, text.len(), file.data_reloc())?;
@@ -347,7 +347,7 @@ fn find_more(
     }
     let more = count - MOST;
     let text = format!(in alloc; "and {more} more such relocation words")?;
-    let place = Places::of(header).relocation;
+    let place = FilePlaces::of(header).relocation;
     find(findings, place, FindingKind::MoreBadWords, text)
 }
 

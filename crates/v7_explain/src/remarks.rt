@@ -99,14 +99,14 @@ fn put_remark(text: &mut Vec<u8>, remark: &[u8]) -> Result<(), AllocError>
 
 /// A word at an address, and its relocation word if it has one.
 #[derive(Clone, Copy)]
-struct Spot {
+struct PlacedWord {
     at: u16,
     word: u16,
     reloc: Option<Reloc>,
 }
 
 /// What the relocation word of a word says.
-fn reloc_text(alloc: Global, symbols: &[Symbol], spot: Spot) -> Result<Vec<u8>, AllocError>
+fn reloc_text(alloc: Global, symbols: &[Symbol], spot: PlacedWord) -> Result<Vec<u8>, AllocError>
     ensures { IfOk result (λ v. v.items ≡ reloc_said symbols.now spot.at spot.word spot.reloc) }
 {
     let mut text = Vec::new(alloc);
@@ -121,7 +121,7 @@ fn put_reloc(
     alloc: Global,
     text: &mut Vec<u8>,
     symbols: &[Symbol],
-    spot: Spot,
+    spot: PlacedWord,
 ) -> Result<(), AllocError>
     ensures { OnOk result (text.new.items ≡ text.old.items ++ remarked (printed (reloc_said symbols.now spot.at spot.word spot.reloc))) }
 {
@@ -129,21 +129,21 @@ fn put_reloc(
     put_remark(text, &remark)
 }
 
-fn text_spot(file: &File, place: usize) -> Spot
+fn text_spot(file: &File, place: usize) -> PlacedWord
     requires { place < length file.now.text_words }
     ensures at { result.at ≡ 2 * place }
     ensures word { result.word ≡ slice_index file.now.text_words place }
     ensures reloc { result.reloc ≡ slice_get file.now.text_reloc place }
 {
     let words = file.text_words();
-    Spot {
+    PlacedWord {
         at: (2 * place) as u16,
         word: words[place],
         reloc: file.text_reloc().get(place).copied(),
     }
 }
 
-fn data_spot(file: &File, place: usize) -> Spot
+fn data_spot(file: &File, place: usize) -> PlacedWord
     requires { place < length file.now.data_words }
     ensures at { result.at ≡ (data_start_in file.now.header + 2 * place) % 65536 }
     ensures word { result.word ≡ slice_index file.now.data_words place }
@@ -152,7 +152,7 @@ fn data_spot(file: &File, place: usize) -> Spot
     let header = file.header();
     let start = header.data_start();
     let words = file.data_words();
-    Spot {
+    PlacedWord {
         at: ((start + 2 * place) % 65536) as u16,
         word: words[place],
         reloc: file.data_reloc().get(place).copied(),
