@@ -17,7 +17,7 @@ mod strip;
 mod trial;
 
 use anyhow::{Result, anyhow};
-use aout_core::{Header, Object, Wire, read_file};
+use aout_core::{Header, Object, Wire, read_all, read_file};
 use bytes::bare_program;
 use choices::partial_options;
 use command::linked;
@@ -31,15 +31,16 @@ use link_session::{Session, Starts};
 use listed::read_back;
 use program::program_of;
 use state::state_without_last;
-use std::io::{Read, Write};
+use std::io::Write;
 use std::{env, fs, io};
 use strip::stripped_bytes;
 use trial::new_names;
 
 fn bytes_at(rt: &HostRuntime, path: &str) -> Result<Vec<u8>> {
-    let mut bytes = Vec::new(rt.alloc());
-    fs::open(rt, path)?.read_to_end(&mut bytes)?;
-    Ok(bytes)
+    match read_all(rt, path) {
+        Ok(bytes) => Ok(bytes),
+        Err(fault) => Err(anyhow!("{path}: {fault}")),
+    }
 }
 
 /// The object at a path, by way of its listing.
