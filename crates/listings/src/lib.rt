@@ -16,8 +16,6 @@
 //!
 //! - `write_listing`: the listing of a file, with remarks
 //! - `read_listing`: the file of a listing
-//! - `put_name`: appends a name as a listing shows it
-//! - `put_octal`, `put_short_octal`: append a word in six octal digits, or without zeros in front
 //!
 //! Modules:
 //!
@@ -40,4 +38,4 @@ mod write;
 pub use fault::{Fault, ListingFault, Reason};
 pub use read::read_listing;
 pub use remark::{Nothing, Remark};
-pub use write::{put_name, put_octal, put_short_octal, write_listing};
+pub use write::write_listing;
