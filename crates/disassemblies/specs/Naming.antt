@@ -16,7 +16,7 @@ use Rattle.instructions.specs.declared.mode.Addressing.{Addressing}
 use Rattle.instructions.specs.declared.mode.Addressing.TheVariants.{Immediate, Absolute, Relative, RelativeDeferred, Indexed}
 use Rattle.instructions.specs.declared.reference.Reference.{Reference}
 use Rattle.instructions.specs.References.{reference_text}
-use Rattle.instructions.specs.Texts.{six_digits}
+use Rattle.texts.specs.Numbers.{six_digits}
 
 abbrev pub is_at : Segment → ℕ → Symbol → Bool
 is_at segment value s = eqb (masked_type s) (segment_number segment) && eqb s.value value
