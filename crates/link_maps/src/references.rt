@@ -1,5 +1,6 @@
 //! The words of an object that refer to a symbol, each with its line and the label before that.
-ghost use Rattle.std.specs.Prelude.{◌≡◌, ◌++◌, [], length, replicate, IfOk, OnOk, string_bytes};
+ghost use Rattle.std.specs.Prelude.{◌≡◌, ◌++◌, [], length, replicate, IfOk, OnOk};
+ghost use Rattle.texts.specs.Texts.{Puts};
 ghost use Rattle.std.specs.List.Sorted.{IsSortedBy};
 ghost use Rattle.aout_core.specs.WellFormed.{kind_of};
 ghost use Rattle.link_session.specs.Starts.{own};
@@ -11,6 +12,7 @@ use crate::labels::nearest;
 use aout_core::{File, Kind, Name, Part, Reloc, Symbol};
 use disassemblies::{NamedFile, line_start, put_line_text};
 use std::alloc::{AllocError, Global};
+use texts::Text;
 
 /// The label before a line.
 #[derive(Clone, Copy, Debug)]
@@ -98,18 +100,14 @@ fn before_line(lined: &Lined<'_>, part: Part, line: u16) -> Option<Before>
 }
 
 /// Appends the text of the line that has a word of text: an instruction or a plain word, with the names of the object. For a
-/// word of data it appends nothing. An error: out of memory.
-pub fn put_line_of(
-    text: &mut String,
-    named: &NamedFile<'_>,
-    reference: &ReferringWord,
-) -> Result<(), AllocError>
-    ensures { OnOk result (string_bytes text.new ≡ string_bytes text.old ++ text_of_line named.now reference.now.part reference.now.line) }
+/// word of data it appends nothing.
+pub fn put_line_of(text: &mut Text, named: &NamedFile<'_>, reference: &ReferringWord)
+    ensures { Puts text.old text.new (text_of_line named.now reference.now.part reference.now.line) }
 {
     let place = usize::from(reference.line / 2);
     match reference.part {
         Part::Text if place < named.file().text_words().len() => put_line_text(text, named, place),
-        _ => Ok(()),
+        _ => {},
     }
 }
 
