@@ -2,7 +2,7 @@
 -- relocation word says, and the letter that nm has for each symbol.
 --
 -- A byte below the blank is shown as a backslash and three octal digits, so a note or a remark never leaves its line.
-use Rattle.std.specs.Prelude.{ℕ, ◌+◌, ◌*◌, ◌/◌, ◌%◌, Bool, true, false, ◌&&◌, nat_lt, nat_le, eqb, if◌then◌else◌, List, [], ◌∷◌, ◌++◌, length, map, Option, Some, None, slice_get, slice_index, codes, decimal}
+use Rattle.std.specs.Prelude.{ℕ, ◌+◌, ◌*◌, ◌%◌, Bool, true, ◌&&◌, nat_lt, nat_le, eqb, if◌then◌else◌, List, [], ◌∷◌, ◌++◌, length, map, Option, Some, None, slice_get, slice_index, codes, decimal}
 use Rattle.std.specs.List.{flat_map}
 use Rattle.aout_core.specs.declared.reloc.Reloc.{Reloc}
 use Rattle.aout_core.specs.declared.reloc.Kind.{Kind}
@@ -10,8 +10,8 @@ use Rattle.aout_core.specs.declared.reloc.Kind.TheVariants as kinds
 use Rattle.aout_core.specs.declared.symbol.Symbol.{Symbol}
 use Rattle.aout_core.specs.WellFormed.{is_undefined, is_pc_relative, kind_of, symbol_number}
 use Rattle.symtools.specs.SymbolLines.{letter}
-use Rattle.listings.specs.Octal.{digit, octal, short_octal}
-use Rattle.listings.specs.Names.{shown_name}
+use Rattle.texts.specs.Numbers.{six_digits, octal}
+use Rattle.texts.specs.Names.{escaped, printable_name}
 use Rattle.aout_core.specs.Contents.{Contents}
 use Rattle.aout_core.specs.declared.part.Part.{Part}
 use Rattle.aout_core.specs.declared.part.Part.TheVariants as parts
@@ -23,7 +23,7 @@ use Rattle.disassemblies.specs.Labels.{label_lines}
 use Rattle.disassemblies.specs.Starts.{is_start}
 
 abbrev pub printed_byte : ℕ → List ℕ
-printed_byte b = if nat_lt b 32 then 92 ∷ digit (b / 64) ∷ digit (b / 8) ∷ digit b ∷ [] else b ∷ []
+printed_byte b = if nat_lt b 32 then escaped b else b ∷ []
 
 abbrev pub printed : List ℕ → List ℕ
 printed bs = flat_map printed_byte bs
@@ -34,23 +34,23 @@ is_plain [] = true
 is_plain (b ∷ bs) = nat_le 32 b && is_plain bs
 
 abbrev pub number_said : ℕ → ℕ → Reloc → List ℕ
-number_said at w r = if is_pc_relative r then codes "the number " ++ octal (target r w at) else codes "a number"
+number_said at w r = if is_pc_relative r then codes "the number " ++ six_digits (target r w at) else codes "a number"
 
 -- the symbol of a number, if there is one
 abbrev pub symbol_said : ℕ → Option Symbol → List ℕ
 symbol_said n None = codes "no symbol " ++ decimal n
 symbol_said n (Some s) =
-    if is_undefined s then shown_name s.name else codes "not wanted: symbol " ++ (decimal n ++ 32 ∷ shown_name s.name)
+    if is_undefined s then printable_name s.name else codes "not wanted: symbol " ++ (decimal n ++ 32 ∷ printable_name s.name)
 
 abbrev pub addend_said : ℕ → List ℕ
-addend_said n = if eqb n 0 then [] else codes " + " ++ short_octal n
+addend_said n = if eqb n 0 then [] else codes " + " ++ octal n
 
 abbrev pub target_said : List Symbol → ℕ → ℕ → Reloc → Option Kind → List ℕ
 target_said symbols at w r None = codes "no kind of relocation"
 target_said symbols at w r (Some kinds.Absolute) = number_said at w r
-target_said symbols at w r (Some kinds.TextSeg) = codes "text " ++ octal (target r w at)
-target_said symbols at w r (Some kinds.DataSeg) = codes "data " ++ octal (target r w at)
-target_said symbols at w r (Some kinds.BssSeg) = codes "bss " ++ octal (target r w at)
+target_said symbols at w r (Some kinds.TextSeg) = codes "text " ++ six_digits (target r w at)
+target_said symbols at w r (Some kinds.DataSeg) = codes "data " ++ six_digits (target r w at)
+target_said symbols at w r (Some kinds.BssSeg) = codes "bss " ++ six_digits (target r w at)
 target_said symbols at w r (Some kinds.External) =
     symbol_said (symbol_number r) (slice_get symbols (symbol_number r)) ++ addend_said (target r w at)
 

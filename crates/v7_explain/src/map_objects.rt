@@ -25,7 +25,8 @@ fn report_refused(
         NoObject::NotRead(_) | NoObject::NotFit(_) => 1,
     };
     let line = format!(in alloc; "{refused}")?;
-    output.fault(path, line.as_str(), status)
+    output.fault(path, line.as_str(), status);
+    Ok(())
 }
 
 /// Takes the objects at these paths in order, and reports what is not an object.
@@ -43,7 +44,7 @@ pub(crate) fn read_objects(
                 objects.take(alloc, label, object)?;
             }
             Some(Err(refused)) => report_refused(alloc, output, path.as_str(), refused)?,
-            None => output.fault(path.as_str(), "cannot open", 2)?,
+            None => output.fault(path.as_str(), "cannot open", 2),
         }
     }
     Ok(())

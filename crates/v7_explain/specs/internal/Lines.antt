@@ -12,7 +12,7 @@ use Rattle.instructions.proofs.LineLemmas.{length_from}
 use Rattle.disassemblies.specs.Lines.{line_in}
 use Rattle.disassemblies.specs.Labels.{label_lines}
 use Rattle.disassemblies.specs.Starts.{is_start}
-use Rattle.disassemblies.proofs.SilentLabels.{are_labels}
+use Rattle.v7_explain.specs.internal.SilentLabels.{are_labels}
 use Rattle.symtools.specs.SymbolLines.{letter}
 use Rattle.v7_explain.specs.Said.{printed_byte, printed, word_remark, labels_before, explained}
 
