@@ -41,7 +41,7 @@ build/v7-object: crates/v7_object/out/v7_object
 	mkdir -p build
 	cp crates/v7_object/out/v7_object build/v7-object
 
-crates/v7_object/out/v7_object: crates.txt $(shell find crates/aout_core crates/listings crates/v7_object -name out -prune -o -type f -print)
+crates/v7_object/out/v7_object: crates.txt $(shell find crates/aout_core crates/texts crates/listings crates/v7_object -name out -prune -o -type f -print)
 	python3 tests/prove.py v7_object $@
 	touch $@
 
@@ -49,7 +49,7 @@ build/v7-explain: crates/v7_explain/out/v7_explain
 	mkdir -p build
 	cp crates/v7_explain/out/v7_explain build/v7-explain
 
-EXPLAIN_CRATES := $(addprefix crates/,aout_core link_session tool_options link_out symtools command_words gnu_objects listings instructions disassemblies findings link_maps v7_explain)
+EXPLAIN_CRATES := $(addprefix crates/,aout_core texts link_session tool_options link_out symtools command_words gnu_objects listings instructions disassemblies findings link_maps v7_explain)
 crates/v7_explain/out/v7_explain: crates.txt $(shell find $(EXPLAIN_CRATES) -name out -prune -o -type f -print)
 	python3 tests/prove.py v7_explain $@
 	touch $@
@@ -81,7 +81,7 @@ build/$(SONAME): build/libv7.a packaging/libv7.map
 build/libv7.so: build/$(SONAME)
 	ln -sf $(SONAME) build/libv7.so
 
-LIBRARY_CRATES := $(addprefix crates/,aout_core link_session tool_options link_out symtools reports listings instructions disassemblies \
+LIBRARY_CRATES := $(addprefix crates/,aout_core texts link_session tool_options link_out symtools reports listings instructions disassemblies \
 	library_calls v7_c)
 crates/v7_c/out/libv7_c.a: crates.txt $(shell find $(LIBRARY_CRATES) -name out -prune -o -type f -print)
 	python3 tests/prove.py v7_c $@
@@ -216,14 +216,15 @@ build/v7-lesson: crates/lesson/out/lesson
 	mkdir -p build
 	cp crates/lesson/out/lesson build/v7-lesson
 
-LESSON_CRATES := $(addprefix crates/,aout_core link_session tool_options link_out symtools reports listings instructions disassemblies lesson)
+LESSON_CRATES := $(addprefix crates/,aout_core texts link_session tool_options link_out symtools reports listings instructions disassemblies lesson)
 crates/lesson/out/lesson: crates.txt $(shell find $(LESSON_CRATES) -name out -prune -o -type f -print)
 	python3 tests/prove.py lesson $@
 	touch $@
 
-# the manual pages: mandoc finds nothing to say of them, and their examples, and those of the documents, come out as shown
+# the manual pages: mandoc finds nothing to say of them, but for pages of others that this machine lacks, and their examples, and those
+# of the documents, come out as shown
 check-manual: check-examples
-	cd man && mandoc -T lint *.1 *.3 *.5
+	cd man && mandoc -T lint *.1 *.3 *.5 | { ! grep -v 'lacks .* entry, run makewhatis\|referenced manual not found'; }
 
 # the program with standard streams closed, and with words and files of each kind and number; and what it adds at a terminal
 check-streams: build/v7
@@ -257,7 +258,7 @@ crates/library_uses/out/library_uses: $(SOURCES)
 	python3 tests/prove.py library_uses $@
 	touch $@
 
-# plants the bugs of docs/CASES.md, or those that BUGS names, one after another, and sees that the cases find each: one to two
+# plants the bugs of docs/internals/PLANTED.md, or those that BUGS names, one after another, and sees that the cases find each: one to two
 # minutes for a bug, with no proof
 planted:
 	python3 tests/planted.py $(BUGS)
