@@ -30,21 +30,21 @@ use Rattle.conformance.proofs.ClauseLemmas.{at_most_so}
 use Rattle.conformance.proofs.NeededPremises.{counts, all_kept, link_of, no_object}
 
 -- the first two of a list exchanged
-abbrev first_two : {A : Type 0} (a b : A) (rest : List A) → IsPermutation (a ∷ b ∷ rest) (b ∷ a ∷ rest)
+abbrev pub first_two : {A : Type 0} (a b : A) (rest : List A) → IsPermutation (a ∷ b ∷ rest) (b ∷ a ∷ rest)
 first_two a b rest = record { moves = (0, 1) ∷ []; below = (omega arith, omega arith, tt); is = refl }
 
 -- the two links of the blackboard
 
-abbrev main_first : List Contents
+abbrev pub main_first : List Contents
 main_first = main_o ∷ twice_o ∷ count_o ∷ []
 
-abbrev twice_first : List Contents
+abbrev pub twice_first : List Contents
 twice_first = twice_o ∷ main_o ∷ count_o ∷ []
 
-abbrev one : Outcome
+abbrev pub one : Outcome
 one = link_of main_first plain
 
-abbrev other : Outcome
+abbrev pub other : Outcome
 other = link_of twice_first plain
 
 two_orders : AreOrders [] main_first twice_first plain one other
@@ -141,10 +141,10 @@ same_multiples law =
     absurd (cc)
 
 -- the entry point, where its name is multiply defined, in text and in data
-abbrev text_f : Contents
+abbrev pub text_f : Contents
 text_f = object (0o207 ∷ []) (0 ∷ []) [] [] 0 (entry _f 0o42 0 ∷ [])
 
-abbrev data_f : Contents
+abbrev pub data_f : Contents
 data_f = object [] [] (1 ∷ []) (0 ∷ []) 0 (entry _f 0o43 0 ∷ [])
 
 entry_of_multiples : OrdersGive (λ x y. x.report.entry_bad ≡ y.report.entry_bad) → ⊥
@@ -206,7 +206,7 @@ without_mention law = none (law [] [] [] plain x x (record { same = IsPermutatio
         by_meaning missing h = let bad : None ≡ Some (entry _g 0o40 0) = h.1 in cc
 
 -- the row that a name has
-row_known : (a b : Symbol) → Some a ≡ Some b → a ≡ b
+pub row_known : (a b : Symbol) → Some a ≡ Some b → a ≡ b
 row_known a b e = cc
 
 -- a name is defined in text in one order, and in data in the other
@@ -256,7 +256,7 @@ with_relocation law = none (law [] (x4_o ∷ []) (x4_o ∷ []) relocatable x x (
         by_meaning missing h = let bad : 4 ≤ 0 = h.0.most.0 refl 4 refl in absurd (omega arith)
 
 -- commons are of the same size, and lie elsewhere
-abbrev f2_o : Contents
+abbrev pub f2_o : Contents
 f2_o = object [] [] [] [] 0 (entry _f 0o40 2 ∷ [])
 
 same_commons : OrdersGive (λ x y. row_of x.file.symbols _x ≡ row_of y.file.symbols _x) → ⊥

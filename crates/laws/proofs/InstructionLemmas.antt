@@ -1,5 +1,5 @@
 -- Linking preserves instructions.
-use Rattle.std.proofs.Common.{◌≡◌, ℕ, zero, suc, ◌+◌, ◌-◌, ◌*◌, ◌/◌, ◌%◌, ◌<◌, ◌≤◌, Bool, true, false, eqb, if◌then◌else◌, cond, List, [], ◌∷◌, ◌++◌, length, drop, Option, Some, None, refl, sym, ◌∙◌, ap, subst, append_assoc, arith}
+use Rattle.std.proofs.Common.{◌≡◌, ℕ, zero, suc, ◌+◌, ◌-◌, ◌*◌, ◌/◌, ◌%◌, ◌<◌, ◌≤◌, Bool, true, false, eqb, if◌then◌else◌, cond, List, [], ◌∷◌, ◌++◌, length, drop, Some, refl, sym, ◌∙◌, ap, subst, append_assoc, arith}
 use Rattle.std.specs.Prelude.{slice_get, not}
 use Rattle.std.specs.List.{AllByRecursion}
 use Rattle.std.proofs.lemmas.List.{length-drop}
@@ -19,17 +19,16 @@ use Rattle.link_session.proofs.ListLemmas.{all_split}
 use Rattle.link_session.proofs.WellFormedLemmas.{well_formed_parts}
 use Rattle.tool_options.specs.Choices.{Choices}
 use Rattle.link_out.specs.Results.{Outcome}
-use Rattle.link_out.specs.relation.Relocated.{move_in, IsAdded, IsRelocated, HoldsObjects}
+use Rattle.link_out.specs.relation.Relocated.{move_in, IsAdded, IsRelocated}
 use Rattle.link_out.specs.relation.LinkedFrom.{IsLinkedFrom}
-use Rattle.instructions.specs.declared.line.Line.{Line}
 use Rattle.instructions.specs.Lines.{lines}
 use Rattle.instructions.specs.Relocated.{is_relocated}
 use Rattle.instructions.proofs.AlikeLemmas.{Pairs, Same, get_from, drop_twice, BeginAlike, begin_alike}
-use Rattle.laws.specs.Instructions.{HasWholeText, IsLinkedWord, KeepsLines, AreLinkedLines, AreLinesOf, InstructionsAreKept, TextsAreKept}
+use Rattle.laws.specs.Instructions.{HasWholeText, IsLinkedWord, AreLinesOf, InstructionsAreKept, TextsAreKept}
 use Rattle.laws.proofs.LoadedLemmas.{whole_words}
 
 -- an object has a relocation word for each word of its text
-relocs_by : (b : Bool) (words relocs size : ℕ) → b ≡ true → 2 * words ≡ size → 2 * relocs ≡ (if b then size else 0) → relocs ≡ words
+pub relocs_by : (b : Bool) (words relocs size : ℕ) → b ≡ true → 2 * words ≡ size → 2 * relocs ≡ (if b then size else 0) → relocs ≡ words
 relocs_by true words relocs size e long same = omega arith
 relocs_by false words relocs size e long same = absurd cc
 
@@ -63,7 +62,7 @@ unmoved file rows os before k i w v r small low is there =
     ∙ ap (λ n. minus (plus w n) 0) added ∙ (let e : ((w + 0) % 65536 + (65536 - 0 % 65536)) % 65536 ≡ w = omega arith in e) in
     same_Some v w (sym there ∙ is.word ∙ ap (λ n. Some n) value)
 
-moves_low : (rs : List Reloc) (i : ℕ) (r : Reloc) → slice_get rs i ≡ Some r → is_relocated (slice_get rs i) ≡ false → r.0 % 16 ≡ 0
+pub moves_low : (rs : List Reloc) (i : ℕ) (r : Reloc) → slice_get rs i ≡ Some r → is_relocated (slice_get rs i) ≡ false → r.0 % 16 ≡ 0
 moves_low rs i r at e = low_bits (eqb (r.0 % 16) 0) r.0 refl (sym (ap is_relocated at) ∙ e)
 
 module _ (forced : List (List ℕ)) (os : List Contents) (o : Choices) (x : Outcome) (all : AllByRecursion IsObject os) (l : IsLinkedFrom forced os o x) where

@@ -16,6 +16,9 @@ pub mod ReorderedAdditions
 pub mod ReorderedMeanings
 pub mod SingleDefinitions
 mod InstructionLemmas
+mod IsomorphismLists
+mod IsomorphismPlaces
+mod IsomorphismLemmas
 pub mod StandLemmas
 mod OperandWordLemmas
 pub mod OperandPlaceLemmas

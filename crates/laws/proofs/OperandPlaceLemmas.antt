@@ -1,5 +1,5 @@
 -- What the operands of an instruction are in a program: the addresses of the bytes to which they refer.
-use Rattle.std.proofs.Common.{◌≡◌, ◌≢◌, ℕ, ◌+◌, ◌-◌, ◌*◌, ◌/◌, ◌%◌, ◌<◌, ◌≤◌, ◌⊎◌, inl, inr, Bool, true, false, nat_lt, cond, if◌then◌else◌, List, [], ◌∷◌, ◌++◌, length, drop, Option, Some, None, refl, sym, ◌∙◌, ap, subst, arith}
+use Rattle.std.proofs.Common.{◌≡◌, ◌≢◌, ℕ, ◌+◌, ◌-◌, ◌*◌, ◌/◌, ◌%◌, ◌<◌, ◌≤◌, ◌⊎◌, inl, inr, Bool, true, false, nat_lt, if◌then◌else◌, List, [], ◌∷◌, ◌++◌, length, drop, Option, Some, None, refl, sym, ◌∙◌, ap, subst, arith}
 use Rattle.std.specs.Prelude.{slice_get, Ok}
 use Rattle.std.specs.List.{AllByRecursion}
 use Rattle.std.proofs.lemmas.Bool.Decides.{nat_tests}
@@ -22,7 +22,7 @@ use Rattle.tool_options.specs.declared.options.Keep.TheVariants.{Nothing}
 use Rattle.tool_options.specs.Choices.{Choices}
 use Rattle.link_out.specs.Results.{Outcome}
 use Rattle.link_out.specs.function.Link.{link}
-use Rattle.link_out.specs.relation.Relocated.{move_in, entry_of, address_in, external_type, IsAdded}
+use Rattle.link_out.specs.relation.Relocated.{move_in, entry_of, address_in, external_type}
 use Rattle.link_out.specs.relation.LinkedFrom.{IsLinkedFrom}
 use Rattle.link_out.specs.laws.WordsAndNames.{IsDefined}
 use Rattle.link_out.proofs.DefinedLemmas.{definitions_hold}
@@ -42,13 +42,13 @@ use Rattle.instructions.specs.Instructions.{instruction_of, jumps, word_count_of
 use Rattle.instructions.specs.Alike.{is_cut}
 use Rattle.instructions.proofs.AlikeLemmas.{get_inside}
 use Rattle.laws.specs.Core.{Space, of_instructions, of_data, IsWordAt}
-use Rattle.laws.specs.CoreLaws.{space_of, IsPlace}
-use Rattle.laws.specs.Operands.{operand, FindsMore, FindsName, segment_meant, Defines}
+use Rattle.laws.specs.CoreLaws.{space_of}
+use Rattle.laws.specs.Operands.{operand, FindsMore, segment_meant, Defines}
 use Rattle.laws.specs.OperandWords.{is_relative, machine_value, space_used}
-use Rattle.laws.specs.OperandPlaces.{addressing_of, within_text, kind_meant, IsOwnByte, IsNamedByte, IsAddress, IsBeyondName, HasOperand, IsOperand, OperandsStand, IsDirect, JumpArrives, JumpsArrive, Points, PointersToSegments, PointersToNames}
+use Rattle.laws.specs.OperandPlaces.{addressing_of, within_text, kind_meant, IsNamedByte, IsAddress, HasOperand, IsOperand, OperandsStand, IsDirect, JumpsArrive, PointersToSegments, PointersToNames}
 use Rattle.laws.proofs.InstructionLemmas.{relocs_long, reloc_inside}
 use Rattle.laws.proofs.LoadedLemmas.{address_of, words_there, words_of_rows}
-use Rattle.laws.proofs.OperandLemmas.{loaded_finds, FindsAddress, address_found, names_found, segments_found, any_place, defined_address, byte_in}
+use Rattle.laws.proofs.OperandLemmas.{loaded_finds, address_found, names_found, segments_found, any_place, defined_address, byte_in}
 use Rattle.laws.proofs.OperandWordLemmas.{machine_is}
 
 -- the word at an address is one

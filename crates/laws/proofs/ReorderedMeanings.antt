@@ -1,4 +1,4 @@
--- What names mean, and what words refer to, in links of the same objects in two orders.
+-- What names mean, and what words refer to, in links of the same objects in two orders and two layouts.
 use Rattle.std.proofs.Common.{◌≡◌, ◌≢◌, ℕ, ◌+◌, Bool, true, false, cond, not, ◌||◌, eqb, List, [], ◌∷◌, ◌++◌, Option, Some, None, refl, sym, ◌∙◌, ap, subst, append_assoc, arith, eqb-true}
 use Rattle.std.specs.Prelude.{bytes_eq, slice_get, Ok}
 use Rattle.std.specs.List.{AllByRecursion}
@@ -8,7 +8,6 @@ use Rattle.aout_core.specs.declared.header.Header.{Header}
 use Rattle.aout_core.specs.declared.symbol.Symbol.{Symbol}
 use Rattle.aout_core.specs.declared.symbol.Segment.{Segment}
 use Rattle.aout_core.specs.declared.symbol.Segment.TheVariants.{Undefined, Absolute, TextSeg, DataSeg, BssSeg, Other}
-use Rattle.aout_core.specs.declared.reloc.Reloc.{Reloc}
 use Rattle.aout_core.specs.declared.reloc.Kind.{Kind}
 use Rattle.aout_core.specs.declared.reloc.Kind.TheVariants.{External}
 use Rattle.aout_core.specs.Contents.{Contents}
@@ -21,12 +20,13 @@ use Rattle.link_session.specs.Sessions.{IsObject}
 use Rattle.tool_options.specs.NameLists.{is_among}
 use Rattle.link_session.specs.Mentions.{statement, mentions, names_of, externals}
 use Rattle.link_session.specs.States.{state, multiple_names}
-use Rattle.link_session.specs.Cells.{referent_by, name_in, segment_words, segment_relocs}
+use Rattle.link_session.specs.Cells.{referent_by, name_in}
 use Rattle.link_session.proofs.ListLemmas.{all_split}
 use Rattle.link_session.proofs.MentionLemmas.{is_among-externals}
 use Rattle.link_session.proofs.CellLemmas.{RefersAmong}
 use Rattle.link_session.proofs.UpdateLemmas.{unmentioned}
 use Rattle.tool_options.specs.declared.options.Keep.TheVariants.{Nothing}
+use Rattle.tool_options.specs.declared.options.Layout.{Layout}
 use Rattle.tool_options.specs.Choices.{Choices, lays_commons}
 use Rattle.link_out.specs.Layouts.{Bases, base}
 use Rattle.link_out.specs.Results.{ReportNames}
@@ -48,7 +48,8 @@ use Rattle.link_out.proofs.ExternalLemmas.{row_at, entry_there}
 use Rattle.link_out.proofs.CommonLemmas.{commons_have_room}
 use Rattle.link_out.proofs.SegmentLemmas.{word_at}
 use Rattle.link_out.proofs.RelocatedLemmas.{words_relocated}
-use Rattle.laws.specs.Orders.{AreOrders, definition, common, missing, IsDefinedBy, Means, MeansTheSame, RefersAlike}
+use Rattle.laws.specs.Orders.{definition, common, missing, IsDefinedBy, Means, MeansTheSame}
+use Rattle.laws.specs.Isomorphism.{AreLinks, LinksKeepReferents}
 use Rattle.laws.proofs.ReorderedMentions.{size_if_wanted, wanted_too, same_names, same_wants, placed_again}
 use Rattle.laws.proofs.ReorderedDefinitions.{definition_found, said_again, defines, first_is_said}
 
@@ -164,16 +165,16 @@ module _ (forced : List (List ℕ)) (os : List Contents) (o : Choices) (x : Outc
         value = ap (λ (f : Final). f.written) final_is ∙ place.value ∙ ap (λ (m : ℕ). plus d.symbol.value m) (move_by_header forced os o d.before d.k (segment_of d.symbol));
       }
 
-laid : (o : Choices) → o.relocatable ≡ false → lays_commons o ≡ true
+pub laid : (o : Choices) → o.relocatable ≡ false → lays_commons o ≡ true
 laid o r = by_test o.relocatable r
   where
     by_test : (t : Bool) → t ≡ false → (not t || o.force_commons) ≡ true
     by_test false e = refl
     by_test true e = absurd (let bad : true ≡ false = e in cc)
 
-pub meanings_kept : (forced : List (List ℕ)) (os ps : List Contents) (o : Choices) (x y : Outcome) → AreOrders forced os ps o x y → o.keep ≢ Nothing → o.relocatable ≡ false →
+pub meanings_kept : (forced : List (List ℕ)) (os ps : List Contents) (o : Choices) (layout : Layout) (x y : Outcome) → AreLinks forced os ps o layout x y → o.keep ≢ Nothing → o.relocatable ≡ false →
     x.report.multiples ≡ [] → (name : List ℕ) → is_among (externals forced os) name ≡ true → MeansTheSame forced os ps o x y name
-meanings_kept forced os ps o x y h others r none name known = by_state (state (mentions forced os) name) refl (state (mentions forced ps) name) refl (has_state (mentions forced os) name)
+meanings_kept forced os ps o layout x y h others r none name known = by_state (state (mentions forced os) name) refl (state (mentions forced ps) name) refl (has_state (mentions forced os) name)
   where
     known_too : is_among (externals forced ps) name ≡ true
     known_too = sym (same_names forced os ps h.same name) ∙ known
@@ -182,7 +183,7 @@ meanings_kept forced os ps o x y h others r none name known = by_state (state (m
     by_size size false t wanted st = record {
       meaning = common size;
       one = common_in forced os o x others h.one (laid o r) name size wanted t;
-      other = common_in forced ps o y others h.other (laid o r) name size (wanted_too forced os ps h.same name size wanted) t;
+      other = common_in forced ps (record o { layout = layout }) y others h.other (laid o r) name size (wanted_too forced os ps h.same name size wanted) t;
     }
     by_size size true t wanted st =
         let zero : size ≡ 0 = eqb-true size 0 t in
@@ -191,7 +192,7 @@ meanings_kept forced os ps o x y h others r none name known = by_state (state (m
         record {
           meaning = missing;
           one = missing_in forced os o x others h.one name known here (state_is (mentions forced os) name (Wanted 0) here);
-          other = missing_in forced ps o y others h.other name known_too there (state_is (mentions forced ps) name (Wanted 0) there);
+          other = missing_in forced ps (record o { layout = layout }) y others h.other name known_too there (state_is (mentions forced ps) name (Wanted 0) there);
         }
 
     single : multiple_names (mentions forced os) ≡ []
@@ -209,11 +210,11 @@ meanings_kept forced os ps o x y h others r none name known = by_state (state (m
           one = subst (λ (k : Contents). IsDefinedBy x.file os name k d.said.symbol) again.object
               (subst (λ (s : Symbol). IsDefinedBy x.file os name again.said.k s) again.symbol
               (defined_in forced os o x others h.one name d.segment again.offset again.said (first_is_said forced os single name d.segment again.offset again.said)));
-          other = defined_in forced ps o y others h.other name d.segment d.offset d.said (state_is (mentions forced ps) name (Defined d.segment d.offset) d.first);
+          other = defined_in forced ps (record o { layout = layout }) y others h.other name d.segment d.offset d.said (state_is (mentions forced ps) name (Defined d.segment d.offset) d.first);
         }
 
 -- the objects of the other order are objects too
-objects_too : (os ps : List Contents) → IsPermutation os ps → AllByRecursion IsObject os → AllByRecursion IsObject ps
+pub objects_too : (os ps : List Contents) → IsPermutation os ps → AllByRecursion IsObject os → AllByRecursion IsObject ps
 objects_too os ps same good = from [] ps refl
   where
     from : (done rest : List Contents) → ps ≡ done ++ rest → AllByRecursion IsObject rest
@@ -223,17 +224,13 @@ objects_too os ps same good = from [] ps refl
         let all : AllByRecursion IsObject (there.before ++ k ∷ there.after) = subst (λ (cs : List Contents). AllByRecursion IsObject cs) there.all good in
         ((all_split IsObject there.before (k ∷ there.after) all).1.0, from (done ++ k ∷ []) ks (e ∙ sym (append_assoc done (k ∷ []) ks)))
 
-pub referents_kept : (forced : List (List ℕ)) (os ps : List Contents) (o : Choices) (x y : Outcome) → AreOrders forced os ps o x y → o.keep ≢ Nothing → o.relocatable ≡ false →
-    x.report.multiples ≡ [] → AllByRecursion IsObject os →
-    (before : List Contents) (k : Contents) (after : List Contents) → os ≡ before ++ k ∷ after → (front back : List Contents) → ps ≡ front ++ k ∷ back →
-    (segment : Segment) (i w : ℕ) (r : Reloc) → slice_get (segment_words segment k) i ≡ Some w → slice_get (segment_relocs segment k) i ≡ Some r →
-    RefersAlike forced os ps o x y before front k segment i w r
-referents_kept forced os ps o x y h others nr none good before k after all front back all_too segment i w r ew er = record {
+pub referents_kept : LinksKeepReferents
+referents_kept forced os ps o layout x y h others nr none good before k after all front back all_too segment i w r ew er = record {
   one = subst (λ (ks : List Contents). IsRelocated x.file x.file.symbols ks before k segment i w r) (sym all)
       (words_relocated forced before k after o x (subst (λ (ks : List Contents). AllByRecursion IsObject ks) all good) others (subst (λ (ks : List Contents). link forced ks o ≡ Ok x) all h.one) segment i w r ew er);
   other = subst (λ (ks : List Contents). IsRelocated y.file y.file.symbols ks front k segment i w r) (sym all_too)
-      (words_relocated forced front k back o y (subst (λ (ks : List Contents). AllByRecursion IsObject ks) all_too (objects_too os ps h.same good)) others (subst (λ (ks : List Contents). link forced ks o ≡ Ok y) all_too h.other) segment i w r ew er);
-  name = λ external s named. meanings_kept forced os ps o x y h others nr none s.name (known external s named);
+      (words_relocated forced front k back (record o { layout = layout }) y (subst (λ (ks : List Contents). AllByRecursion IsObject ks) all_too (objects_too os ps h.same good)) others (subst (λ (ks : List Contents). link forced ks (record o { layout = layout }) ≡ Ok y) all_too h.other) segment i w r ew er);
+  name = λ external s named. meanings_kept forced os ps o layout x y h others nr none s.name (known external s named);
 }
   where
     known : kind_of r ≡ Some External → (s : Symbol) → slice_get k.symbols (symbol_number r) ≡ Some s → is_among (externals forced os) s.name ≡ true

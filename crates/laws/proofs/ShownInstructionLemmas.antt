@@ -1,7 +1,6 @@
 -- What a disassembly shows at a place of an object, and of a program.
 use Rattle.std.proofs.Common.{◌≡◌, ℕ, zero, suc, ◌+◌, ◌*◌, ◌/◌, ◌<◌, Bool, true, false, cond, if◌then◌else◌, List, [], ◌∷◌, ◌++◌, length, drop, Option, Some, None, refl, sym, ◌∙◌, ap, subst, arith}
 use Rattle.std.specs.Prelude.{slice_get, slice_index}
-use Rattle.std.specs.List.{AllByRecursion}
 use Rattle.aout_core.specs.declared.symbol.Segment.TheVariants.{TextSeg}
 use Rattle.aout_core.specs.declared.reloc.Reloc.{Reloc}
 use Rattle.aout_core.specs.Contents.{Contents}
@@ -11,12 +10,11 @@ use Rattle.instructions.specs.declared.line.Line.TheVariants.{Plain}
 use Rattle.instructions.specs.Instructions.{instruction_of}
 use Rattle.instructions.specs.Lines.{line_of, line_at}
 use Rattle.instructions.specs.Relocated.{is_relocated}
-use Rattle.instructions.specs.Texts.{text_with}
-use Rattle.instructions.specs.Alike.{AlikeLine, is_cut}
+use Rattle.instructions.specs.Alike.{AlikeLine}
 use Rattle.disassemblies.specs.Naming.{relocated_text}
-use Rattle.disassemblies.specs.Lines.{line_in, references, decoded_text, text_by, line_text_in}
+use Rattle.disassemblies.specs.Lines.{decoded_text, text_by}
 use Rattle.laws.specs.Instructions.{IsLinkedWord, KeepsLineAt}
-use Rattle.laws.specs.ShownInstructions.{IsShown, ShowsAlike, ProgramsShowInstructions}
+use Rattle.laws.specs.ShownInstructions.{IsShown, ProgramsShowInstructions}
 use Rattle.laws.proofs.StandLemmas.{instructions_stand}
 
 -- the word at a place, and those after it

@@ -1,28 +1,18 @@
 -- An instruction stands in a linked file wherever it begins in an object.
-use Rattle.std.proofs.Common.{◌≡◌, ℕ, zero, suc, ◌+◌, ◌-◌, ◌*◌, ◌/◌, ◌%◌, ◌<◌, ◌≤◌, Bool, true, false, nat_lt, if◌then◌else◌, List, [], ◌∷◌, ◌++◌, length, drop, Option, Some, None, refl, sym, ◌∙◌, ap, subst, arith}
+use Rattle.std.proofs.Common.{◌≡◌, ℕ, ◌+◌, ◌/◌, ◌≤◌, Bool, false, List, [], ◌∷◌, ◌++◌, length, drop, refl, sym, ◌∙◌, ap, subst, arith}
 use Rattle.std.specs.Prelude.{slice_get}
-use Rattle.std.specs.List.{AllByRecursion}
-use Rattle.std.proofs.lemmas.Bool.Decides.{nat_tests}
 use Rattle.std.proofs.lemmas.List.{length-drop}
-use Rattle.aout_core.specs.declared.symbol.Symbol.{Symbol}
 use Rattle.aout_core.specs.declared.symbol.Segment.TheVariants.{TextSeg}
-use Rattle.aout_core.specs.Contents.{Contents, IsWord}
+use Rattle.aout_core.specs.Contents.{Contents}
 use Rattle.link_session.specs.Starts.{total}
 use Rattle.link_session.specs.Sessions.{IsObject}
 use Rattle.link_session.proofs.ListLemmas.{all_split}
-use Rattle.tool_options.specs.Choices.{Choices}
-use Rattle.link_out.specs.Results.{Outcome}
-use Rattle.link_out.specs.relation.LinkedFrom.{IsLinkedFrom}
-use Rattle.instructions.specs.declared.instruction.Instruction.{Instruction}
-use Rattle.instructions.specs.declared.line.Line.{Line}
-use Rattle.instructions.specs.declared.line.Line.TheVariants.{Plain, Decoded}
-use Rattle.instructions.specs.Operands.{takes_word}
-use Rattle.instructions.specs.Instructions.{instruction_of, word_count_of, following_words}
-use Rattle.instructions.specs.Lines.{word_for, line_of}
+use Rattle.instructions.specs.Instructions.{instruction_of}
+use Rattle.instructions.specs.Lines.{line_of}
 use Rattle.instructions.specs.Relocated.{is_relocated}
-use Rattle.instructions.specs.Alike.{AlikeWords, AlikeLine, is_cut}
+use Rattle.instructions.specs.Alike.{AlikeLine, is_cut}
 use Rattle.instructions.proofs.AlikeLemmas.{Pairs, Same, drop_twice, pairs_from, line_alike}
-use Rattle.laws.specs.Instructions.{IsLinkedWord, KeepsLineAt, InstructionsStand}
+use Rattle.laws.specs.Instructions.{IsLinkedWord, InstructionsStand}
 use Rattle.laws.proofs.InstructionLemmas.{linked_pairs, linked_same, text_room}
 
 -- what stands at a place of another text

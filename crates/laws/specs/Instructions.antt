@@ -3,7 +3,7 @@
 -- If a link changes no word at which a line of an object's text begins, and no instruction of it is cut, the words of that text in the
 -- linked file are the same instructions, at the same distances: line by line the same operations, modes, registers and numbers. An
 -- operand word may be another one, and is then the word that relocation makes of it.
-use Rattle.std.specs.Prelude.{◌≡◌, ℕ, ◌+◌, ◌*◌, ◌/◌, false, List, [], ◌∷◌, ◌++◌, length, drop, Some, slice_get}
+use Rattle.std.specs.Prelude.{◌≡◌, ℕ, ◌+◌, ◌/◌, false, List, [], ◌∷◌, ◌++◌, length, drop, Some, slice_get}
 use Rattle.std.specs.List.{AllByRecursion}
 use Rattle.aout_core.specs.declared.symbol.Symbol.{Symbol}
 use Rattle.aout_core.specs.declared.symbol.Segment.TheVariants.{TextSeg}

@@ -3,7 +3,7 @@
 -- A relocated word is a line of its own in the disassembly of an object. At any other word of the text, wherever lines begin, the program
 -- has an alike line at the place of that word, unless the object's text ends within the instruction. So the texts of the two lines have
 -- the same operation, modes, registers and numbers, and their operand words are those of the law of instructions.
-use Rattle.std.specs.Prelude.{◌≡◌, ℕ, ◌+◌, ◌*◌, ◌/◌, ◌<◌, false, List, [], ◌∷◌, ◌++◌, length, drop, slice_get, slice_index}
+use Rattle.std.specs.Prelude.{◌≡◌, ℕ, ◌+◌, ◌*◌, ◌/◌, ◌<◌, false, List, ◌∷◌, ◌++◌, length, drop, slice_get, slice_index}
 use Rattle.std.specs.List.{AllByRecursion}
 use Rattle.aout_core.specs.declared.symbol.Symbol.{Symbol}
 use Rattle.aout_core.specs.declared.symbol.Segment.TheVariants.{TextSeg}

@@ -6,6 +6,7 @@ ghost use Rattle.laws.specs.OperandWords.{OperandsGiveNames, OperandsGiveSegment
 ghost use Rattle.laws.specs.OperandPlaces.{OperandsStand, JumpsArrive, PointersToSegments, PointersToNames};
 ghost use Rattle.laws.specs.ShownInstructions.{ProgramsShowInstructions};
 ghost use Rattle.laws.specs.Listings.{UndefinedAreListed, UndefinedLines, RowLines, ExternalsAreListed, SizesAreSums};
+ghost use Rattle.laws.specs.Isomorphism.{PlacesLieApart, PlacesAreLoaded, BytesHavePlaces, OrdersAreRenumbered, LinksAreIsomorphic, LinksKeepReferents};
 ghost use Rattle.laws.specs.Orders.{OrderAddsAlike, OrderLinksAlike, OrderRefusesAlike, OrderKeepsSizes, OrderReportsAlike, OrderFindsEntry, OrderKeepsMeanings, OrderKeepsReferents, OnceInAnyOrder};
 
 /// Which byte is at which address when a linked file is loaded: `core` of specs/Core, for the spaces of instructions and of
@@ -153,4 +154,25 @@ pub fn order_law()
     ensures meanings { OrderKeepsMeanings }
     ensures referents { OrderKeepsReferents }
     ensures single { OnceInAnyOrder }
+{}
+
+/// Links of the same objects load the same program, laid out otherwise. A place is a byte of an object's text, data or bss, or of a common
+/// that is rounded up to an even size. The first three clauses are of any link that keeps symbols and lays its commons out. (ld(1), exec(2))
+///
+/// - `apart`: no two places are loaded at one address of a space.
+/// - `loaded`: at the address of each place there is a byte, in each space that has its segment.
+/// - `placed`: each byte that is loaded is at the address of a place.
+/// - `numbers`: the numbers of two orders can be paired, each with the number of an equal object in the other order.
+/// - `same`: two links of the same objects in any two orders and any two layouts, which keep symbols and no relocation, and in one of
+///   which no name is multiply defined, have the same places by any such pairs. At each the byte is the same, but for relocated words.
+///   What the machine finds by a relocated word differs as the addresses of what the word refers to: a segment of its object, the
+///   definition of a name, a common, the end of a segment if the linker defines the name so, or nothing.
+/// - `referents`: so each word of each object refers to the same. With one layout that is `referents` of `order_law`.
+pub fn isomorphism_law()
+    ensures apart { PlacesLieApart }
+    ensures loaded { PlacesAreLoaded }
+    ensures placed { BytesHavePlaces }
+    ensures numbers { OrdersAreRenumbered }
+    ensures same { LinksAreIsomorphic }
+    ensures referents { LinksKeepReferents }
 {}

@@ -1,6 +1,7 @@
 use Rattle.laws.proofs.ReorderedLinks.{refused_in_order, sizes_kept, reported_alike, entry_found}
 use Rattle.laws.proofs.ReorderedAdditions.{added_in_order, linked_alike}
-use Rattle.laws.proofs.ReorderedMeanings.{meanings_kept, referents_kept}
+use Rattle.laws.proofs.ReorderedMeanings.{referents_kept}
+use Rattle.laws.proofs.IsomorphismLemmas.{orders_keep_meanings, orders_keep_referents}
 use Rattle.laws.proofs.SingleDefinitions.{once_in_any_order}
 use Rattle.laws.proofs.links.order_law.Goals as goal
 
@@ -23,10 +24,10 @@ pub returns-clause-entry : goal.returns-clause-entry
 returns-clause-entry c = entry_found
 
 pub returns-clause-meanings : goal.returns-clause-meanings
-returns-clause-meanings c = meanings_kept
+returns-clause-meanings c = orders_keep_meanings
 
 pub returns-clause-referents : goal.returns-clause-referents
-returns-clause-referents c = referents_kept
+returns-clause-referents c = orders_keep_referents referents_kept
 
 pub returns-clause-single : goal.returns-clause-single
 returns-clause-single c = once_in_any_order
