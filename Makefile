@@ -197,20 +197,23 @@ simulate: build/v7
 lesson: build/v7-lesson
 	build/v7-lesson $(or $(FILES),examples/k.o examples/l.o)
 
-# the same in every order as one page, which a browser shows from the disk, with the lessons of examples/lessons.txt; of other
-# FILES the page has the lessons in the file QUESTIONS, if it is given
+# the same in every order as one page, which a browser shows from the disk, with the lessons of examples/lessons.txt; and a page of a
+# program in C, with those of examples/total. Of other FILES one page, with the lessons in the file QUESTIONS, if it is given
 PAGE_FILES := $(foreach file,main.o twice.o k.o l.o double.o,examples/$(file))
+PROGRAM := examples/total
+PROGRAM_FILES := $(foreach file,total.o say.o console.o low.o limit.o,$(PROGRAM)/$(file))
 LESSONS = $(if $(FILES),$(QUESTIONS),examples/lessons.txt)
 page: build/v7-lesson
 	build/v7-lesson -p page $(addprefix -q ,$(LESSONS)) $(or $(FILES),$(PAGE_FILES)) >build/lesson.new || { rm build/lesson.new; exit 2; }
 	mv build/lesson.new build/lesson.html
+	$(if $(FILES),,build/v7-lesson -p page -q $(PROGRAM)/lessons.txt $(PROGRAM_FILES) >build/program.new && mv build/program.new build/program.html)
 
 # opens the page in Chromium, goes through all its states, and compares them with what v7-lesson, v7 ld and v7 nm print; measures
 # its stage with sixteen objects, looks at its layout in many sizes, in Firefox too, takes its lessons by keys, and compares
 # docs/pictures with it. It needs Debian's chromium, chromium-driver and
 # python3-selenium, and firefox-esr for Firefox
-check-page: build/v7 build/v7-lesson
-	python3 tests/page.py build/v7-lesson build/v7 page examples/lessons.txt $(PAGE_FILES)
+check-page: build/v7 build/v7-lesson build/v7-explain
+	python3 tests/page.py build/v7-lesson build/v7 build/v7-explain page examples/lessons.txt $(PAGE_FILES)
 
 build/v7-lesson: crates/lesson/out/lesson
 	mkdir -p build

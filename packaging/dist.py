@@ -24,7 +24,9 @@ TOP = os.path.abspath(os.path.join(os.path.dirname(os.path.abspath(__file__)), "
 KEPT = "build/proved"
 # the program that a crate is, and its name in bin
 PROGRAMS = {"v7": "v7", "v7_from_gnu": "v7-from-gnu", "v7_object": "v7-object", "v7_explain": "v7-explain", "lesson": "v7-lesson"}
-PAGE_FILES = ["main.o", "twice.o", "k.o", "l.o", "double.o"]
+# the pages, each with the folder of its objects and its lessons
+PAGES = {"lesson.html": ("examples", ["main.o", "twice.o", "k.o", "l.o", "double.o"]),
+         "program.html": ("examples/total", ["total.o", "say.o", "console.o", "low.o", "limit.o"])}
 DOCUMENTS = ["CHANGES.md", "CONTRIBUTING.md", "docs", "examples"]
 TRIAL = "This is a trial: nothing was checked when these packages were made. Do not publish them.\n"
 
@@ -124,9 +126,9 @@ def libraries(place):
     run("strip", "-g", "-D", f"{place}/library/usr/lib/libv7.a")
 
 
-def page(place):
-    """The page of the lesson."""
-    return subprocess.run([f"{place}/bin/v7-lesson", "-p", "page", "-q", "examples/lessons.txt", *(f"examples/{name}" for name in PAGE_FILES)],
+def page(place, folder, files):
+    """The page of some objects in a folder, with its lessons."""
+    return subprocess.run([f"{place}/bin/v7-lesson", "-p", "page", "-q", f"{folder}/lessons.txt", *(f"{folder}/{name}" for name in files)],
                           stdout=subprocess.PIPE, check=True).stdout
 
 
@@ -210,14 +212,15 @@ def licences(release, place):
 
 
 def documents(release, place, to):
-    """The documents, the lesson page and the notices."""
+    """The documents, the pages of lessons and the notices."""
     for name in DOCUMENTS:
         if os.path.isdir(name):
             shutil.copytree(name, f"{to}/{name}", ignore=shutil.ignore_patterns(".gitignore", "__pycache__"))
         else:
             write(f"{to}/{name}", read(name, "rb"))
     write(f"{to}/README.md", read("packaging/README.md").replace("@VERSION@", release.version))
-    write(f"{to}/lesson.html", page(place))
+    for name, (folder, files) in PAGES.items():
+        write(f"{to}/{name}", page(place, folder, files))
     write(f"{to}/PROVENANCE", provenance(release, place))
     write(f"{to}/NOTICE", licences(release, place))
     shutil.copytree(f"{place}/licences", f"{to}/licences")

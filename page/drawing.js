@@ -209,9 +209,12 @@ function draw() {
     const boxes = new Map();
     const box = (row) => boxes.get(row) ?? boxes.set(row, boxOf(row, frame)).get(row);
     const lines = drawn.arrows.flatMap(({ rows, key, lane }) => rows.map((row) => arrow(row, key, lane, box, size)));
-    byId("drawing").replaceChildren(...lines, ...drawn.chains.map((chain) => chainLine(chain, box, size)), ...(innerWidth < 1280 ? [] : bracket(stateNow(), box, size)));
+    const chains = drawn.chains.map((chain) => chainLine(chain, box, size));
+    const distance = innerWidth < 1280 ? [] : bracket(stateNow(), box, size);
+    const measured = measureEnds(stateNow());
+    byId("drawing").replaceChildren(...lines, ...chains, ...distance);
     drawnSize = sizeText(frame);
-    showEnds();
+    showEnds(stateNow(), measured);
 }
 
 // draws again when the layout changes: by size, zoom, fonts, and on paper
@@ -221,5 +224,5 @@ function watchLayout() {
     }).observe(byId("image"));
     document.fonts.ready.then(draw);
     for (const name of ["resize", "beforeprint", "afterprint"]) window.addEventListener(name, draw);
-    byId("stage").addEventListener("scroll", () => requestAnimationFrame(showEnds), { passive: true });
+    byId("stage").addEventListener("scroll", () => requestAnimationFrame(() => showEnds()), { passive: true });
 }

@@ -2,15 +2,16 @@
 // strip, which has the whole program to scale.
 "use strict";
 
-// how many ends are shown beside rows
+// how many ends are shown beside rows, and how many pixels each has at least
 const MOST_ENDS = 12;
+const LEAST_END = 64;
 // the row that "back" leads to
 let origin = "";
 
 // the part of the stage that is seen, in pixels of the window
 function seenPart() {
     const [stage, image] = [byId("stage").getBoundingClientRect(), byId("frame").getBoundingClientRect()];
-    return { top: stage.top, bottom: stage.bottom, left: image.left, frame: image };
+    return { top: stage.top, bottom: stage.bottom, left: image.left, right: stage.left + byId("stage").clientWidth, frame: image };
 }
 
 // -1 if a row is above what is seen, 1 if it is below, else 0
@@ -73,16 +74,17 @@ function stubsOf(state, seen) {
     return stubs;
 }
 
-function showStubs(state, seen) {
-    const buttons = stubsOf(state, seen).slice(0, MOST_ENDS).map(({ at, to, text, side }) => {
-        const box = at.getBoundingClientRect();
+function showStubs(state, { seen, stubs }) {
+    const buttons = stubs.map(({ at, box, to, text, side }) => {
         const button = makeButton("", text, () => lead(at.id, to));
         button.tabIndex = -1;
         button.dataset.at = at.id;
         button.dataset.to = to;
         button.title = `Go to ${endText(state, to, "")}`;
         button.style.top = `${(box.top + box.bottom) / 2 - seen.frame.top + (side ?? 0) * 9}px`;
-        button.style.left = `${box.right - seen.frame.left + 14}px`;
+        const left = Math.min(box.right + 4, seen.right - LEAST_END);
+        button.style.left = `${left - seen.frame.left}px`;
+        button.style.maxWidth = `${seen.right - left - 2}px`;
         return button;
     });
     byId("stubs").replaceChildren(...buttons);
@@ -122,9 +124,14 @@ function unfoldWord(state, { place, part, index }) {
     draw();
 }
 
-function showEnds() {
-    const state = stateNow();
+// where all this is: measured before anything is changed, so that the browser lays the page out once
+function measureEnds(state) {
     const seen = seenPart();
+    const stubs = stubsOf(state, seen).slice(0, MOST_ENDS).map((stub) => ({ ...stub, box: stub.at.getBoundingClientRect() }));
+    return { seen, stubs, rows: seenRows(state, seen) };
+}
+
+function showEnds(state = stateNow(), measured = measureEnds(state)) {
     const { text, from, to, all } = endsLine(state);
     setText(byId("ends-text"), text);
     byId("go").setAttribute("aria-disabled", String(!to));
@@ -132,8 +139,8 @@ function showEnds() {
     byId("go").dataset.to = to;
     byId("return").setAttribute("aria-disabled", String(!origin));
     for (const id of ["earlier", "later"]) byId(id).setAttribute("aria-disabled", String(!(all?.length > 0)));
-    showStubs(state, seen);
-    showSeen(seen);
+    showStubs(state, measured);
+    showSeen(state, measured.rows);
 }
 
 // ---- the strip
@@ -181,10 +188,25 @@ function showStrip(state) {
     byId("strip").style.visibility = size === 0 ? "hidden" : "visible";
 }
 
+// the number of the first row for which something holds that holds for all rows after it too
+function firstRow(rows, holds) {
+    let [low, high] = [0, rows.length];
+    while (low < high) {
+        const middle = (low + high) >> 1;
+        if (holds(rows[middle])) high = middle;
+        else low = middle + 1;
+    }
+    return low;
+}
+
+// the rows of places in the program that are on the screen
+function seenRows(state, seen) {
+    const all = [...document.querySelectorAll("#image .word:not(.cut-off)")];
+    return all.slice(firstRow(all, (row) => sideOf(row, seen) >= 0), firstRow(all, (row) => sideOf(row, seen) > 0)).filter((row) => stripPlace(state, row.id) >= 0);
+}
+
 // the part of the program that is on the screen
-function showSeen(seen) {
-    const state = stateNow();
-    const rows = [...document.querySelectorAll("#image .word:not(.cut-off)")].filter((row) => stripPlace(state, row.id) >= 0 && sideOf(row, seen) === 0);
+function showSeen(state, rows) {
     const pane = byId("strip").querySelector(".window");
     if (!pane || rows.length === 0) return;
     const size = stripParts(state).size;

@@ -7,7 +7,7 @@ function listingRow(object, part, index) {
     const size = word.kind > 0 ? WORD / 2 : 0;
     const meant = word.kind < 0 ? word.name : word.kind > 0 || word.pc ? targetText(word) : "";
     const { instruction, string, source } = textsOf(object, word);
-    const said = [meant + placeText(word, size), instruction, string && JSON.stringify(string), source].filter(Boolean).join(" / ");
+    const said = [meant + placeText(word, size), instruction, string && quoted(string), source].filter(Boolean).join(" / ");
     const cells = [column(word.offset), column(word.value), word.pc ? "pc" : "", said];
     return make("tr", "", ...cells.map((text) => make("td", "", text)));
 }
@@ -114,7 +114,10 @@ function showNames(state, changed) {
     const known = namesOf(state);
     const cut = isLinked(state) ? [] : namesOf(stateShown()).slice(known.length);
     const rows = [...known.map((name) => nameRow(state, name, changed.get(`name ${name.name}`) ?? "")), ...cut.map((name) => nameRow(stateShown(), name, "cut off"))];
-    const multiples = state.multiples.map((name, i) => rowOf(`multiple-${i}`, "name multiple", `name ${name}`, [["b", "", name], ["span", "state", "multiply defined"]]));
+    const multiples = (isLinked(state) ? state : stateShown()).multiples.map((name, i) => {
+        const how = i < state.multiples.length ? "" : "cut off";
+        return rowOf(`multiple-${i}`, how ? "name multiple cut" : "name multiple", `name ${name}`, [["b", "", name], ["span", "state", "multiply defined"]], how);
+    });
     setChildren(byId("names"), [...rows, ...multiples]);
     byId("names").hidden = rows.length === 0;
 }

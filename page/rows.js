@@ -33,20 +33,30 @@ function makeButton(id, text, act) {
 const partsOf = new WeakMap();
 // an element of a tag, a class, and texts or further such lists
 const build = (part) => (typeof part === "string" ? part : make(part[0], part[1], ...part.slice(2).map(build)));
+
+// changes a node of a row to what it is now; a part of another shape is built anew
+function change(node, now, before) {
+    if (typeof now === "string" && typeof before === "string") {
+        if (now !== before) node.data = now;
+    } else if (Array.isArray(now) && Array.isArray(before) && now.length === before.length && now[0] === before[0] && now[1] === before[1]) {
+        now.slice(2).forEach((part, i) => change(node.childNodes[i], part, before[i + 2]));
+    } else node.replaceWith(build(now));
+}
+
 const newRow = (id) => withAttributes(make("div"), { id, role: "option", "aria-selected": "false" });
 
-// the row of a list with this id, with a blank between its parts; `change` is what the last step did to it
-function rowOf(id, className, key, parts, change = "") {
+// the row of a list with this id, with a blank between its parts; `how` is what the last step did to it
+function rowOf(id, className, key, parts, how = "") {
     const row = byId(id) ?? newRow(id);
-    const all = change ? [...parts, ["span", "tag", change]] : parts;
-    const [now, before] = [all.map((part) => JSON.stringify(part)), partsOf.get(row) ?? []];
+    const now = how ? [...parts, ["span", "tag", how]] : parts;
+    const before = partsOf.get(row) ?? [];
     partsOf.set(row, now);
-    const classes = `${className} ${change.replace(" ", "-")}`.trim();
+    const classes = `${className} ${how.replace(" ", "-")}`.trim();
     if (row.className !== classes) row.className = classes;
     if (row.dataset.key !== key) row.dataset.key = key;
-    now.forEach((text, i) => {
-        if (i >= before.length) row.append(...(i > 0 ? [" "] : []), build(all[i]));
-        else if (text !== before[i]) row.childNodes[2 * i].replaceWith(build(all[i]));
+    now.forEach((part, i) => {
+        if (i >= before.length) row.append(...(i > 0 ? [" "] : []), build(part));
+        else change(row.childNodes[2 * i], part, before[i]);
     });
     while (row.childNodes.length > 2 * now.length - 1) row.lastChild.remove();
     return row;
@@ -93,9 +103,12 @@ function textsOf(object, { part, index }) {
     const instruction = part === "text" ? object.instructions.text[index] : undefined;
     const string = part === "data" ? object.strings.get(index) : undefined;
     const source = (object.source?.[part]?.[index] ?? "").replace(/^\w+:\s*/, "");
-    const isSame = instruction && instruction.replace(/\s/g, "") === source.replace(/\s/g, "");
+    const isSame = source && instruction && instruction.replace(/\s/g, "") === source.replace(/\s/g, "");
     return { instruction, string, source: isSame ? "" : source };
 }
+
+// a text of data in quotes
+const quoted = (text) => JSON.stringify(text).replace(/\\u0000/g, "\\0");
 
 // whether a word belongs to the instruction or to the text of the word before it
 const isInside = (object, part, index) => object.units[part][index] !== index;
@@ -108,7 +121,7 @@ function meaning(state, word, labels) {
     const isNumber = word.own.kind === 0 && !word.own.pc;
     const isSaid = instruction || string !== undefined || isInside(object, word.part, word.index);
     if (instruction) parts.push(["span", "instruction", instruction], " ");
-    if (string !== undefined) parts.push(["span", "string", JSON.stringify(string.replace(/\0+$/, ""))], " ");
+    if (string !== undefined) parts.push(["span", "string", quoted(string.replace(/\0+$/, ""))], " ");
     if (!(isSaid && isNumber)) parts.push(...(isLinked(state) ? computation(state, word) : targetParts(state, word)));
     if (source && !isSaid) parts.push(" ", ["span", "source", source]);
     return ["span", "meaning", ...parts];
@@ -116,7 +129,7 @@ function meaning(state, word, labels) {
 
 // what the last step overwrote in a word: the mark of it, or the word that was bound and waits again
 function wasText(state, word) {
-    const mark = stateShown().marks.map(markOf).find((one) => one.part === word.part && one.offset === word.offset);
+    const mark = marksOf(stateShown()).get(wordKey(word.part, word.offset));
     if (!mark || isLinked(state)) return "";
     if (view.gone < 0) return `${shown(mark.value)} ${targetText(mark)}${placeText(mark, 0)}`;
     const bound = wordAt(stateShown(), word.part, word.offset);

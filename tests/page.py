@@ -1,12 +1,13 @@
 #!/usr/bin/env python3
 """Opens the page of the lesson in Chromium, from the disk, and compares what it shows, in every state, with what `v7-lesson`
-prints for the same objects, and the addresses with what `v7 ld` and `v7 nm` say. Then it looks at the layout in many sizes, in
-Firefox too if it is installed, takes the tour and the lessons by keys alone, and measures the stage with sixteen objects. The
-pictures of docs/pictures are compared with the page. Faults are planted, and have to be found.
+prints for the same objects, and the addresses with what `v7 ld` and `v7 nm` say. Then it looks at the layout in many sizes,
+takes the tour and the lessons by keys alone, and measures the stage with the sixteen compiled objects of tests/data/page and with the
+examples: layout and stage in Firefox too, if it is installed. The pictures of docs/pictures are compared with the page. Faults are
+planted (tests/page_planted.py), and have to be found.
 
-usage: tests/page.py LESSON V7 PAGE QUESTIONS FILE...     PAGE is the folder with the scripts and the styles; five FILEs
+usage: tests/page.py [-p|-s|-r] LESSON V7 EXPLAIN PAGE QUESTIONS FILE...     PAGE is the folder with the scripts and the styles; five FILEs
+       -p plants faults alone, -s measures the stage alone, and -r looks at the rest
 """
-import json
 import os
 import re
 import statistics
@@ -18,10 +19,12 @@ import traceback
 from itertools import permutations
 
 import page_pictures
-from page_browser import Chromium, Keys, firefox
-from page_layout import PLANTS, look, look_everywhere, look_in_firefox
-from page_objects import object_like_c, sixteen
-from page_stage import stage
+from page_browser import Chromium, Firefox, Keys, firefox
+from page_layout import look_everywhere, look_in_firefox
+from page_lessons import bad_questions, lesson_answers, remarks, states_in
+from page_objects import FILES as COMPILED, PLACE, object_like_c, object_of_compiled
+from page_planted import plant_all
+from page_stage import SIZES, first, response as click_times, stage
 from page_use import use_all
 
 LAYOUTS = {"plain": [], "-n": ["-n"], "-i": ["-i"], "-r": ["-r"]}
@@ -76,8 +79,8 @@ def words_of(line):
 class Tools:
     """The programs that the page is compared with."""
 
-    def __init__(self, lesson, v7, page, room):
-        self.lesson, self.v7, self.page, self.room = (os.path.abspath(path) for path in (lesson, v7, page, room))
+    def __init__(self, lesson, v7, explain, page, room):
+        self.lesson, self.v7, self.explain, self.page, self.room = (os.path.abspath(path) for path in (lesson, v7, explain, page, room))
 
     def page_of(self, files, name="lesson.html", questions=""):
         path = os.path.join(self.room, name)
@@ -91,6 +94,26 @@ class Tools:
             return ["nothing"]
         done = subprocess.run([self.lesson, "-n", str(number), *files], capture_output=True, text=True, check=True)
         return [words_of(line) for line in done.stdout.splitlines()[1:]]
+
+    def listing(self, file):
+        """A file as v7-explain lists it."""
+        return subprocess.run([self.explain, file], capture_output=True, text=True).stdout
+
+    def calls(self, files):
+        """The places of the calls that the map of a link lists: it has those of their operands, one word after them."""
+        done = subprocess.run([self.explain, "-m", *files], capture_output=True, text=True)
+        return [int(offset, 8) - 2 for offset in re.findall(r"text ([0-7]{6}) .*: jsr pc,", done.stdout)]
+
+    def uses(self, files):
+        """For each name how many words refer to it, by the map of a link."""
+        done = subprocess.run([self.explain, "-m", *files], capture_output=True, text=True)
+        uses, name = {}, ""
+        for line in done.stdout.partition("\nExternals\n")[2].splitlines():
+            found = re.match(r"[0-7 ]{6} [A-Za-z] (\S+)$", line)
+            name = found[1] if found else name
+            used = re.match(r"    (?:used in    )? +\S+ \((\d+)\)$", line) if "common in" not in line else None
+            uses[name] = uses.get(name, 0) + (int(used[1]) if used else 0)
+        return uses
 
     def link(self, options, files):
         """The words and the header of a link, its table as `nm -p` has it, its report; or why it is refused."""
@@ -286,13 +309,6 @@ def by_keyboard(tools, page, files):
     compare_state(tools, page, "1, and arrows", 2, [files[1], files[0]])
 
 
-def states_in(path):
-    with open(path, encoding="utf-8") as file:
-        text = file.read()
-    data = json.loads(re.search(r'id="data">\n(.*?)</script>', text, re.S).group(1))
-    return data, len(text.encode())
-
-
 def scripts(folder):
     """The scripts are short, and so are their functions."""
     total = 0
@@ -411,93 +427,6 @@ def refusals(tools, files):
         same(f"v7-lesson {words}", (done.returncode, done.stdout, done.stderr[:11]), (2, "", "v7-lesson: "))
 
 
-QUESTIONS = [
-    ("ask Which?", 1, "no lesson has begun"),
-    ("lesson One\nadd nothing.o", 2, "no step adds nothing.o"),
-    ("lesson One\nadd main.o\nadd main.o", 3, "no step adds main.o"),
-    ("lesson One\n\nwithdraw", 3, "there is nothing to withdraw"),
-    ("lesson One\nlink -s", 2, "there is no link -s"),
-    ("lesson One\nadd main.o\nask Which?\nword text 12", 4, "there is no word text 12"),
-    ("lesson One\nadd main.o\nask Which?\nword text 3", 4, "there is no word text 3"),
-    ("lesson One\nadd main.o\nask Which?\nword data 0", 4, "there is no word data 0"),
-    ("lesson One\nadd main.o\nask Which?\nword bss 0", 4, "there is no word bss 0"),
-    ("lesson One\nadd main.o\nask Which?\nname _nothing", 4, "there is no name _nothing"),
-    ("lesson One\nadd main.o\nask Which?\nadd twice.o", 4, "the question of line 3 has no answer"),
-    ("lesson One\nask Which?", 2, "the question has no answer"),
-    ("lesson One\nword text 0", 2, "an answer to no question"),
-    ("lesson One\nask", 2, "ask is followed by a text"),
-    ("# One\nlesson One\nshow main.o", 3, "show begins no line of a lesson"),
-    ("lesson One\nadd main.o\nask changes Which?\nword text 4\nadd twice.o", 5, "the word at 4 does not change"),
-    ("lesson One\nadd main.o\nadd twice.o\nask changes Which?\nword text 2\nwithdraw", 6, "the word at 2 does not change"),
-    ("lesson One\nadd main.o\nask value text 6 What?\nnumber 4\nadd twice.o", 5, "the number is 2"),
-    ("lesson One\nadd main.o\nask value text 12 What?\nimage", 4, "after the step there is no such word"),
-    ("lesson One\nadd main.o\nask value bss 0 What?\nimage", 3, "value is followed by text or data, an offset and a text"),
-    ("lesson One\nadd main.o\nask where _count Where?\nnumber 12\nlink -r", 5, "the name is nowhere"),
-    ("lesson One\nadd k.o\nadd l.o\nask where _x Where?\nnumber 2\nlink plain", 6, "the number is 6"),
-    ("lesson One\nadd main.o\nask where _y Where?\nlink plain", 4, "after the step there is no such name"),
-    ("lesson One\nadd main.o\nask changes Which?\nsay This.", 4, "the question of line 3 has no step"),
-    ("lesson One\nask changes Which?", 2, "the question has no step"),
-    ("lesson One\nask where", 2, "where is followed by a name and a text"),
-    ("lesson One\nask changes", 2, "ask is followed by a text"),
-    ("lesson One\nask Which?\nbecause so", 3, "the question of line 2 has no answer"),
-    ("lesson One\nask changes Which?\nnumber 2\nimage", 3, "an answer to no question"),
-]
-
-
-def bad_questions(tools, files):
-    """A line that refers to no word, name or step: no page, and the line's number."""
-    path = os.path.join(tools.room, "bad.txt")
-    for text, line, fault in QUESTIONS:
-        with open(path, "w", encoding="ascii") as out:
-            out.write(text + "\n")
-        done = subprocess.run([tools.lesson, "-p", tools.page, "-q", path, *files], capture_output=True, text=True)
-        same(f"questions: {text}", (done.returncode, done.stdout, done.stderr), (2, "", f"v7-lesson: {path}: line {line}: {fault}\n"))
-
-
-def changed_by(states, here, word, rest):
-    """The words that a step changes, and the list after it."""
-    longer = [*here, rest[0]] if word == "add" else here
-    marks = [[mark[0], mark[1]] for mark in states[tuple(longer)]["marks"] if mark[0] != "name"]
-    return marks, longer if word == "add" else here[:-1]
-
-
-def lesson_answers(tools, path, files):
-    """The answers of the lessons are what the programs say of the objects."""
-    data, _ = states_in(path)
-    states = {tuple(state["list"]): state for state in data["states"] if "marks" in state}
-    here, asked, compared_here = [], None, 0
-    for word, *rest in data["lessons"]:
-        if word == "lesson":
-            here = []
-        elif word in ("changes", "value", "where"):
-            asked = [word, *rest]
-        elif word in ("add", "withdraw", "link", "image"):
-            marks, after = changed_by(states, here, word, rest) if word in ("add", "withdraw") else ([], here)
-            if asked:
-                same(f"the answer to {asked}, {word}", answer_said(tools, asked, [files[number] for number in after], word, rest, marks), asked)
-                compared_here += 1
-            here, asked = after, None
-    same("lessons", (sum(line[0] == "lesson" for line in data["lessons"]), compared_here >= 12), (9, True))
-
-
-def answer_said(tools, asked, files, word, rest, marks):
-    """A question with the answer that the programs give."""
-    kind, *about = asked
-    if kind == "changes":
-        return ["changes", *(part for mark in marks for part in mark)]
-    if word == "link":
-        linked = tools.link(list(LAYOUTS.values())[rest[0]], files)
-        lines = [line for line in linked["table"].splitlines() if line[9:] == about[0] and line[7] not in "UC"]
-        number = int(lines[0][:6], 8) if lines else None
-        if kind == "value":
-            number = linked["segments"][about[0]][about[1] // 2]
-    else:
-        lines = [line.split() for line in tools.step(len(files), files)]
-        found = [line for line in lines if line[:2] == [about[0], f"{about[1]:06o}"]] if kind == "value" else []
-        number = int(found[0][2], 8) if found else None
-    return ["where", about[0], number] if kind == "where" else ["value", about[0], about[1], number, asked[4]]
-
-
 def full(tools, files):
     """An object is refused, and a link, each with the text that the programs have."""
     path = os.path.join(tools.room, "full.o")
@@ -512,41 +441,66 @@ def full(tools, files):
     page.quit()
 
 
-def sixteen_objects(tools):
-    """The paths of sixteen objects, which are those of tests/data/page."""
-    folder = os.path.join(tools.room, "sixteen")
-    os.makedirs(folder)
-    for name, content in sixteen().items():
-        with open(os.path.join(os.path.dirname(os.path.abspath(__file__)), "data", "page", name), "rb") as stored:
-            same(f"tests/data/page/{name}", stored.read() == content, True)
-        with open(os.path.join(folder, name), "wb") as out:
-            out.write(content)
-    return sorted(os.path.join(folder, name) for name in os.listdir(folder))
+def same_objects(folder):
+    """The objects of a folder are what the assembler makes of the compiler's files beside them."""
+    names = [name[:-2] for name in sorted(os.listdir(folder)) if name.endswith(".s")]
+    for name in names:
+        with open(os.path.join(folder, f"{name}.o"), "rb") as stored:
+            same(f"{folder}/{name}.o", stored.read() == object_of_compiled(folder, name), True)
+    same(f"objects of {folder}", len(names) > 0, True)
+
+
+def sixteen_objects():
+    """The paths of the sixteen objects of tests/data/page."""
+    same_objects(PLACE)
+    return [os.path.join(PLACE, f"{name}.o") for name in COMPILED]
+
+
+def stages(tools, default, files, compiled, many):
+    """The stage of three pages, in both browsers."""
+    given = program_in_c(files)
+    pages = ((default, files, "the default page"), (tools.page_of(given, "stage.html"), given, "a program in C"), (compiled, many, "sixteen objects"))
+    page = Page()
+    for path, given, what in pages:
+        stage(tools, page, path, given, LAYOUTS, same, what)
+    page.load(compiled)
+    click_times(page, first(len(many)), same)
+    page.quit()
+    if not firefox():
+        print("not measured in Firefox, as it is not installed: Debian's package is firefox-esr")
+        return
+    for zoom, sizes in ((1, SIZES[:-1]), (2, SIZES[-1:])):
+        page = Firefox(zoom)
+        try:
+            for path, given, what in pages:
+                stage(tools, page, path, given, LAYOUTS, same, what, sizes)
+            page.load(compiled)
+            click_times(page, first(len(many)), same)
+        finally:
+            page.quit()
 
 
 def layouts(tools, default, files, five, compiled):
-    """The layout of three pages, in all sizes and in both browsers; and faults that are planted."""
+    """The layout of four pages, in all sizes and in both browsers."""
     program_page = tools.page_of(files, "program.html")
     pages = {"the default page": default, "five objects": program_page, "five of 500 words": five, "sixteen objects": compiled}
     page = Page()
     counts = look_everywhere(page, pages, faults)
-    for what, script in PLANTS.items():
-        page.load(default)
-        page.size(1280, 720)
-        page.open("#objects=1,2")
-        page.run(script)
-        planted, _ = [], {}
-        look(page, what, planted, {})
-        same(f"planted: {what}", len(planted) > 0, True)
     page.quit()
     print("looked at in Chromium: " + ", ".join(f"{count} {name}" for name, count in sorted(counts.items())), flush=True)
     same("nothing was counted of", [name for name, count in counts.items() if count == 0], [])
     if firefox():
         counts = look_in_firefox(pages, faults)
-        print("looked at in Firefox: " + ", ".join(f"{count} {name}" for name, count in sorted(counts.items())))
+        print("looked at in Firefox: " + ", ".join(f"{count} {name}" for name, count in sorted(counts.items())), flush=True)
         same("nothing was counted in Firefox of", [name for name, count in counts.items() if count == 0], [])
-    else:
-        print("not looked at in Firefox, as it is not installed: Debian's package is firefox-esr")
+
+
+def planted(tools, default, questions, files, compiled, many):
+    """Each fault that is planted is found."""
+    page = Page(default)
+    count = plant_all(tools, page, default, questions, files, compiled, many, LAYOUTS, same)
+    page.quit()
+    print(f"{count} faults were planted", flush=True)
 
 
 def compare_states(tools, files, default):
@@ -572,31 +526,52 @@ def program_files(files):
     return [os.path.join(os.path.dirname(files[0]), name) for name in ("start.o", "print.o", "main.o", "twice.o", "count.o")]
 
 
-def check(tools, questions, files):
-    """All that is looked at."""
+def program_in_c(files):
+    """The objects of a program in C, with one that has a fault."""
+    return [os.path.join(os.path.dirname(files[0]), "total", name) for name in ("total.o", "say.o", "console.o", "low.o", "limit.o")]
+
+
+def check(tools, only, questions, files):
+    """All that is looked at, or a part of it."""
+    default = tools.page_of(files, "default.html", questions)
+    many = sixteen_objects()
+    compiled = tools.page_of(many, "sixteen.html")
+    print(f"bytes of sixteen objects: {os.path.getsize(compiled)}")
+    same("bytes of sixteen objects", os.path.getsize(compiled) <= 1_000_000, True)
+    if only in ("", "-p"):
+        planted(tools, default, questions, files, compiled, many)
+    if only in ("", "-s"):
+        stages(tools, default, files, compiled, many)
+    if only in ("", "-r"):
+        check_rest(tools, default, files, compiled)
+
+
+def check_rest(tools, default, files, compiled):
+    """The scripts, files that are refused, the page's use, all states, and the layout."""
     scripts(tools.page)
     refusals(tools, files)
-    bad_questions(tools, files)
+    bad_questions(tools, files, same)
     counts(tools, files)
-    default = tools.page_of(files, "default.html", questions)
-    lesson_answers(tools, default, files)
-    many = sixteen_objects(tools)
-    compiled = tools.page_of(many, "sixteen.html")
-    same("bytes of sixteen objects", os.path.getsize(compiled) <= 1_000_000, True)
+    lesson_answers(tools, default, files, LAYOUTS, same)
+    given = program_in_c(files)
+    same_objects(os.path.dirname(given[0]))
+    program_page = tools.page_of(given, "course.html", os.path.join(os.path.dirname(given[0]), "lessons.txt"))
+    lesson_answers(tools, program_page, given, LAYOUTS, same, 2, 6)
+    remarks(tools, program_page, given, same)
     page = Page(default)
-    use_all(page, default, compiled, same)
-    stage(tools, page, compiled, many, LAYOUTS, same)
+    use_all(page, default, program_page, compiled, same)
     page.quit()
     compare_states(tools, files, default)
     layouts(tools, default, program_files(files), five_of_500(tools), compiled)
 
 
 def main():
-    lesson, v7, page_folder, questions, *files = sys.argv[1:]
+    only = sys.argv[1] if sys.argv[1] in ("-p", "-s", "-r") else ""
+    lesson, v7, explain, page_folder, questions, *files = sys.argv[2 if only else 1:]
     with tempfile.TemporaryDirectory() as room:
         try:
-            check(Tools(lesson, v7, page_folder, room), questions, files)
-        except Exception as error:  # the faults that were found are printed all the same
+            check(Tools(lesson, v7, explain, page_folder, room), only, questions, files)
+        except (Exception, KeyboardInterrupt) as error:  # the faults that were found are printed all the same
             faults.append(f"{type(error).__name__}: {error}")
             traceback.print_exc()
     print(f"{compared} things were compared")

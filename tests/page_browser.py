@@ -43,6 +43,8 @@ def wait_for(page, script, *words):
 
 class Chromium:
     name = "Chromium"
+    # it tells how much of the processor the page has taken
+    counts_processor = True
 
     def __init__(self, path="", width=1366, height=768, text=16):
         """`text` is the size of text that the browser is set to, in pixels."""
@@ -133,6 +135,18 @@ class Chromium:
         nodes = self.driver.execute_cdp_cmd("Accessibility.getFullAXTree", {})["nodes"]
         return [(node.get("role", {}).get("value", ""), node.get("name", {}).get("value", "")) for node in nodes if not node["ignored"]]
 
+    def live(self):
+        """What the accessibility tree has in the place that is announced."""
+        nodes = {node["nodeId"]: node for node in self.driver.execute_cdp_cmd("Accessibility.getFullAXTree", {})["nodes"]}
+        status = next(node for node in nodes.values() if node.get("role", {}).get("value") == "status")
+        texts, waiting = [], [status]
+        while waiting:
+            node = waiting.pop()
+            waiting += [nodes[child] for child in reversed(node.get("childIds", [])) if child in nodes]
+            if node.get("role", {}).get("value") == "StaticText":
+                texts.append(node["name"]["value"])
+        return " ".join(" ".join(texts).split())
+
     def busy(self):
         """How many milliseconds of the processor the page has taken, with its layout and its drawing."""
         metrics = self.driver.execute_cdp_cmd("Performance.getMetrics", {})["metrics"]
@@ -151,9 +165,10 @@ def firefox():
 
 
 class Firefox:
-    """As much of the same as layouts need. Its window is at least 500 pixels wide, so the page is a frame in it."""
+    """The same for Firefox, as far as it is needed. Its window is at least 500 pixels wide, so the page is a frame in it."""
 
     name = "Firefox"
+    counts_processor = False
 
     def __init__(self, zoom=1):
         self.home = tempfile.mkdtemp()
@@ -163,6 +178,7 @@ class Firefox:
         with open(os.path.join(self.home, "user.js"), "w", encoding="ascii") as out:
             out.write(f'user_pref("marionette.port", {port});\nuser_pref("layout.css.devPixelsPerPx", "{zoom}");\n')
             out.write('user_pref("browser.shell.checkDefaultBrowser", false);\nuser_pref("security.fileuri.strict_origin_policy", false);\n')
+        self.window = self.framed = (0, 0)
         words = [firefox(), "--headless", "--marionette", "--no-remote", "--profile", self.home]
         self.process = subprocess.Popen(words, stdout=subprocess.DEVNULL, stderr=subprocess.DEVNULL, env={**os.environ, "HOME": self.home})
         self.socket, self.rest, self.number = self.reach(port), b"", 0
@@ -201,14 +217,39 @@ class Firefox:
 
     def show(self, width, height):
         """Opens the page in a window, or a frame, that is so wide."""
+        self.window = width, height
+        self.open("")
+
+    def size(self, width, height, scale=1):
+        """The size of the frame that the next page is opened in. A dot is what `zoom` of the browser makes it."""
+        self.window = width, height
+
+    def open(self, address):
+        width, height = self.window
         path = os.path.join(self.home, "frame.html")
         with open(path, "w", encoding="ascii") as out:
-            out.write(f'<body style="margin: 0"><iframe src="{self.url}" style="width: {width}px; height: {height}px; border: 0"></iframe>')
-        self.send("WebDriver:SetWindowRect", {"width": max(width + 40, 500), "height": height + 120})
+            out.write(f'<body style="margin: 0"><iframe src="{self.url}{address}" style="width: {width}px; height: {height}px; border: 0"></iframe>')
+        if self.window != self.framed:
+            self.send("WebDriver:SetWindowRect", {"width": max(width + 40, 500), "height": height + 120})
+            self.framed = self.window
         self.send("WebDriver:Navigate", {"url": "file://" + path})
         self.send("WebDriver:SwitchToFrame", {"id": 0})
-        if self.run("return innerWidth") != width:
+        if self.run("window.focus(); return innerWidth") != width:
             raise RuntimeError(f"the frame is not {width} wide")
+
+    def type(self, *keys):
+        acts = [{"type": kind, "value": key} for key in keys for kind in ("keyDown", "keyUp")]
+        self.send("WebDriver:PerformActions", {"actions": [{"type": "key", "id": "keys", "actions": acts}]})
+
+    def press_at(self, x, y):
+        """Presses the mouse at a spot of the page."""
+        move = {"type": "pointerMove", "x": round(x), "y": round(y), "duration": 0, "origin": "viewport"}
+        acts = [move, {"type": "pointerDown", "button": 0}, {"type": "pointerUp", "button": 0}]
+        self.send("WebDriver:PerformActions", {"actions": [{"type": "pointer", "id": "mouse", "parameters": {"pointerType": "mouse"}, "actions": acts}]})
+
+    def busy(self):
+        """The clock, in milliseconds."""
+        return 1000 * time.monotonic()
 
     def run(self, script, *words):
         """Runs a script where the page's own scripts run; Marionette would run it where it sees none of their variables."""

@@ -112,18 +112,6 @@ if (main.scrollWidth > main.clientWidth + 1) fault("the image is wider than its 
 return { faults, counts };
 """
 
-# moves one arrow by some pixels, or makes another fault that `LOOK` has to find
-PLANTS = {
-    "an arrow 4 pixels lower": "const path = document.querySelector('g.arrow .line'); path.setAttribute('transform', 'translate(0 5)');",
-    "an arrow head 5 pixels higher": "document.querySelector('g.arrow .head').setAttribute('transform', 'translate(0 -7)');",
-    "an arrow over the words": "const path = document.querySelector('g.arrow .line'); const d = path.getAttribute('d').split(' '); "
-    "path.setAttribute('d', `M ${d[1]} ${d[2] - 9} h -400 h 400 ` + d.slice(3).join(' '));",
-    "a text that leaves its frame": "document.querySelector('.word .meaning').style.cssText = 'position: relative; left: 60rem';",
-    "badges that overlap": "for (const tag of document.querySelectorAll('.tag')) tag.style.cssText = 'position: fixed; top: 9rem; left: 9rem';",
-    "a word that is wider than the page": "document.querySelector('.word').style.width = '300rem';",
-}
-
-
 def look(page, what, faults, counts):
     """Looks at what is shown; adds to the faults, and to the counts."""
     add(page.run(LOOK), what, faults, counts)
@@ -145,7 +133,7 @@ STATES = {
 }
 # names and words that are chosen besides, each in the last state but one of its page
 CHOSEN = {"the default page": ["name _count", "text-6"], "five objects": ["name left", "text-2", "text-46"], "five of 500 words": ["name _errno", "name csv"],
-          "sixteen objects": ["name csv", "name _errno", "text-0", "name _v3"]}
+          "sixteen objects": ["name csv", "name _say", "text-0", "name _here"]}
 CHOOSE = "choose(arguments[0], true);"
 GO = "location.hash = arguments[0] || '#'; return true;"
 THERE = "return location.hash.replace('#', '') === arguments[0] && hashOf(view) === arguments[0]"

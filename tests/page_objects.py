@@ -1,17 +1,31 @@
 #!/usr/bin/env python3
-"""Makes objects like those of a C compiler: functions with calls, jumps, variables, strings and tables of pointers, of which
-about a third of the words refer to something. No compiler made them: sizes and references are what the page needs.
+"""The objects that the page is measured with.
 
-usage: tests/page_objects.py FOLDER     writes the sixteen objects that tests/data/page has
+tests/data/page has a program in C of sixteen files: a calculator for a PDP-11 without any library. examples/total has a smaller one.
+Debian's Portable C Compiler (the source package pcc, 1.2.0~DEVEL+20220331, configured with --target=pdp11-unknown-bsd) made the files
+*.s of them; its parts `cpp` and `ccom` are all that is needed, and build in a minute. tests/page_assembler.py makes the objects of
+these, as the assembler of Unix does.
+
+usage: tests/page_objects.py            writes the objects beside their sources
+       tests/page_objects.py CPP CCOM   compiles the sources first
+
+Besides, `object_like_c` makes objects of any size, of which about a third of the words refer to something: no compiler made those.
 """
 import os
 import random
 import struct
+import subprocess
 import sys
 
+import page_assembler
+
 TEXT, DATA, BSS, EXTERNAL, PC = 0o2, 0o4, 0o6, 0o10, 0o1
-COUNT = 16
 FUNCTIONS = 4
+TESTS = os.path.dirname(os.path.abspath(__file__))
+PLACE = os.path.join(TESTS, "data", "page")
+FOLDERS = [PLACE, os.path.join(TESTS, "..", "examples", "total")]
+# the files of the program, in the order in which they are linked: a file comes before those that it calls
+FILES = ["main", "command", "line", "token", "number", "parse", "apply", "stack", "name", "mem", "list", "sort", "error", "text", "print", "start"]
 
 
 class Maker:
@@ -116,12 +130,28 @@ def object_like_c(number, size, count):
     return Maker(number, size, count).make()
 
 
-def sixteen():
-    """Sixteen objects of 100 to 325 words, by their names."""
-    return {f"part{number:02}.o": object_like_c(number, 100 + 15 * number, COUNT) for number in range(COUNT)}
+def compile_all(folder, cpp, ccom):
+    """Compiles the sources of a folder."""
+    for source in sorted(name for name in os.listdir(folder) if name.endswith(".c")):
+        text = subprocess.run([cpp, source], cwd=folder, stdout=subprocess.PIPE, check=True).stdout
+        with open(os.path.join(folder, f"{source[:-2]}.s"), "wb") as out:
+            subprocess.run([ccom], input=text, stdout=out, check=True)
+
+
+def object_of_compiled(folder, name):
+    """The object that the assembler makes of a file of the compiler."""
+    with open(os.path.join(folder, f"{name}.s"), encoding="ascii") as source:
+        return page_assembler.assembled(source.read())
+
+
+def main(words):
+    for folder in FOLDERS:
+        if words:
+            compile_all(folder, *map(os.path.abspath, words))
+        for name in [name[:-2] for name in os.listdir(folder) if name.endswith(".s")]:
+            with open(os.path.join(folder, f"{name}.o"), "wb") as out:
+                out.write(object_of_compiled(folder, name))
 
 
 if __name__ == "__main__":
-    for file, content in sixteen().items():
-        with open(os.path.join(sys.argv[1], file), "wb") as out:
-            out.write(content)
+    main(sys.argv[1:])

@@ -1,18 +1,37 @@
-"""Measures the stage of the page: where arrows end, what a step moves, what is in view, what a choice and the search find."""
+"""Measures the stage of the page: where arrows end, what a step moves, what is in view, what a choice and the search find, in
+Chromium and in Firefox."""
 import re
 import time
 
 from page_browser import Keys
 
+# widths, heights and scales of a window; a zoom of 200 % at 1280 is a window of 640 pixels, each of two dots
 SIZES = [(1920, 1080, 1), (1366, 768, 1), (1024, 768, 1), (390, 844, 1), (640, 360, 2)]
+# how many milliseconds a click may take: the aim is 100, and docs/internals/COSTS.md says what misses it
+CLICK = 150
 
-# ---- arrows: for each word that refers to something, the row at which the drawn arrow ends
+
+def first(count):
+    """The address of the state of the first objects."""
+    return "objects=" + ",".join(str(number) for number in range(1, count + 1))
+
+# ---- arrows: for each word that refers to something, the place that the page has for it, in a link with its address
+PLACES_MEANT = r"""
+const state = stateNow(), bases = isLinked(state) ? state.links[view.layout].bases : [0, 0, 0, 0];
+const starts = { text: 0, data: bases[1], bss: bases[3] };
+return allReferences(state).filter((one) => one.to || !isLinked(state)).map((one) => {
+    const [kind, ...rest] = one.to.split("-");
+    const number = placeOf(state, state.referenceStarts[one.place] + DATA.objects[state.list[one.place]].references[one.part].get(one.index).number, view.layout) % WORD;
+    return [one.id, one.to, rest.length === 1 && /^\d+$/.test(rest[0]) && kind in starts ? starts[kind] + Number(rest[0]) : number];
+});
+"""
+# and for some of them the row at which the drawn arrow ends
 ENDS = r"""
-const [step] = arguments;
+const [step, first] = arguments;
 const found = [];
 const state = stateNow();
 allReferences(state).forEach((one, i) => {
-    if (i % step) return;
+    if (i % step !== first % step) return;
     choose(one.id, false);
     const arrow = document.querySelector(`g.arrow[data-from="${one.id}"]`);
     if (!arrow) return found.push([one.id, "", ""]);
@@ -20,8 +39,8 @@ allReferences(state).forEach((one, i) => {
     const head = arrow.querySelector(".head").getBoundingClientRect(), box = row.getBoundingClientRect();
     const middle = (head.top + head.bottom) / 2;
     const isAt = middle > box.top && middle < box.bottom;
-    const fold = row.dataset.key.startsWith("fold ");
-    found.push([one.id, isAt ? row.id : `not at ${row.id}`, fold ? "fold" : row.querySelector(".offset").textContent]);
+    const fold = row.classList.contains("fold");
+    found.push([one.id, isAt ? row.id : `not at ${row.id}`, fold ? "fold" : row.querySelector(".offset")?.textContent ?? "no row"]);
 });
 choose("", false);
 return found;
@@ -51,32 +70,51 @@ def sizes_of(lines):
     return {"text": 2 * len(words["text"]), "data": 2 * len(words["data"]), "bss": int(bss[0].split()[1]) if bss else 0}
 
 
+def meant_in_link(page, linked):
+    """For each word that refers to something the address that it means in a link."""
+    base = page.run("return stateNow().links[view.layout].bases[1]")
+    relative = page.run("return Object.fromEntries(allReferences(stateNow()).map((one) => [one.id, imageWord(stateNow(), one.place, one.part, one.index).pc]))")
+    meant = {}
+    for word, is_pc in relative.items():
+        part, offset = word.split("-")
+        final = linked["segments"][part][int(offset) // 2]
+        meant[word] = (final + int(offset) + (base if part == "data" else 0) + 2) % 65536 if is_pc else final
+    return meant
+
+
+def row_address(end, address):
+    """The address of a row of a word is even."""
+    return address - address % 2 if re.fullmatch(r"(text|data)-\d+", end) else address
+
+
 def compare_ends(tools, page, files, layouts, same, step=1):
-    """Each arrow ends at the place that its word means, in the image and in each link; in a link that is the word's address."""
+    """Each word has the place that it means, in the image and in each link; in a link that is the word's address. Of so many words one
+    arrow is drawn in each layout, another one in the next, and ends there."""
     lines = tools.step(len(files), files)
     wanted = ends_in_image(lines, sizes_of(lines))
-    count = 0
-    for word, end, _ in page.run(ENDS, step):
-        same(f"{len(files)} objects, the image: {word} means", end, wanted.get(word, ""))
-        count += 1
-    for key, (layout, options) in zip("pnir", layouts.items()):
+    what = f"{len(files)} objects"
+    places = page.run(PLACES_MEANT)
+    for word, end, _ in places:
+        same(f"{what}, the image: {word} has", end, wanted.get(word, ""))
+    drawn = page.run(ENDS, step, 0)
+    for word, end, _ in drawn:
+        same(f"{what}, the image: {word} means", end, wanted.get(word, ""))
+    counts = [len(places), len(drawn)]
+    for number, (key, (layout, options)) in enumerate(zip("pnir", layouts.items())):
         page.type(key)
         linked = tools.link(options, files)
         if "refused" in linked:
             continue
-        base = page.run("return stateNow().links[view.layout].bases[1]")
-        relative = page.run("return Object.fromEntries(allReferences(stateNow()).map((one) => [one.id, imageWord(stateNow(), one.place, one.part, one.index).pc]))")
-        for word, end, address in page.run(ENDS, step):
-            part, offset = word.split("-")
-            final = linked["segments"][part][int(offset) // 2]
-            meant = (final + int(offset) + (base if part == "data" else 0) + 2) % 65536 if relative[word] else final
-            if not end:
-                continue
-            row = meant - meant % 2 if end.startswith(("text-", "data-")) and end[5:].isdigit() else meant
-            same(f"{len(files)} objects, {layout}: {word} means {end}", address, f"{row:06o}")
-            count += 1
+        meant = meant_in_link(page, linked)
+        places = page.run(PLACES_MEANT)
+        for word, end, address in places:
+            same(f"{what}, {layout}: {word} has {end}", address, row_address(end, meant[word]))
+        drawn = [one for one in page.run(ENDS, step, number + 1) if one[1]]
+        for word, end, address in drawn:
+            same(f"{what}, {layout}: {word} means {end}", address, f"{row_address(end, meant[word]):06o}")
+        counts = [counts[0] + len(places), counts[1] + len(drawn)]
     page.type("a")
-    return count
+    return counts
 
 
 # ---- what a step moves
@@ -108,7 +146,7 @@ def stands(page, count, sizes, same, what):
     for width, height, scale in sizes:
         page.size(width, height, scale)
         for number in range(1, count + 1):
-            page.open("#objects=" + ",".join(str(one) for one in range(1, number + 1)))
+            page.open("#" + first(number))
             page.settle()
             gone, left = moved(page)
             kept += left
@@ -116,11 +154,11 @@ def stands(page, count, sizes, same, what):
     return kept
 
 
-def six_clicks(page, same):
+def six_clicks(page, sizes, same):
     """Six clicks on one spot withdraw five objects."""
-    for width, height, scale in SIZES:
+    for width, height, scale in sizes:
         page.size(width, height, scale)
-        page.open("#objects=1,2,3,4,5")
+        page.open("#" + first(5))
         x, y = page.run("const box = document.getElementById('withdraw').getBoundingClientRect(); return [(box.left + box.right) / 2, (box.top + box.bottom) / 2]")
         left = []
         for _ in range(6):
@@ -138,20 +176,27 @@ const seen = (element, room) => {
 };
 const note = document.getElementById("note");
 const row = document.querySelector(".word.bound, .word.put-back"), name = document.querySelector(".name.changed, .name.put-back");
-const unit = row && (row.classList.contains("inside") ? row.previousElementSibling : row);
+// whether a row shows the instruction that its word belongs to, if it belongs to one
+const showsInstruction = (one) => {
+    const word = wordAt(stateNow(), one.id.split("-")[0], Number(one.id.split("-")[1]));
+    const object = DATA.objects[stateNow().list[word.place]];
+    const start = word.part === "text" ? object.units.text[word.index] : -1;
+    return start < 0 || !object.instructions.text[start] || Boolean(byId(wordKey("text", word.offset - 2 * (word.index - start)))?.querySelector(".instruction"));
+};
+const changedRows = [...document.querySelectorAll(".word.bound, .word.put-back")];
 return {
     sentence: note.textContent.length > 20 && seen(note, document.body) && note.scrollHeight <= note.clientHeight + 1,
     row: !row || seen(row, document.getElementById("stage")),
     name: !name || seen(name, document.getElementById("known")),
-    unit: !row || row.id.startsWith("data") || Boolean(row.querySelector(".instruction") ?? unit.querySelector(".instruction") ?? unit.previousElementSibling?.querySelector?.(".instruction")),
-    bound: [...document.querySelectorAll(".word.bound")].every((row) => row.querySelector(".bound-name") && row.querySelector(".was")), count: document.querySelectorAll(".word.bound, .word.put-back").length };
+    unit: changedRows.every(showsInstruction),
+    bound: changedRows.every((row) => (row.matches(".put-back") || row.querySelector(".bound-name")) && row.querySelector(".was")), count: changedRows.length };
 """
 
 
-def in_view(page, count, same, what):
+def in_view(page, count, sizes, same, what):
     """At each step the sentence, the changed name and the first changed row can be seen; bound rows have their names."""
     changed = 0
-    for width, height, scale in SIZES:
+    for width, height, scale in sizes:
         page.size(width, height, scale)
         page.open("")
         for number in range(1, count + 1):
@@ -175,7 +220,11 @@ const stage = document.getElementById("stage").getBoundingClientRect();
 const seen = (row) => { const box = row.getBoundingClientRect(); return (box.top + box.bottom) / 2 >= stage.top && (box.top + box.bottom) / 2 <= stage.bottom; };
 const go = document.getElementById("go");
 const line = document.getElementById("ends-text");
-const stubs = [...document.querySelectorAll("#stubs button")];
+const right = stage.left + document.getElementById("stage").clientWidth;
+const stubs = [...document.querySelectorAll("#stubs button")].filter((stub) => {
+    const box = stub.getBoundingClientRect();
+    return box.width >= 30 && box.left >= stage.left - 1 && box.right <= right + 1;
+});
 const faults = [];
 let ends = 0;
 for (const { key: target, rows } of drawn.arrows) for (const row of rows) {
@@ -189,13 +238,15 @@ for (const { key: target, rows } of drawn.arrows) for (const row of rows) {
 const folded = [...document.querySelectorAll("#image .fold .count")].reduce((sum, count) => sum + parseInt(count.textContent), 0);
 const rows = new Set([...drawn.arrows, ...drawn.chains].flatMap((bundle) => bundle.rows).filter((row) => !row.classList.contains("fold")));
 const waiting = drawn.references.filter((one) => !one.to && !rows.has(document.getElementById(one.id)) && document.getElementById(one.id)).length;
-const nowhere = drawn.references.filter((one) => one.to && !rows.has(document.getElementById(one.id)) && document.getElementById(one.id)).length;
+const shown = new Set(drawn.arrows.flatMap((bundle) => bundle.rows));
+const nowhere = drawn.references.filter((one) => one.to && !shown.has(rowAt(one.place, one.part, one.index, one.id))).length;
 return { faults, ends, all: drawn.references.length, counted: rows.size + folded + waiting, nowhere, said: line.textContent };
 """
 
 
-def choices(page, same, what, keys):
-    """Of each choice both ends of an arrow are seen, or the end that is not is named beside the other; all references are counted."""
+def choices(page, same, what, keys, uses):
+    """Of each choice both ends of an arrow are seen, or the end that is not is named beside the other; all references are counted, and
+    they are no fewer than those of the map."""
     ends = 0
     for key in keys:
         seen = page.run(CHOICE, key)
@@ -203,6 +254,7 @@ def choices(page, same, what, keys):
         same(f"{what}: {key}", (seen["faults"][:2], seen["nowhere"], seen["counted"]), ([], 0, seen["all"]))
         if key.startswith("name "):
             same(f"{what}: {key} in words", re.match(r"\d+", seen["said"])[0], str(seen["all"]))
+            same(f"{what}: {key} has as many references as in the map", seen["all"] >= uses.get(key[5:], 0), True)
     return ends
 
 
@@ -219,26 +271,39 @@ def look_around(page, same):
     same("back", abs(page.run("return document.getElementById('stage').scrollTop") - start) < 500, True)
 
 
-def search(page, same, lines):
-    """`/jsr pc,` finds each such instruction, in folds too."""
+# the search, and the places of what it finds
+FIND = "byId('find').value = arguments[0]; find(); return matches.map(({ id }) => [id.split('-')[0], Number(id.split('-')[1])]);"
+
+
+def search(tools, page, same, files):
+    """`/jsr pc,` finds each such instruction, in folds too: as many as v7-lesson lists, and those of the map of v7-explain."""
+    lines = tools.step(len(files), files)
+    wanted = [["text", int(line.split()[1], 8)] for line in lines if "jsr pc," in line]
     page.run("document.activeElement.blur()")
     page.type("/", "j", "s", "r", " ", "p", "c", ",")
     page.wait("return /of/.test(document.getElementById('found').textContent)")
-    wanted = sum("jsr pc," in line for line in lines)
-    same("what /jsr pc, finds", (page.run("return document.getElementById('found').textContent"), wanted > 1), (f"1 of {wanted}", True))
+    same("what /jsr pc, finds", (page.run("return document.getElementById('found').textContent"), len(wanted) > 0), (f"1 of {len(wanted)}", True))
     page.type(Keys.ENTER)
     page.settle()
-    same("the next one", page.run("return [document.getElementById('found').textContent, document.querySelector('#image [aria-selected=true]') !== null]"), [f"2 of {wanted}", True])
+    second = f"{min(2, len(wanted))} of {len(wanted)}"
+    same("the next one", page.run("return [document.getElementById('found').textContent, document.querySelector('#image [aria-selected=true]') !== null]"), [second, True])
     page.type(Keys.ESCAPE)
+    found = page.run(FIND, "jsr pc,")
+    same("the places that /jsr pc, finds", found, wanted)
+    mapped = tools.calls(files)
+    same("calls in the map of v7-explain that /jsr pc, does not find", [offset for offset in mapped if ["text", offset] not in found], [])
+    page.run("clearFound(); choose('', false)")
+    return len(found), len(mapped)
 
 
 CLICKED = {"Withdraw": "#withdraw", "a word": ".word.bound", "a name": ".name.changed", "a fold": ".fold", "Addresses": "#addresses"}
 
 
-def response(page, state):
-    """Prints the processor's time for a click with all objects, with the two frames after it: the middle of five."""
+def response(page, state, same):
+    """How long a click takes with all objects, with the two frames after it: the middle of five, in milliseconds of the processor in
+    Chromium, and by the clock in Firefox, which does not say more."""
     page.size(1366, 768)
-    times = []
+    times = {}
     for what, selector in CLICKED.items():
         taken = []
         for _ in range(5):
@@ -248,71 +313,43 @@ def response(page, state):
             page.run("document.querySelector(arguments[0]).click()", selector)
             page.settle()
             taken.append(page.busy() - before)
-        times.append(f"{what} {sorted(taken)[2]:.0f}")
-    print("milliseconds of the processor for a click, with sixteen objects: " + ", ".join(times), flush=True)
+        times[what] = sorted(taken)[2]
+    said = ", ".join(f"{what} {time:.0f}" for what, time in times.items())
+    print(f"{page.name}: milliseconds for a click with all objects: {said}", flush=True)
+    if page.counts_processor:
+        same(f"clicks that take more than {CLICK} ms", [what for what, time in times.items() if time > CLICK], [])
 
 
-# ---- faults that are planted, which have to be found
-PLANTS = {
-    "an arrow one row off": ("ends", "const original = idOfPlace; idOfPlace = (number) => original(Math.floor(number / WORD) === 1 ? number + 2 : number);"),
-    "a name dropped": ("view", "document.querySelector('.word.bound .bound-name').remove();"),
-    "an old value dropped": ("view", "document.querySelector('.word.bound .was').remove();"),
-    "a reference left out": ("choice", "const original = chosenReferences; bundles = ((real) => (state, references) => real(state, references.slice(1)))(bundles);"),
-    "a row moved by 2 pixels": ("moved", "document.getElementById('withdraw').addEventListener('click', () => { document.getElementById('image').style.paddingTop = '2px'; });"),
-    "the sentence dropped": ("view", "document.getElementById('note').textContent = '';"),
-}
+# all names, and so many of the words that refer to something
+CHOOSE_FROM = """
+const names = stateNow().nameList.map((name) => `name ${name}`), words = allReferences(stateNow());
+return [...names, ...words.filter((_, i) => i % Math.ceil(words.length / arguments[0]) === 0).map(({ id }) => id)];
+"""
 
 
-def planted(tools, page, files, layouts, same):
-    """Each planted fault is seen."""
-    page.size(1366, 768)
-    for what, (kind, script) in PLANTS.items():
-        page.open("#objects=1,2,3,4,5")
-        page.settle()
-        page.run("(0, eval)(arguments[0])", script)
-        found = []
-
-        def note(_, shown, wanted):
-            if shown != wanted:
-                found.append(_)
-        if kind == "ends":
-            page.run("showChosen(true)")
-            compare_ends(tools, page, files, layouts, note)
-        elif kind == "view":
-            seen = page.run(VIEW)
-            seen.pop("count")
-            note(what, [name for name, is_seen in seen.items() if not is_seen], [])
-        elif kind == "choice":
-            choices(page, note, what, ["name _f0a"] if page.run("return stateNow().nameList.includes('_f0a')") else [f"name {name}" for name in page.run("return stateNow().nameList")])
-        else:
-            page.run("document.getElementById('withdraw').focus()")
-            note(what, moved(page)[0], [])
-        same(f"planted: {what}", len(found) > 0, True)
-
-
-def stage(tools, page, path, files, layouts, same):
-    """All of this, with sixteen objects."""
+def stage(tools, page, path, files, layouts, same, what, sizes=SIZES):
+    """All of this, with some objects."""
     began = time.monotonic()
     page.load(path)
     page.size(1366, 768)
-    counts = {}
-    every = ",".join(str(number) for number in range(1, len(files) + 1))
-    for number in (2, 5, len(files)):
-        page.open("#objects=" + ",".join(str(one) for one in range(1, number + 1)))
-        counts["ends of arrows"] = counts.get("ends of arrows", 0) + compare_ends(tools, page, files[:number], layouts, same, 1 if number < 5 else 7)
-    counts["things that stay"] = stands(page, len(files), SIZES, same, "sixteen objects")
-    counts["words that changed"] = in_view(page, len(files), same, "sixteen objects")
-    six_clicks(page, same)
-    for width, height, scale in SIZES:
+    counts = {"places of words": 0, "ends of arrows": 0, "arrows of choices": 0}
+    for number in {2, 5, len(files)}:
+        page.open("#" + first(number))
+        places, ends = compare_ends(tools, page, files[:number], layouts, same, 5 if number > 5 or not page.counts_processor else 1)
+        counts["places of words"] += places
+        counts["ends of arrows"] += ends
+    counts["things that stay"] = stands(page, len(files), sizes, same, what)
+    counts["words that changed"] = in_view(page, len(files), sizes, same, what)
+    six_clicks(page, sizes, same)
+    uses = tools.uses(files)
+    same("uses in the map", sum(uses.values()) > 0, True)
+    for width, height, scale in sizes:
         page.size(width, height, scale)
-        page.open("#objects=" + every)
-        keys = page.run("return [...stateNow().nameList.slice(0, 60).map((name) => `name ${name}`), ...allReferences(stateNow()).filter((_, i) => i % 40 === 0).map(({ id }) => id)]")
-        counts["arrows of choices"] = counts.get("arrows of choices", 0) + choices(page, same, f"{width} wide", keys)
+        page.open("#" + first(len(files)))
+        counts["arrows of choices"] += choices(page, same, f"{what}, {width} wide", page.run(CHOOSE_FROM, 20), uses)
         look_around(page, same)
     page.size(1366, 768)
-    page.open("#objects=" + every)
-    search(page, same, tools.step(len(files), files))
-    response(page, "objects=" + every)
-    planted(tools, page, files[:5], layouts, same)
+    page.open("#" + first(len(files)))
+    counts["found calls"], counts["calls in the map"] = search(tools, page, same, files)
     same("nothing was measured of", [name for name, count in counts.items() if count == 0], [])
-    print("on the stage: " + ", ".join(f"{count} {name}" for name, count in counts.items()) + f", in {time.monotonic() - began:.0f} s", flush=True)
+    print(f"on the stage, {what}, {page.name}: " + ", ".join(f"{count} {name}" for name, count in counts.items()) + f", in {time.monotonic() - began:.0f} s", flush=True)

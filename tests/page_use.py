@@ -91,8 +91,8 @@ def stops(page, compiled, same):
     page.type(Keys.HOME, *[Keys.ARROW_DOWN] * word)
     same("arrow down chooses", page.run("return document.querySelector('#image [aria-selected=true]').id"), rows[word])
     page.run("choose('', false)")
-    fold = page.run("return [...document.querySelectorAll('#image [role=option]')].findIndex((row) => row.className.includes('fold'))")
-    page.type(Keys.HOME, *[Keys.ARROW_DOWN] * fold)
+    page.run("const rows = rowsIn('image'); active.image = rows[rows.findIndex((row) => row.className.includes('fold')) - 1].id; setActive();")
+    page.type(Keys.ARROW_DOWN)
     before = page.run("return document.querySelectorAll('.word').length")
     page.type(Keys.ENTER)
     same("Enter opens a fold", page.run("return document.querySelectorAll('.word').length") > before, True)
@@ -200,9 +200,59 @@ def take_step(page, what, same):
     return bool(asked)
 
 
-def lessons(page, default, same):
-    """All lessons and the practice by keys alone, with the right answers; then a wrong one."""
-    page.load(default)
+def announced(page, log):
+    """Adds what the accessibility tree has in its live place to a log, if it has changed."""
+    text = page.live()
+    if not log or log[-1] != text:
+        log.append(text)
+
+
+# what a lesson has to say from this step to the next one: what comes before the answer, and what comes after it
+SENTENCES = """
+const wait = nextStep();
+return [...GUIDES[view.guide].steps[view.done].says, ...(wait && wait.ask ? [wait.ask, ...choicesOf(wait).map(({ text }) => text)] : [])];
+"""
+
+
+def logged(page, number, same):
+    """A lesson by keys: the log of the accessibility tree has each sentence of it in order, with choices, answers and verdicts."""
+    page.open(f"#lesson={number}&done=0")
+    log, wanted = [], []
+    announced(page, log)
+    for _ in range(page.run("return GUIDES[view.guide].steps.length - 1")):
+        wanted += page.run(SENTENCES)
+        done, asked = page.run("return [view.done, nextStep().ask]")
+        if asked:
+            page.type(*page.run(RIGHT))
+            if page.run("return document.activeElement.id") == "number":
+                page.type(Keys.ENTER)
+            announced(page, log)
+            wanted.append("You chose ")
+        page.type(Keys.ENTER)
+        page.wait("return view.done === arguments[0]", done + 1)
+        announced(page, log)
+        wanted += ["Right: "] if asked else []
+    wanted += page.run(SENTENCES)
+    text, at, missing = " ".join(log), 0, []
+    for sentence in wanted:
+        found = text.find(" ".join(sentence.split()), at)
+        missing += [sentence] if found < 0 else []
+        at = max(at, found)
+    same(f"lesson {number}: what the log of the accessibility tree does not have in order", missing, [])
+    return len(wanted)
+
+
+def log_of_lessons(page, paths, same):
+    count = 0
+    for path in paths:
+        page.load(path)
+        count += sum(logged(page, number, same) for number in range(1, page.run("return GUIDES.length")))
+    print(f"{count} sentences, choices and verdicts of lessons are in the log of the accessibility tree, in order", flush=True)
+
+
+def by_keys(page, path, same):
+    """All lessons of a page and its practice by keys alone, with the right answers. Returns how many questions they have."""
+    page.load(path)
     asked = 0
     titles = page.run("return GUIDES.map(({ title }) => title)")
     page.run("document.getElementById('guides').focus()")
@@ -212,7 +262,14 @@ def lessons(page, default, same):
         page.open(f"#lesson={number}&done=0")
         for done in range(page.run("return GUIDES[view.guide].steps.length - 1")):
             asked += take_step(page, f"{titles[number]}, step {done + 1}", same)
-    same("questions that were answered", asked >= 20, True)
+    return asked
+
+
+def lessons(page, default, program, same):
+    """The lessons of two pages by keys alone; then a wrong answer."""
+    asked = by_keys(page, program, same), by_keys(page, default, same)
+    same("questions that were answered", (asked[0] >= 12, asked[1] >= 20), (True, True))
+    print(f"{sum(asked)} questions were answered by keys, each with at most three strokes", flush=True)
     page.open("#objects=1&lesson=1&done=1")
     page.type("w", "2", "p", "a", Keys.ARROW_LEFT)
     same("keys under an open question", page.run("return [view.list, view.layout, view.done]"), [[0], -1, 1])
@@ -330,22 +387,19 @@ return { rows: rows.length, roles: rows.filter((row) => row.getAttribute("role")
     chosen: document.querySelectorAll("#image [aria-selected=true]").length, groups: document.querySelectorAll("#image [role=group][aria-label]").length,
     arrows: document.querySelectorAll("g.arrow").length, sentence: document.getElementById("note").textContent.length > 20 };
 """
-LABEL_AS_PROPERTY = "addEventListener('DOMContentLoaded', () => { withAttributes = (element, all) => { for (const name in all) element[name === 'id' ? 'id' : name.replace(/-(.)/, (_, c) => c.toUpperCase())] = all[name]; return element; }; showAll(); });"
 
 
-def old_browser(page, default, same):
-    """The oldest browsers, by taking away what they lack: words have roles and labels, and can be chosen. A label as a property is seen."""
-    for script, is_right in ((OLD, True), (OLD + LABEL_AS_PROPERTY, False)):
-        kept = page.before_loading(script)
-        page.load(default)
-        page.open("#objects=1,2")
-        page.type("3", "w")
-        same("steps in an old browser", page.run("return view.list.length"), 2)
-        page.type("w", "2")
-        seen = page.run(OLD_SEEN)
-        wanted = {"rows": 7, "roles": 7, "chosen": 1, "groups": 1, "arrows": 1, "sentence": True}
-        same(f"an old browser{'' if is_right else ', a label as a property'}", seen == wanted, is_right)
-        page.as_before(kept)
+def old_browser(page, default, same, more=""):
+    """The oldest browsers, by taking away what they lack: words have roles and labels, and can be chosen."""
+    kept = page.before_loading(OLD + more)
+    page.load(default)
+    page.open("#objects=1,2")
+    page.type("3", "w")
+    same("steps in an old browser", page.run("return view.list.length"), 2)
+    page.type("w", "2")
+    wanted = {"rows": 7, "roles": 7, "chosen": 1, "groups": 1, "arrows": 1, "sentence": True}
+    same("an old browser", page.run(OLD_SEEN), wanted)
+    page.as_before(kept)
     page.load(default)
 
 
@@ -389,14 +443,15 @@ def motion(page, default, same):
     page.media("")
 
 
-def use_all(page, default, compiled, same):
+def use_all(page, default, program, compiled, same):
     first_view(page, same)
     roles(page, same)
     stops(page, compiled, same)
     keys(page, default, same)
     history(page, default, same)
     tour(page, default, same)
-    lessons(page, default, same)
+    lessons(page, default, program, same)
+    log_of_lessons(page, (program, default), same)
     numbers(page, default, same)
     leads(page, default, same)
     texts(page, default, same)
