@@ -114,7 +114,7 @@ def number(word):
 
 
 def path(word):
-    if word in (b"", b".", b"..") or b"/" in word or b"\0" in word:
+    if {b"", b".", b".."} & set(word.split(b"/")) or b"\0" in word:
         raise ValueError
     return word
 

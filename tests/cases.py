@@ -126,11 +126,12 @@ def check_asked(step, came):
 # --- commands
 
 def snapshot(directory):
-    """The files of a folder."""
-    files = {}
-    for entry in os.scandir(os.fsencode(directory)):
-        with open(entry.path, "rb") as file:
-            files[entry.name] = file.read()
+    """The files of a folder and of those in it, by their paths from there."""
+    files, top = {}, os.fsencode(directory)
+    for at, _, names in os.walk(top):
+        for path in (os.path.join(at, name) for name in names):
+            with open(path, "rb") as file:
+                files[os.path.relpath(path, top)] = file.read()
     return files
 
 
@@ -253,7 +254,9 @@ def play_states(part, place, directory):
 def play_part(part, folder):
     with tempfile.TemporaryDirectory() as directory:
         for name, data in folder.items():
-            with open(os.path.join(os.fsencode(directory), name), "wb") as file:
+            path = os.path.join(os.fsencode(directory), name)
+            os.makedirs(os.path.dirname(path), exist_ok=True)
+            with open(path, "wb") as file:
                 file.write(data)
         for place, step in enumerate(part.steps):
             play_states(part, place, directory)

@@ -25,8 +25,9 @@ IDS = [("command_words", "words"), ("command_words", "link_words"), ("instructio
 
 os.chdir(os.path.join(os.path.dirname(os.path.abspath(__file__)), ".."))
 LIBRARIES = [
-    "aout_core", "link_session", "tool_options", "link_out", "symtools", "reports", "link_maps",
-    "command_words", "v7tools", "laws", "gnu_objects", "texts", "listings", "instructions", "disassemblies", "findings", "library_calls", "v7_c",
+    "aout_core", "texts", "surroundings", "link_session", "tool_options", "link_out", "symtools", "reports", "link_maps",
+    "command_words", "v7tools", "laws", "gnu_objects", "listings", "instructions", "disassemblies", "findings", "library_calls", "v7_c",
+    "v7_from_gnu", "v7_object",
 ]
 IMPORT = re.compile(
     r"^ *(?:pub )?(?:ghost )?use Rattle\.(\w+)\.(specs|proofs)\.([\w.]+?)(?:\.\{([^}]*)\}|(?: as (\w+))?);?$"
@@ -50,7 +51,9 @@ def imports(text):
 
 
 def exported(crate):
-    """The modules of a crate that are public, and the names that its root gives out of others."""
+    """The modules of a crate that are public, and the names that its root gives out of others; of a program, its `perform`."""
+    if os.path.exists(f"crates/{crate}/src/main.rt"):
+        return set(), {"program": {"perform"}}
     text = read(f"crates/{crate}/src/lib.rt")
     modules = set(re.findall(r"^pub mod (\w+);", text, re.M))
     names = {}

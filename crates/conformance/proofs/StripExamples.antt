@@ -12,8 +12,8 @@ use Rattle.tool_options.specs.declared.options.Keep.TheVariants.{Nothing}
 use Rattle.tool_options.specs.Choices.{Choices}
 use Rattle.command_words.specs.declared.words.Call.TheVariants.{Ld, Strip}
 use Rattle.v7tools.specs.CommandRuns.{AsksFor}
-use Rattle.v7tools.specs.Events.{opened, stored}
-use Rattle.v7tools.specs.declared.office.Stored.TheVariants.{Kept}
+use Rattle.surroundings.specs.Events.{opened, stored}
+use Rattle.surroundings.specs.declared.office.Stored.TheVariants.{Kept}
 use Rattle.laws.specs.Disks.{Run, file_after}
 use Rattle.laws.specs.StepsByCommands.{AreAt, LeaveTheSame, Links, ReportTheSame, StripStepsLaw, Strips}
 use Rattle.conformance.specs.Samples.{d_o, e_o, plain, plain_s}

@@ -89,7 +89,7 @@ impl<'a, R: Abort + AllocGlobal> MemoryOffice<'a, R> {
 
 impl<R: Abort + AllocGlobal> Office for MemoryOffice<'_, R> {
     ghost use Rattle.std.specs.Prelude.{map, option_map, Some, string_bytes};
-    ghost use Rattle.v7tools.specs.Events.{opened, stored};
+    ghost use Rattle.surroundings.specs.Events.{opened, stored};
     ghost use Rattle.device_tests.specs.declared.memory_office.Asked.TheVariants.{Opened, Stored};
 
     type Source = TestReader<'static>;

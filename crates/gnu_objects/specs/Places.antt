@@ -1,5 +1,5 @@
 -- The byte of a file at which a refusal stands, and the whole name of a symbol. (own choice)
-use Rattle.std.specs.Prelude.{◌≡◌, ℕ, ◌+◌, ◌*◌, ◌/◌, ◌<◌, ◌≤◌, nat_lt, if◌then◌else◌, List, take, length, None}
+use Rattle.std.specs.Prelude.{◌≡◌, ℕ, ◌+◌, ◌*◌, ◌/◌, ◌<◌, ◌≤◌, nat_lt, nat_le, ◌||◌, if◌then◌else◌, List, [], take, length, None, is_some}
 use Rattle.aout_core.specs.declared.header.Header.{Header}
 use Rattle.aout_core.specs.declared.object.ObjectFault.{ObjectFault}
 use Rattle.aout_core.specs.declared.object.ObjectFault.TheVariants.{NotAnObject, NoRelocation, BadRelocation, BadSymbolNumber}
@@ -69,3 +69,12 @@ whole_name_under bytes h n = name_at (strings_of bytes h) (symbol_at bytes (symb
 
 abbrev pub whole_name : List ℕ → ℕ → List ℕ
 whole_name bytes n = whole_name_under bytes (header_in (take 16 bytes)) n
+
+-- the whole name, or no bytes if the file is refused for its header or its strings, or has no such symbol
+abbrev pub name_there_under : List ℕ → Header → ℕ → List ℕ
+name_there_under bytes h n =
+    if is_some (header_refusal (length bytes) h) || (nat_le (h.symbol_size / 8) n || is_some (strings_refusal bytes h)) then []
+    else whole_name_under bytes h n
+
+abbrev pub name_there : List ℕ → ℕ → List ℕ
+name_there bytes n = if nat_lt (length bytes) 16 then [] else name_there_under bytes (header_in (take 16 bytes)) n

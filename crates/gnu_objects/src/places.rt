@@ -1,6 +1,6 @@
 //! Where in a file a refusal stands, and the whole names of symbols.
 ghost use Rattle.std.specs.Prelude.{◌≡◌, ◌≢◌, []};
-ghost use Rattle.gnu_objects.specs.Places.{symbol_place, word_place, size_place, fault_place, place_of, whole_name, HasSymbol};
+ghost use Rattle.gnu_objects.specs.Places.{symbol_place, word_place, size_place, fault_place, place_of, whole_name, name_there, HasSymbol};
 
 use crate::checks::{header_refusal, strings_at, strings_refusal, symbols_at};
 use crate::names::name_at;
@@ -75,6 +75,7 @@ pub fn place_of(bytes: &[u8], refusal: Refusal) -> usize
 pub fn whole_name(bytes: &[u8], n: u16) -> &[u8]
     ensures name { HasSymbol bytes.now n → (result.now ≡ whole_name bytes.now n) }
     ensures none { result.now ≢ [] → HasSymbol bytes.now n }
+    ensures value { result.now ≡ name_there bytes.now n }
 {
     if bytes.len() < 16 {
         return &bytes[..0];

@@ -17,7 +17,7 @@ use Rattle.link_session.specs.declared.entry.AddFault.TheVariants.{TextFull}
 use Rattle.link_session.specs.Limits.{limit_passed, refusal}
 use Rattle.link_session.specs.Labelled.{Labelled, objects}
 use Rattle.link_session.specs.Starts.{total}
-use Rattle.v7tools.specs.Events.{Event, Opened, opens, paths_of}
+use Rattle.surroundings.specs.Events.{Event, Opened, opens, paths_of}
 use Rattle.link_out.specs.Steps.{unless}
 use Rattle.v7tools.specs.Inputs.{Cause, bad_object, not_added, object_in}
 use Rattle.v7tools.specs.LinkAnswers.{TakesAll}

@@ -11,14 +11,14 @@ use Rattle.link_out.specs.function.Reports.{report_text, status_of}
 use Rattle.command_words.specs.declared.words.Call.{Call}
 use Rattle.command_words.specs.declared.words.Call.TheVariants.{Ld, Nm, Size, Strip, Session}
 use Rattle.v7tools.specs.CommandRuns.{AsksFor, Ends, IsCallRun, RunsWords}
-use Rattle.v7tools.specs.Events.{Event, Extends, Opened, opens, paths_of, stored}
+use Rattle.surroundings.specs.Events.{Event, Extends, Opened, opens, paths_of, stored}
 use Rattle.v7tools.specs.FileRuns.{AreRead, IsStripRun, Loaded, strips}
 use Rattle.v7tools.specs.LinkAnswers.{LinksAll}
 use Rattle.v7tools.specs.LinkRuns.{inputs_opened, IsLinkOfFiles, IsLinkRun, ReportsIf}
 use Rattle.v7tools.specs.declared.fault.CliFault.{CliFault}
-use Rattle.v7tools.specs.declared.office.Stored.{Stored}
-use Rattle.v7tools.specs.declared.office.Stored.TheVariants.{Kept, NotCreated, Failed}
-use Rattle.v7tools.proofs.EventLemmas.{asked_after}
+use Rattle.surroundings.specs.declared.office.Stored.{Stored}
+use Rattle.surroundings.specs.declared.office.Stored.TheVariants.{Kept, NotCreated, Failed}
+use Rattle.surroundings.proofs.EventLemmas.{asked_after}
 use Rattle.laws.specs.Disks.{Run, Writes}
 use Rattle.laws.specs.StepsByCommands.{Links, Strips}
 use Rattle.laws.proofs.CallLemmas.{IsLink, IsStrip, same_link, same_strip}

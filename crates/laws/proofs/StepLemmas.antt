@@ -23,8 +23,8 @@ use Rattle.link_out.specs.function.Link.{link}
 use Rattle.link_out.specs.function.Reports.{ReportNames, report_text, status_of}
 use Rattle.link_out.specs.laws.PartialLinksAmongOthers.{PartialStandsAmongOthers}
 use Rattle.link_out.specs.laws.Stripping.{StripLaw}
-use Rattle.v7tools.specs.Events.{Event, opens, paths_of, stored}
-use Rattle.v7tools.specs.declared.office.Stored.TheVariants.{Kept}
+use Rattle.surroundings.specs.Events.{Event, opens, paths_of, stored}
+use Rattle.surroundings.specs.declared.office.Stored.TheVariants.{Kept}
 use Rattle.laws.specs.Disks.{Disk, IsOn, Run, Writes, disk_after, file_after, with_file}
 use Rattle.laws.specs.StepsByCommands.{AreAt, IsAt, Links, LinkStepsLaw, ReportTheSame, StripStepsLaw}
 use Rattle.laws.proofs.DiskLemmas.{AreTaken, after_opens, are_at_append, given, objects_taken, read_back, stored_there}

@@ -8,9 +8,9 @@ use Rattle.aout_core.specs.Contents.{Contents}
 use Rattle.aout_core.specs.Encoding.{encoding}
 use Rattle.aout_core.specs.Wires.{Latched}
 use Rattle.v7tools.specs.CommandRuns.{Performs}
-use Rattle.v7tools.specs.Events.{Event, opened, stored}
-use Rattle.v7tools.specs.declared.office.Stored.{Stored}
-use Rattle.v7tools.specs.declared.office.Stored.TheVariants.{Kept}
+use Rattle.surroundings.specs.Events.{Event, opened, stored}
+use Rattle.surroundings.specs.declared.office.Stored.{Stored}
+use Rattle.surroundings.specs.declared.office.Stored.TheVariants.{Kept}
 
 -- the bytes of the file at each path, where they are known
 abbrev pub Disk : Type 0

@@ -3,27 +3,12 @@
 
 mod terminal;
 
-use std::fs::File;
 use std::io::IsTerminal;
-use std::os::fd::AsRawFd;
 use std::process::ExitCode;
-use std::{env, fs, io};
+use std::{env, io};
+use surroundings::hold_streams;
 use terminal::command_at_terminal;
 use v7tools::{command, words};
-
-/// Opens a folder at each descriptor below 3 that is closed, since a file that a command opens would else take the place
-/// of a standard stream. A folder is neither read nor written: what goes there is a read or a write error.
-fn hold_streams(rt: &HostRuntime) -> io::Result<Vec<File>> {
-    let mut held = Vec::new(rt.alloc());
-    for _ in 0..3 {
-        let folder = fs::open(rt, "/")?;
-        if folder.as_raw_fd() > 2 {
-            break;
-        }
-        held.push(folder)?;
-    }
-    Ok(held)
-}
 
 /// The status of the command. The streams are held until it has ended. More is written only if standard error is a terminal.
 fn run(rt: &HostRuntime) -> io::Result<u8> {

@@ -1,124 +1,246 @@
 //! What the arguments ask for.
-use aout_core::{Shown, shown_by};
-use gnu_objects::{Locals, Options};
-use std::alloc::AllocError;
-use std::{env, io};
+ghost use Rattle.std.specs.Prelude.{◌≡◌, ◌++◌, codes, ◌∷◌, [], None, map, string_bytes, IfOk};
+ghost use Rattle.std.specs.Option.{option_map};
+ghost use Rattle.v7_from_gnu.specs.Calls.{after_slash, call_from, call_of, conversion_of, into_folder, jobs_of, letter_read, letters_read, options_read, unread};
 
-/// What the arguments ask for: to show something, or a conversion.
+use aout_core::Shown;
+use gnu_objects::{Locals, Options};
+use std::alloc::{AllocError, Global};
+use std::marker::Model;
+use surroundings::shown_in;
+use texts::Text;
+
+/// A file that is to be converted, and the path where its object is to go.
 #[derive(Drop)]
-pub(crate) enum Asked {
-    Show(Shown),
-    /// One file to another.
-    Convert(Choices, String, String),
-    /// Files into a folder, at least one.
-    ConvertAll(Choices, String, Vec<String>),
+pub(crate) struct Job {
+    pub(crate) from: String,
+    pub(crate) to: String,
 }
 
-/// What the letters ask for.
-#[derive(Clone, Copy)]
-pub(crate) struct Choices {
+impl Model for Job {
+    ghost use Rattle.std.specs.Prelude.{string_bytes};
+    ghost use Rattle.v7_from_gnu.specs.Jobs as spec;
+
+    ghost Value = { spec.Job };
+
+    ghost view = { λ j. record { from = string_bytes j.from; to = string_bytes j.to } };
+}
+
+/// A conversion that the arguments ask for.
+#[derive(Drop)]
+pub(crate) struct Conversion {
     pub(crate) options: Options,
     /// `-q`: no line for a name that is cut or a local that is dropped.
     pub(crate) is_quiet: bool,
+    pub(crate) jobs: Vec<Job>,
 }
 
-/// The arguments that are read so far.
+impl Model for Conversion {
+    ghost use Rattle.v7_from_gnu.specs.Jobs as spec;
+
+    ghost Value = { spec.Conversion };
+
+    ghost view = { λ c. record { options = c.options; is_quiet = c.is_quiet; jobs = c.jobs.items } };
+}
+
+/// What the arguments ask for.
 #[derive(Drop)]
-struct Words {
-    choices: Choices,
-    /// The argument before was `-o`.
-    wants_folder: bool,
-    folder: Option<String>,
-    paths: Vec<String>,
+pub(crate) enum Call {
+    Show(Shown),
+    Convert(Conversion),
 }
 
-/// Takes a letter; whether there is such a letter, and no folder is to follow one before it.
-fn take_letter(words: &mut Words, letter: char) -> bool {
-    if words.wants_folder {
-        return false;
+/// What the letters ask for that were read so far.
+#[derive(Clone, Copy)]
+struct Letters {
+    options: Options,
+    is_quiet: bool,
+    has_folder: bool,
+    /// The next argument is the folder.
+    wants_folder: bool,
+}
+
+/// No letter has been read.
+fn unread() -> Letters
+    ensures { result ≡ unread }
+{
+    Letters {
+        options: Options {
+            drops_debugger: false,
+            locals: Locals::KeepAll,
+        },
+        is_quiet: false,
+        has_folder: false,
+        wants_folder: false,
+    }
+}
+
+/// With one more letter, if it may be there: none may follow `o`, and that comes once.
+fn with_letter(letters: Letters, letter: u8) -> Option<Letters>
+    ensures { result ≡ letter_read letters letter }
+{
+    let mut more = letters;
+    if letters.wants_folder {
+        return None;
     }
     match letter {
-        'S' => words.choices.options.drops_debugger = true,
-        'x' => words.choices.options.locals = Locals::KeepNone,
-        'X' if words.choices.options.locals == Locals::KeepNone => {}
-        'X' => words.choices.options.locals = Locals::KeepNeeded,
-        'q' => words.choices.is_quiet = true,
-        'o' if words.folder.is_none() => words.wants_folder = true,
-        _ => return false,
-    }
-    true
-}
-
-/// Takes the letters after a dash; whether there are any, and each may be there.
-fn take_letters(words: &mut Words, text: &str) -> bool {
-    for letter in text.chars().skip(1) {
-        if !take_letter(words, letter) {
-            return false;
+        b'S' => more.options.drops_debugger = true,
+        b'x' => more.options.locals = Locals::KeepNone,
+        b'X' if letters.options.locals == Locals::KeepNone => {}
+        b'X' => more.options.locals = Locals::KeepNeeded,
+        b'q' => more.is_quiet = true,
+        b'o' if !letters.has_folder => {
+            more.has_folder = true;
+            more.wants_folder = true;
         }
+        _ => return None,
     }
-    text.len() > 1
+    Some(more)
 }
 
-/// Takes an argument; whether it may be there.
-fn take_word(words: &mut Words, word: String) -> Result<bool, AllocError> {
-    if words.wants_folder {
-        words.wants_folder = false;
-        words.folder = Some(word);
-        return Ok(true);
+/// With the letters after a hyphen, if there are any and each may be there.
+fn with_letters(before: Letters, bytes: &[u8]) -> Option<Letters>
+    ensures { result ≡ letters_read before bytes.now }
+{
+    let mut letters = before;
+    for letter in bytes {
+        letters = with_letter(letters, *letter)?;
     }
-    if words.paths.is_empty() && word.as_str().starts_with('-') {
-        return Ok(take_letters(words, word.as_str()));
-    }
-    words.paths.push(word)?;
-    Ok(true)
+    Some(letters)
 }
 
-/// The conversion that these arguments ask for: two paths without a folder, and with one at least one path.
-fn conversion(words: Words) -> Option<Asked> {
-    let Words {
-        choices,
-        wants_folder,
-        folder,
-        mut paths,
-    } = words;
-    if wants_folder {
+/// With an argument that begins with a hyphen; a hyphen alone is refused.
+fn with_options(before: Letters, word: &[u8]) -> Option<Letters>
+    ensures { result ≡ options_read before word.now }
+{
+    if word.len() < 2 {
         return None;
     }
-    if let Some(folder) = folder {
-        if paths.is_empty() {
-            return None;
+    with_letters(before, &word[1..])
+}
+
+/// What follows the last slash of a path, or all of it.
+fn after_slash(path: &[u8]) -> &[u8]
+    ensures { result.now ≡ after_slash path.now }
+{
+    let mut name = path;
+    for (index, byte) in path.iter().enumerate() {
+        if *byte == b'/' {
+            name = &path[index + 1..];
         }
-        return Some(Asked::ConvertAll(choices, folder, paths));
     }
-    let (Some(to), Some(from), None) = (paths.pop(), paths.pop(), paths.pop()) else {
-        return None;
-    };
-    Some(Asked::Convert(choices, from, to))
+    name
+}
+
+/// The path of a name in a folder. The end of a path after a slash is text, so only memory can be missing.
+fn path_in(alloc: Global, folder: &str, name: &[u8]) -> Result<String, AllocError>
+    ensures { IfOk result (λ path. string_bytes path ≡ folder.now ++ codes "/" ++ name.now) }
+{
+    let mut path = Text::new(alloc);
+    path.put(folder);
+    path.put("/");
+    path.put_bytes(name);
+    match String::from_utf8(path.finish()?) {
+        Ok(path) => Ok(path),
+        Err(_) => Err(AllocError),
+    }
+}
+
+/// The conversion of a file to one of the same name in a folder.
+fn into_folder(alloc: Global, folder: &str, path: &str) -> Result<Job, AllocError>
+    ensures { IfOk result (λ job. job ≡ into_folder folder.now path.now) }
+{
+    Ok(Job {
+        from: String::from_str(alloc, path)?,
+        to: path_in(alloc, folder, after_slash(path.as_bytes()))?,
+    })
+}
+
+/// The conversions of files to files of the same names in a folder.
+fn all_into_folder(alloc: Global, folder: &str, paths: &[String]) -> Result<Vec<Job>, AllocError>
+    ensures { IfOk result (λ jobs. jobs.items ≡ map (into_folder folder.now) (map string_bytes paths.now)) }
+{
+    let mut jobs = Vec::new(alloc);
+    for path in paths {
+        jobs.push(into_folder(alloc, folder, path.as_str())?)?;
+    }
+    Ok(jobs)
+}
+
+/// The conversion of a file to another.
+fn one_job(alloc: Global, from: &str, to: &str) -> Result<Vec<Job>, AllocError>
+    ensures { IfOk result (λ jobs. jobs.items ≡ record { from = from.now; to = to.now } ∷ []) }
+{
+    let mut jobs = Vec::new(alloc);
+    jobs.push(Job {
+        from: String::from_str(alloc, from)?,
+        to: String::from_str(alloc, to)?,
+    })?;
+    Ok(jobs)
+}
+
+/// What is to be converted: all files to a folder, or without a folder one file to another.
+fn jobs_of(
+    alloc: Global,
+    folder: Option<&str>,
+    paths: &[String],
+) -> Result<Option<Vec<Job>>, AllocError>
+    ensures { IfOk result (λ jobs. option_map (λ jobs. jobs.items) jobs ≡ jobs_of (option_map (λ f. f.now) folder.entry) (map string_bytes paths.now)) }
+{
+    match (folder, paths) {
+        (Some(folder), _) => Ok(Some(all_into_folder(alloc, folder, paths)?)),
+        (None, [from, to]) => Ok(Some(one_job(alloc, from.as_str(), to.as_str())?)),
+        _ => Ok(None),
+    }
+}
+
+/// The conversion that letters and paths ask for.
+fn conversion_of(
+    alloc: Global,
+    letters: Letters,
+    folder: Option<&str>,
+    paths: &[String],
+) -> Result<Option<Call>, AllocError>
+    ensures { IfOk result (λ call. call ≡ conversion_of letters (option_map (λ f. f.now) folder.entry) (map string_bytes paths.now)) }
+{
+    match jobs_of(alloc, folder, paths)? {
+        Some(jobs) => Ok(Some(Call::Convert(Conversion {
+            options: letters.options,
+            is_quiet: letters.is_quiet,
+            jobs,
+        }))),
+        None => Ok(None),
+    }
+}
+
+/// The conversion that arguments ask for.
+fn conversion_in(alloc: Global, words: &[String]) -> Result<Option<Call>, AllocError>
+    ensures { IfOk result (λ call. call ≡ call_from unread None (map string_bytes words.now)) }
+{
+    let mut letters = unread();
+    let mut folder = None;
+    for (index, word) in words.iter().enumerate() {
+        if letters.wants_folder {
+            letters.wants_folder = false;
+            folder = Some(word.as_str());
+        } else if word.as_bytes().starts_with(b"-") {
+            match with_options(letters, word.as_bytes()) {
+                Some(more) => letters = more,
+                None => return Ok(None),
+            }
+        } else {
+            return conversion_of(alloc, letters, folder, &words[index..]);
+        }
+    }
+    Ok(None)
 }
 
 /// What the arguments ask for, if they ask for anything.
-pub(crate) fn what_is_asked(rt: &HostRuntime) -> io::Result<Option<Asked>> {
-    let mut words = Words {
-        choices: Choices {
-            options: Options {
-                drops_debugger: false,
-                locals: Locals::KeepAll,
-            },
-            is_quiet: false,
-        },
-        wants_folder: false,
-        folder: None,
-        paths: Vec::new(rt.alloc()),
-    };
-    for (place, word) in env::args(rt)?.skip(1).enumerate() {
-        if place == 0 {
-            if let Some(shown) = shown_by(word.as_str()) {
-                return Ok(Some(Asked::Show(shown)));
-            }
-        }
-        if !take_word(&mut words, word)? {
-            return Ok(None);
-        }
+pub(crate) fn call_of(alloc: Global, words: &[String]) -> Result<Option<Call>, AllocError>
+    ensures { IfOk result (λ call. call ≡ call_of (map string_bytes words.now)) }
+{
+    match shown_in(words) {
+        Some(shown) => Ok(Some(Call::Show(shown))),
+        None => conversion_in(alloc, words),
     }
-    Ok(conversion(words))
 }

@@ -1,196 +1,214 @@
-//! Conversions of files. Nothing is written if one is refused.
-use crate::arguments::Choices;
-use crate::faults::{Failure, Fault, device_fault, file_fault, refused};
-use crate::lines::{clash_line, remark_line};
-use aout_core::{DeviceFault, Object, Wire, read_all, write_file};
-use gnu_objects::{Clash, Together, convert, remarks};
-use indexmap::IndexSet;
-use std::fs;
+//! Conversions of files that were read. Nothing is written before all are converted.
+ghost use Rattle.std.specs.Prelude.{◌≡◌, [], IfErr, IfOk, Ok};
+ghost use Rattle.std.specs.List.{flat_map};
+ghost use Rattle.gnu_objects.specs.Converted.{converted};
+ghost use Rattle.surroundings.specs.Answers.{Faults};
+ghost use Rattle.texts.specs.Texts.{Puts};
+ghost use Rattle.v7_from_gnu.specs.Converting.{all_remarks, converted_from, outcome, refusal_answer, remark_lines, remarks_of, target_of, with_names};
+ghost use Rattle.v7_from_gnu.specs.Lines.{remark_line};
+ghost use Rattle.v7_from_gnu.specs.Runs.{IsConversion};
+ghost use Rattle.v7_from_gnu.specs.internal.Lists.{RefusedAs};
 
-/// A file, and the object that it becomes.
+use crate::arguments::{Conversion, Job};
+use crate::checks::{check_names, check_paths};
+use crate::lines::{put_refusal, put_remark};
+use crate::reading::{Source, read_all};
+use crate::storing::store_all;
+use aout_core::Object;
+use gnu_objects::{Locals, Options, Refusal, Remark, convert, remarks};
+use std::alloc::{AllocError, Global};
+use std::marker::Model;
+use surroundings::{Answer, Fault, Office, error_answer};
+use texts::Text;
+
+/// A file that was read, and the object that it becomes.
 #[derive(Drop)]
-struct Converted {
-    path: String,
-    bytes: Vec<u8>,
-    object: Object,
+pub(crate) struct Target {
+    pub(crate) source: Source,
+    pub(crate) object: Object,
 }
 
-/// Reads a file and converts it.
-fn read_and_convert(rt: &HostRuntime, choices: &Choices, path: String) -> Result<Converted, Fault> {
-    let bytes = match read_all(rt, path.as_str()) {
-        Ok(bytes) => bytes,
-        Err(fault) => return Err(file_fault(rt, path.as_str(), fault)),
-    };
-    match convert(rt.alloc(), &bytes, choices.options) {
-        Ok(object) => Ok(Converted {
-            path,
-            bytes,
-            object,
-        }),
-        Err(refusal) => Err(refused(rt, path.as_str(), &bytes, refusal)),
-    }
-}
-
-/// Reports which names of a file are cut and which locals are dropped for their names, unless it is to be quiet.
-fn report_remarks(rt: &HostRuntime, choices: &Choices, file: &Converted) -> Result<(), Fault> {
-    if choices.is_quiet {
-        return Ok(());
-    }
-    let path = file.path.as_str();
-    let Ok(list) = remarks(rt.alloc(), &file.bytes, choices.options.locals) else {
-        return Err(Fault::Memory);
-    };
-    for remark in &list {
-        match remark_line(rt.alloc(), path, &file.bytes, *remark) {
-            Ok(line) => {
-                let _ = rt.eprint(line.as_str());
-            }
-            Err(_) => return Err(Fault::Memory),
-        }
-    }
-    Ok(())
-}
-
-/// Writes the object of a file.
-fn write_object(rt: &HostRuntime, object: &Object, to: &str) -> Result<(), Fault> {
-    let Ok(device) = fs::create(rt, to) else {
-        return Err(device_fault(rt, to, "cannot create"));
-    };
-    match write_file(object.file(), &mut Wire::new(device)) {
-        Ok(()) => Ok(()),
-        Err(DeviceFault) => Err(device_fault(rt, to, "write error")),
-    }
-}
-
-/// Converts one file.
-pub(crate) fn convert_file(
-    rt: &HostRuntime,
-    choices: &Choices,
-    from: String,
-    to: &str,
-) -> Result<(), Fault> {
-    let file = read_and_convert(rt, choices, from)?;
-    report_remarks(rt, choices, &file)?;
-    write_object(rt, &file.object, to)
-}
-
-/// The last part of a path.
-fn name_in(path: &str) -> &str {
-    match path.rsplit_once('/') {
-        Some((_, name)) => name,
-        None => path,
-    }
-}
-
-/// The files before a file that is to be converted with them.
+/// What is done once all files are converted: what is reported of names, and the objects.
 #[derive(Drop)]
-struct Before<'a> {
-    files: &'a [Converted],
-    /// The name that each of them has in the folder.
-    names: IndexSet<String>,
-    objects: Together<'a>,
+pub(crate) struct Plan {
+    pub(crate) remarks: Vec<u8>,
+    pub(crate) targets: Vec<Target>,
 }
 
-/// The line for a file with an external that would become one with an external of an earlier file.
-fn clashing(rt: &HostRuntime, first: &Converted, second: &Converted, clash: Clash) -> Fault {
-    let path = second.path.as_str();
-    let other = first.path.as_str();
-    match clash_line(rt.alloc(), other, &first.bytes, path, &second.bytes, clash) {
-        Ok(line) => Fault::Failed(Failure { line, status: 1 }),
+impl Model for Plan {
+    ghost use Rattle.v7_from_gnu.specs.Plans as spec;
+
+    ghost Value = { spec.Plan };
+
+    ghost view = { λ p. record { remarks = p.remarks.items; targets = p.targets.items } };
+}
+
+/// The answer that a file is refused.
+fn refusal_answer(alloc: Global, source: &Source, refusal: Refusal) -> Result<Answer, AllocError>
+    ensures { IfOk result (λ a. a ≡ refusal_answer source.now refusal) }
+{
+    let mut line = Text::new(alloc);
+    put_refusal(&mut line, source, refusal);
+    error_answer(alloc, line, 1)
+}
+
+/// The fault that a file is refused, or that memory ran out.
+fn refused(alloc: Global, source: &Source, refusal: Refusal) -> Fault
+    ensures { RefusedAs source.now refusal result }
+{
+    if refusal == Refusal::Memory {
+        return Fault::Memory;
+    }
+    match refusal_answer(alloc, source, refusal) {
+        Ok(answer) => Fault::Answered(answer),
         Err(_) => Fault::Memory,
     }
 }
 
-/// Puts a file beside those before it: the first of them that has its name in the folder, or an external that would become one
-/// with an external of the file, is a fault.
-fn put_beside<'a>(
-    rt: &HostRuntime,
-    before: &mut Before<'a>,
-    file: &'a Converted,
-) -> Result<(), Fault> {
-    let path = file.path.as_str();
-    let Ok(name) = String::from_str(rt.alloc(), name_in(path)) else {
-        return Err(Fault::Memory);
-    };
-    let Ok((earlier, is_new)) = before.names.insert_full(name) else {
-        return Err(Fault::Memory);
-    };
-    let Ok(found) = before.objects.add(rt.alloc(), &file.bytes) else {
-        return Err(Fault::Memory);
-    };
-    match found {
-        Some((number, clash)) if is_new || number < earlier => match before.files.get(number) {
-            Some(first) => Err(clashing(rt, first, file, clash)),
-            None => Ok(()),
-        },
-        _ if is_new => Ok(()),
-        _ => Err(device_fault(rt, path, "a second file of this name")),
+/// The object that a file becomes.
+fn object_of(alloc: Global, options: Options, source: &Source) -> Result<Object, Fault>
+    ensures ok { IfOk result (λ object. converted options source.now.bytes ≡ Ok object) }
+    ensures err { IfErr result (λ fault. Faults (target_of options source.now) fault) }
+{
+    match convert(alloc, &source.bytes, options) {
+        Ok(object) => Ok(object),
+        Err(refusal) => Err(refused(alloc, source, refusal)),
     }
 }
 
-/// Whether the files may be converted together: no two of them have one name in the folder, or externals that would become one.
-fn may_be_together(rt: &HostRuntime, files: &[Converted]) -> Result<(), Fault> {
-    let mut before = Before {
-        files,
-        names: IndexSet::new(rt.alloc()),
-        objects: Together::new(rt.alloc()),
-    };
-    for file in files {
-        put_beside(rt, &mut before, file)?;
+/// Converts a file.
+fn convert_one(alloc: Global, options: Options, source: Source) -> Result<Target, Fault>
+    ensures ok { IfOk result (λ t. target_of options source ≡ Ok t) }
+    ensures err { IfErr result (λ fault. Faults (target_of options source) fault) }
+{
+    match object_of(alloc, options, &source) {
+        Ok(object) => Ok(Target { source, object }),
+        Err(fault) => Err(fault),
     }
-    Ok(())
 }
 
-/// Reads and converts each file, up to the first that cannot be: its fault is the second part.
-fn read_and_convert_each(
-    rt: &HostRuntime,
-    choices: &Choices,
-    paths: Vec<String>,
-) -> (Vec<Converted>, Result<(), Fault>) {
-    let mut files = Vec::new(rt.alloc());
-    for path in paths {
-        match read_and_convert(rt, choices, path) {
-            Ok(file) => {
-                if files.push(file).is_err() {
-                    return (files, Err(Fault::Memory));
-                }
-            }
-            Err(fault) => return (files, Err(fault)),
+/// Converts each file, up to the first that is refused.
+fn convert_each(alloc: Global, options: Options, sources: Vec<Source>) -> Result<Vec<Target>, Fault>
+    ensures ok { IfOk result (λ targets. converted_from options [] sources.items ≡ Ok targets.items) }
+    ensures err { IfErr result (λ fault. Faults (converted_from options [] sources.items) fault) }
+{
+    let mut targets = Vec::new(alloc);
+    for source in sources {
+        match convert_one(alloc, options, source) {
+            Ok(target) => targets.push(target)?,
+            Err(fault) => return Err(fault),
         }
     }
-    (files, Ok(()))
+    Ok(targets)
 }
 
-/// Reads and converts each file, which has to go beside each one before it. The first file that cannot be converted, or cannot
-/// go there, has the fault.
-fn converted_together(
-    rt: &HostRuntime,
-    choices: &Choices,
-    paths: Vec<String>,
-) -> Result<Vec<Converted>, Fault> {
-    let (files, read) = read_and_convert_each(rt, choices, paths);
-    may_be_together(rt, &files)?;
-    read?;
-    Ok(files)
+/// Puts the lines of what there is to say of the names of a file.
+fn put_list(text: &mut Text, source: &Source, list: &[Remark])
+    ensures { Puts text.old text.new (flat_map (remark_line source.now) list.now) }
+{
+    for remark in list {
+        put_remark(text, source, *remark);
+    }
 }
 
-/// Converts files into a folder, each to a file of its own name.
-pub(crate) fn convert_files(
-    rt: &HostRuntime,
-    choices: &Choices,
-    folder: &str,
-    paths: Vec<String>,
-) -> Result<(), Fault> {
-    let files = converted_together(rt, choices, paths)?;
-    for file in &files {
-        report_remarks(rt, choices, file)?;
+/// Puts what becomes of the names of a file.
+fn put_remarks(text: &mut Text, locals: Locals, source: &Source)
+    ensures { Puts text.old text.new (remark_lines locals source.now) }
+{
+    match remarks(text.allocator(), &source.bytes, locals) {
+        Ok(list) => put_list(text, source, &list),
+        Err(_) => text.cut(),
     }
-    for file in &files {
-        let name = name_in(file.path.as_str());
-        let Ok(to) = format!(in rt.alloc(); "{folder}/{name}") else {
-            return Err(Fault::Memory);
-        };
-        write_object(rt, &file.object, to.as_str())?;
+}
+
+/// Puts what becomes of the names of all files.
+fn put_all_remarks(text: &mut Text, locals: Locals, targets: &[Target])
+    ensures { Puts text.old text.new (remarks_of locals targets.now) }
+{
+    for target in targets {
+        put_remarks(text, locals, &target.source);
     }
-    Ok(())
+}
+
+/// What becomes of the names of the files, unless it is to be quiet.
+fn all_remarks(
+    alloc: Global,
+    is_quiet: bool,
+    locals: Locals,
+    targets: &[Target],
+) -> Result<Vec<u8>, AllocError>
+    ensures { IfOk result (λ lines. lines.items ≡ all_remarks is_quiet locals targets.now) }
+{
+    let mut text = Text::new(alloc);
+    if !is_quiet {
+        put_all_remarks(&mut text, locals, targets);
+    }
+    text.finish()
+}
+
+/// What is done with files that are converted.
+fn with_names(
+    alloc: Global,
+    options: Options,
+    is_quiet: bool,
+    targets: Vec<Target>,
+) -> Result<Plan, Fault>
+    ensures ok { IfOk result (λ plan. with_names options is_quiet targets.items ≡ Ok plan) }
+    ensures err { IfErr result (λ fault. Faults (with_names options is_quiet targets.items) fault) }
+{
+    match check_names(alloc, &targets) {
+        Ok(()) => match all_remarks(alloc, is_quiet, options.locals, &targets) {
+            Ok(remarks) => Ok(Plan { remarks, targets }),
+            Err(_) => Err(Fault::Memory),
+        },
+        Err(fault) => Err(fault),
+    }
+}
+
+/// Converts files that were read.
+fn make_plan(
+    alloc: Global,
+    options: Options,
+    is_quiet: bool,
+    sources: Vec<Source>,
+) -> Result<Plan, Fault>
+    ensures ok { IfOk result (λ plan. outcome options is_quiet sources.items ≡ Ok plan) }
+    ensures err { IfErr result (λ fault. Faults (outcome options is_quiet sources.items) fault) }
+{
+    match convert_each(alloc, options, sources) {
+        Ok(targets) => with_names(alloc, options, is_quiet, targets),
+        Err(fault) => Err(fault),
+    }
+}
+
+/// Converts files: checks their paths, reads all, converts all, and then writes the objects.
+fn convert_jobs<O: Office>(
+    alloc: Global,
+    office: &mut O,
+    options: Options,
+    is_quiet: bool,
+    jobs: Vec<Job>,
+) -> Result<Answer, Fault>
+    ensures { IsConversion (record { options = options; is_quiet = is_quiet; jobs = jobs.items }) (O.history office.old) (O.history office.new) result }
+{
+    check_paths(alloc, &jobs)?;
+    let sources = read_all(alloc, office, jobs)?;
+    let plan = make_plan(alloc, options, is_quiet, sources)?;
+    store_all(alloc, office, &plan)
+}
+
+/// Does a conversion.
+pub(crate) fn convert_files<O: Office>(
+    alloc: Global,
+    office: &mut O,
+    conversion: Conversion,
+) -> Result<Answer, Fault>
+    ensures { IsConversion conversion (O.history office.old) (O.history office.new) result }
+{
+    let Conversion {
+        options,
+        is_quiet,
+        jobs,
+    } = conversion;
+    convert_jobs(alloc, office, options, is_quiet, jobs)
 }

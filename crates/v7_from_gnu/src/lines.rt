@@ -1,94 +1,277 @@
-//! The lines for standard error: why nothing was converted, and what became of names.
-use gnu_objects::{Clash, Refusal, Remark, place_of, whole_name};
-use std::alloc::{AllocError, Global};
-use std::fmt::Write;
+//! The lines for standard error: why a file is refused, and what became of names.
+ghost use Rattle.std.specs.Prelude.{◌≡◌, take};
+ghost use Rattle.surroundings.specs.Answers.{fault_line};
+ghost use Rattle.texts.specs.Texts.{Puts};
+ghost use Rattle.v7_from_gnu.specs.Lines.{alike_text, both_texts, clash_line, cut_text, dropped_text, front_of, line_front, odd_text, twin_text, number_text, object_text, place_text, refusal_line, refusal_names, refusal_text, remark_line, shown_name, size_text, word_text};
 
-/// A name as it is shown: a byte that does not print, a blank and a backslash as `\ooo`.
-fn shown(alloc: Global, name: &[u8]) -> Result<String, AllocError> {
-    let mut text = String::new(alloc);
-    for byte in name {
-        let byte = *byte;
-        if byte > b' ' && byte < 127 && byte != b'\\' {
-            text.push(char::from(byte))?;
-        } else {
-            write!(text, "\\{byte:03o}")?;
-        }
-    }
-    Ok(text)
+use crate::program::NAME;
+use crate::reading::Source;
+use aout_core::ObjectFault;
+use gnu_objects::{Clash, Refusal, Remark, Size, place_of, whole_name};
+use texts::Text;
+
+/// Puts the whole name of a symbol.
+#[tactic(auto, unfolding(crate::specs::Lines::shown_name))]
+fn put_name(line: &mut Text, bytes: &[u8], n: u16)
+    ensures { Puts line.old line.new (shown_name bytes.now n) }
+{
+    line.put_printable_bytes(whole_name(bytes, n));
 }
 
-/// The symbols of a refusal with their whole names.
-fn names_of(alloc: Global, bytes: &[u8], refusal: Refusal) -> Result<String, AllocError> {
+/// Puts a number in decimal between two texts.
+#[tactic(auto, unfolding(crate::specs::Lines::number_text))]
+fn put_number(line: &mut Text, before: &str, number: u16, after: &str)
+    ensures { Puts line.old line.new (number_text before.now number after.now) }
+{
+    line.put(before);
+    line.put_decimal(u64::from(number));
+    line.put(after);
+}
+
+/// Puts a number with six octal digits between two texts.
+#[tactic(auto, unfolding(crate::specs::Lines::word_text))]
+fn put_word(line: &mut Text, before: &str, word: u16, after: &str)
+    ensures { Puts line.old line.new (word_text before.now word after.now) }
+{
+    line.put(before);
+    line.put_six_digits(u32::from(word));
+    line.put(after);
+}
+
+/// The name of a size.
+fn size_name(size: Size) -> &'static str
+    ensures { result.now ≡ size_text size }
+{
+    match size {
+        Size::TextSize => "text",
+        Size::DataSize => "data",
+        Size::BssSize => "bss",
+        Size::SymbolSize => "the symbol table",
+    }
+}
+
+/// Puts a text after another.
+#[tactic(auto, unfolding(crate::specs::Lines::both_texts))]
+fn put_both(line: &mut Text, first: &str, second: &str)
+    ensures { Puts line.old line.new (both_texts first.now second.now) }
+{
+    line.put(first);
+    line.put(second);
+}
+
+/// Puts which size is odd.
+fn put_odd(line: &mut Text, size: Size)
+    ensures { Puts line.old line.new (odd_text size) }
+{
+    put_both(line, "odd size of ", size_name(size));
+}
+
+/// Puts why a file is not an object.
+fn put_fault(line: &mut Text, fault: ObjectFault)
+    ensures { Puts line.old line.new (object_text fault) }
+{
+    match fault {
+        ObjectFault::NotAnObject => line.put("not an object"),
+        ObjectFault::NoRelocation => line.put("no relocation"),
+        ObjectFault::BadRelocation(n) => put_number(line, "bad relocation at word ", n, ""),
+        ObjectFault::BadSymbolNumber(n) => put_number(line, "bad symbol number at word ", n, ""),
+    }
+}
+
+/// Puts that two externals have names that are equal in eight bytes.
+#[tactic(auto, unfolding(crate::specs::Lines::alike_text))]
+fn put_alike(line: &mut Text, n: u16, m: u16)
+    ensures { Puts line.old line.new (alike_text n m) }
+{
+    put_number(line, "symbols ", n, " and ");
+    put_number(line, "", m, " have names that are equal in eight bytes");
+}
+
+/// Puts why a file is refused, without the names of symbols.
+fn put_reason(line: &mut Text, refusal: Refusal)
+    ensures { Puts line.old line.new (refusal_text refusal) }
+{
+    match refusal {
+        Refusal::ShortHeader => line.put("short header"),
+        Refusal::BadMagic(magic) => put_word(line, "magic number ", magic, " and not 000407"),
+        Refusal::OddSize(size) => put_odd(line, size),
+        Refusal::Truncated => line.put("truncated"),
+        Refusal::BadStrings => line.put("the strings have a length under 4"),
+        Refusal::Overlay(n) => put_number(line, "symbol ", n, " belongs to an overlay"),
+        Refusal::BadPlace(n) => put_number(
+            line,
+            "symbol ",
+            n,
+            " has its name at no place of the strings",
+        ),
+        Refusal::Stab(n) => put_number(line, "symbol ", n, " is for a debugger, and -S drops such"),
+        Refusal::Description(n) => put_number(
+            line,
+            "symbol ",
+            n,
+            " has a description, and is not for a debugger",
+        ),
+        Refusal::Linked(entry) => put_word(
+            line,
+            "entry point ",
+            entry,
+            " and no relocation: this is a linked program",
+        ),
+        Refusal::TooManySymbols(count) => put_number(
+            line,
+            "",
+            count,
+            " symbols stay, and a table has 5461 at most",
+        ),
+        Refusal::AlikeNames(n, m) => put_alike(line, n, m),
+        Refusal::StabWord(n) => put_number(line, "word ", n, " refers to a symbol for a debugger"),
+        Refusal::LocalWord(n, _) => put_number(
+            line,
+            "word ",
+            n,
+            " refers to a local that is dropped",
+        ),
+        Refusal::BadWord(fault) => put_fault(line, fault),
+        Refusal::Memory => line.put("no memory"),
+    }
+}
+
+/// Puts the symbols of a refusal with their whole names.
+fn put_names(line: &mut Text, bytes: &[u8], refusal: Refusal)
+    ensures { Puts line.old line.new (refusal_names bytes.now refusal) }
+{
     match refusal {
         Refusal::Overlay(n)
         | Refusal::Stab(n)
         | Refusal::Description(n)
         | Refusal::LocalWord(_, n) => {
-            let name = shown(alloc, whole_name(bytes, n))?;
-            format!(in alloc; ": {name}")
+            line.put(": ");
+            put_name(line, bytes, n);
         }
         Refusal::AlikeNames(n, m) => {
-            let first = shown(alloc, whole_name(bytes, n))?;
-            let second = shown(alloc, whole_name(bytes, m))?;
-            format!(in alloc; ": {first} and {second}")
+            line.put(": ");
+            put_name(line, bytes, n);
+            line.put(" and ");
+            put_name(line, bytes, m);
         }
-        _ => Ok(String::new(alloc)),
+        _ => {}
     }
 }
 
-/// A line with a path and a text.
-pub(crate) fn fault_line(alloc: Global, path: &str, text: &str) -> Result<String, AllocError> {
-    format!(in alloc; "v7-from-gnu: {path}: {text}\n")
+/// Puts the byte of a file at which a refusal is, in octal and in decimal.
+#[tactic(auto, unfolding(crate::specs::Lines::place_text))]
+fn put_place(line: &mut Text, place: u64)
+    ensures { Puts line.old line.new (place_text place) }
+{
+    line.put("byte 0");
+    line.put_octal(place);
+    line.put(" (");
+    line.put_decimal(place);
+    line.put("): ");
 }
 
-/// A line with a path, the byte of the file in octal and in decimal, and the reason with the whole names.
-pub(crate) fn refusal_line(
-    alloc: Global,
-    path: &str,
-    bytes: &[u8],
-    refusal: Refusal,
-) -> Result<String, AllocError> {
-    let place = place_of(bytes, refusal);
-    let names = names_of(alloc, bytes, refusal)?;
-    format!(in alloc; "v7-from-gnu: {path}: byte 0{place:o} ({place}): {refusal}{names}\n")
+/// Puts the name of a program and a path.
+#[tactic(auto, unfolding(crate::specs::Lines::front_of))]
+fn put_front(line: &mut Text, program: &str, path: &str)
+    ensures { Puts line.old line.new (front_of program.now path.now) }
+{
+    line.put(program);
+    line.put(": ");
+    line.put(path);
+    line.put(": ");
 }
 
-/// A line for a name that is cut, or a local that is dropped for its name.
-pub(crate) fn remark_line(
-    alloc: Global,
-    path: &str,
-    bytes: &[u8],
-    remark: Remark,
-) -> Result<String, AllocError> {
+/// Puts the name of the program and a path.
+fn put_path(line: &mut Text, path: &str)
+    ensures { Puts line.old line.new (line_front path.now) }
+{
+    put_front(line, NAME, path);
+}
+
+/// Puts the line in which a program says a text of a path.
+pub(crate) fn put_failure(line: &mut Text, program: &str, path: &str, text: &str)
+    ensures { Puts line.old line.new (fault_line program.now path.now text.now) }
+{
+    line.put(program);
+    line.put(": ");
+    line.put(path);
+    line.put(": ");
+    line.put(text);
+    line.put("\n");
+}
+
+/// Puts the line of a file that is refused.
+#[tactic(auto, unfolding(crate::specs::Lines::refusal_line))]
+pub(crate) fn put_refusal(line: &mut Text, file: &Source, refusal: Refusal)
+    ensures { Puts line.old line.new (refusal_line file.now refusal) }
+{
+    put_path(line, file.from.as_str());
+    put_place(line, place_of(&file.bytes, refusal) as u64);
+    put_reason(line, refusal);
+    put_names(line, &file.bytes, refusal);
+    line.put("\n");
+}
+
+/// The first eight bytes of a name.
+fn first_eight(name: &[u8]) -> &[u8]
+    ensures { result.now ≡ take 8 name.now }
+{
+    if name.len() > 8 { &name[..8] } else { name }
+}
+
+/// Puts the line of a name that is cut.
+#[tactic(auto, unfolding(crate::specs::Lines::cut_text, crate::specs::Lines::shown_name))]
+fn put_cut(line: &mut Text, bytes: &[u8], n: u16)
+    ensures { Puts line.old line.new (cut_text bytes.now n) }
+{
+    let name = whole_name(bytes, n);
+    line.put_printable_bytes(name);
+    line.put(" is cut to ");
+    line.put_printable_bytes(first_eight(name));
+    line.put("\n");
+}
+
+/// Puts the line of a local that is dropped for its name.
+#[tactic(auto, unfolding(crate::specs::Lines::dropped_text))]
+fn put_dropped(line: &mut Text, bytes: &[u8], n: u16, m: u16)
+    ensures { Puts line.old line.new (dropped_text bytes.now n m) }
+{
+    line.put("the local ");
+    put_name(line, bytes, n);
+    line.put(" is dropped, being equal to ");
+    put_name(line, bytes, m);
+    line.put(" in eight bytes\n");
+}
+
+/// Puts the line of a name that is cut, or of a local that is dropped for its name.
+pub(crate) fn put_remark(line: &mut Text, file: &Source, remark: Remark)
+    ensures { Puts line.old line.new (remark_line file.now remark) }
+{
+    put_path(line, file.from.as_str());
     match remark {
-        Remark::Cut(n) => {
-            let name = whole_name(bytes, n);
-            let whole = shown(alloc, name)?;
-            let cut = shown(alloc, &name[..name.len().min(8)])?;
-            format!(in alloc; "v7-from-gnu: {path}: {whole} is cut to {cut}\n")
-        }
-        Remark::Dropped(n, m) => {
-            let name = shown(alloc, whole_name(bytes, n))?;
-            let other = shown(alloc, whole_name(bytes, m))?;
-            format!(in alloc;
-                "v7-from-gnu: {path}: the local {name} is dropped, being equal to {other} in eight bytes\n"
-            )
-        }
+        Remark::Cut(n) => put_cut(line, &file.bytes, n),
+        Remark::Dropped(n, m) => put_dropped(line, &file.bytes, n, m),
     }
 }
 
-/// A line for two externals of two files that would become one.
-pub(crate) fn clash_line(
-    alloc: Global,
-    first: &str,
-    first_bytes: &[u8],
-    second: &str,
-    second_bytes: &[u8],
-    clash: Clash,
-) -> Result<String, AllocError> {
-    let own = shown(alloc, whole_name(second_bytes, clash.second))?;
-    let other = shown(alloc, whole_name(first_bytes, clash.first))?;
-    format!(in alloc;
-        "v7-from-gnu: {second}: {own} is equal in eight bytes to {other} of {first}\n"
-    )
+/// Puts two externals of two files that would become one.
+#[tactic(auto, unfolding(crate::specs::Lines::twin_text))]
+fn put_twins(line: &mut Text, first: &[u8], second: &[u8], clash: Clash)
+    ensures { Puts line.old line.new (twin_text first.now second.now clash) }
+{
+    put_name(line, second, clash.second);
+    line.put(" is equal in eight bytes to ");
+    put_name(line, first, clash.first);
+}
+
+/// Puts the line of two externals of two files that would become one.
+#[tactic(auto, unfolding(crate::specs::Lines::clash_line))]
+pub(crate) fn put_clash(line: &mut Text, first: &Source, second: &Source, clash: Clash)
+    ensures { Puts line.old line.new (clash_line first.now second.now clash) }
+{
+    put_path(line, second.from.as_str());
+    put_twins(line, &first.bytes, &second.bytes, clash);
+    line.put(" of ");
+    line.put(first.from.as_str());
+    line.put("\n");
 }

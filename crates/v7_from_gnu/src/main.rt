@@ -2,48 +2,30 @@
 #![tactic(auto)]
 
 mod arguments;
+mod checks;
 mod converting;
-mod faults;
 mod lines;
+mod program;
+mod reading;
+mod storing;
 
-use aout_core::show;
-use arguments::{Asked, what_is_asked};
-use converting::{convert_file, convert_files};
-use faults::{Fault, report};
-use std::io;
+use aout_core::Wire;
+use program::{NAME, USAGE, perform};
 use std::process::ExitCode;
+use std::{env, io};
+use surroundings::{Disk, Outputs, StandardError, end, hold_streams, words};
 
-const SYNOPSIS: &str =
-    "usage: v7-from-gnu [-SXxq] IN OUT\n       v7-from-gnu [-SXxq] -o FOLDER FILE...\n       v7-from-gnu --help | --version\n";
-
-fn usage(rt: &HostRuntime) -> u8 {
-    let _ = rt.eprint(SYNOPSIS);
-    2
-}
-
-/// Does what is asked, and returns the status.
-fn answered(rt: &HostRuntime, asked: Asked) -> u8 {
-    let done = match asked {
-        Asked::Show(shown) => return show(rt, "v7-from-gnu", SYNOPSIS, shown),
-        Asked::Convert(choices, from, to) => convert_file(rt, &choices, from, to.as_str()),
-        Asked::ConvertAll(choices, folder, paths) => {
-            convert_files(rt, &choices, folder.as_str(), paths)
-        }
+/// The status of the program. The streams are held until it has ended.
+fn run(rt: &HostRuntime) -> io::Result<u8> {
+    let _held = hold_streams(rt)?;
+    let words = words(rt.alloc(), env::args(rt)?)?;
+    let mut outputs = Outputs {
+        output: Wire::new(io::writer(rt)),
+        error: Wire::new(StandardError::new(rt)),
     };
-    match done {
-        Ok(()) => 0,
-        Err(fault) => report(rt, fault),
-    }
+    Ok(perform(rt.alloc(), &mut Disk::new(rt), &mut outputs, &words))
 }
 
 fn main(rt: HostRuntime) -> ExitCode {
-    let status = match what_is_asked(&rt) {
-        Ok(Some(asked)) => answered(&rt, asked),
-        Ok(None) => usage(&rt),
-        Err(error) => match error.kind() {
-            io::ErrorKind::OutOfMemory => report(&rt, Fault::Memory),
-            _ => usage(&rt),
-        },
-    };
-    ExitCode::from(status)
+    ExitCode::from(end(&rt, NAME, USAGE, run(&rt)))
 }

@@ -7,20 +7,11 @@ use Rattle.v7tools.specs.declared.fault.CliFault.{CliFault}
 use Rattle.std.specs.List.{AllByRecursion}
 use Rattle.aout_core.specs.Wires.{Latched}
 use Rattle.aout_core.specs.Contents.{Contents}
-use Rattle.v7tools.specs.Events.{Event, History, Extends, opened, opens, paths_of, stored}
-use Rattle.v7tools.specs.declared.office.Stored.{Stored}
+use Rattle.surroundings.proofs.EventLemmas.{asked_after}
+use Rattle.surroundings.specs.Events.{Event, History, Extends, opened, opens, paths_of, stored}
+use Rattle.surroundings.specs.declared.office.Stored.{Stored}
 use Rattle.v7tools.specs.internal.Openings.{sources}
 use Rattle.v7tools.specs.LinkRuns.{StopsAt}
-
-pub nothing_asked : (a : History) → Extends a a []
-nothing_asked None = tt
-nothing_asked (Some xs) = sym (append-nil xs)
-
-pub asked_after : (a b c : History) (first then : List Event) → Extends a b first → Extends b c then → Extends a c (first ++ then)
-asked_after None b c first then h k = tt
-asked_after (Some xs) None c first then h k = absurd h
-asked_after (Some xs) (Some ys) None first then h k = absurd k
-asked_after (Some xs) (Some ys) (Some zs) first then h k = k ∙ ap (λ (l : List Event). l ++ then) h ∙ append_assoc xs first then
 
 pub map-append : {A B : Type 0} (f : A → B) (xs ys : List A) → map f (xs ++ ys) ≡ map f xs ++ map f ys
 map-append f [] ys = refl

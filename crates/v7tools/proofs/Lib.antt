@@ -8,4 +8,3 @@ pub mod ScriptCallLemmas
 pub mod ListingLemmas
 pub mod AdditionLemmas
 pub mod StepLemmas
-pub mod EmitLemmas

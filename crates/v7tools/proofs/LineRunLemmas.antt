@@ -13,7 +13,7 @@ use Rattle.link_out.specs.declared.linked.Linked.{Linked}
 use Rattle.link_out.specs.function.Link.{Outcome, link}
 use Rattle.link_out.specs.Outcomes.{report_names, outcome_of}
 use Rattle.v7tools.specs.Answers.{absent, Verdict, done, refused, to_store, Stepped, add_step, input_from, failing, giving, withdraw_step, link_answer_text, link_status}
-use Rattle.v7tools.specs.Events.{Event, History, Extends, opened, stored}
+use Rattle.surroundings.specs.Events.{Event, History, Extends, opened, stored}
 use Rattle.v7tools.specs.FaultTexts.{cli_text, fault_of_link}
 use Rattle.v7tools.specs.Inputs.{Cause, kept_with}
 use Rattle.command_words.specs.Scripts.{Asked, to_add, to_withdraw, for_externals, for_undefined, to_link, for_nothing}
@@ -26,8 +26,8 @@ use Rattle.v7tools.specs.declared.session.commands.Step.{Step}
 use Rattle.v7tools.specs.declared.session.commands.Command.TheVariants.{Add, Withdraw, Externals, Undefined, Link, Bad}
 use Rattle.v7tools.specs.declared.fault.CliFault.{CliFault}
 use Rattle.v7tools.specs.declared.fault.CliFault.TheVariants as faults
-use Rattle.v7tools.specs.declared.office.Stored.{Stored}
-use Rattle.v7tools.proofs.EventLemmas.{nothing_asked}
+use Rattle.surroundings.specs.declared.office.Stored.{Stored}
+use Rattle.surroundings.proofs.EventLemmas.{nothing_asked}
 use Rattle.v7tools.proofs.StepLemmas.{link_refused_by, no_value, refused_as}
 use Rattle.aout_core.proofs.PutsLemmas.{put_broke_off}
 

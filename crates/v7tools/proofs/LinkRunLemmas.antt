@@ -7,14 +7,15 @@ use Rattle.aout_core.specs.Wires.{Latched}
 use Rattle.link_out.specs.declared.linked.Linked.{Linked}
 use Rattle.tool_options.specs.Choices.{Choices}
 use Rattle.link_out.specs.Outcomes.{report_names}
-use Rattle.v7tools.specs.Events.{History, Extends, stored}
+use Rattle.surroundings.specs.Events.{History, Extends, stored}
 use Rattle.v7tools.specs.LinkAnswers.{Input, inputs_of, IsLinkOf}
 use Rattle.v7tools.specs.internal.Openings.{sources, IsOpening, IsWorking, OpensAll}
 use Rattle.v7tools.specs.LinkRuns.{inputs_opened, IsLinkOfFiles, IsLinkRun, ReportsIf}
 use Rattle.v7tools.specs.declared.fault.CliFault.{CliFault}
 use Rattle.v7tools.specs.declared.fault.CliFault.TheVariants as faults
-use Rattle.v7tools.specs.declared.office.Stored.{Stored}
-use Rattle.v7tools.proofs.EventLemmas.{asked_after, paths_opened}
+use Rattle.surroundings.specs.declared.office.Stored.{Stored}
+use Rattle.surroundings.proofs.EventLemmas.{asked_after}
+use Rattle.v7tools.proofs.EventLemmas.{paths_opened}
 
 module _ {R : Type 0} (remaining : R → Option (List ℕ)) where
   -- the inputs are the files that were opened

@@ -9,7 +9,7 @@ use Rattle.aout_core.specs.Wires.{Latched}
 use Rattle.link_session.specs.Sessions.{nothing_kept}
 use Rattle.link_session.specs.Undo.{Kept}
 use Rattle.tool_options.specs.Choices.{Choices}
-use Rattle.v7tools.specs.Events.{History, Extends}
+use Rattle.surroundings.specs.Events.{History, Extends}
 use Rattle.command_words.specs.Scripts.{Asked, lines_in, Given, ScriptFault, long_line, many_lines, and_given, given_after}
 use Rattle.command_words.specs.ScriptAnswers.{Answer, WhereKnown, IsNextOf, NamesPath, Progress, Settles, asked_by, lines_of}
 use Rattle.v7tools.specs.SessionRuns.{AreFirst, AreLines, Chains, EndsAfter, IsSessionRun, Ran, StopsAfter, answers_of, events_of, given, lines_asked, worst}
@@ -21,7 +21,8 @@ use Rattle.v7tools.specs.declared.fault.CliFault.TheVariants as faults
 use Rattle.command_words.specs.declared.line_reader.Stop.{Stop}
 use Rattle.command_words.specs.declared.line_reader.Stop.TheVariants as stops
 use Rattle.command_words.specs.declared.lines.Line.{Line}
-use Rattle.v7tools.proofs.EventLemmas.{asked_after, map-append, nothing_asked}
+use Rattle.surroundings.proofs.EventLemmas.{asked_after, nothing_asked}
+use Rattle.v7tools.proofs.EventLemmas.{map-append}
 use Rattle.command_words.proofs.ScriptLemmas.{after_last_line}
 
 -- ---- one more line

@@ -20,8 +20,8 @@ use Rattle.link_out.specs.function.Link.{Outcome, link}
 use Rattle.symtools.specs.SymbolLines.{symbol_line}
 use Rattle.v7tools.specs.Inputs.{Cause, cannot_open, bad_file, with_input}
 use Rattle.v7tools.specs.FaultTexts.{cause_text, link_text, at_file}
-use Rattle.v7tools.specs.declared.office.Stored.{Stored}
-use Rattle.v7tools.specs.declared.office.Stored.TheVariants.{Kept, NotCreated, Failed}
+use Rattle.surroundings.specs.declared.office.Stored.{Stored}
+use Rattle.surroundings.specs.declared.office.Stored.TheVariants.{Kept, NotCreated, Failed}
 
 -- what a path leads to: nothing, a device that fails, or these bytes
 pub data Source : Type 0 where

@@ -10,8 +10,8 @@ use Rattle.command_words.specs.Calls.{IsAsked, IsWhole, dashes_in, files_of}
 use Rattle.command_words.specs.declared.words.Call.{Call}
 use Rattle.command_words.specs.declared.words.Call.TheVariants.{Ld, Nm, Size, Strip, Session}
 use Rattle.v7tools.specs.Calls.{IsOfWords}
-use Rattle.v7tools.specs.Events.{History, Extends}
-use Rattle.v7tools.specs.Emits.{PutsUnless}
+use Rattle.surroundings.specs.Events.{History, Extends, Surroundings}
+use Rattle.surroundings.specs.Emits.{PutsUnless}
 use Rattle.v7tools.specs.FaultTexts.{fault_line}
 use Rattle.v7tools.specs.FileRuns.{IsListRun, IsStripRun, OnlyWriteFailed, OrMemory}
 use Rattle.v7tools.specs.LinkRuns.{IsLinkRun, Refuses}
@@ -55,12 +55,6 @@ RunsWords contents words script old new result before after =
 abbrev pub Ends : {E : Type 0} → (E → Option (List ℕ)) → Result ℕ CliFault → ℕ → Latched E → Latched E → Type 0
 Ends contents (Ok answer) status before after = (status ≡ answer) × (after ≡ before)
 Ends contents (Err fault) status before after = (status ≡ 2) × PutsUnless after.has_failed (contents before.device) (contents after.device) (fault_line fault)
-
--- what is around a program: what was asked of the system so far, standard output and standard error
-pub record Surroundings (W E : Type 0) : Type 0 where
-  pub asked : History
-  pub output : Latched W
-  pub error : Latched E
 
 -- the words were refused or their call was run, and the program ended with this status
 abbrev pub Performs : {W E : Type 0} → (W → Option (List ℕ)) → (E → Option (List ℕ)) → List (List ℕ) → Option (List ℕ) → Surroundings W E → Surroundings W E → ℕ → Type 0

@@ -13,12 +13,12 @@ use Rattle.aout_core.specs.Wires.{Latched, Puts}
 use Rattle.symtools.specs.Files.{by_bytes}
 use Rattle.symtools.specs.NmLists.{ListsUpTo}
 use Rattle.tool_options.specs.declared.nm_options.NmOptions.{NmOptions}
-use Rattle.v7tools.specs.Events.{Event, History, Extends, Opened, opened, opens, stored}
+use Rattle.surroundings.specs.Events.{Event, History, Extends, Opened, opened, opens, stored}
 use Rattle.v7tools.specs.LinkRuns.{Refuses}
 use Rattle.v7tools.specs.declared.fault.CliFault.{CliFault}
 use Rattle.v7tools.specs.declared.fault.CliFault.TheVariants as faults
-use Rattle.v7tools.specs.declared.office.Stored.{Stored}
-use Rattle.v7tools.specs.declared.office.Stored.TheVariants.{Kept, NotCreated, Failed}
+use Rattle.surroundings.specs.declared.office.Stored.{Stored}
+use Rattle.surroundings.specs.declared.office.Stored.TheVariants.{Kept, NotCreated, Failed}
 
 -- a path with what was read there
 abbrev pub Loaded : Type 0

@@ -2,12 +2,10 @@ pub mod Inputs
 pub mod FaultTexts
 pub mod Loads
 pub mod Calls
-pub mod Emits
 pub mod LinkAnswers
 pub mod ScriptCalls
 pub mod Answers
 pub mod SessionSteps
-pub mod Events
 pub mod LinkRuns
 pub mod FileRuns
 pub mod LineRuns

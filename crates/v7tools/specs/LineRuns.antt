@@ -8,11 +8,11 @@ use Rattle.link_session.specs.Undo.{Kept}
 use Rattle.tool_options.specs.Choices.{Choices}
 use Rattle.link_out.specs.function.Link.{Outcome, link}
 use Rattle.v7tools.specs.Answers.{absent, failing, adding, withdrawing, listing_externals, listing_undefined, anything_else, Verdict, done, refused, Stepped, add_step, input_from, step, link_answer_text, link_status}
-use Rattle.v7tools.specs.Events.{Event, opened, stored}
+use Rattle.surroundings.specs.Events.{Event, opened, stored}
 use Rattle.v7tools.specs.LinkAnswers.{WantsMemory}
 use Rattle.command_words.specs.Scripts.{Asked, to_add, to_withdraw, for_externals, for_undefined, to_link, for_nothing}
 use Rattle.v7tools.specs.SessionSteps.{AddsIf, IsAddOn, IsLinkBy, WithdrawsIf, without_memory}
-use Rattle.v7tools.specs.declared.office.Stored.{Stored}
+use Rattle.surroundings.specs.declared.office.Stored.{Stored}
 
 -- a line: what it asked for, what it asked of the system, its answer, its status, and what is kept after it
 pub record LineRun : Type 0 where

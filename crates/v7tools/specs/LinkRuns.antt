@@ -8,12 +8,12 @@ use Rattle.link_out.specs.declared.linked.Linked.{Linked}
 use Rattle.tool_options.specs.Choices.{Choices}
 use Rattle.link_out.specs.Outcomes.{report_names}
 use Rattle.link_out.specs.function.Reports.{ReportNames, report_text, status_of}
-use Rattle.v7tools.specs.Events.{History, Extends, Opened, opened, opens, paths_of, stored}
+use Rattle.surroundings.specs.Events.{History, Extends, Opened, opened, opens, paths_of, stored}
 use Rattle.v7tools.specs.LinkAnswers.{Input, IsLinkOf}
 use Rattle.v7tools.specs.declared.fault.CliFault.{CliFault}
 use Rattle.v7tools.specs.declared.fault.CliFault.TheVariants as faults
-use Rattle.v7tools.specs.declared.office.Stored.{Stored}
-use Rattle.v7tools.specs.declared.office.Stored.TheVariants.{Kept, NotCreated, Failed}
+use Rattle.surroundings.specs.declared.office.Stored.{Stored}
+use Rattle.surroundings.specs.declared.office.Stored.TheVariants.{Kept, NotCreated, Failed}
 
 -- the files were opened one after another up to the one at this path, which can't be
 pub record StopsAt (old new : History) (files : List (List ℕ)) (path : List ℕ) : Type 0 where

@@ -10,7 +10,7 @@ use Rattle.aout_core.specs.Wires.{Latched}
 use Rattle.link_session.specs.Sessions.{nothing_kept}
 use Rattle.link_session.specs.Undo.{Kept}
 use Rattle.tool_options.specs.Choices.{Choices}
-use Rattle.v7tools.specs.Events.{Event, History, Extends}
+use Rattle.surroundings.specs.Events.{Event, History, Extends}
 use Rattle.v7tools.specs.LinkRuns.{Refuses}
 use Rattle.command_words.specs.Scripts.{Asked, lines_in, Given, ScriptFault, long_line, many_lines, given_after}
 use Rattle.command_words.specs.ScriptAnswers.{NamesPath}

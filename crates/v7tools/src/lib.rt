@@ -29,27 +29,22 @@
 //! - `link_answer`: answers to a link of a session
 #![tactic(auto)]
 
-mod arguments;
-mod disk;
 mod fault;
 mod files;
 mod link;
-mod office;
 mod parsing;
 mod program;
 mod session;
-mod standard_error;
 
-pub use arguments::words;
 pub use command_words::{BlockWriter, Call, Line};
 pub use fault::CliFault;
 pub use files::loading::load;
 pub use link::emitting::emit;
 pub use link::linking::ld;
-pub use office::{Office, Stored};
 pub use parsing::parse;
-pub use program::{Outputs, attempt, command, perform};
+pub use program::{attempt, command, perform};
 pub use session::commands::{Command, Step};
 pub use session::link_answers::link_answer;
 pub use session::script::Script;
 pub use session::steps::step;
+pub use surroundings::{Office, Outputs, Stored, words};

@@ -3,20 +3,18 @@ ghost use Rattle.std.specs.Prelude.{◌≤◌, map, string_bytes, IfOk};
 ghost use Rattle.aout_core.specs.Wires.{IsPassedOn};
 ghost use Rattle.v7tools.specs.CommandRuns.{IsCallRun, Performs, RunsWords};
 
-use crate::disk::Disk;
 use crate::fault::CliFault;
 use crate::files::commands::{list_files, size_files, strip_files};
 use crate::link::command::{LinkCall, link_files};
-use crate::office::Office;
 use crate::parsing::parse;
 use crate::session::command::{Setting, answer_script};
-use crate::standard_error::StandardError;
 use aout_core::{BufferedWrite, Wire};
 use command_words::{BlockWriter, Call};
 use std::alloc::Global;
 use std::io;
 use std::io::{Read, Write};
 use std::rt::Runtime;
+use surroundings::{Disk, Office, Outputs, StandardError};
 
 /// Runs a call of a tool.
 fn run_call<O: Office, R: Read + Drop, W: BufferedWrite>(
@@ -74,15 +72,6 @@ fn run_words<O: Office, R: Read + Drop, W: BufferedWrite>(
 {
     let call = parse(alloc, words)?;
     run_call(alloc, office, script, output, call)
-}
-
-/// Where a program writes. (own choice)
-#[derive(Drop)]
-pub struct Outputs<W, E> {
-    /// Standard output.
-    pub output: Wire<W>,
-    /// Standard error.
-    pub error: Wire<E>,
 }
 
 /// Does what the arguments ask for, over any `Office` and any streams: a session's script, standard

@@ -3,7 +3,7 @@ use Rattle.std.specs.declared.alloc.Global.{Global}
 use Rattle.std.specs.Prelude.{◌≡◌, ℕ, false, List, [], map, Option, Result, Ok, Err, String, string_bytes, Vec}
 use Rattle.std.specs.List.{AllByRecursion}
 use Rattle.aout_core.specs.Wires.{Latched}
-use Rattle.v7tools.specs.Events.{History, Extends, Opened, opens}
+use Rattle.surroundings.specs.Events.{History, Extends, Opened, opens}
 use Rattle.v7tools.specs.declared.fault.CliFault.{CliFault}
 use Rattle.v7tools.specs.declared.fault.CliFault.TheVariants as faults
 use Rattle.v7tools.specs.LinkRuns.{StopsAt}

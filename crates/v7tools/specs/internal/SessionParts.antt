@@ -4,7 +4,7 @@ use Rattle.aout_core.specs.Wires.{Latched, Puts}
 use Rattle.link_session.specs.Undo.{Kept}
 use Rattle.tool_options.specs.Choices.{Choices}
 use Rattle.v7tools.specs.Answers.{Stepped}
-use Rattle.v7tools.specs.Events.{History, Extends, opened}
+use Rattle.surroundings.specs.Events.{History, Extends, opened}
 use Rattle.command_words.specs.Scripts.{Asked}
 use Rattle.v7tools.specs.SessionSteps.{Changes, IsStepOn}
 use Rattle.v7tools.specs.declared.session.commands.Command.{Command}

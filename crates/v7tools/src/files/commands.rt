@@ -9,7 +9,7 @@ ghost use Rattle.v7tools.specs.internal.Openings.{IsLoading};
 
 use crate::fault::CliFault;
 use crate::files::loading::load;
-use crate::office::{Office, Stored};
+use surroundings::{Office, Stored};
 use aout_core::{BufferedWrite, File, Wire, strip_file};
 use std::alloc::Global;
 use symtools::{NmOptions, nm, size};

@@ -7,7 +7,7 @@ ghost use Rattle.v7tools.specs.internal.Openings.{IsOpening};
 
 use crate::fault::CliFault;
 use crate::link::linking::ld;
-use crate::office::{Office, Stored};
+use surroundings::{Office, Stored};
 use aout_core::{BufferedWrite, Wire};
 use link_out::{Linked, Options, Report};
 use link_session::Forced;

@@ -4,7 +4,7 @@ ghost use Rattle.aout_core.specs.Encoding.{encoding};
 ghost use Rattle.link_out.specs.Outcomes.{report_names};
 ghost use Rattle.link_out.specs.function.Reports.{report_text, status_of};
 ghost use Rattle.v7tools.specs.declared.fault.CliFault.TheVariants.{WriteFailed};
-ghost use Rattle.v7tools.specs.Emits.{PutsUnless};
+ghost use Rattle.surroundings.specs.Emits.{PutsUnless};
 
 use crate::fault::CliFault;
 use aout_core::{Wire, write_file};

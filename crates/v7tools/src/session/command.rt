@@ -9,7 +9,7 @@ ghost use Rattle.v7tools.specs.SessionRuns.{IsSessionRun};
 ghost use Rattle.v7tools.specs.internal.SessionParts.{AnswersLine, IsNoLink, IsOpenedAt, TakesPlainStep};
 
 use crate::fault::CliFault;
-use crate::office::Office;
+use surroundings::Office;
 use crate::session::commands::{Command, Step};
 use crate::session::link_answers::link_answer;
 use crate::session::script::Script;

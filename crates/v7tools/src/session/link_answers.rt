@@ -9,7 +9,7 @@ ghost use Rattle.v7tools.specs.FaultTexts.{at_file};
 
 use crate::fault::CliFault;
 use crate::fault::texts::says_of;
-use crate::office::Stored;
+use surroundings::Stored;
 use aout_core::{DeviceFault, Wire};
 use itoa::Buffer;
 use link_out::Linked;

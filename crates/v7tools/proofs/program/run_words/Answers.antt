@@ -1,5 +1,6 @@
 use Rattle.std.proofs.Common.{inl, inr, refl}
-use Rattle.v7tools.proofs.EventLemmas.{nothing_asked, passed_on}
+use Rattle.surroundings.proofs.EventLemmas.{nothing_asked}
+use Rattle.v7tools.proofs.EventLemmas.{passed_on}
 use Rattle.v7tools.proofs.program.run_words.Goals as goal
 
 pub returns-clause-small : goal.returns-clause-small

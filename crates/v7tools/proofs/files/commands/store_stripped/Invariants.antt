@@ -1,5 +1,5 @@
 use Rattle.std.proofs.Common.{◌≡◌, ◌++◌, List}
-use Rattle.v7tools.specs.Events.{Extends}
+use Rattle.surroundings.specs.Events.{Extends}
 use Rattle.v7tools.specs.FileRuns.{Loaded}
 use Rattle.v7tools.proofs.FileRunLemmas.{strips_all}
 use Rattle.v7tools.proofs.files.commands.store_stripped.Given as goal

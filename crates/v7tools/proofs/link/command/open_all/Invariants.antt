@@ -1,6 +1,6 @@
 use Rattle.std.proofs.Common.{◌≡◌, ◌+◌, ◌≤◌, ◌++◌, map, length, vec_len, vec_capacity}
 use Rattle.std.specs.List.{AllByRecursion}
-use Rattle.v7tools.specs.Events.{Extends, opens}
+use Rattle.surroundings.specs.Events.{Extends, opens}
 use Rattle.v7tools.specs.internal.Openings.{sources, IsWorking}
 use Rattle.v7tools.proofs.link.command.open_all.Given as goal
 

@@ -1,0 +1,83 @@
+-- What a program answers, and what of it goes out. (own choice)
+use Rattle.std.specs.Prelude.{◌≡◌, ◌⊎◌, ℕ, Bool, true, false, List, [], ◌++◌, if◌then◌else◌, ◌∷◌, Option, Some, None, Result, Ok, Err, bytes_eq, codes}
+use Rattle.aout_core.specs.declared.shown.Shown.{Shown}
+use Rattle.aout_core.specs.declared.shown.Shown.TheVariants.{Help, Version}
+use Rattle.aout_core.specs.Wires.{Latched}
+use Rattle.surroundings.specs.Emits.{PutsUnless}
+use Rattle.surroundings.specs.declared.answer.Fault.{Fault}
+use Rattle.surroundings.specs.declared.answer.Fault.TheVariants.{Answered, Memory}
+use Rattle.surroundings.specs.Answer.{Answer}
+
+-- a line in which a program says a text of a path
+abbrev pub fault_line : List ℕ → List ℕ → List ℕ → List ℕ
+fault_line program path text = program ++ codes ": " ++ path ++ codes ": " ++ text ++ codes "\n"
+
+-- nothing but these lines on standard error
+abbrev pub only_errors : List ℕ → ℕ → Answer
+only_errors errors status = record { output = []; errors = errors; status = status }
+
+-- a text is said of a path, and the status is 2
+abbrev pub failed_at : List ℕ → List ℕ → List ℕ → Answer
+failed_at program path text = only_errors (fault_line program path text) 2
+
+-- a fault has this answer, or memory ran out for it
+abbrev pub Tells : Fault → Answer → Type 0
+Tells fault answer = (fault ≡ Answered answer) ⊎ (fault ≡ Memory)
+
+-- how a program is called, as the answer to arguments that ask for nothing
+abbrev pub says_usage : List ℕ → Answer
+says_usage usage = only_errors usage 2
+
+-- what the first argument asks a program to show of itself
+abbrev pub shown_by : List ℕ → Option Shown
+shown_by word = if bytes_eq word (codes "--help") then Some Help else (if bytes_eq word (codes "--version") then Some Version else None)
+
+abbrev pub shown_in : List (List ℕ) → Option Shown
+shown_in [] = None
+shown_in (word ∷ words) = shown_by word
+
+-- what a program shows in place of its work
+abbrev pub shown_text : List ℕ → List ℕ → Shown → List ℕ
+shown_text program usage Help = usage
+shown_text program usage Version = program ++ codes " 0.4.0\n"
+
+abbrev pub shows : List ℕ → List ℕ → Shown → Answer
+shows program usage shown = record { output = shown_text program usage shown; errors = []; status = 0 }
+
+-- the answer that a fault has, or that memory ran out
+abbrev pub fault_answer : List ℕ → Fault → Answer
+fault_answer program (Answered answer) = answer
+fault_answer program Memory = only_errors (program ++ codes ": no memory\n") 2
+
+-- the answer of a program, which says so if memory ran out for it
+abbrev pub answer_in : List ℕ → Result Answer Fault → Answer
+answer_in program (Ok answer) = answer
+answer_in program (Err fault) = fault_answer program fault
+
+-- ---- the answers of checks and of steps
+
+-- a check finds nothing, or its answer ends the program; or memory ran out for it
+abbrev pub Checks : Option Answer → Result (Unit {0}) Fault → Type 0
+Checks found (Ok x) = found ≡ None
+Checks None (Err fault) = fault ≡ Memory
+Checks (Some answer) (Err fault) = Tells fault answer
+
+-- a step has this fault, or memory ran out for it
+abbrev pub Faults : {A : Type 0} → Result A Answer → Fault → Type 0
+Faults (Ok x) fault = fault ≡ Memory
+Faults (Err answer) fault = Tells fault answer
+
+-- ---- what goes out
+
+-- what goes to standard error, and the status, if standard output failed or did not
+abbrev pub errors_unless : List ℕ → Bool → Answer → List ℕ
+errors_unless program failed answer = if failed then program ++ codes ": write error\n" else answer.errors
+
+abbrev pub status_unless : Bool → Answer → ℕ
+status_unless failed answer = if failed then 2 else answer.status
+
+-- the answer went out, but for what a device did not take
+pub record Gives {W E : Type 0} (contents : W → Option (List ℕ)) (error_contents : E → Option (List ℕ)) (program : List ℕ) (answer : Answer) (output new_output : Latched W) (error new_error : Latched E) (status : ℕ) : Type 0 where
+  pub written : PutsUnless new_output.has_failed (contents output.device) (contents new_output.device) answer.output
+  pub told : PutsUnless new_error.has_failed (error_contents error.device) (error_contents new_error.device) (errors_unless program new_output.has_failed answer)
+  pub ends : status ≡ status_unless new_output.has_failed answer

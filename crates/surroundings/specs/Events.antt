@@ -1,0 +1,40 @@
+-- What a command asked of the system, which opens and stores its files, in order, and what came of it. (own choice)
+--
+-- No contract can say what a disk holds. It can say what was asked of it: a file was opened, and what its bytes were, or a file was
+-- to be stored, and whether it was. The list of these events, in order, is what a command did.
+use Rattle.std.specs.Prelude.{◌≡◌, ℕ, List, ◌++◌, map, Option, Some, None, ⊤}
+use Rattle.aout_core.specs.Contents.{Contents}
+use Rattle.aout_core.specs.Wires.{Latched}
+use Rattle.surroundings.specs.declared.office.Stored.{Stored}
+
+-- a file could not be opened (`None`), or was, with its bytes if they are known; or a file was to be stored
+pub data Event : Type 0 where
+  opened : List ℕ → Option (Option (List ℕ)) → Event
+  stored : List ℕ → Contents → Stored → Event
+
+-- all events so far, where they are known
+abbrev pub History : Type 0
+History = Option (List Event)
+
+-- known events grow by these
+abbrev pub Extends : History → History → List Event → Type 0
+Extends None new more = ⊤
+Extends (Some xs) None more = ⊥
+Extends (Some xs) (Some ys) more = ys ≡ xs ++ more
+
+-- a path, and the bytes of the file that was opened there, where they are known
+abbrev pub Opened : Type 0
+Opened = List ℕ × Option (List ℕ)
+
+-- the files were opened
+abbrev pub opens : List Opened → List Event
+opens found = map (λ f. opened f.0 (Some f.1)) found
+
+abbrev pub paths_of : List Opened → List (List ℕ)
+paths_of found = map (λ f. f.0) found
+
+-- what is around a program: what was asked of the system so far, standard output and standard error
+pub record Surroundings (W E : Type 0) : Type 0 where
+  pub asked : History
+  pub output : Latched W
+  pub error : Latched E

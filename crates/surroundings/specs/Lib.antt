@@ -1,0 +1,7 @@
+pub mod Events
+pub mod Emits
+pub mod Answer
+pub mod Answers
+pub mod Sources
+pub mod Paths
+pub mod internal

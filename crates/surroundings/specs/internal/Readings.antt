@@ -1,0 +1,14 @@
+-- A file that is not read, by the reason.
+use Rattle.std.specs.Prelude.{ℕ, List, [], ◌∷◌, Option, Some, None}
+use Rattle.aout_core.specs.declared.whole.FileFault.{FileFault}
+use Rattle.aout_core.specs.declared.whole.FileFault.TheVariants.{NotOpened, Failed, Memory}
+use Rattle.surroundings.specs.Events.{History, Extends, opened}
+
+-- the file at a path was opened
+abbrev pub Opens : History → History → List ℕ → Type 0
+Opens old new path = (known : Option (List ℕ)) × Extends old new (opened path (Some known) ∷ [])
+
+abbrev pub ReadsNot : History → History → List ℕ → FileFault → Type 0
+ReadsNot old new path NotOpened = Extends old new (opened path None ∷ [])
+ReadsNot old new path Failed = Opens old new path
+ReadsNot old new path Memory = Opens old new path

@@ -1,0 +1,223 @@
+//! What a program answers: what it writes, and its status.
+ghost use Rattle.std.specs.Prelude.{◌≡◌, ◌++◌, [], false, map, string_bytes, IfOk};
+ghost use Rattle.aout_core.specs.Wires.{Writes};
+ghost use Rattle.surroundings.specs.declared.answer.Fault.TheVariants.{Memory};
+ghost use Rattle.surroundings.specs.Answers.{Gives, Tells, answer_in, errors_unless, failed_at, fault_answer, only_errors, says_usage, shown_by, shown_in, shows, status_unless};
+
+use crate::outputs::Outputs;
+use aout_core::{DeviceFault, Shown, VERSION, Wire};
+use std::alloc::{AllocError, AllocFailed, Global};
+use std::io::Write;
+use std::marker::Model;
+use texts::Text;
+
+/// What a program writes at its end, and its status. (own choice)
+#[derive(Drop)]
+pub struct Answer {
+    /// For standard output.
+    pub output: Vec<u8>,
+    /// For standard error.
+    pub errors: Vec<u8>,
+    /// The status.
+    pub status: u8,
+}
+
+impl Model for Answer {
+    ghost use Rattle.surroundings.specs.Answer as spec;
+
+    ghost Value = { spec.Answer };
+
+    ghost view = { λ a. record { output = a.output.items; errors = a.errors.items; status = a.status } };
+}
+
+/// Why a program does not go on: it has its answer, or memory ran out. (own choice)
+#[derive(Drop)]
+pub enum Fault {
+    /// The answer says why.
+    Answered(Answer),
+    /// Memory ran out.
+    Memory,
+}
+
+impl From<AllocError> for Fault {
+    ghost from_gives = { λ _ fault. fault ≡ Memory };
+
+    fn from(_error: AllocError) -> Fault {
+        Fault::Memory
+    }
+}
+
+impl<T: Drop> From<AllocFailed<T>> for Fault {
+    ghost from_gives = { λ _ fault. fault ≡ Memory };
+
+    fn from(_error: AllocFailed<T>) -> Fault {
+        Fault::Memory
+    }
+}
+
+/// The answer with a text for standard error, and a status. (own choice)
+pub fn error_answer(alloc: Global, errors: Text, status: u8) -> Result<Answer, AllocError>
+    ensures { IfOk result (λ a. (errors.is_cut ≡ false) × (a ≡ only_errors errors.bytes status)) }
+{
+    Ok(Answer {
+        output: Vec::new(alloc),
+        errors: errors.finish()?,
+        status,
+    })
+}
+
+/// The answer of status 2 in which a program says a text of a path: `PROGRAM: PATH: TEXT`.
+fn answer_at(alloc: Global, program: &str, path: &str, text: &str) -> Result<Answer, AllocError>
+    ensures { IfOk result (λ a. a ≡ failed_at program.now path.now text.now) }
+{
+    let mut line = Text::new(alloc);
+    line.put(program);
+    line.put(": ");
+    line.put(path);
+    line.put(": ");
+    line.put(text);
+    line.put("\n");
+    error_answer(alloc, line, 2)
+}
+
+/// The fault in which a program says a text of a path: `PROGRAM: PATH: TEXT`, with the status 2. (own choice)
+pub fn fault_at(alloc: Global, program: &str, path: &str, text: &str) -> Fault
+    ensures { Tells result (failed_at program.now path.now text.now) }
+{
+    match answer_at(alloc, program, path, text) {
+        Ok(answer) => Fault::Answered(answer),
+        Err(_) => Fault::Memory,
+    }
+}
+
+/// The answer to arguments that ask for nothing: how the program is called, on standard error. (own choice)
+pub fn usage_answer(alloc: Global, usage: &str) -> Result<Answer, AllocError>
+    ensures { IfOk result (λ a. a ≡ says_usage usage.now) }
+{
+    let mut errors = Text::new(alloc);
+    errors.put(usage);
+    error_answer(alloc, errors, 2)
+}
+
+/// What an argument asks a program to show of itself.
+fn shown_by(word: &str) -> Option<Shown>
+    ensures { result ≡ shown_by word.now }
+{
+    match word {
+        "--help" => Some(Shown::Help),
+        "--version" => Some(Shown::Version),
+        _ => None,
+    }
+}
+
+/// What the first argument of a program asks to be shown: `--help` or `--version`. (own choice)
+pub fn shown_in(words: &[String]) -> Option<Shown>
+    ensures { result ≡ shown_in (map string_bytes words.now) }
+{
+    match words {
+        [] => None,
+        [word, ..] => shown_by(word.as_str()),
+    }
+}
+
+/// The answer to an argument that asks a program to show something of itself. (own choice)
+pub fn shown_answer(
+    alloc: Global,
+    program: &str,
+    usage: &str,
+    shown: Shown,
+) -> Result<Answer, AllocError>
+    ensures { IfOk result (λ a. a ≡ shows program.now usage.now shown) }
+{
+    let mut output = Text::new(alloc);
+    match shown {
+        Shown::Help => output.put(usage),
+        Shown::Version => {
+            output.put(program);
+            output.put(" ");
+            output.put(VERSION);
+            output.put("\n");
+        }
+    }
+    Ok(Answer {
+        output: output.finish()?,
+        errors: Vec::new(alloc),
+        status: 0,
+    })
+}
+
+/// Writes the name of a program, and a text after it.
+fn put_line<E: Write>(program: &str, text: &str, error: &mut Wire<E>) -> Result<(), DeviceFault>
+    ensures { Writes E.contents result error.old error.new (program.now ++ text.now) }
+{
+    error.put_both(program.as_bytes(), text.as_bytes())
+}
+
+/// Writes what a fault has for standard error.
+fn put_fault<E: Write>(program: &str, fault: &Fault, error: &mut Wire<E>) -> Result<(), DeviceFault>
+    ensures { Writes E.contents result error.old error.new (fault_answer program.now fault.now).errors }
+{
+    match fault {
+        Fault::Answered(answer) => error.put(&answer.errors),
+        Fault::Memory => put_line(program, ": no memory\n", error),
+    }
+}
+
+/// Writes what goes to standard error: the errors of an answer, or a line if it could not be written or there is none.
+fn put_errors<E: Write>(
+    program: &str,
+    is_failed: bool,
+    answer: &Result<Answer, Fault>,
+    error: &mut Wire<E>,
+) -> Result<(), DeviceFault>
+    ensures { Writes E.contents result error.old error.new (errors_unless program.now is_failed (answer_in program.now answer.now)) }
+{
+    if is_failed {
+        return put_line(program, ": write error\n", error);
+    }
+    match answer {
+        Ok(answer) => error.put(&answer.errors),
+        Err(fault) => put_fault(program, fault, error),
+    }
+}
+
+/// Writes what goes to standard output.
+fn put_output<W: Write>(
+    answer: &Result<Answer, Fault>,
+    output: &mut Wire<W>,
+) -> Result<(), DeviceFault>
+    ensures { Writes W.contents result output.old output.new (answer_in [] answer.now).output }
+{
+    match answer {
+        Ok(answer) | Err(Fault::Answered(answer)) => output.put(&answer.output),
+        Err(Fault::Memory) => output.put(b""),
+    }
+}
+
+/// The status of an answer.
+fn status_of(is_failed: bool, answer: &Result<Answer, Fault>) -> u8
+    ensures { result ≡ status_unless is_failed (answer_in [] answer.now) }
+{
+    if is_failed {
+        return 2;
+    }
+    match answer {
+        Ok(answer) | Err(Fault::Answered(answer)) => answer.status,
+        Err(Fault::Memory) => 2,
+    }
+}
+
+/// Writes the answer of a program, and returns the status. If standard output fails, a line on standard error says so in place of
+/// what the answer has for it, and the status is 2. If there is no memory for an answer, a line says that. (own choice)
+pub fn give<W: Write, E: Write>(
+    program: &str,
+    answer: &Result<Answer, Fault>,
+    outputs: &mut Outputs<W, E>,
+) -> u8
+    ensures { Gives W.contents E.contents program.now (answer_in program.now answer.now)
+        outputs.old.output outputs.new.output outputs.old.error outputs.new.error result }
+{
+    let is_failed = put_output(answer, &mut outputs.output).is_err();
+    let _ = put_errors(program, is_failed, answer, &mut outputs.error);
+    status_of(is_failed, answer)
+}

@@ -1,0 +1,33 @@
+//! Standard streams that are closed.
+use std::fs::File;
+use std::os::fd::AsRawFd;
+use std::{fs, io};
+
+/// Opens a folder at each descriptor below 3 that is closed, since a file that a program opens would else take the place
+/// of a standard stream. A folder is neither read nor written: what goes there is a read or a write error. (own choice)
+pub fn hold_streams(rt: &HostRuntime) -> io::Result<Vec<File>> {
+    let mut held = Vec::new(rt.alloc());
+    for _ in 0..3 {
+        let folder = fs::open(rt, "/")?;
+        if folder.as_raw_fd() > 2 {
+            break;
+        }
+        held.push(folder)?;
+    }
+    Ok(held)
+}
+
+/// The status of a program that ended, or that could not begin: then a line says why on standard error. Arguments that are not UTF-8
+/// are refused with how the program is called. (own choice)
+pub fn end(rt: &HostRuntime, program: &str, usage: &str, ended: io::Result<u8>) -> u8 {
+    let error = match ended {
+        Ok(status) => return status,
+        Err(error) => error,
+    };
+    let _ = match error.kind() {
+        io::ErrorKind::OutOfMemory => eprintln!(rt; "{program}: no memory"),
+        io::ErrorKind::InvalidData => rt.eprint(usage),
+        _ => eprintln!(rt; "{program}: /: cannot open"),
+    };
+    2
+}

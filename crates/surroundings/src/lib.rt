@@ -1,0 +1,43 @@
+//! What is around a program: its arguments, its files and its standard streams; and what the programs beside `v7` share.
+//!
+//! Types:
+//!
+//! - `Office`, `Stored`: what opens and stores the files of a program, and what became of a file
+//! - `Disk`: the files of the system, as an `Office`
+//! - `Outputs`, `StandardError`: where a program writes
+//! - `Answer`, `Fault`: what a program writes at its end with its status, and why it does not go on
+//! - `PlainPaths`: the paths of inputs, which are compared with those of outputs
+//!
+//! Functions:
+//!
+//! - `words`: the arguments of a program
+//! - `hold_streams`: keeps files from the descriptors of closed standard streams
+//! - `end`: the status of a program that ended, or could not begin
+//! - `read_whole`: all bytes of a file
+//! - `stored_text`: what is said of a file that was not stored
+//! - `shown_in`: what an argument asks a program to show of itself
+//! - `error_answer`, `fault_at`, `usage_answer`, `shown_answer`: answers
+//! - `give`: writes an answer
+#![tactic(auto)]
+
+mod answer;
+mod arguments;
+mod disk;
+mod held;
+mod office;
+mod outputs;
+mod paths;
+mod sources;
+mod standard_error;
+
+pub use answer::{
+    Answer, Fault, error_answer, fault_at, give, shown_answer, shown_in, usage_answer,
+};
+pub use arguments::words;
+pub use disk::Disk;
+pub use held::{end, hold_streams};
+pub use office::{Office, Stored, stored_text};
+pub use outputs::Outputs;
+pub use paths::PlainPaths;
+pub use sources::read_whole;
+pub use standard_error::StandardError;

@@ -1,0 +1,46 @@
+//! What opens and stores the files of a command.
+ghost use Rattle.std.specs.Prelude.{◌≡◌, [], ◌∷◌, List, None, Option};
+ghost use Rattle.std.specs.Option.{option_map};
+ghost use Rattle.surroundings.specs.Sources.{stored_text};
+ghost use Rattle.surroundings.specs.Events.{Event, Extends, opened, stored};
+
+use aout_core::File;
+use std::io::Read;
+
+/// What became of a file that was to be stored. (own choice)
+#[derive(Clone, Copy, Debug, PartialEq, Eq)]
+pub enum Stored {
+    /// It is stored whole.
+    Kept,
+    /// No file can be made at its path.
+    NotCreated,
+    /// Its device failed while it was written.
+    Failed,
+}
+
+/// The files of a command, by their paths. Its `history` lists what it was asked, where that is known. (own choice)
+pub trait Office {
+    /// A file that is open.
+    type Source: Read + Drop;
+
+    ghost history: { Self → Option (List Event) } = { λ _. None };
+
+    /// Opens the file at a path; `None` if it can't be opened. (own choice)
+    fn open(&mut self, path: &str) -> Option<Self::Source>
+        ensures { Extends (history self.old) (history self.new) (opened path.now (option_map Self.Source.remaining result) ∷ []) };
+
+    /// Makes a file at a path, or empties the one that is there, and writes it; returns what became of it. (own choice)
+    fn store(&mut self, path: &str, file: &File) -> Stored
+        ensures { Extends (history self.old) (history self.new) (stored path.now file.now result ∷ []) };
+}
+
+/// What is said of the path of a file that was not stored. (own choice)
+pub fn stored_text(stored: Stored) -> Option<&'static str>
+    ensures { option_map (λ text. text.now) result ≡ stored_text stored }
+{
+    match stored {
+        Stored::Kept => None,
+        Stored::NotCreated => Some("cannot create"),
+        Stored::Failed => Some("write error"),
+    }
+}

@@ -1,0 +1,5 @@
+pub mod StepLemmas
+pub mod ReadingLemmas
+pub mod ConvertingLemmas
+pub mod StoringLemmas
+pub mod CallLemmas

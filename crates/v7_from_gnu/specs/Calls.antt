@@ -1,0 +1,93 @@
+-- What the arguments of v7-from-gnu ask for. (own choice)
+--
+-- The first argument may ask for help or the version. Else arguments that begin with a hyphen have letters of options, up to the first
+-- path; the argument after the letter `o` is a folder. Without a folder there are two paths.
+use Rattle.std.specs.Prelude.{ℕ, ◌==◌, ◌&&◌, ◌||◌, Bool, true, false, not, nat_eq, nat_lt, if◌then◌else◌, List, [], ◌∷◌, ◌++◌, map, drop, length, Option, Some, None, option_map, codes}
+use Rattle.std.specs.List.{starts_with}
+use Rattle.aout_core.specs.Words.{letter_of}
+use Rattle.aout_core.specs.declared.shown.Shown.{Shown}
+use Rattle.gnu_objects.specs.declared.options.Locals.{Locals}
+use Rattle.gnu_objects.specs.declared.options.Locals.TheVariants.{KeepAll, KeepNeeded, KeepNone}
+use Rattle.surroundings.specs.Answers.{shown_in}
+use Rattle.v7_from_gnu.specs.Jobs.{Job}
+use Rattle.v7_from_gnu.specs.declared.arguments.Call.{Call}
+use Rattle.v7_from_gnu.specs.declared.arguments.Call.TheVariants.{Show, Convert}
+use Rattle.v7_from_gnu.specs.declared.arguments.Letters.{Letters}
+
+-- ---- letters
+
+abbrev pub unread : Letters
+unread = record { options = record { drops_debugger = false; locals = KeepAll }; is_quiet = false; has_folder = false; wants_folder = false }
+
+-- -x wins over -X
+abbrev pub needed_at_most : Locals → Locals
+needed_at_most KeepNone = KeepNone
+needed_at_most _ = KeepNeeded
+
+-- one more letter; -o comes once
+abbrev pub next_letter : Letters → ℕ → Option Letters
+next_letter l letter =
+    if letter == letter_of (codes "S") then Some (record l { options = record l.options { drops_debugger = true } })
+    else (if letter == letter_of (codes "x") then Some (record l { options = record l.options { locals = KeepNone } })
+    else (if letter == letter_of (codes "X") then Some (record l { options = record l.options { locals = needed_at_most l.options.locals } })
+    else (if letter == letter_of (codes "q") then Some (record l { is_quiet = true })
+    else (if letter == letter_of (codes "o") && not l.has_folder then Some (record l { has_folder = true; wants_folder = true })
+    else None))))
+
+-- no letter follows the letter o in its argument
+abbrev pub letter_read : Letters → ℕ → Option Letters
+letter_read l letter = if l.wants_folder then None else next_letter l letter
+
+abbrev pub and_then : {A B : Type 0} → Option A → (A → Option B) → Option B
+and_then None next = None
+and_then (Some x) next = next x
+
+abbrev pub letters_read : Letters → List ℕ → Option Letters
+letters_read l [] = Some l
+letters_read l (letter ∷ letters) = and_then (letter_read l letter) (λ m. letters_read m letters)
+
+-- an argument that begins with a hyphen; a hyphen alone is refused
+abbrev pub options_read : Letters → List ℕ → Option Letters
+options_read l word = if nat_lt (length word) 2 then None else letters_read l (drop 1 word)
+
+-- ---- paths
+
+-- what follows the last slash (47) of some bytes, or was found before them
+abbrev pub after_slash_or : List ℕ → List ℕ → List ℕ
+after_slash_or found [] = found
+after_slash_or found (b ∷ bs) = if b == 47 then after_slash_or bs bs else after_slash_or found bs
+
+-- what follows the last slash of a path, or all of it
+abbrev pub after_slash : List ℕ → List ℕ
+after_slash path = after_slash_or path path
+
+-- a file goes to one of its name in a folder
+abbrev pub into_folder : List ℕ → List ℕ → Job
+into_folder folder path = record { from = path; to = folder ++ codes "/" ++ after_slash path }
+
+-- with a folder all files, and without one a file and the path of its object
+abbrev pub jobs_of : Option (List ℕ) → List (List ℕ) → Option (List Job)
+jobs_of (Some folder) paths = Some (map (into_folder folder) paths)
+jobs_of None (from ∷ to ∷ []) = Some (record { from = from; to = to } ∷ [])
+jobs_of None _ = None
+
+abbrev pub conversion_of : Letters → Option (List ℕ) → List (List ℕ) → Option Call
+conversion_of l folder paths = option_map (λ jobs. Convert (record { options = l.options; is_quiet = l.is_quiet; jobs = jobs })) (jobs_of folder paths)
+
+-- ---- all arguments
+
+-- the letters and the folder that were read so far, and the arguments that are left: there has to be a path
+abbrev pub call_from : Letters → Option (List ℕ) → List (List ℕ) → Option Call
+call_from l folder [] = None
+call_from l folder (word ∷ words) =
+    if l.wants_folder then call_from (record l { wants_folder = false }) (Some word) words
+    else (if starts_with nat_eq word (codes "-") then and_then (options_read l word) (λ m. call_from m folder words)
+    else conversion_of l folder (word ∷ words))
+
+-- help or the version, or a conversion
+abbrev pub shown_or : Option Shown → Option Call → Option Call
+shown_or (Some shown) later = Some (Show shown)
+shown_or None later = later
+
+abbrev pub call_of : List (List ℕ) → Option Call
+call_of words = shown_or (shown_in words) (call_from unread None words)

@@ -1,0 +1,9 @@
+pub mod Jobs
+pub mod Calls
+pub mod Lines
+pub mod Readings
+pub mod Plans
+pub mod Checks
+pub mod Converting
+pub mod Runs
+pub mod internal

@@ -1,0 +1,8 @@
+-- What is done once all files are converted.
+use Rattle.std.specs.Prelude.{ℕ, List}
+use Rattle.v7_from_gnu.specs.declared.converting.Target.{Target}
+
+-- what is reported of names, and the objects
+pub record Plan : Type 0 where
+  pub remarks : List ℕ
+  pub targets : List Target

@@ -1,0 +1,17 @@
+-- The files that are converted are read whole, each before the next one is opened, up to the first that can't be. (own choice)
+use Rattle.std.specs.Prelude.{◌≡◌, ◌⊎◌, ℕ, List, [], ◌∷◌, ◌++◌, Result, Ok, Err}
+use Rattle.surroundings.specs.Events.{History}
+use Rattle.surroundings.specs.Sources.{EndsReading, ReadsAt}
+use Rattle.surroundings.specs.declared.answer.Fault.{Fault}
+use Rattle.v7_from_gnu.specs.Jobs.{Job, Source}
+use Rattle.v7_from_gnu.specs.Lines.{program}
+
+abbrev pub source_of : Job → List ℕ → Source
+source_of job bytes = record { from = job.from; to = job.to; bytes = bytes }
+
+-- the files of these jobs are read after those that were read before, and the result has them all, or why one was not read
+abbrev pub IsReading : History → History → List Source → List Job → Result (List Source) Fault → Type 0
+IsReading old new read [] result = (new ≡ old) × (result ≡ Ok read)
+IsReading old new read (job ∷ jobs) result =
+    ((bytes : List ℕ) × (between : History) × ReadsAt old between job.from bytes × IsReading between new (read ++ source_of job bytes ∷ []) jobs result)
+    ⊎ ((fault : Fault) × EndsReading program old new job.from fault × (result ≡ Err fault))

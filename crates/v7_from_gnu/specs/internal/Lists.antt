@@ -1,0 +1,24 @@
+-- What private functions return.
+use Rattle.std.specs.declared.alloc.Global.{Global}
+use Rattle.std.specs.Prelude.{◌≡◌, ◌≢◌, ◌⊎◌, ℕ, List, map, Result, Ok, Err, Vec}
+use Rattle.gnu_objects.specs.declared.refusal.Refusal.{Refusal}
+use Rattle.gnu_objects.specs.declared.refusal.Refusal.TheVariants as refusals
+use Rattle.surroundings.specs.Answers.{Tells}
+use Rattle.surroundings.specs.declared.answer.Fault.{Fault}
+use Rattle.surroundings.specs.declared.answer.Fault.TheVariants.{Memory}
+use Rattle.v7_from_gnu.specs.Converting.{refusal_answer}
+use Rattle.v7_from_gnu.specs.Jobs.{Source}
+use Rattle.v7_from_gnu.specs.Jobs.{Job}
+use Rattle.surroundings.specs.Paths.{plain}
+
+abbrev pub listed : {A E : Type 0} → Result (Vec A Global) E → Result (List A) E
+listed (Ok v) = Ok v.items
+listed (Err e) = Err e
+
+-- the paths of all files, as they are compared
+abbrev pub plain_inputs : List Job → List (List ℕ)
+plain_inputs jobs = map plain (map (λ (job : Job). job.from) jobs)
+
+-- a file is refused, or memory ran out
+abbrev pub RefusedAs : Source → Refusal → Fault → Type 0
+RefusedAs source refusal fault = (fault ≡ Memory) ⊎ ((refusal ≢ refusals.Memory) × Tells fault (refusal_answer source refusal))

@@ -1,0 +1,113 @@
+//! What is checked before a file is opened, and before one is written.
+ghost use Rattle.std.specs.Prelude.{◌≡◌, ◌++◌, ◌∷◌, [], map, string_bytes, IfOk};
+ghost use Rattle.gnu_objects.specs.Clashes.{clash_among};
+ghost use Rattle.surroundings.specs.Answers.{Checks, only_errors};
+ghost use Rattle.surroundings.specs.declared.answer.Fault.TheVariants.{Answered};
+ghost use Rattle.v7_from_gnu.specs.Checks.{bytes_of, clash_found, clash_from, goes_to, job_answer, path_answer};
+ghost use Rattle.v7_from_gnu.specs.Lines.{clash_line};
+ghost use Rattle.v7_from_gnu.specs.internal.Lists.{plain_inputs};
+
+use crate::arguments::Job;
+use crate::converting::Target;
+use crate::lines::put_clash;
+use crate::program::NAME;
+use gnu_objects::{Clash, Together};
+use std::alloc::{AllocError, Global};
+use surroundings::{Fault, PlainPaths, error_answer, fault_at};
+use texts::Text;
+
+/// The paths of all files, as they are compared.
+fn inputs(alloc: Global, jobs: &[Job]) -> Result<PlainPaths, AllocError>
+    ensures { IfOk result (λ paths. paths ≡ plain_inputs jobs.now) }
+{
+    let mut paths = PlainPaths::new(alloc);
+    for job in jobs {
+        paths.add(alloc, job.from.as_str())?;
+    }
+    Ok(paths)
+}
+
+/// Whether one of these objects goes to a path.
+fn goes_to(jobs: &[Job], path: &String) -> bool
+    ensures { result ≡ goes_to jobs.now (string_bytes path.now) }
+{
+    jobs.iter().any(|job| job.to == *path)
+}
+
+/// Checks the path of one object, with the objects before it.
+fn check_path(alloc: Global, inputs: &PlainPaths, before: &[Job], job: &Job) -> Result<(), Fault>
+    ensures { Checks (job_answer inputs.now before.now job.now) result }
+{
+    if inputs.has(alloc, job.to.as_str())? {
+        return Err(fault_at(
+            alloc,
+            NAME,
+            job.to.as_str(),
+            "the output is one of the inputs",
+        ));
+    }
+    if goes_to(before, &job.to) {
+        return Err(fault_at(alloc, NAME, job.from.as_str(), "a second file of this name"));
+    }
+    Ok(())
+}
+
+/// Checks the paths of objects: none is one of the files, and no two are one.
+pub(crate) fn check_paths(alloc: Global, jobs: &[Job]) -> Result<(), Fault>
+    ensures { Checks (path_answer jobs.now) result }
+{
+    let inputs = inputs(alloc, jobs)?;
+    for (index, job) in jobs.iter().enumerate() {
+        check_path(alloc, &inputs, &jobs[..index], job)?;
+    }
+    Ok(())
+}
+
+/// The fault that an external of a file would become one with an external of an earlier file.
+fn clashing(
+    alloc: Global,
+    first: &Target,
+    second: &Target,
+    clash: Clash,
+) -> Result<Fault, AllocError>
+    ensures { IfOk result (λ fault. fault ≡ Answered (only_errors (clash_line first.now.source second.now.source clash) 1)) }
+{
+    let mut line = Text::new(alloc);
+    put_clash(&mut line, &first.source, &second.source, clash);
+    Ok(Fault::Answered(error_answer(alloc, line, 1)?))
+}
+
+/// Puts a file beside those before it, if no external of it would become one with one of theirs.
+fn put_beside<'a>(
+    alloc: Global,
+    before: &[Target],
+    together: &mut Together<'a>,
+    target: &'a Target,
+) -> Result<(), Fault>
+    requires { together.old ≡ bytes_of before.now }
+    ensures checks { Checks (clash_found before.now target.now (clash_among (bytes_of before.now) target.now.source.bytes)) result }
+    ensures added { IfOk result (λ _. together.new ≡ together.old ++ target.now.source.bytes ∷ []) }
+{
+    let Ok(found) = together.add(alloc, &target.source.bytes) else {
+        return Err(Fault::Memory);
+    };
+    let Some((number, clash)) = found else {
+        return Ok(());
+    };
+    match before.get(number) {
+        Some(first) => Err(clashing(alloc, first, target, clash)?),
+        // it is the number of one of them
+        None => Err(Fault::Memory),
+    }
+}
+
+/// Checks the names of files that are converted together: no two externals of two of them would become one.
+pub(crate) fn check_names(alloc: Global, targets: &[Target]) -> Result<(), Fault>
+    ensures { Checks (clash_from [] targets.now) result }
+{
+    let mut together = Together::new(alloc);
+    for (index, target) in targets.iter().enumerate() {
+        put_beside(alloc, &targets[..index], &mut together, target)?;
+    }
+    Ok(())
+}

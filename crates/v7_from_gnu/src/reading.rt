@@ -1,0 +1,49 @@
+//! The files that are to be converted, read whole.
+ghost use Rattle.std.specs.Prelude.{[]};
+ghost use Rattle.v7_from_gnu.specs.Readings.{IsReading};
+ghost use Rattle.v7_from_gnu.specs.internal.Lists.{listed};
+
+use crate::arguments::Job;
+use crate::program::NAME;
+use std::alloc::Global;
+use std::marker::Model;
+use surroundings::{Fault, Office, read_whole};
+
+/// A file that was read, and the path where its object is to go.
+#[derive(Drop)]
+pub(crate) struct Source {
+    pub(crate) from: String,
+    pub(crate) to: String,
+    pub(crate) bytes: Vec<u8>,
+}
+
+impl Model for Source {
+    ghost use Rattle.std.specs.Prelude.{string_bytes};
+    ghost use Rattle.v7_from_gnu.specs.Jobs as spec;
+
+    ghost Value = { spec.Source };
+
+    ghost view = { λ s. record { from = string_bytes s.from; to = string_bytes s.to; bytes = s.bytes.items } };
+}
+
+/// Reads each file before the next one is opened, up to the first that can't be read.
+pub(crate) fn read_all<O: Office>(
+    alloc: Global,
+    office: &mut O,
+    jobs: Vec<Job>,
+) -> Result<Vec<Source>, Fault>
+    ensures { IsReading (O.history office.old) (O.history office.new) [] jobs.items (listed result) }
+{
+    let mut sources = Vec::new(alloc);
+    for job in jobs {
+        let Job { from, to } = job;
+        let bytes = match read_whole(alloc, office, NAME, from.as_str()) {
+            Ok(bytes) => bytes,
+            Err(fault) => return Err(fault),
+        };
+        if sources.push(Source { from, to, bytes }).is_err() {
+            return Err(Fault::Memory);
+        }
+    }
+    Ok(sources)
+}

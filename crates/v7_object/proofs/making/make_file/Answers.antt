@@ -1,0 +1,18 @@
+use Rattle.std.proofs.Common.{rules, ◌≡◌, subst, inr}
+use Rattle.std.specs.Prelude.{Ok}
+use Rattle.listings.specs.Reading.{read}
+use Rattle.v7_object.specs.Runs.{file_of}
+use Rattle.v7_object.proofs.making.make_file.Goals as goal
+
+pub returns : goal.returns
+returns g c =
+    let same : c.deref.result.now ≡ c.in_ok-text.text.items = search rules in
+    inr (
+      c.in_ok-check_path.ensures,
+      inr (
+        c.in_ok-text.text.items,
+        g.O.Office.history c.read_whole.new.office,
+        c.in_ok-text.ensures.ok,
+        inr (c.in_ok-file.file, subst (λ text. file_of c.args.listing.now (read text) ≡ Ok c.in_ok-file.file) same c.in_ok-file.ensures.ok, c.store.ensures),
+      ),
+    )

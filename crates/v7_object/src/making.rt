@@ -1,0 +1,82 @@
+//! The file of a listing. It is written only if the listing has no mistake.
+ghost use Rattle.std.specs.Prelude.{◌≡◌, ◌∷◌, [], IfErr, IfOk, Ok};
+ghost use Rattle.listings.specs.Reading.{read};
+ghost use Rattle.surroundings.specs.Answers.{Checks, Faults, Tells, failed_at, only_errors};
+ghost use Rattle.v7_object.specs.Lines.{mistake_line, program};
+ghost use Rattle.v7_object.specs.Runs.{IsMaking, IsStoring, file_of, path_answer};
+
+use crate::lines::put_mistake;
+use crate::program::NAME;
+use aout_core::File;
+use listings::{ListingFault, read_listing};
+use std::alloc::{AllocError, Global};
+use surroundings::{
+    Answer, Fault, Office, PlainPaths, error_answer, fault_at, read_whole, stored_text,
+};
+use texts::Text;
+
+/// Checks that the output is not the input.
+fn check_path(alloc: Global, listing: &str, to: &str) -> Result<(), Fault>
+    ensures { Checks (path_answer listing.now to.now) result }
+{
+    let mut inputs = PlainPaths::new(alloc);
+    inputs.add(alloc, listing)?;
+    if inputs.has(alloc, to)? {
+        return Err(fault_at(alloc, NAME, to, "the output is one of the inputs"));
+    }
+    Ok(())
+}
+
+/// The answer with the first mistake of a listing.
+fn mistaken(alloc: Global, path: &str, fault: listings::Fault) -> Result<Answer, AllocError>
+    ensures { IfOk result (λ a. a ≡ only_errors (mistake_line path.now fault) 1) }
+{
+    let mut line = Text::new(alloc);
+    put_mistake(&mut line, path, fault);
+    error_answer(alloc, line, 1)
+}
+
+/// The file of a listing.
+fn file_in(alloc: Global, path: &str, text: &[u8]) -> Result<File, Fault>
+    ensures ok { IfOk result (λ file. file_of path.now (read text.now) ≡ Ok file) }
+    ensures err { IfErr result (λ fault. Faults (file_of path.now (read text.now)) fault) }
+{
+    match read_listing(alloc, text) {
+        Ok(file) => Ok(file),
+        Err(ListingFault::Wrong(fault)) => Err(Fault::Answered(mistaken(alloc, path, fault)?)),
+        Err(ListingFault::Memory) => Err(Fault::Memory),
+    }
+}
+
+/// The answer if nothing is to be said.
+fn silent(alloc: Global) -> Result<Answer, AllocError>
+    ensures { IfOk result (λ a. a ≡ only_errors [] 0) }
+{
+    error_answer(alloc, Text::new(alloc), 0)
+}
+
+/// Stores a file.
+fn store<O: Office>(alloc: Global, office: &mut O, to: &str, file: &File) -> Result<Answer, Fault>
+    ensures { IsStoring to.now file.now (O.history office.old) (O.history office.new) result }
+{
+    let done = silent(alloc)?;
+    match stored_text(office.store(to, file)) {
+        None => Ok(done),
+        Some(why) => Err(fault_at(alloc, NAME, to, why)),
+    }
+}
+
+/// Makes the file of a listing.
+pub(crate) fn make_file<O: Office>(
+    alloc: Global,
+    office: &mut O,
+    listing: &str,
+    to: &str,
+) -> Result<Answer, Fault>
+    ensures { IsMaking listing.now to.now (O.history office.old) (O.history office.new) result }
+{
+    check_path(alloc, listing, to)?;
+    let text = read_whole(alloc, office, NAME, listing)?;
+    let file = file_in(alloc, listing, &text)?;
+    store(alloc, office, to, &file)
+}
