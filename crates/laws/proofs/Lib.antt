@@ -15,6 +15,9 @@ pub mod ReorderedLinks
 pub mod ReorderedAdditions
 pub mod ReorderedMeanings
 pub mod SingleDefinitions
+pub mod FrameBlocks
+pub mod FrameLinks
+pub mod FrameBytes
 mod InstructionLemmas
 pub mod StandLemmas
 mod OperandWordLemmas

@@ -4,6 +4,7 @@ pub mod Core
 pub mod CoreLaws
 pub mod Operands
 pub mod Orders
+pub mod Frame
 pub mod Instructions
 pub mod OperandWords
 pub mod OperandPlaces
