@@ -1,5 +1,5 @@
 -- The law of frames at an object that is patched, and statements near it that do not hold.
-use Rattle.std.proofs.Common.{◌≡◌, ◌≢◌, ℕ, ◌+◌, ◌≤◌, ◌<◌, inl, inr, List, [], ◌∷◌, ◌++◌, map, length, Option, Some, None, refl, sym, ◌∙◌, ap, arith}
+use Rattle.std.proofs.Common.{◌≡◌, ◌≢◌, ℕ, ◌+◌, ◌≤◌, ◌<◌, ◌⊎◌, inl, inr, List, [], ◌∷◌, ◌++◌, map, length, Option, Some, None, refl, sym, ◌∙◌, ap, arith}
 use Rattle.std.specs.Prelude.{not, filter, slice_get, codes, Ok, Err}
 use Rattle.std.specs.List.{AllByRecursion}
 use Rattle.std.specs.List.Sorted.{IsPermutation}
@@ -15,16 +15,16 @@ use Rattle.link_session.specs.Sessions.{IsObject}
 use Rattle.link_session.specs.Starts.{size_of, total}
 use Rattle.link_out.specs.declared.linked.LinkFault.{LinkFault}
 use Rattle.link_out.specs.declared.linked.LinkFault.TheVariants.{SymbolNumber}
-use Rattle.tool_options.specs.declared.options.Keep.TheVariants.{NotL}
+use Rattle.tool_options.specs.declared.options.Keep.TheVariants.{NotL, Nothing}
 use Rattle.tool_options.specs.Choices.{Choices}
-use Rattle.link_out.specs.Results.{Outcome}
+use Rattle.link_out.specs.Results.{Findings, Outcome}
 use Rattle.link_out.specs.relation.Refusals.{kept_locals}
 use Rattle.link_out.specs.function.Link.{link}
-use Rattle.laws.specs.Frame.{TakesPlace, AreReplaced, DifferInObject, FrameHolds, IsBeside, IsOutside, FrameOfBytes, FrameRefusesAlike}
+use Rattle.laws.specs.Frame.{TakesPlace, AreReplaced, DifferInObject, FrameHolds, IsBeside, IsOutside, FrameOfBytes, TakesPlaceRevalued, AreRevaluedLinks, Follows, WordStays, DifferByValues, FrameOfValues}
 use Rattle.laws.proofs.FrameBytes.{beside_same}
-use Rattle.conformance.specs.Samples.{sym as entry, object, _f, _g, L1, c_o, d_o, g_o, p_o, plain, relocatable, with_keep}
+use Rattle.conformance.specs.Samples.{sym as entry, object, _f, _g, L1, c_o, d_o, g_o, p_o, plain, plain_s, relocatable, with_keep, with_entry}
 use Rattle.conformance.proofs.ClauseLemmas.{as_object, at_most_so, less_so}
-use Rattle.conformance.proofs.NeededPremises.{counts, link_of, c_good, d_good}
+use Rattle.conformance.proofs.NeededPremises.{counts, all_kept, link_of, c_good, d_good}
 use Rattle.conformance.proofs.OrderExamples.{first_two, many_locals}
 
 -- a call, patched: another instruction, which takes the address of `_f` as its operand, and another local
@@ -94,6 +94,9 @@ record OfAnyValues (o : Choices) (k l : Contents) : Type 0 where
 abbrev moved_o : Contents
 moved_o = object (0o207 ∷ 0o240 ∷ []) (0 ∷ 0 ∷ []) [] [] 0 (entry _f 0o42 0 ∷ [])
 
+moved_good : IsObject moved_o
+moved_good = as_object moved_o refl refl refl refl refl refl refl refl
+
 abbrev in_slot : Option ℕ → ℕ
 in_slot None = 0
 in_slot (Some w) = w
@@ -104,7 +107,7 @@ with_other_values law =
     let y = link_of (moved_o ∷ c_o ∷ []) plain in
     counts in_slot (slice_get x.file.text_words 3) (slice_get y.file.text_words 3) refl
     (beside_same 0 2 3 x.file.text_words y.file.text_words
-    (law [] [] d_o moved_o (c_o ∷ []) plain x y (d_good, (c_good, tt)) (as_object moved_o refl refl refl refl refl refl refl refl) (record { sizes = same_sizes d_o moved_o refl refl refl; names = refl; types = refl; locals = refl }) refl refl).text
+    (law [] [] d_o moved_o (c_o ∷ []) plain x y (d_good, (c_good, tt)) moved_good (record { sizes = same_sizes d_o moved_o refl refl refl; names = refl; types = refl; locals = refl }) refl refl).text
     (inr (at_most_so 2 3 refl)))
 
 -- with the externals in another order: so is the table
@@ -191,3 +194,71 @@ refuses_for_a_number : ((forced : List (List ℕ)) (before : List Contents) (k l
 refuses_for_a_number law =
     let bad : Ok (link_of (g_o ∷ calm_o ∷ []) relocatable) ≡ Err SymbolNumber = law [] (g_o ∷ []) many_locals calm_o [] relocatable (record { sizes = same_sizes many_locals calm_o refl refl refl; externals = refl; locals = refl }) SymbolNumber refl in
     absurd (cc)
+
+-- ---- other values of the names that are defined
+
+-- `_f` at the beginning of its object in place of two bytes further on
+moved_takes : (o : Choices) → TakesPlaceRevalued o d_o moved_o
+moved_takes o = record { sizes = same_sizes d_o moved_o refl refl refl; externals = (record { name = refl; type_bits = refl; undefined = λ e. let bad : TextSeg ≡ Undefined = e in absurd (cc) }, tt); locals = kept }
+  where
+    kept : length (kept_locals o (d_o ∷ [])) ≡ length (kept_locals o (moved_o ∷ []))
+    kept = refl
+
+moved_links : (o : Choices) (x y : Outcome) → link [] (d_o ∷ c_o ∷ []) o ≡ Ok x → link [] (moved_o ∷ c_o ∷ []) o ≡ Ok y → AreRevaluedLinks [] [] d_o moved_o (c_o ∷ []) o x y
+moved_links o x y one other = record { objects = (d_good, (c_good, tt)); object = moved_good; takes = moved_takes o; one = one; other = other }
+
+-- the premises can be met, and the call, in another object, follows its name
+moved : AreRevaluedLinks [] [] d_o moved_o (c_o ∷ []) plain (link_of (d_o ∷ c_o ∷ []) plain) (link_of (moved_o ∷ c_o ∷ []) plain)
+moved = moved_links plain (link_of (d_o ∷ c_o ∷ []) plain) (link_of (moved_o ∷ c_o ∷ []) plain) refl refl
+
+-- a link in a sense of its own
+abbrev ValuesGive : (Choices → Type 0) → (List Contents → Contents → Contents → List Contents → Choices → Outcome → Outcome → Type 0) → Type 0
+ValuesGive Kept Differ = (forced : List (List ℕ)) (before : List Contents) (k l : Contents) (after : List Contents) (o : Choices) (x y : Outcome) → AreRevaluedLinks forced before k l after o x y → Kept o → Differ before k l after o x y
+
+law_of_values : FrameOfValues → ValuesGive (λ o. o.keep ≢ Nothing) DifferByValues
+law_of_values law = law
+
+-- where no table is written there are no addresses to follow
+values_without_table : ValuesGive (λ o. Unit {0}) DifferByValues → ⊥
+values_without_table law =
+    let x = link_of (d_o ∷ c_o ∷ []) plain_s in
+    let y = link_of (moved_o ∷ c_o ∷ []) plain_s in
+    by_word ((law [] [] d_o moved_o (c_o ∷ []) plain_s x y (moved_links plain_s x y refl refl) tt).later [] c_o [] refl TextSeg 1 0o177774 (record { 0 = 0o11 }) refl refl)
+  where
+    some_word : (a b : ℕ) → Some a ≡ Some b → a ≡ b
+    some_word a b e = cc
+
+    by_word : WordStays (link_of (d_o ∷ c_o ∷ []) plain_s) (link_of (moved_o ∷ c_o ∷ []) plain_s) d_o moved_o c_o TextSeg 3 (record { 0 = 0o11 }) → ⊥
+    by_word w = by_same w.same
+      where
+        by_same : (w.one ≡ w.other) ⊎ Follows (link_of (d_o ∷ c_o ∷ []) plain_s) (link_of (moved_o ∷ c_o ∷ []) plain_s) d_o moved_o c_o (record { 0 = 0o11 }) w.one w.other → ⊥
+        by_same (inl e) = counts (λ (n : ℕ). n) 0o177772 0o177770 refl (some_word 0o177772 w.one w.stands ∙ e ∙ sym (some_word 0o177770 w.other w.stands_too))
+        by_same (inr f) = let bad : None ≡ Some f.row = f.found in absurd (cc)
+
+-- the entry point may be a name that is redefined
+entry_follows : ValuesGive (λ o. o.keep ≢ Nothing) (λ before k l after o x y. x.file.header ≡ y.file.header) → ⊥
+entry_follows law =
+    let x = link_of (d_o ∷ c_o ∷ []) (with_entry _f plain) in
+    let y = link_of (moved_o ∷ c_o ∷ []) (with_entry _f plain) in
+    counts (λ (h : Header). h.entry_point) x.file.header y.file.header refl (law [] [] d_o moved_o (c_o ∷ []) (with_entry _f plain) x y (moved_links (with_entry _f plain) x y refl refl) all_kept)
+
+-- and a name that two objects define as one address may be one that they define as two
+abbrev fixed_at : ℕ → Contents
+fixed_at n = object [] [] [] [] 0 (entry _f 0o41 n ∷ [])
+
+fixed_good : (n : ℕ) → IsObject (fixed_at n)
+fixed_good n = as_object (fixed_at n) refl refl refl refl refl refl refl refl
+
+multiples_follow : ValuesGive (λ o. o.keep ≢ Nothing) (λ before k l after o x y. x.report ≡ y.report) → ⊥
+multiples_follow law =
+    let x = link_of (fixed_at 4 ∷ fixed_at 4 ∷ []) plain in
+    let y = link_of (fixed_at 6 ∷ fixed_at 4 ∷ []) plain in
+    counts (λ (f : Findings). length f.multiples) x.report y.report refl
+    (law [] [] (fixed_at 4) (fixed_at 6) (fixed_at 4 ∷ []) plain x y
+    (record {
+      objects = (fixed_good 4, (fixed_good 4, tt));
+      object = fixed_good 6;
+      takes = record { sizes = same_sizes (fixed_at 4) (fixed_at 6) refl refl refl; externals = (record { name = refl; type_bits = refl; undefined = λ e. let bad : Absolute ≡ Undefined = e in absurd (cc) }, tt); locals = refl };
+      one = refl;
+      other = refl;
+    }) all_kept)

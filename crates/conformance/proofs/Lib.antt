@@ -14,6 +14,7 @@ mod ListingExamples
 mod MachineExamples
 mod NearMachine
 mod OrderExamples
+mod FrameExamples
 mod StepRuns
 mod StepExamples
 mod StripExamples

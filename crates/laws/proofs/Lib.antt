@@ -15,9 +15,13 @@ pub mod ReorderedLinks
 pub mod ReorderedAdditions
 pub mod ReorderedMeanings
 pub mod SingleDefinitions
-pub mod FrameBlocks
-pub mod FrameLinks
+mod FrameBlocks
+mod FrameParts
+mod FrameStates
+mod FrameLinks
 pub mod FrameBytes
+mod FrameValues
+mod FrameWords
 mod InstructionLemmas
 pub mod StandLemmas
 mod OperandWordLemmas

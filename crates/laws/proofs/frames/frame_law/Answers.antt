@@ -1,5 +1,6 @@
 use Rattle.laws.proofs.FrameLinks.{linked_alike, refused_alike, frame_holds}
 use Rattle.laws.proofs.FrameBytes.{bytes_framed}
+use Rattle.laws.proofs.FrameWords.{values_framed}
 use Rattle.laws.proofs.frames.frame_law.Goals as goal
 
 pub returns-clause-links : goal.returns-clause-links
@@ -13,3 +14,6 @@ returns-clause-holds c = frame_holds
 
 pub returns-clause-bytes : goal.returns-clause-bytes
 returns-clause-bytes c = bytes_framed
+
+pub returns-clause-values : goal.returns-clause-values
+returns-clause-values c = values_framed
