@@ -30,7 +30,7 @@ use Rattle.conformance.proofs.ClauseLemmas.{at_most_so}
 use Rattle.conformance.proofs.NeededPremises.{counts, all_kept, link_of, no_object}
 
 -- the first two of a list exchanged
-abbrev first_two : {A : Type 0} (a b : A) (rest : List A) → IsPermutation (a ∷ b ∷ rest) (b ∷ a ∷ rest)
+abbrev pub first_two : {A : Type 0} (a b : A) (rest : List A) → IsPermutation (a ∷ b ∷ rest) (b ∷ a ∷ rest)
 first_two a b rest = record { moves = (0, 1) ∷ []; below = (omega arith, omega arith, tt); is = refl }
 
 -- the two links of the blackboard
