@@ -1,5 +1,5 @@
 -- The bytes of two linked files that differ in one object.
-use Rattle.std.proofs.Common.{◌≡◌, ℕ, ◌+◌, ◌-◌, ◌*◌, ◌/◌, ◌<◌, ◌≤◌, ◌⊎◌, inl, inr, Bool, true, false, cond, eqb, List, [], ◌∷◌, ◌++◌, length, refl, sym, ◌∙◌, ap, subst, arith, length-append}
+use Rattle.std.proofs.Common.{◌≡◌, ℕ, ◌+◌, ◌-◌, ◌*◌, ◌/◌, inl, inr, Bool, true, false, cond, eqb, List, [], ◌∷◌, ◌++◌, length, refl, sym, ◌∙◌, ap, subst, arith, length-append}
 use Rattle.std.specs.Prelude.{nat_lt, slice_get}
 use Rattle.std.specs.List.{flat_map, AllByRecursion}
 use Rattle.std.proofs.lemmas.Bool.{ltb-true, ltb-false}
@@ -16,7 +16,6 @@ use Rattle.aout_core.proofs.EncodingLemmas.{length-all_word_bytes, length-reloc_
 use Rattle.link_session.specs.Starts.{total}
 use Rattle.link_session.specs.Sessions.{IsObject}
 use Rattle.link_session.proofs.ListLemmas.{all_split}
-use Rattle.link_session.proofs.TotalLemmas.{total-first}
 use Rattle.tool_options.specs.Choices.{Choices}
 use Rattle.link_out.specs.relation.Refusals.{kept_locals}
 use Rattle.link_out.specs.function.Plans.{plan}

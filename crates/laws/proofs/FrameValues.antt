@@ -1,27 +1,19 @@
 -- The link of objects, one of which is replaced by another that defines its names with other values.
-use Rattle.std.proofs.Common.{◌≡◌, ◌≢◌, ◌⊎◌, inl, inr, ℕ, zero, suc, ◌+◌, ◌-◌, ◌*◌, ◌/◌, ◌<◌, ◌≤◌, Bool, true, false, cond, not, ◌&&◌, eqb, List, [], ◌∷◌, ◌++◌, map, length, Option, Some, None, refl, sym, ◌∙◌, ap, subst, arith, take, length-append, append_assoc}
-use Rattle.std.specs.Prelude.{filter, nat_lt, slice_get, sum_by, Ok}
-use Rattle.std.specs.List.{AllByRecursion}
+use Rattle.std.proofs.Common.{◌≡◌, ◌≢◌, ◌⊎◌, inl, inr, ℕ, zero, suc, ◌+◌, ◌-◌, ◌*◌, ◌<◌, ◌≤◌, Bool, true, false, cond, not, ◌&&◌, eqb, List, [], ◌∷◌, ◌++◌, map, length, Option, Some, None, refl, sym, ◌∙◌, ap, subst, arith, take, length-append}
+use Rattle.std.specs.Prelude.{filter, nat_lt, slice_get, sum_by}
 use Rattle.std.proofs.lemmas.Bool.{ltb-true, ltb-false}
 use Rattle.std.proofs.lemmas.List.{length-map}
-use Rattle.aout_core.specs.declared.header.Header.{Header}
 use Rattle.aout_core.specs.declared.symbol.Symbol.{Symbol}
 use Rattle.aout_core.specs.declared.symbol.Segment.{Segment}
-use Rattle.aout_core.specs.declared.symbol.Segment.TheVariants.{Undefined, Absolute, TextSeg, DataSeg, BssSeg, Other}
-use Rattle.aout_core.specs.declared.reloc.Reloc.{Reloc}
-use Rattle.aout_core.specs.declared.reloc.Kind.{Kind}
-use Rattle.aout_core.specs.declared.reloc.Kind.TheVariants as kinds
+use Rattle.aout_core.specs.declared.symbol.Segment.TheVariants.{TextSeg, DataSeg, BssSeg}
 use Rattle.aout_core.specs.Contents.{Contents}
-use Rattle.aout_core.specs.Words.{plus, minus}
-use Rattle.aout_core.specs.WellFormed.{kind_of, is_pc_relative, symbol_number}
 use Rattle.aout_core.proofs.AlikeLemmas.{slice_get_front, slice_get_after}
 use Rattle.link_session.specs.declared.state.State.{State}
 use Rattle.link_session.specs.declared.state.State.TheVariants.{Defined, Wanted}
-use Rattle.link_session.specs.Starts.{size_of, total, own, shift}
+use Rattle.link_session.specs.Starts.{shift}
 use Rattle.link_session.specs.Mentions.{Mention, mentions_in, mentions, externals_in, names_of, names_by_first_mention, place_of}
-use Rattle.link_session.specs.Cells.{Referent, to_segment, to_name, segment_words, segment_relocs}
+use Rattle.link_session.specs.Cells.{Referent, to_segment, to_name}
 use Rattle.link_session.specs.States.{state, multiple_names}
-use Rattle.link_session.specs.Sessions.{IsObject}
 use Rattle.link_session.specs.internal.Updates.{updated_state}
 use Rattle.link_session.proofs.MentionLemmas.{mentions-append, names_of-append}
 use Rattle.link_session.proofs.StateLemmas.{state-append}
@@ -30,23 +22,20 @@ use Rattle.tool_options.specs.declared.options.Keep.TheVariants.{Nothing}
 use Rattle.tool_options.specs.Choices.{Choices, lays_commons}
 use Rattle.link_out.specs.Layouts.{Bases, bases, magic_of}
 use Rattle.link_out.specs.ReservedNames.{reserved_names}
-use Rattle.link_out.specs.Results.{Findings}
 use Rattle.link_out.specs.relation.Refusals.{kept_locals}
-use Rattle.link_out.specs.relation.Relocated.{base_in, move_in, entry_of, address_in, IsAddressOf, IsAdded, IsRelocated}
-use Rattle.link_out.specs.function.Plans.{Plan, plan, common_size, room_of, commons_total, common_offset, commons_laid}
-use Rattle.link_out.specs.function.Finals.{Final, final, final_at, bound_at, type_of}
+use Rattle.link_out.specs.relation.Relocated.{entry_of}
+use Rattle.link_out.specs.function.Plans.{Plan, plan, common_size, room_of, common_offset, commons_laid}
+use Rattle.link_out.specs.function.Finals.{Final, final, final_at, type_of}
 use Rattle.link_out.specs.function.Tables.{local_rows, external_row, external_rows, table, name_bits, referent_bits}
-use Rattle.link_out.specs.function.Reports.{findings, entry_word, entry_found_bad, is_undefined, is_missing, reserved_taken, undefined_names}
-use Rattle.link_out.specs.function.Link.{Outcome, linked_header, linked_file, link}
-use Rattle.link_out.proofs.NeighbourMentions.{AreAsLong, as_long_self, blocks, mentions_in_same}
-use Rattle.link_out.proofs.OutcomeLemmas.{made}
+use Rattle.link_out.specs.function.Reports.{findings, entry_word, entry_found_bad, is_undefined, undefined_names}
+use Rattle.link_out.specs.function.Link.{linked_header}
+use Rattle.link_out.proofs.NeighbourMentions.{blocks, mentions_in_same}
 use Rattle.link_out.proofs.ExternalLemmas.{entry_in_table}
-use Rattle.link_out.proofs.RelocatedLemmas.{words_relocated}
 use Rattle.link_out.proofs.RowLemmas.{rows_kept-others}
-use Rattle.laws.specs.Frame.{TakesPlaceRevalued, AreRevaluedLinks, DifferAt, IsBeside, IsRedefined, SymbolsStay, Follows, WordStays, WordsStay, DifferByValues}
-use Rattle.laws.proofs.FrameBlocks.{differ_long, after_same, same_totals, as_long, own_shift}
+use Rattle.laws.specs.Frame.{TakesPlaceRevalued, DifferAt, IsBeside, IsRedefined, SymbolsStay}
+use Rattle.laws.proofs.FrameBlocks.{differ_long, after_same, as_long, own_shift}
 use Rattle.laws.proofs.FrameBytes.{beside_same}
-use Rattle.laws.proofs.FrameParts.{locals_differ, rows_counted, kept_relocs_differ}
+use Rattle.laws.proofs.FrameParts.{locals_differ}
 use Rattle.laws.proofs.FrameStates.{AreNear, near_self, near_updated, said_by, names_revalued, near_states, same_or_other}
 
 -- what follows from states that are near

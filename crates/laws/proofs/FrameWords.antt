@@ -1,5 +1,5 @@
 -- The words of the other objects, where one object is replaced by another that defines its names with other values.
-use Rattle.std.proofs.Common.{◌≡◌, ◌≢◌, ◌⊎◌, inl, inr, ℕ, ◌+◌, ◌*◌, ◌/◌, cond, List, [], ◌∷◌, ◌++◌, Option, Some, None, refl, sym, ◌∙◌, ap, subst, arith, append_assoc}
+use Rattle.std.proofs.Common.{◌≡◌, ◌≢◌, ◌⊎◌, inl, inr, ℕ, ◌+◌, ◌/◌, cond, List, ◌∷◌, ◌++◌, Option, Some, None, refl, sym, ◌∙◌, ap, subst, arith, append_assoc}
 use Rattle.std.specs.Prelude.{slice_get, Ok}
 use Rattle.std.specs.List.{AllByRecursion}
 use Rattle.aout_core.specs.declared.symbol.Symbol.{Symbol}
@@ -17,7 +17,7 @@ use Rattle.link_session.specs.Sessions.{IsObject}
 use Rattle.link_session.proofs.ListLemmas.{all_append, all_split}
 use Rattle.tool_options.specs.declared.options.Keep.TheVariants.{Nothing}
 use Rattle.tool_options.specs.Choices.{Choices}
-use Rattle.link_out.specs.relation.Relocated.{base_in, move_in, entry_of, address_in, IsAddressOf, IsAdded, IsRelocated}
+use Rattle.link_out.specs.relation.Relocated.{base_in, move_in, entry_of, address_in, IsAdded, IsRelocated}
 use Rattle.link_out.specs.function.Plans.{plan}
 use Rattle.link_out.specs.function.Reports.{findings}
 use Rattle.link_out.specs.function.Link.{Outcome, linked_file, link}
