@@ -15,6 +15,7 @@ mod MachineExamples
 mod NearMachine
 mod OrderExamples
 mod IsomorphismExamples
+mod FrameExamples
 mod StepRuns
 mod StepExamples
 mod StripExamples

@@ -156,7 +156,7 @@ entry_of_multiples law =
     absurd (cc)
 
 -- with relocation a name may have a number in one order that a relocation word can hold, and not in the other
-abbrev many_locals : Contents
+abbrev pub many_locals : Contents
 many_locals = object (0 ∷ []) (0o10 ∷ []) [] [] 0 (entry _f 0o40 0 ∷ replicate 4095 (entry L1 2 0))
 
 refuses_with_relocation : ((forced : List (List ℕ)) (os ps : List Contents) (o : Choices) (fault : LinkFault) → IsPermutation os ps → link forced os o ≡ Err fault → link forced ps o ≡ Err fault) → ⊥

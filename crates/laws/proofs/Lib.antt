@@ -15,6 +15,13 @@ pub mod ReorderedLinks
 pub mod ReorderedAdditions
 pub mod ReorderedMeanings
 pub mod SingleDefinitions
+mod FrameBlocks
+mod FrameParts
+mod FrameStates
+mod FrameLinks
+pub mod FrameBytes
+mod FrameValues
+mod FrameWords
 mod InstructionLemmas
 mod IsomorphismLists
 mod IsomorphismPlaces

@@ -5,6 +5,7 @@ pub mod CoreLaws
 pub mod Operands
 pub mod Orders
 pub mod Isomorphism
+pub mod Frame
 pub mod Instructions
 pub mod OperandWords
 pub mod OperandPlaces
