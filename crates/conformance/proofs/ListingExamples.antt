@@ -23,6 +23,7 @@ use Rattle.link_out.specs.relation.Relocated.{entry_of}
 use Rattle.link_out.specs.relation.LinkedFrom.{IsLinkedFrom, moved_locals_in}
 use Rattle.link_out.proofs.LinkedTheorem.{linked_exactly}
 use Rattle.tool_options.specs.declared.nm_options.NmOptions.{NmOptions}
+use Rattle.texts.specs.Numbers.{six_digits}
 use Rattle.symtools.specs.SymbolLines.{letter, symbol_line, value_column}
 use Rattle.symtools.specs.NmLists.{arranged, shown, nm_text}
 use Rattle.symtools.specs.SizeLines.{size_line, size_text}
@@ -72,6 +73,7 @@ listed_beside_locals : nm_text nm_up ((codes "a.out", (link_of (g_o ∷ local_o 
 listed_beside_locals = refl
 
 listed_externals : nm_text nm_g ((codes "a.out", (link_of (c_o ∷ d_o ∷ g_o ∷ x4_o ∷ []) plain).file) ∷ []) ≡ codes "000006 T _f\n       U _g\n000010 B _x\n"
+unfolding six_digits
 listed_externals = refl
 
 -- two commons of 5 and 4 bytes, the first rounded up, and 2 bytes of bss
@@ -198,6 +200,7 @@ two_rows = ap (λ ss. drop 1 ss) two_linked.table
 
 -- by the law and the relation
 told_rows : RowLines → nm_text nm ((path, (link_of (g_o ∷ c_o ∷ []) plain).file) ∷ []) ≡ codes "000000 t L1\n       U _f\n       U _g\n"
+unfolding six_digits
 told_rows law =
     of_rows nm (both_arranged nm (entry L1 0o02 0 ∷ [])) (entry _g 0o40 0 ∷ entry _f 0o40 0 ∷ []) two_linked.rows two_rows (nm_text nm ((path, (link_of (g_o ∷ c_o ∷ []) plain).file) ∷ []))
     (law [] (g_o ∷ c_o ∷ []) plain (link_of (g_o ∷ c_o ∷ []) plain) all_kept two_linked nm path refl)
@@ -216,12 +219,14 @@ locals_beside_externals law =
     (law [] (local_o ∷ []) plain (link_of (local_o ∷ []) plain) local_linked nm_g (all_kept, refl) path))
 
 rows_in_table_order : RowsWritten KeepsAndLists (λ o. o) (λ n locals rows. listed_locals n locals ++ rows) → ⊥
+unfolding six_digits
 rows_in_table_order law =
     counts (λ (text : List ℕ). slice_index_or text 22 0) (codes "000000 t L1\n       U _f\n       U _g\n") (codes "000000 t L1\n       U _g\n       U _f\n") refl
     (of_rows nm (λ rows. entry L1 0o02 0 ∷ rows) (entry _g 0o40 0 ∷ entry _f 0o40 0 ∷ []) two_linked.rows two_rows (codes "000000 t L1\n       U _f\n       U _g\n")
     (law [] (g_o ∷ c_o ∷ []) plain (link_of (g_o ∷ c_o ∷ []) plain) two_linked nm (all_kept, refl) path))
 
 rows_by_u : RowsWritten (λ o n. o.keep ≢ Nothing) (λ o. o) both_arranged → ⊥
+unfolding six_digits
 rows_by_u law =
     let l : Linked (d_o ∷ []) plain = (linked_exactly [] (d_o ∷ []) plain (link_of (d_o ∷ []) plain) (d_good, tt)).0 refl in
     other_text [] (codes "000002 T _f\n") refl
