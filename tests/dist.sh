@@ -5,6 +5,8 @@
 #        tests/dist.sh twice FOLDER            builds them twice, and leaves them in FOLDER/one and FOLDER/two
 #        tests/dist.sh run DIST                runs the packages of the folder DIST
 #        OBJECTS=FOLDER tests/dist.sh ..       a trial: takes the objects of programs and libv7_c.a from this folder, and proves nothing
+#        PROVED=CHECKOUT tests/dist.sh ..      begins with what tests/prove.py has left in this checkout, and proves only what has changed
+#        BASE=FOLDER tests/dist.sh ..          copies Debian's base from this folder, which debootstrap has made, as make_debian does
 #
 # The two builds are of one commit, in two folders, with two file masks, languages and time zones; by two users, if the first is root;
 # and on two dates, if faketime is installed.
@@ -47,12 +49,22 @@ take_objects() {
     done
 }
 
+# puts what was proved, and built of it, where tests/prove.py looks for it; what has other sources it proves again
+take_proved() {
+    mkdir -p "$1/build/proved"
+    cp "$PROVED"/build/proved/* "$1/build/proved"
+    for path in v7/out/v7 v7_from_gnu/out/v7_from_gnu v7_object/out/v7_object v7_explain/out/v7_explain lesson/out/lesson v7_c/out/libv7_c.a; do
+        [ ! -f "$PROVED/crates/$path" ] || { mkdir -p "$1/crates/${path%/*}" && cp "$PROVED/crates/$path" "$1/crates/$path"; }
+    done
+}
+
 # a clone, and its packages, which are made with this file mask by the words that follow
 build() {
     to=$1
     mask=$2
     shift 2
     git clone -q "$top" "$to" || exit 1
+    [ -z "${PROVED:-}" ] || take_proved "$to"
     if [ -n "${OBJECTS:-}" ]; then
         take_objects "$to"
         make="python3 packaging/dist.py --kept"
@@ -90,9 +102,13 @@ debian=$work/debian
 
 # Debian's base, from the mirror of this machine
 make_debian() {
-    mirror=$(apt-get indextargets --format '$(REPO_URI) $(CODENAME)' 'Created-By: Packages' | head -1)
-    debootstrap --variant=minbase --include=gcc,libc6-dev,pkg-config "${mirror#* }" "$debian" "${mirror% *}" >"$work/debootstrap.txt" 2>&1 ||
-        { tail -20 "$work/debootstrap.txt"; stop "debootstrap failed"; }
+    if [ -n "${BASE:-}" ]; then
+        cp -a "$BASE" "$debian" || stop "BASE is not a folder that can be copied"
+    else
+        mirror=$(apt-get indextargets --format '$(REPO_URI) $(CODENAME)' 'Created-By: Packages' | head -1)
+        debootstrap --variant=minbase --include=gcc,libc6-dev,pkg-config "${mirror#* }" "$debian" "${mirror% *}" >"$work/debootstrap.txt" 2>&1 ||
+            { tail -20 "$work/debootstrap.txt"; stop "debootstrap failed"; }
+    fi
     for absent in python3 make rt; do
         [ ! -e "$debian/usr/bin/$absent" ] || fail "the folder has $absent"
     done
@@ -122,12 +138,35 @@ own_readme() {
     for path in $(sed -n 's/^| `\([a-z][^`]*\)` .*/\1/p' "$page"); do
         [ -e "$debian${share%/share}/$path" ] || fail "README.md of the release names $path, which is not there"
     done
-    for path in $(grep -o '](\([^)]*\))' "$page" | tr -d '](\)'); do
-        [ -e "$(dirname "$page")/$path" ] || fail "README.md of the release links to $path, which is not there"
+    for readme in "$page" "$debian${share%/share}/README.md"; do
+        [ -e "$readme" ] || continue
+        for path in $(grep -o '](\([^)]*\))' "$readme" | tr -d '](\)'); do
+            [ -e "$(dirname "$readme")/$path" ] || fail "README.md of the release links to $path, which is not there"
+        done
     done
     [ -e "$(dirname "$page")/NOTICE" ] || [ -e "$(dirname "$page")/copyright" ] || fail "there is neither NOTICE nor copyright"
     grep -q '<script' "$(dirname "$page")/lesson.html" || fail "lesson.html is not the page of the lesson"
     echo "README.md of the release: $(grep -c '^|' "$page") rows of paths and links"
+}
+
+# the processors that both READMEs name: the programs have instructions of x86-64-v2, and none of a later level
+processors() {
+    grep -q 'x86-64-v2' README.md && grep -q 'x86-64-v2' "$page" || fail "a README does not name the processors"
+    find "$debian${share%/share}/lib" -path '*/v7/*.o' -exec objdump -d --no-show-raw-insn {} + >"$work/instructions.txt"
+    grep -qw 'ptest' "$work/instructions.txt" || fail "no program needs x86-64-v2"
+    later='v[a-z0-9]+|andn|bextr|bls(i|r|msk)|bzhi|lzcnt|movbe|mulx|pdep|pext|rorx|sarx|shlx|shrx'
+    ! grep -E "$(printf '\t')($later)[lq]?( |\$)" "$work/instructions.txt" || fail "a program needs more than x86-64-v2"
+    echo "the programs run on x86-64-v2: $(wc -l <"$work/instructions.txt") lines were read"
+}
+
+# the first commands of the README of the release, which are typed in the folder of the archive, and then a link
+first_link() {
+    awk '/^## The first link/ { on = 1 } on && /^    / { found = 1; print substr($0, 5); next } found { exit }' "$page" >"$debian/tmp/first.sh"
+    [ "$(wc -l <"$debian/tmp/first.sh")" -eq 2 ] || fail "README.md of the release has no first commands"
+    inside sh -euc 'cd "$0" && rm -rf /tmp/home && mkdir /tmp/home && HOME=/tmp/home && . /tmp/first.sh && test "$PWD" = /tmp/home/v7-examples &&
+        v7 ld -o program main.o twice.o count.o && v7 size program' "${share%/share}" >"$work/first.txt" 2>&1
+    [ "$(cat "$work/first.txt")" = '14+2+0 = 16b = 020b' ] || { cat "$work/first.txt"; fail "the first commands of the README of the release fail"; }
+    echo "README.md of the release: $(wc -l <"$debian/tmp/first.sh") lines were run"
 }
 
 # the examples of the manual pages that are installed, and the tutorial
@@ -205,6 +244,8 @@ clean() {
 try_all() {
     echo "--- $1"
     own_readme
+    processors
+    first_link
     manual
     cases
     library

@@ -1,5 +1,5 @@
 #!/usr/bin/env python3
-"""Plants the bugs of docs/CASES.md, one after another, and plays the cases with each.
+"""Plants the bugs of docs/internals/PLANTED.md, one after another, and plays the cases with each.
 
 usage: tests/planted.py [BUG ..]    tries the bugs of all rows, or these; an error if a case that the row names does not fail,
                                     or if one of them fails without a bug
@@ -23,6 +23,7 @@ from compiling import CRATES, NotCompiled, compile_program, uses_of
 
 TOP = os.path.normpath(os.path.join(os.path.dirname(os.path.abspath(__file__)), ".."))
 CASES = os.path.join(TOP, "tests", "cases")
+PAGE = "docs/internals/PLANTED.md"
 ROW = re.compile(r"^\| `([\w/]+)` \| .* \| (.*) \|$")
 # for a command of a case, on a machine with other work too
 SECONDS = "300"
@@ -36,7 +37,7 @@ class Fault(Exception):
 
 def rows():
     """The bugs of the table, each with the cases that have to fail."""
-    with open(os.path.join(TOP, "docs", "CASES.md"), encoding="utf-8") as page:
+    with open(os.path.join(TOP, PAGE), encoding="utf-8") as page:
         found = [ROW.match(line.strip()) for line in page]
     return [(row[1], re.findall(r"`(\w+)`", row[2])) for row in found if row]
 
@@ -157,7 +158,7 @@ def check_table():
             changed(bug)
         except (Fault, OSError) as fault:
             faults.append(f"{bug}: {fault}")
-    print(f"docs/CASES.md has {len(table)} bugs", *faults, sep="\n")
+    print(f"{PAGE} has {len(table)} bugs", *faults, sep="\n")
     return bool(faults) or not table
 
 

@@ -1,7 +1,7 @@
 #!/usr/bin/env python3
 """Looks at the documents, the manual, v7.h and the doc comments as a reader would, as far as a script can: habits of language
 that keep a reader out, links and paths that lead nowhere, documents that nothing links to, and commands that no check runs. It
-prints each with its file and line.
+prints each with its file and line. README.md and the documents of docs may have so many lines in all, and no more.
 
 usage: tests/prose.py             all documents of the repository
        tests/prose.py FILE..      these alone, for their language and their links"""
@@ -35,6 +35,7 @@ HABITS = [
     ("two semicolons: write sentences", r";[^.;`]*;", "It reads; it links; it writes.", "It reads. Then it links and writes."),
 ]
 LONGEST = 50
+MOST_LINES = 2900
 
 # where a habit has to stay: the file, a text of the line, and why
 MOST_EXCEPTIONS = 40
@@ -223,6 +224,12 @@ def unlinked(texts):
             yield f"{path}:1: no other document names it"
 
 
+def too_long(texts):
+    """Whether README.md and docs have more lines than they may: then a document says what another one says too."""
+    lines = sum(text.count("\n") for path, text in texts.items() if path == "README.md" or path.startswith("docs/"))
+    return [f"README.md and docs have {lines:,} lines, and {MOST_LINES:,} are the most"] if lines > MOST_LINES else []
+
+
 def make_targets():
     """The targets of the Makefile, and those of them that .ci/run makes."""
     makefile = open("Makefile", encoding="utf-8").read()
@@ -282,6 +289,8 @@ def check_itself():
     shown = ["    $ v7 nm a.o", "", "    make nothing", "", "Run `make other`."]
     if len(list(commands_in("x.md", shown, set(), {"other"}, set()))) != 3:
         faults.append("tests/prose.py: a command that no check runs is not found")
+    if len(too_long({"README.md": "\n", "docs/A.md": "\n" * MOST_LINES})) != 1 or too_long({"docs/A.md": "\n" * MOST_LINES}):
+        faults.append("tests/prose.py: too many lines are not found")
     return faults
 
 
@@ -317,6 +326,7 @@ def main():
                 faults.append(f"{path}:{number}: {fault}")
     if not chosen:
         faults += unlinked({path: text for path, text in texts.items() if path.endswith(".md") or path in manual()})
+        faults += too_long({path: text for path, text in texts.items() if path.endswith(".md")})
         faults += [f"tests/prose.py: an exception that nothing needs: {exception}" for exception in EXCEPTIONS if exception not in used]
         if len(EXCEPTIONS) > MOST_EXCEPTIONS:
             faults.append(f"tests/prose.py: {len(EXCEPTIONS)} exceptions, and {MOST_EXCEPTIONS} are the most")
