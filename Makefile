@@ -41,7 +41,7 @@ build/v7-object: crates/v7_object/out/v7_object
 	mkdir -p build
 	cp crates/v7_object/out/v7_object build/v7-object
 
-crates/v7_object/out/v7_object: crates.txt $(shell find crates/aout_core crates/listings crates/v7_object -name out -prune -o -type f -print)
+crates/v7_object/out/v7_object: crates.txt $(shell find crates/aout_core crates/texts crates/listings crates/v7_object -name out -prune -o -type f -print)
 	python3 tests/prove.py v7_object $@
 	touch $@
 
@@ -49,7 +49,7 @@ build/v7-explain: crates/v7_explain/out/v7_explain
 	mkdir -p build
 	cp crates/v7_explain/out/v7_explain build/v7-explain
 
-EXPLAIN_CRATES := $(addprefix crates/,aout_core link_session tool_options link_out symtools command_words gnu_objects listings instructions disassemblies findings link_maps v7_explain)
+EXPLAIN_CRATES := $(addprefix crates/,aout_core texts link_session tool_options link_out symtools command_words gnu_objects listings instructions disassemblies findings link_maps v7_explain)
 crates/v7_explain/out/v7_explain: crates.txt $(shell find $(EXPLAIN_CRATES) -name out -prune -o -type f -print)
 	python3 tests/prove.py v7_explain $@
 	touch $@
@@ -83,7 +83,7 @@ build/libv7.so: build/$(SOFILE)
 	ln -sf $(SOFILE) build/$(SONAME)
 	ln -sf $(SONAME) build/libv7.so
 
-LIBRARY_CRATES := $(addprefix crates/,aout_core link_session tool_options link_out symtools reports listings instructions disassemblies \
+LIBRARY_CRATES := $(addprefix crates/,aout_core texts link_session tool_options link_out symtools reports listings instructions disassemblies \
 	library_calls v7_c)
 crates/v7_c/out/libv7_c.a: crates.txt $(shell find $(LIBRARY_CRATES) -name out -prune -o -type f -print)
 	python3 tests/prove.py v7_c $@
@@ -221,7 +221,7 @@ build/v7-lesson: crates/lesson/out/lesson
 	mkdir -p build
 	cp crates/lesson/out/lesson build/v7-lesson
 
-LESSON_CRATES := $(addprefix crates/,aout_core link_session tool_options link_out symtools reports listings instructions disassemblies lesson)
+LESSON_CRATES := $(addprefix crates/,aout_core texts link_session tool_options link_out symtools reports listings instructions disassemblies lesson)
 crates/lesson/out/lesson: crates.txt $(shell find $(LESSON_CRATES) -name out -prune -o -type f -print)
 	python3 tests/prove.py lesson $@
 	touch $@

@@ -26,7 +26,7 @@ IDS = [("command_words", "words"), ("command_words", "link_words"), ("instructio
 os.chdir(os.path.join(os.path.dirname(os.path.abspath(__file__)), ".."))
 LIBRARIES = [
     "aout_core", "link_session", "tool_options", "link_out", "symtools", "reports", "link_maps",
-    "command_words", "v7tools", "laws", "gnu_objects", "listings", "instructions", "disassemblies", "findings", "library_calls", "v7_c",
+    "command_words", "v7tools", "laws", "gnu_objects", "texts", "listings", "instructions", "disassemblies", "findings", "library_calls", "v7_c",
 ]
 IMPORT = re.compile(
     r"^ *(?:pub )?(?:ghost )?use Rattle\.(\w+)\.(specs|proofs)\.([\w.]+?)(?:\.\{([^}]*)\}|(?: as (\w+))?);?$"

@@ -8,6 +8,8 @@ pub mod Encodes
 pub mod Decoding
 pub mod Reading
 pub mod WellFormed
+pub mod Addresses
+pub mod Objects
 pub mod Strip
 pub mod Laws
 pub mod Devices

@@ -1,9 +1,11 @@
 //! The header of a file.
-ghost use Rattle.std.specs.Prelude.{◌≡◌, ◌+◌, ◌≤◌};
+ghost use Rattle.std.specs.Prelude.{◌≡◌, ◌+◌, ◌<◌, ◌≤◌};
+ghost use Rattle.aout_core.specs.Addresses.{data_start_in};
 ghost use Rattle.aout_core.specs.Contents.{with_relocation};
 ghost use Rattle.aout_core.specs.Encoding.{file_length, header_encoding};
 ghost use Rattle.aout_core.specs.Decoding.{header_in};
 
+use crate::address::data_start;
 use crate::word::{put_words, take_words};
 
 /// The eight words that a file begins with. Sizes are in bytes and do not count the header. (a.out(5))
@@ -54,6 +56,15 @@ impl Header {
             unused,
             flag,
         }
+    }
+
+    /// The address at which data begins: after text, with magic 0410 at the next multiple of 020000, and with 0411 at 0.
+    /// (a.out(5))
+    pub fn data_start(&self) -> usize
+        ensures value { result ≡ data_start_in self.now }
+        ensures bound { result < 131072 }
+    {
+        data_start(self.magic, self.text_size as usize)
     }
 
     /// How many bytes of relocation there are for so many bytes of a segment.

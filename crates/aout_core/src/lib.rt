@@ -13,21 +13,25 @@
 //!
 //! - `File`, `Parts`: a file in memory, and the parts that make one
 //! - `Header`: the eight words that a file begins with
+//! - `Part`: text or data, the parts that have words
 //! - `Reloc`, `Kind`: a relocation word, and what it refers to
 //! - `Symbol`, `Segment`, `Name`: a symbol, where its value counts from, and a name of at most eight bytes
 //! - `Object`, `ObjectFault`: a file that can be linked, and why a file cannot
 //! - `Wire`, `BufferedWrite`: a reader or a writer with a sticky error, and a writer that may hold bytes back
 //! - `Block`, `BLOCK_SIZE`: bytes between a wire and its user, and how many a block holds
-//! - `ReadFault`, `DeviceFault`: why no file was read; a device failed
+//! - `ReadFault`, `NoObject`: why no file was read, and why no object was
+//! - `DeviceFault`: a device failed
 //! - `FileFault`: why the bytes at a path were not read
 //! - `Shown`, `VERSION`: what a program shows of itself, and the version of v7
 //!
 //! Functions:
 //!
-//! - `read_file`: reads a file from a wire
+//! - `read_file`, `read_object`: reads a file, or an object, from a wire
 //! - `write_file`: writes a file to a wire
 //! - `strip_file`: the file without symbols and relocation
 //! - `is_magic`: whether a file may begin with a word
+//! - `data_start`, `next_boundary`: where data begins, and the next multiple of 020000
+//! - `pc_target`: what a word refers to that is relative to the pc
 //! - `read_all`: all bytes at a path
 //! - `shown_by`, `show`: what an argument asks a program to show of itself; shows it
 //!
@@ -39,6 +43,7 @@
 //! Words have 16 bits, low byte first; docs/FORMAT.md has the format. "(own choice)" marks what a.out(5) leaves open.
 #![tactic(auto)]
 
+mod address;
 mod block;
 mod file;
 mod header;
@@ -47,7 +52,9 @@ mod item;
 pub mod laws;
 mod name;
 mod object;
+mod object_reader;
 mod outgoing;
+mod part;
 mod reader;
 mod reloc;
 pub mod samples;
@@ -59,11 +66,14 @@ mod wire;
 mod word;
 mod writer;
 
+pub use address::{data_start, next_boundary, pc_target};
 pub use block::{BLOCK_SIZE, Block};
 pub use file::{File, Parts, ReadFault, is_magic};
 pub use header::Header;
 pub use name::Name;
 pub use object::{Object, ObjectFault};
+pub use object_reader::{NoObject, read_object};
+pub use part::Part;
 pub use reader::read_file;
 pub use reloc::{Kind, Reloc};
 pub use shown::{Shown, VERSION, show, shown_by};

@@ -4,7 +4,7 @@ ghost use Rattle.aout_core.specs.WellFormed.{first_bad_word, first_object_fault,
 
 use crate::file::File;
 use crate::reloc::{Kind, Reloc};
-use crate::symbol::{Segment, Symbol};
+use crate::symbol::Symbol;
 use std::marker::Model;
 use thiserror::Error;
 
@@ -50,7 +50,7 @@ fn is_wanted(symbols: &[Symbol], number: usize) -> bool
     ensures { result ≡ is_wanted (slice_get symbols.now number) }
 {
     match symbols.get(number) {
-        Some(symbol) => symbol.is_external() && symbol.segment() == Segment::Undefined,
+        Some(symbol) => symbol.is_undefined(),
         None => false,
     }
 }

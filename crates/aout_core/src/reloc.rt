@@ -1,6 +1,9 @@
 //! Relocation words.
 ghost use Rattle.std.specs.Prelude.{◌≡◌};
+ghost use Rattle.aout_core.specs.Addresses.{target};
 ghost use Rattle.aout_core.specs.WellFormed.{kind_of, is_pc_relative, symbol_number};
+
+use crate::address::pc_target;
 
 /// A relocation word: what the word at its place refers to. (a.out(5))
 #[derive(Clone, Copy, Debug, PartialEq, Eq)]
@@ -44,5 +47,17 @@ impl Reloc {
         ensures { result ≡ symbol_number self.now }
     {
         self.0 >> 4
+    }
+
+    /// What a word at an address refers to: an address of its segment, a number, or what is added to an external. A word
+    /// that is relative to the pc counts from the address after it. (a.out(5))
+    pub fn target(&self, word: u16, address: u16) -> u16
+        ensures { result ≡ target self.now word address }
+    {
+        if self.is_pc() {
+            pc_target(word, address)
+        } else {
+            word
+        }
     }
 }

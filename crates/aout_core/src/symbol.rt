@@ -1,6 +1,6 @@
 //! Symbols.
 ghost use Rattle.std.specs.Prelude.{◌≡◌, ◌≤◌};
-ghost use Rattle.aout_core.specs.WellFormed.{is_external, segment_number, segment_of};
+ghost use Rattle.aout_core.specs.WellFormed.{is_external, is_undefined, segment_number, segment_of};
 
 use crate::name::Name;
 
@@ -51,6 +51,14 @@ impl Symbol {
         ensures { result ≡ is_external self.now }
     {
         self.type_bits / 0o40 % 2 == 1
+    }
+
+    /// Whether the symbol is external and of type 0, so that another file has to define the name, or it is a common.
+    /// (a.out(5))
+    pub fn is_undefined(&self) -> bool
+        ensures { result ≡ is_undefined self.now }
+    {
+        self.is_external() && self.segment() == Segment::Undefined
     }
 
     /// The segment by the type word masked with 037: 0 to 4 in the order of `Segment`, any other `Other`. (a.out(5))

@@ -19,7 +19,8 @@ use Rattle.link_out.specs.relation.NameStates.{IsWanted}
 use Rattle.link_out.specs.ReservedNames.{etext, edata, end_name, reserved_names}
 use Rattle.link_out.specs.Results.{Outcome}
 use Rattle.link_out.specs.function.Link.{link}
-use Rattle.link_out.specs.relation.Relocated.{data_base_in, IsRelocated, IsEntry}
+use Rattle.aout_core.specs.Addresses.{data_start_in}
+use Rattle.link_out.specs.relation.Relocated.{IsRelocated, IsEntry}
 use Rattle.link_out.specs.relation.LinkedWords.{AreRelocated, IsKept, AreKept}
 use Rattle.link_out.specs.relation.Reported.{ArePicked, IsOther}
 use Rattle.link_out.specs.relation.LinkedFrom.{IsLinkedFrom}
@@ -66,7 +67,7 @@ module _ (forced : List (List ℕ)) (os : List Contents) (o : Choices) (x : Outc
   passes symbol_size = eqb x.file.header.symbol_size (12 * length x.file.symbols)
   passes unused = eqb x.file.header.unused 0
   passes flag = eqb x.file.header.flag (cond o.relocatable 0 1)
-  passes short = at_most (data_base_in x.file.header + x.file.header.data_size + x.file.header.bss_size) 65535
+  passes short = at_most (data_start_in x.file.header + x.file.header.data_size + x.file.header.bss_size) 65535
   passes few = at_most (length x.file.symbols) 5461
   passes text_relocs = eqb (2 * length x.file.text_reloc) (cond o.relocatable (total TextSeg os) 0)
   passes data_relocs = eqb (2 * length x.file.data_reloc) (cond o.relocatable (total DataSeg os) 0)
@@ -90,7 +91,7 @@ module _ (forced : List (List ℕ)) (os : List Contents) (o : Choices) (x : Outc
   passed symbol_size h = eqb-true x.file.header.symbol_size (12 * length x.file.symbols) h
   passed unused h = eqb-true x.file.header.unused 0 h
   passed flag h = eqb-true x.file.header.flag (cond o.relocatable 0 1) h
-  passed short h = at_most_so (data_base_in x.file.header + x.file.header.data_size + x.file.header.bss_size) 65535 h
+  passed short h = at_most_so (data_start_in x.file.header + x.file.header.data_size + x.file.header.bss_size) 65535 h
   passed few h = at_most_so (length x.file.symbols) 5461 h
   passed text_relocs h = eqb-true (2 * length x.file.text_reloc) (cond o.relocatable (total TextSeg os) 0) h
   passed data_relocs h = eqb-true (2 * length x.file.data_reloc) (cond o.relocatable (total DataSeg os) 0) h

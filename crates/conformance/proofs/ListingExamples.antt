@@ -18,7 +18,8 @@ use Rattle.tool_options.specs.Choices.{Choices, lays_commons}
 use Rattle.link_out.specs.Results.{Outcome}
 use Rattle.link_out.specs.function.Link.{link}
 use Rattle.link_out.specs.relation.NameStates.{HasState, IsWanted}
-use Rattle.link_out.specs.relation.Relocated.{data_base_in, entry_of}
+use Rattle.aout_core.specs.Addresses.{data_start_in}
+use Rattle.link_out.specs.relation.Relocated.{entry_of}
 use Rattle.link_out.specs.relation.LinkedFrom.{IsLinkedFrom, moved_locals_in}
 use Rattle.link_out.proofs.LinkedTheorem.{linked_exactly}
 use Rattle.tool_options.specs.declared.nm_options.NmOptions.{NmOptions}
@@ -277,11 +278,11 @@ f2_o = object [] [] [] [] 0 (entry _f 0o40 2 ∷ [])
 
 -- the first of them, or the one that is mentioned last, would be where data ends
 commons_at_one_address : ((forced : List (List ℕ)) (os : List Contents) (o : Choices) (x : Outcome) → o.keep ≢ Nothing → lays_commons o ≡ true → link forced os o ≡ Ok x →
-    (name : List ℕ) (row : Symbol) → entry_of x.file.symbols name ≡ Some row → row.type_bits ≡ 0o44 → row.value ≡ data_base_in x.file.header + x.file.header.data_size) → ⊥
+    (name : List ℕ) (row : Symbol) → entry_of x.file.symbols name ≡ Some row → row.type_bits ≡ 0o44 → row.value ≡ data_start_in x.file.header + x.file.header.data_size) → ⊥
 commons_at_one_address law = counts (λ (n : ℕ). n) 4 0 refl (law [] (x4_o ∷ f2_o ∷ []) plain (link_of (x4_o ∷ f2_o ∷ []) plain) all_kept refl refl _f (entry _f 0o44 4) refl refl)
 
 commons_before_earlier_ones : ((forced : List (List ℕ)) (os : List Contents) (o : Choices) (x : Outcome) → o.keep ≢ Nothing → lays_commons o ≡ true → link forced os o ≡ Ok x →
-    (earlier : List (List ℕ)) (name : List ℕ) → externals forced os ≡ earlier ++ name ∷ [] → (row : Symbol) → entry_of x.file.symbols name ≡ Some row → row.type_bits ≡ 0o44 → row.value ≡ data_base_in x.file.header + x.file.header.data_size) → ⊥
+    (earlier : List (List ℕ)) (name : List ℕ) → externals forced os ≡ earlier ++ name ∷ [] → (row : Symbol) → entry_of x.file.symbols name ≡ Some row → row.type_bits ≡ 0o44 → row.value ≡ data_start_in x.file.header + x.file.header.data_size) → ⊥
 commons_before_earlier_ones law = counts (λ (n : ℕ). n) 4 0 refl (law [] (x4_o ∷ f2_o ∷ []) plain (link_of (x4_o ∷ f2_o ∷ []) plain) all_kept refl refl (_x ∷ []) _f refl (entry _f 0o44 4) refl refl)
 
 -- with relocation a common waits, and has C

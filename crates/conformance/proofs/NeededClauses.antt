@@ -8,13 +8,14 @@ use Rattle.aout_core.specs.declared.reloc.Reloc.{Reloc}
 use Rattle.aout_core.specs.Contents.{Contents}
 use Rattle.link_session.specs.declared.state.State.TheVariants.{Wanted}
 use Rattle.link_out.specs.declared.linked.LinkFault.TheVariants.{DoesNotFit, TooManySymbols}
-use Rattle.link_out.specs.Results.{Findings, Outcome}
-use Rattle.link_out.specs.relation.Relocated.{data_base_in, base_in, IsRelocated}
+use Rattle.link_out.specs.Results.{ReportNames, Outcome}
+use Rattle.aout_core.specs.Addresses.{data_start_in}
+use Rattle.link_out.specs.relation.Relocated.{base_in, IsRelocated}
 use Rattle.conformance.specs.Samples.{sym as entry_of, header, object, relocs, _f, _x, _z, L1, plain, relocatable}
 use Rattle.conformance.specs.Clauses.{Clause, text_size, data_size, bss, text_words, data_words, magic, symbol_size, unused, flag, short, few, names, are_rows, table, text, «data», text_relocs, data_relocs, text_kept, data_kept, entry, multiples, reserved, undefined, none, Says, IsNeeded}
 use Rattle.conformance.proofs.ClauseLemmas.{is_empty, empty_so, passes, passed, no_words, none_kept, only_object, as_object, wordless_text, wordless_data, unkept_text, unkept_data, only_word, nothing_reserved, wants_alone, only_wanted, none_reserved, other_outcome}
 
-abbrev silent : Findings
+abbrev silent : ReportNames
 silent = record { multiples = []; reserved = []; entry_bad = None; undefined = [] }
 
 abbrev file_of : Header → List ℕ → List ℕ → List Symbol → Contents
@@ -31,13 +32,13 @@ with_file file = record { file = file; report = silent }
 abbrev with_header : Header → Outcome
 with_header h = with_file (record empty { header = h })
 
-abbrev with_report : Findings → Outcome
+abbrev with_report : ReportNames → Outcome
 with_report r = record { file = empty; report = r }
 
 -- the clauses on the link of no objects, as tests
 abbrev passes_empty : Outcome → Clause → Bool
 passes_empty x names = true
-passes_empty x are_rows = eqb (data_base_in x.file.header + x.file.header.data_size) (base_in x.file.header 0 BssSeg)
+passes_empty x are_rows = eqb (data_start_in x.file.header + x.file.header.data_size) (base_in x.file.header 0 BssSeg)
 passes_empty x table = is_empty x.file.symbols
 passes_empty x text = true
 passes_empty x «data» = true
@@ -49,7 +50,7 @@ passes_empty x c = passes [] [] plain x [] c
 
 passed_empty : (x : Outcome) (c : Clause) → passes_empty x c ≡ true → Says c [] [] plain x []
 passed_empty x names h = refl
-passed_empty x are_rows h = eqb-true (data_base_in x.file.header + x.file.header.data_size) (base_in x.file.header 0 BssSeg) h
+passed_empty x are_rows h = eqb-true (data_start_in x.file.header + x.file.header.data_size) (base_in x.file.header 0 BssSeg) h
 passed_empty x table h = empty_so x.file.symbols h
 passed_empty x text h = no_words x.file [] TextSeg
 passed_empty x «data» h = no_words x.file [] DataSeg

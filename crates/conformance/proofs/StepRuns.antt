@@ -13,8 +13,8 @@ use Rattle.aout_core.proofs.EncodesLemmas.{decoded_sound}
 use Rattle.link_session.specs.Labelled.{Labelled, objects}
 use Rattle.link_out.specs.declared.linked.Linked.{Linked}
 use Rattle.tool_options.specs.Choices.{Choices}
-use Rattle.link_out.specs.Outcomes.{findings_of, outcome_of}
-use Rattle.link_out.specs.Results.{Findings}
+use Rattle.link_out.specs.Outcomes.{report_names, outcome_of}
+use Rattle.link_out.specs.Results.{ReportNames}
 use Rattle.link_out.specs.function.Link.{link}
 use Rattle.link_out.specs.function.Reports.{report_text, status_of}
 use Rattle.command_words.specs.declared.words.Call.TheVariants.{Ld}
@@ -52,7 +52,7 @@ module _ (words : List (List ℕ)) (disk : Disk) (found : List Opened) (out : St
   asked = opens found ++ stored (string_bytes out) made.file Kept ∷ []
 
   abbrev pub text : List ℕ
-  text = report_text (findings_of made.report)
+  text = report_text (report_names made.report)
 
   abbrev pub run_of : Run (List ℕ) (List ℕ)
   run_of = record {
@@ -65,10 +65,10 @@ module _ (words : List (List ℕ)) (disk : Disk) (found : List Opened) (out : St
     output_after = holding text;
     error_before = holding [];
     error_after = holding [];
-    status = status_of (findings_of made.report);
+    status = status_of (report_names made.report);
   }
 
-  small_status : (f : Findings) → status_of f ≤ 1
+  small_status : (f : ReportNames) → status_of f ≤ 1
   small_status f = by_test (eqb (length (report_text f)) 0)
     where
       by_test : (silent : Bool) → (if silent then 0 else 1) ≤ 1
@@ -84,7 +84,7 @@ module _ (words : List (List ℕ)) (disk : Disk) (found : List Opened) (out : St
       asks = record { output = out; files = files; asks = asks; out_path = refl; file_paths = refl };
       ends = record {
         performs = (
-          Ok (status_of (findings_of made.report)),
+          Ok (status_of (report_names made.report)),
           inr (record {
             call = Ld o forced out files;
             asks = asks;
@@ -100,7 +100,7 @@ module _ (words : List (List ℕ)) (disk : Disk) (found : List Opened) (out : St
           (refl, refl),
         );
         on_disk = on_disk;
-        no_fault = small_status (findings_of made.report);
+        no_fault = small_status (report_names made.report);
       };
     }
 

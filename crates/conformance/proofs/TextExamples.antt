@@ -7,9 +7,11 @@ use Rattle.aout_core.specs.Contents.{Contents, IsSound}
 use Rattle.listings.specs.declared.fault.Fault.{Fault}
 use Rattle.listings.specs.declared.fault.Reason.{Reason}
 use Rattle.listings.specs.declared.fault.Reason.TheVariants.{NotOctal, UnknownWord, WrongNumber, NoMagic, OddSize}
-use Rattle.listings.specs.Octal.{octal, short_octal}
-use Rattle.listings.specs.Names.{shown_name}
-use Rattle.listings.specs.Listing.{gap, text_of, no_remarks, listing}
+use Rattle.std.specs.Fmt.{digits}
+use Rattle.texts.specs.Numbers.{six_digits, octal}
+use Rattle.texts.specs.Names.{printable_name}
+use Rattle.texts.specs.Lines.{text_of}
+use Rattle.listings.specs.Listing.{gap, no_remarks, listing}
 use Rattle.listings.specs.Laws.{ListingLaw}
 use Rattle.listings.specs.Reading.{read}
 use Rattle.conformance.specs.Samples.{sym as entry_of, object, header, _f}
@@ -23,6 +25,7 @@ spaced_sound : IsSound spaced
 spaced_sound = sound_file spaced refl refl
 
 spaced_written : listing no_remarks spaced ≡ codes "text\n000000  177777    51\ndata\nbss 2\nsymbols\n0     a\\040b     40  000002\n1     _f         42  000000\n"
+unfolding digits six_digits
 spaced_written = refl
 
 spaced_read : read (codes "text\n0 177777 51 remark\n\nbss 2\nsymbols\n/ note\n0 a\\040b 40 2\n1 _f 42 0") ≡ Ok spaced
@@ -44,6 +47,7 @@ pure = record {
 }
 
 pure_written : listing no_remarks pure ≡ codes "magic 000410\nflag 000001\ntext\n000000  000207\ndata\n020000  000001\nbss 0\nsymbols\n"
+unfolding digits six_digits
 pure_written = refl
 
 -- mistakes, by line and column
@@ -71,35 +75,37 @@ law_of_listings law = λ c sound. law no_remarks c (record { notes = tt; finding
 
 -- other ways: other digits of a word, other names, and another order of the table
 abbrev rows : (ℕ → List ℕ) → ℕ → List ℕ → List Reloc → List (List ℕ)
-rows digits at [] rs = []
-rows digits at (w ∷ ws) [] = []
-rows digits at (w ∷ ws) (r ∷ rs) = gap 1 (octal at) (gap 1 (digits w) (short_octal r.0)) ∷ rows digits (at + 2) ws rs
+rows written at [] rs = []
+rows written at (w ∷ ws) [] = []
+rows written at (w ∷ ws) (r ∷ rs) = gap 1 (six_digits at) (gap 1 (written w) (octal r.0)) ∷ rows written (at + 2) ws rs
 
 abbrev entries : (List ℕ → List ℕ) → ℕ → List Symbol → List (List ℕ)
 entries shown n [] = []
-entries shown n (s ∷ ss) = gap 1 (short_octal n) (gap 1 (shown s.name) (gap 1 (short_octal s.type_bits) (octal s.value))) ∷ entries shown (n + 1) ss
+entries shown n (s ∷ ss) = gap 1 (octal n) (gap 1 (shown s.name) (gap 1 (octal s.type_bits) (six_digits s.value))) ∷ entries shown (n + 1) ss
 
 abbrev written_by : (ℕ → List ℕ) → (List ℕ → List ℕ) → (List (List ℕ) → List (List ℕ)) → Contents → List ℕ
-written_by digits shown order c =
-    text_of (codes "text" ∷ rows digits 0 c.text_words c.text_reloc ++ (gap 0 (codes "bss") (short_octal c.header.bss_size) ∷ (codes "symbols" ∷ order (entries shown 0 c.symbols))))
+written_by word shown order c =
+    text_of (codes "text" ∷ rows word 0 c.text_words c.text_reloc ++ (gap 0 (codes "bss") (octal c.header.bss_size) ∷ (codes "symbols" ∷ order (entries shown 0 c.symbols))))
 
 abbrev as_they_are : (List (List ℕ)) → List (List ℕ)
 as_they_are ls = ls
 
-by_the_form : read (written_by octal shown_name as_they_are spaced) ≡ Ok spaced
+by_the_form : read (written_by six_digits printable_name as_they_are spaced) ≡ Ok spaced
+unfolding digits six_digits
 by_the_form = refl
 
 refuses : (fault : Fault) (c : Contents) (found : Result Contents Fault) → found ≡ Err fault → found ≡ Ok c → ⊥
 refuses fault c found e h = absurd (cc)
 
 -- a name with a blank, as it is
-name_as_it_is : ReadsBack (written_by octal (λ (name : List ℕ). name) as_they_are) → ⊥
+name_as_it_is : ReadsBack (written_by six_digits (λ (name : List ℕ). name) as_they_are) → ⊥
+unfolding digits six_digits
 name_as_it_is law =
-    refuses (record { line = 5; column = 6; reason = NotOctal }) spaced (read (written_by octal (λ (name : List ℕ). name) as_they_are spaced)) refl (law spaced spaced_sound)
+    refuses (record { line = 5; column = 6; reason = NotOctal }) spaced (read (written_by six_digits (λ (name : List ℕ). name) as_they_are spaced)) refl (law spaced spaced_sound)
 
 -- an octal digit too few
 abbrev five : ℕ → List ℕ
-five w = drop 1 (octal w)
+five w = drop 1 (six_digits w)
 
 same_file : (a b : Contents) (found : Result Contents Fault) → found ≡ Ok a → found ≡ Ok b → a ≡ b
 same_file a b found ha hb = cc
@@ -107,10 +113,11 @@ same_file a b found ha hb = cc
 less_than_same : (a b : ℕ) → a < b → a ≡ b → ⊥
 less_than_same a b less same = absurd (omega arith)
 
-five_digits : ReadsBack (written_by five shown_name as_they_are) → ⊥
+five_digits : ReadsBack (written_by five printable_name as_they_are) → ⊥
+unfolding digits six_digits
 five_digits law =
     let other : Contents = record spaced { text_words = 0o77777 ∷ [] } in
-    let same : other ≡ spaced = same_file other spaced (read (written_by five shown_name as_they_are spaced)) refl (law spaced spaced_sound) in
+    let same : other ≡ spaced = same_file other spaced (read (written_by five printable_name as_they_are spaced)) refl (law spaced spaced_sound) in
     less_than_same (get_or other.text_words 0 0) (get_or spaced.text_words 0 0) (omega arith) (ap (λ (c : Contents). get_or c.text_words 0 0) same)
 
 -- the table in another order, with the numbers of its entries
@@ -119,6 +126,7 @@ exchanged [] = []
 exchanged (a ∷ []) = a ∷ []
 exchanged (a ∷ (b ∷ ls)) = b ∷ (a ∷ ls)
 
-table_in_another_order : ReadsBack (written_by octal shown_name exchanged) → ⊥
+table_in_another_order : ReadsBack (written_by six_digits printable_name exchanged) → ⊥
+unfolding digits six_digits
 table_in_another_order law =
-    refuses (record { line = 5; column = 1; reason = WrongNumber }) spaced (read (written_by octal shown_name exchanged spaced)) refl (law spaced spaced_sound)
+    refuses (record { line = 5; column = 1; reason = WrongNumber }) spaced (read (written_by six_digits printable_name exchanged spaced)) refl (law spaced spaced_sound)

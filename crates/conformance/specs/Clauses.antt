@@ -15,7 +15,8 @@ use Rattle.link_out.specs.KeptSymbols.{rows_kept}
 use Rattle.link_out.specs.ReservedNames.{reserved_names}
 use Rattle.link_out.specs.Results.{Outcome}
 use Rattle.link_out.specs.function.Link.{link}
-use Rattle.link_out.specs.relation.Relocated.{data_base_in, base_in, IsEntry}
+use Rattle.aout_core.specs.Addresses.{data_start_in}
+use Rattle.link_out.specs.relation.Relocated.{base_in, IsEntry}
 use Rattle.link_out.specs.relation.LinkedTable.{AreRows, moved_locals_in}
 use Rattle.link_out.specs.relation.LinkedWords.{AreRelocated, AreKept}
 use Rattle.link_out.specs.relation.Reported.{ArePicked, IsOther}
@@ -60,11 +61,11 @@ Says magic forced os o x rows = x.file.header.magic ≡ magic_of o.layout
 Says symbol_size forced os o x rows = x.file.header.symbol_size ≡ 12 * length x.file.symbols
 Says unused forced os o x rows = x.file.header.unused ≡ 0
 Says flag forced os o x rows = x.file.header.flag ≡ cond o.relocatable 0 1
-Says short forced os o x rows = data_base_in x.file.header + x.file.header.data_size + x.file.header.bss_size ≤ 65535
+Says short forced os o x rows = data_start_in x.file.header + x.file.header.data_size + x.file.header.bss_size ≤ 65535
 Says few forced os o x rows = length x.file.symbols ≤ 5461
 Says names forced os o x rows = map (λ s. s.name) rows ≡ externals forced os
 Says are_rows forced os o x rows =
-    AreRows x.file.header (total BssSeg os) o (mentions forced os) (data_base_in x.file.header + x.file.header.data_size) rows (base_in x.file.header (total BssSeg os) BssSeg)
+    AreRows x.file.header (total BssSeg os) o (mentions forced os) (data_start_in x.file.header + x.file.header.data_size) rows (base_in x.file.header (total BssSeg os) BssSeg)
 Says table forced os o x rows = x.file.symbols ≡ rows_kept o.keep (moved_locals_in x.file.header os o ++ rows)
 Says text forced os o x rows = AreRelocated x.file rows os TextSeg
 Says «data» forced os o x rows = AreRelocated x.file rows os DataSeg

@@ -3,9 +3,9 @@ use aout_core::samples::{A_O, B_O, C_O, D_O, G_O};
 use aout_core::{ObjectFault, ReadFault};
 use fixtures::{TWO_OBJECTS, UNDEFINED, sized};
 use library_calls::{
-    Cause, Finding, LinkRequest, LongPart, ObjectBytes, ObjectParts, ObjectWord, Refusal, Shown,
-    check, disassemble, disassemble_words, link, link_each, link_findings, list_symbols, make,
-    read_apart, run_session, show_session, show_sizes, strip, take_apart,
+    Cause, LinkRequest, LongPart, ObjectBytes, ObjectParts, ObjectWord, Refusal, ReportedName,
+    Shown, check, disassemble, disassemble_words, link, link_each, link_findings, list_symbols,
+    make, read_apart, run_session, show_session, show_sizes, strip, take_apart,
 };
 use std::alloc::{AllocError, Global};
 use std::test::Fail;
@@ -176,8 +176,8 @@ fn objects_apart_linked(rt: HostRuntime) {
     assert!(rt; link_each(alloc, &STRIPPED, &cut).err() == Some(Refusal { cause, place: 0 }));
 }
 
-fn finding(name: &[u8; 8], kind: u32) -> Finding {
-    Finding { name: *name, kind }
+fn finding(name: &[u8; 8], kind: u32) -> ReportedName {
+    ReportedName { name: *name, kind }
 }
 
 #[test]

@@ -6,8 +6,9 @@ use Rattle.std.proofs.lemmas.Bool.{false_from_ne_true}
 use Rattle.aout_core.specs.declared.symbol.Symbol.{Symbol}
 use Rattle.aout_core.specs.declared.symbol.Segment.TheVariants.{TextSeg}
 use Rattle.aout_core.specs.WellFormed.{masked_type}
-use Rattle.listings.specs.Listing.{text_of}
-use Rattle.instructions.specs.References.{octal, shown_name}
+use Rattle.texts.specs.Numbers.{octal}
+use Rattle.texts.specs.Lines.{text_of}
+use Rattle.instructions.specs.References.{assembly_name}
 use Rattle.disassemblies.specs.internal.Blocks.{block, bucket_of}
 use Rattle.disassemblies.specs.Naming.{is_at}
 use Rattle.disassemblies.specs.Labels.{label_at, is_within, label_within}
@@ -34,7 +35,7 @@ pub no_label_at : (shift count address : ℕ) (s : Symbol) → eqb (bucket_of sh
 no_label_at shift count address s other =
     let no : is_at TextSeg address s ≡ false =
     false_from_ne_true (is_at TextSeg address s) (λ h. same (bucket_of shift count s) (block shift address % count) (at_bucket shift count address s h) other) in
-    ap (λ (t : Bool). text_of (if t then (shown_name s.name ++ codes ":") ∷ [] else [])) no
+    ap (λ (t : Bool). text_of (if t then (assembly_name s.name ++ codes ":") ∷ [] else [])) no
 
 -- an address between two of one block is in that block
 between : (shift address end value : ℕ) → block shift address ≡ block shift end → address < value → value < end → block shift value ≡ block shift address
@@ -55,4 +56,4 @@ pub no_label_within : (shift count address length : ℕ) (s : Symbol) → block 
 no_label_within shift count address length s e other =
     let no : is_within address length s ≡ false =
     false_from_ne_true (is_within address length s) (λ h. same (bucket_of shift count s) (block shift address % count) (within_bucket shift count address length s e h) other) in
-    ap (λ (t : Bool). text_of (if t then (shown_name s.name ++ (codes " = .+" ++ octal (s.value - address))) ∷ [] else [])) no
+    ap (λ (t : Bool). text_of (if t then (assembly_name s.name ++ (codes " = .+" ++ octal (s.value - address))) ∷ [] else [])) no

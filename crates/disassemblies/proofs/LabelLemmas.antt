@@ -1,15 +1,9 @@
 -- Labels are appended, those of an address and then those within a line.
-use Rattle.std.proofs.Common.{◌≡◌, ℕ, List, [], ◌∷◌, ◌++◌, Result, Ok, Err, refl, sym, ◌∙◌, ap, append_assoc}
-use Rattle.std.specs.Prelude.{OnOk}
+use Rattle.std.proofs.Common.{◌≡◌, ℕ, List, [], ◌∷◌, ◌++◌, refl, sym, ◌∙◌, ap, append_assoc}
 use Rattle.std.specs.List.{flat_map}
 use Rattle.aout_core.specs.declared.symbol.Symbol.{Symbol}
-use Rattle.listings.specs.Listing.{text_of}
-use Rattle.listings.proofs.WriteLemmas.{two_texts}
-
--- what holds after a success follows from what is known then
-pub on_ok : {A E : Type 0} (P Q : Type 0) (r : Result A E) → (P → Q) → OnOk r P → OnOk r Q
-on_ok P Q (Ok x) f h = f h
-on_ok P Q (Err e) f h = h
+use Rattle.texts.specs.Lines.{text_of}
+use Rattle.texts.proofs.LineLemmas.{two_texts}
 
 texts_flat : (f : Symbol → List (List ℕ)) (ss : List Symbol) → flat_map (λ s. text_of (f s)) ss ≡ text_of (flat_map f ss)
 texts_flat f [] = refl

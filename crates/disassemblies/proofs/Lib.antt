@@ -3,4 +3,3 @@ pub mod BlockLemmas
 pub mod StartLemmas
 pub mod LabelLemmas
 pub mod PlainLemmas
-pub mod SilentLabels

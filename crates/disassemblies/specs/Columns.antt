@@ -5,7 +5,8 @@ use Rattle.aout_core.specs.Contents.{Contents}
 use Rattle.aout_core.specs.Words.{plus}
 use Rattle.instructions.specs.declared.line.Line.{Line}
 use Rattle.instructions.specs.Lines.{line_length, lines, words_of}
-use Rattle.instructions.specs.Texts.{line_text, six_digits}
+use Rattle.texts.specs.Numbers.{six_digits}
+use Rattle.instructions.specs.Texts.{line_text}
 use Rattle.disassemblies.specs.Lines.{line_text_in}
 use Rattle.disassemblies.specs.Starts.{by_lines}
 use Rattle.disassemblies.specs.Labels.{labels}

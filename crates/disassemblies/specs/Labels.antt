@@ -4,13 +4,14 @@ use Rattle.std.specs.List.{flat_map}
 use Rattle.aout_core.specs.declared.symbol.Symbol.{Symbol}
 use Rattle.aout_core.specs.declared.symbol.Segment.TheVariants.{TextSeg}
 use Rattle.aout_core.specs.WellFormed.{masked_type}
-use Rattle.listings.specs.Listing.{text_of}
-use Rattle.instructions.specs.References.{octal, shown_name}
+use Rattle.texts.specs.Numbers.{octal}
+use Rattle.texts.specs.Lines.{text_of}
+use Rattle.instructions.specs.References.{assembly_name}
 use Rattle.disassemblies.specs.Naming.{is_at}
 
 -- a line `NAME:`, if a symbol of text has this address
 abbrev pub label_at : ℕ → Symbol → List (List ℕ)
-label_at address s = if is_at TextSeg address s then (shown_name s.name ++ codes ":") ∷ [] else []
+label_at address s = if is_at TextSeg address s then (assembly_name s.name ++ codes ":") ∷ [] else []
 
 -- a symbol of text has an address within the line of so many words at an address
 abbrev pub is_within : ℕ → ℕ → Symbol → Bool
@@ -19,7 +20,7 @@ is_within address length s = eqb (masked_type s) 2 && nat_lt address s.value && 
 -- a line `NAME = .+K`, if it has
 abbrev pub label_within : ℕ → ℕ → Symbol → List (List ℕ)
 label_within address length s =
-    if is_within address length s then (shown_name s.name ++ (codes " = .+" ++ octal (s.value - address))) ∷ [] else []
+    if is_within address length s then (assembly_name s.name ++ (codes " = .+" ++ octal (s.value - address))) ∷ [] else []
 
 -- the labels of the line of so many words at an address, each group in the order of the table
 abbrev pub label_lines : List Symbol → ℕ → ℕ → List (List ℕ)

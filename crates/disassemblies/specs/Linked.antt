@@ -9,7 +9,7 @@ use Rattle.aout_core.specs.declared.symbol.Symbol.{Symbol}
 use Rattle.aout_core.specs.declared.symbol.Segment.{Segment}
 use Rattle.aout_core.specs.declared.symbol.Segment.TheVariants.{TextSeg, DataSeg, BssSeg}
 use Rattle.aout_core.specs.Words.{plus}
-use Rattle.listings.specs.Drafts.{data_start}
+use Rattle.aout_core.specs.Addresses.{data_start_in}
 use Rattle.instructions.specs.declared.operation.Operation.{Operation}
 use Rattle.instructions.specs.declared.mode.Addressing.{Addressing}
 use Rattle.instructions.specs.declared.mode.Addressing.TheVariants as ways
@@ -17,15 +17,11 @@ use Rattle.instructions.specs.declared.reference.Reference.{Reference}
 use Rattle.instructions.specs.Instructions.{jumps}
 use Rattle.disassemblies.specs.Naming.{symbol_at, exact}
 
--- where data begins
-abbrev pub data_at : Header → ℕ
-data_at h = data_start h.magic h.text_size
-
 abbrev pub is_in_data : Header → ℕ → Bool
-is_in_data h address = nat_le (data_at h) address && nat_lt address (data_at h + h.data_size)
+is_in_data h address = nat_le (data_start_in h) address && nat_lt address (data_start_in h + h.data_size)
 
 abbrev pub is_in_bss : Header → ℕ → Bool
-is_in_bss h address = nat_le (data_at h + h.data_size) address && nat_lt address (data_at h + h.data_size + h.bss_size)
+is_in_bss h address = nat_le (data_start_in h + h.data_size) address && nat_lt address (data_start_in h + h.data_size + h.bss_size)
 
 -- the segment in which an address lies: in the space of instructions, if it is to be fetched from, or in that of data
 abbrev pub segment_at : Header → Bool → ℕ → Option Segment

@@ -10,12 +10,13 @@ use Rattle.aout_core.specs.declared.reloc.Reloc.{Reloc}
 use Rattle.aout_core.specs.declared.reloc.Kind.{Kind}
 use Rattle.aout_core.specs.declared.reloc.Kind.TheVariants as kinds
 use Rattle.aout_core.specs.Words.{plus}
-use Rattle.aout_core.specs.WellFormed.{is_external, masked_type, segment_number, kind_of, is_pc_relative, symbol_number, is_wanted, first_of}
+use Rattle.aout_core.specs.Addresses.{target}
+use Rattle.aout_core.specs.WellFormed.{is_external, masked_type, segment_number, kind_of, is_pc_relative, symbol_number, is_undefined, first_of}
 use Rattle.instructions.specs.declared.mode.Addressing.{Addressing}
 use Rattle.instructions.specs.declared.mode.Addressing.TheVariants.{Immediate, Absolute, Relative, RelativeDeferred, Indexed}
 use Rattle.instructions.specs.declared.reference.Reference.{Reference}
 use Rattle.instructions.specs.References.{reference_text}
-use Rattle.instructions.specs.Texts.{six_digits}
+use Rattle.texts.specs.Numbers.{six_digits}
 
 abbrev pub is_at : Segment → ℕ → Symbol → Bool
 is_at segment value s = eqb (masked_type s) (segment_number segment) && eqb s.value value
@@ -34,7 +35,7 @@ exact (Some s) = Some (record { name = s.name; offset = 0 })
 -- an external that the file leaves undefined, and so many bytes beyond it
 abbrev pub beyond : Option Symbol → ℕ → Option Reference
 beyond None n = None
-beyond (Some s) n = if is_wanted (Some s) then Some (record { name = s.name; offset = n }) else None
+beyond (Some s) n = if is_undefined s then Some (record { name = s.name; offset = n }) else None
 
 -- what a number refers to, by the kind of its relocation word
 abbrev pub referred_by : List Symbol → Reloc → ℕ → Option Kind → Option Reference
@@ -66,10 +67,6 @@ object_reference symbols r n next Absolute = if is_pc_relative r then None else 
 object_reference symbols r n next Immediate = if is_pc_relative r || is_unmoved r then None else referred symbols r n
 object_reference symbols r n next Indexed = if is_pc_relative r || is_unmoved r then None else referred symbols r n
 
--- the number that a relocated word at an address stands for
-abbrev pub meant : Reloc → ℕ → ℕ → ℕ
-meant r w address = if is_pc_relative r then plus (plus w address) 2 else w
-
 abbrev pub segment_word_by : Option Kind → List ℕ
 segment_word_by (Some kinds.TextSeg) = codes "text "
 segment_word_by (Some kinds.DataSeg) = codes "data "
@@ -89,5 +86,5 @@ from_the_pc r = if is_pc_relative r then codes ", from the pc" else codes ""
 -- a relocated word that begins a line, and what it refers to
 abbrev pub relocated_text : List Symbol → Reloc → ℕ → ℕ → List ℕ
 relocated_text symbols r w address =
-    let n : ℕ = meant r w address in
+    let n : ℕ = target r w address in
     six_digits w ++ (codes " / " ++ (referred_text (referred symbols r n) r n ++ from_the_pc r))

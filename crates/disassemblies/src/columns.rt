@@ -1,6 +1,7 @@
 //! A text in columns.
-ghost use Rattle.std.specs.Prelude.{◌≡◌, ◌≢◌, ◌<◌, ◌≤◌, ◌+◌, ◌-◌, ◌*◌, [], ◌++◌, length, take, drop, replicate, IsErr, OnOk, string_bytes};
+ghost use Rattle.std.specs.Prelude.{◌≡◌, ◌<◌, ◌≤◌, ◌+◌, ◌-◌, ◌*◌, [], ◌++◌, length, take, drop, replicate};
 ghost use Rattle.std.specs.List.{flat_map};
+ghost use Rattle.texts.specs.Texts.{Puts};
 ghost use Rattle.instructions.specs.Lines.{words_of};
 ghost use Rattle.disassemblies.specs.Labels.{labels};
 ghost use Rattle.disassemblies.specs.Columns.{word_column, columns, row, labelled_row, disassembly, plain_row, plain_disassembly};
@@ -9,18 +10,17 @@ use crate::label::put_labels;
 use crate::line::{line_in, put_line_text};
 use crate::named::NamedFile;
 use aout_core::File;
-use instructions::{Line, decode, put_six_digits};
-use std::alloc::AllocError;
+use instructions::{Line, decode};
+use texts::Text;
 
 /// Appends words, each with a blank after it.
-fn put_words(text: &mut String, words: &[u16]) -> Result<(), AllocError>
-    ensures { OnOk result (string_bytes text.new ≡ string_bytes text.old ++ flat_map word_column words.now) }
+fn put_words(text: &mut Text, words: &[u16])
+    ensures { Puts text.old text.new (flat_map word_column words.now) }
 {
     for word in words {
-        put_six_digits(text, *word)?;
-        text.push_str(" ")?;
+        text.put_six_digits(u32::from(*word));
+        text.put(" ");
     }
-    Ok(())
 }
 
 /// The blanks between so many words, each with a blank after it, and the text of their line.
@@ -37,111 +37,101 @@ fn blanks(count: usize) -> &'static str
 }
 
 /// Appends the address of a line and its words, up to the column of its text.
-fn put_columns(text: &mut String, address: u16, words: &[u16]) -> Result<(), AllocError>
+fn put_columns(text: &mut Text, address: u16, words: &[u16])
     requires some { 1 ≤ length words.now }
     requires short { length words.now ≤ 3 }
-    ensures { OnOk result (string_bytes text.new ≡ string_bytes text.old ++ columns address words.now) }
+    ensures { Puts text.old text.new (columns address words.now) }
 {
-    put_six_digits(text, address)?;
-    text.push_str("  ")?;
-    put_words(text, words)?;
-    text.push_str(blanks(words.len()))
+    text.put_six_digits(u32::from(address));
+    text.put("  ");
+    put_words(text, words);
+    text.put(blanks(words.len()));
 }
 
 /// Appends the line of so many words at a place, in columns.
-fn put_row(
-    text: &mut String,
-    file: &NamedFile<'_>,
-    place: usize,
-    count: usize,
-) -> Result<(), AllocError>
+fn put_row(text: &mut Text, file: &NamedFile<'_>, place: usize, count: usize)
     requires within { place + count ≤ length file.now.text_words }
     requires some { 1 ≤ count }
     requires short { count ≤ 3 }
-    ensures { OnOk result (string_bytes text.new ≡ string_bytes text.old ++ row file.now place count) }
+    ensures { Puts text.old text.new (row file.now place count) }
 {
     let words = file.file().text_words();
-    put_columns(text, (2 * place) as u16, &words[place..place + count])?;
-    put_line_text(text, file, place)?;
-    text.push_str("\n")
+    put_columns(text, (2 * place) as u16, &words[place..place + count]);
+    put_line_text(text, file, place);
+    text.put("\n");
 }
 
 /// Appends the labels and the line of so many words at a place.
-fn put_labelled_row(
-    text: &mut String,
-    file: &NamedFile<'_>,
-    place: usize,
-    count: usize,
-) -> Result<(), AllocError>
+fn put_labelled_row(text: &mut Text, file: &NamedFile<'_>, place: usize, count: usize)
     requires within { place + count ≤ length file.now.text_words }
     requires some { 1 ≤ count }
     requires short { count ≤ 3 }
-    ensures { OnOk result (string_bytes text.new ≡ string_bytes text.old ++ labelled_row file.now place count) }
+    ensures { Puts text.old text.new (labelled_row file.now place count) }
 {
     let _words = file.file().text_words();
-    put_labels(text, file, (2 * place) as u16, count as u8)?;
-    put_row(text, file, place, count)
+    put_labels(text, file, (2 * place) as u16, count as u8);
+    put_row(text, file, place, count);
 }
 
 /// Appends the labels of the end of the text.
-fn put_end_labels(text: &mut String, file: &NamedFile<'_>) -> Result<(), AllocError>
-    ensures { OnOk result (string_bytes text.new ≡ string_bytes text.old ++ labels file.now.symbols (2 * length file.now.text_words) 0) }
+fn put_end_labels(text: &mut Text, file: &NamedFile<'_>)
+    ensures { Puts text.old text.new (labels file.now.symbols (2 * length file.now.text_words) 0) }
 {
     let end = file.file().text_words().len();
-    put_labels(text, file, (2 * end) as u16, 0)
+    put_labels(text, file, (2 * end) as u16, 0);
 }
 
-/// Appends the lines of a file's text in columns: the address, two blanks, one to three words in 20 columns, two blanks, and
-/// the text of the line. Labels precede their lines, and those of the end of the text are last. (own choice)
-pub fn put_disassembly(text: &mut String, file: &File) -> Result<(), AllocError>
-    ensures { OnOk result (string_bytes text.new ≡ string_bytes text.old ++ disassembly file.now) }
+/// Appends the lines of a file's text in columns, with the labels before each, and those of the end.
+fn put_rows(text: &mut Text, named: &NamedFile<'_>, file: &File)
+    requires { named.now ≡ file.now }
+    ensures { Puts text.old text.new (disassembly file.now) }
 {
-    let named = NamedFile::new(*text.allocator(), file)?;
     let end = file.text_words().len();
     let mut place = 0;
     while place < end {
         let count = line_in(file, place).length();
-        put_labelled_row(text, &named, place, count)?;
+        put_labelled_row(text, named, place, count);
         place += count;
     }
-    put_end_labels(text, &named)
+    put_end_labels(text, named);
+}
+
+/// Appends the lines of a file's text in columns: the address, two blanks, one to three words in 20 columns, two blanks, and
+/// the text of the line. Labels precede their lines, and those of the end of the text are last. (own choice)
+pub fn put_disassembly(text: &mut Text, file: &File)
+    ensures { Puts text.old text.new (disassembly file.now) }
+{
+    match NamedFile::new(text.allocator(), file) {
+        Ok(named) => put_rows(text, &named, file),
+        Err(_) => text.cut(),
+    }
 }
 
 /// Appends the line of these words at an address, in columns.
-fn put_plain_row(
-    text: &mut String,
-    address: u16,
-    line: &Line,
-    words: &[u16],
-) -> Result<(), AllocError>
+fn put_plain_row(text: &mut Text, address: u16, line: &Line, words: &[u16])
     requires { words.now ≡ words_of line.now }
-    ensures { OnOk result (string_bytes text.new ≡ string_bytes text.old ++ plain_row address line.now) }
+    ensures { Puts text.old text.new (plain_row address line.now) }
 {
-    put_columns(text, address, words)?;
-    line.put_text(address, text)?;
-    text.push_str("\n")
+    put_columns(text, address, words);
+    line.put_text(address, text);
+    text.put("\n");
 }
 
 /// Appends the lines of words in the columns of `put_disassembly`, without names and labels. The first word is at the address,
 /// and the address after 177776 is 0. (own choice)
 ///
-/// An error, out of memory, only if there are words.
-pub fn put_plain_disassembly(
-    text: &mut String,
-    address: u16,
-    words: &[u16],
-) -> Result<(), AllocError>
-    ensures ok { OnOk result (string_bytes text.new ≡ string_bytes text.old ++ plain_disassembly address words.now) }
-    ensures memory { IsErr result → words.now ≢ [] }
+/// Memory may run out only if there are words.
+pub fn put_plain_disassembly(text: &mut Text, address: u16, words: &[u16])
+    ensures ok { Puts text.old text.new (plain_disassembly address words.now) }
+    ensures memory { words.now ≡ [] → text.new ≡ text.old }
 {
     let mut next = address;
     let mut rest = words;
     while !rest.is_empty() {
         let line = decode(rest, 0);
         let count = line.length();
-        put_plain_row(text, next, &line, &rest[..count])?;
+        put_plain_row(text, next, &line, &rest[..count]);
         next = next.wrapping_add((2 * count) as u16);
         rest = &rest[count..];
     }
-    Ok(())
 }

@@ -4,9 +4,9 @@
 //! use disassemblies::put_disassembly;
 //!
 //! let file = read_file(alloc, &mut Wire::new(bytes))?;
-//! let mut text = String::new(alloc);
-//! put_disassembly(&mut text, &file)?;
-//! Ok(text)
+//! let mut text = Text::new(alloc);
+//! put_disassembly(&mut text, &file);
+//! Ok(text.finish()?)
 //! ```
 //!
 //! Functions:

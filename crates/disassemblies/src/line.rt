@@ -1,6 +1,7 @@
 //! The lines of a file's text.
 ghost use Rattle.instructions.specs.Lines.{line_length};
-ghost use Rattle.std.specs.Prelude.{◌≡◌, ◌≤◌, ◌<◌, ◌*◌, ◌+◌, ◌++◌, length, slice_get, option_copied, OnOk, string_bytes};
+ghost use Rattle.std.specs.Prelude.{◌≡◌, ◌≤◌, ◌<◌, ◌*◌, ◌+◌, length, slice_get, option_copied};
+ghost use Rattle.texts.specs.Texts.{Puts};
 ghost use Rattle.disassemblies.specs.Lines.{line_in, word_reference, general_reference, branch_reference, operand_reference, references, decoded_text, line_text_in};
 
 use crate::linked::{linked_reference, located};
@@ -12,7 +13,7 @@ use instructions::{
     Addressing, Line, Operand, Operation, Reference, References, branch_back_target, branch_target,
     decode, is_relocated,
 };
-use std::alloc::AllocError;
+use texts::Text;
 
 /// The relocation word of the word at a place of the text, if the file has relocation.
 fn reloc_at(file: &File, place: usize) -> Option<Reloc>
@@ -138,31 +139,27 @@ fn references(file: &NamedFile<'_>, place: usize, line: &Line) -> References
 }
 
 /// Appends the text of an instruction or a plain word that is not relocated.
-fn put_decoded(text: &mut String, file: &NamedFile<'_>, place: usize) -> Result<(), AllocError>
+fn put_decoded(text: &mut Text, file: &NamedFile<'_>, place: usize)
     requires { place < length file.now.text_words }
-    ensures { OnOk result (string_bytes text.new ≡ string_bytes text.old ++ decoded_text file.now place) }
+    ensures { Puts text.old text.new (decoded_text file.now place) }
 {
     let words = file.file().text_words();
     let line = decode(words, place);
     let references = references(file, place, &line);
-    line.put_text_with((2 * place) as u16, &references, text)
+    line.put_text_with((2 * place) as u16, &references, text);
 }
 
 /// Appends the text of the line at a place of a file's text, which counts words. Where a name is known, it is in place of the
 /// number. A relocated word that begins a line is followed by what it refers to, as `000002 / _x+2`. (as(1); names and
 /// relocated words: own choice)
-pub fn put_line_text(
-    text: &mut String,
-    file: &NamedFile<'_>,
-    place: usize,
-) -> Result<(), AllocError>
+pub fn put_line_text(text: &mut Text, file: &NamedFile<'_>, place: usize)
     requires { place < length file.now.text_words }
-    ensures { OnOk result (string_bytes text.new ≡ string_bytes text.old ++ line_text_in file.now place) }
+    ensures { Puts text.old text.new (line_text_in file.now place) }
 {
     let words = file.file().text_words();
     match reloc_at(file.file(), place) {
         Some(reloc) if is_relocated(Some(reloc)) => {
-            put_relocated(text, file.names(), reloc, words[place], (2 * place) as u16)
+            put_relocated(text, file.names(), reloc, words[place], (2 * place) as u16);
         }
         _ => put_decoded(text, file, place),
     }

@@ -6,7 +6,6 @@ use crate::names::Names;
 use crate::naming::{after, reference_at};
 use aout_core::{Header, Segment};
 use instructions::{Addressing, Operation, Reference};
-use listings::data_start;
 
 /// The segment in which an address lies, in the space of instructions or in that of data.
 fn segment_at(header: &Header, fetches: bool, address: u16) -> Option<Segment>
@@ -20,7 +19,7 @@ fn segment_at(header: &Header, fetches: bool, address: u16) -> Option<Segment>
         return None;
     }
     let address = usize::from(address);
-    let start = data_start(header.magic, usize::from(header.text_size));
+    let start = header.data_start();
     let end = start + usize::from(header.data_size);
     if start <= address && address < end {
         return Some(Segment::DataSeg);

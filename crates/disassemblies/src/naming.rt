@@ -51,12 +51,10 @@ pub(crate) fn reference_beyond(symbol: Option<Symbol>, offset: u16) -> Option<Re
     ensures { result ≡ beyond symbol offset }
 {
     match symbol {
-        Some(symbol) if symbol.is_external() && symbol.segment() == Segment::Undefined => {
-            Some(Reference {
-                name: symbol.name,
-                offset,
-            })
-        }
+        Some(symbol) if symbol.is_undefined() => Some(Reference {
+            name: symbol.name,
+            offset,
+        }),
         _ => None,
     }
 }

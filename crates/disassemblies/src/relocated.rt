@@ -1,12 +1,13 @@
 //! What relocation words refer to.
-ghost use Rattle.std.specs.Prelude.{◌≡◌, ◌<◌, ◌++◌, OnOk, string_bytes};
-ghost use Rattle.disassemblies.specs.Naming.{referred, is_unmoved, object_address, object_reference, meant, segment_word, referred_text, from_the_pc, relocated_text};
+ghost use Rattle.std.specs.Prelude.{◌≡◌, ◌<◌};
+ghost use Rattle.texts.specs.Texts.{Puts};
+ghost use Rattle.disassemblies.specs.Naming.{referred, is_unmoved, object_address, object_reference, segment_word, referred_text, from_the_pc, relocated_text};
 
 use crate::names::Names;
 use crate::naming::{after, reference_at, reference_beyond};
 use aout_core::{Kind, Reloc, Segment};
-use instructions::{Addressing, Reference, put_six_digits};
-use std::alloc::AllocError;
+use instructions::{Addressing, Reference};
+use texts::Text;
 
 /// What a number refers to by its relocation word.
 fn referred(names: &Names<'_>, reloc: Reloc, number: u16) -> Option<Reference>
@@ -67,17 +68,6 @@ pub(crate) fn object_reference(
     }
 }
 
-/// The address or the number that a word at an address stands for.
-fn meant(reloc: Reloc, word: u16, address: u16) -> u16
-    ensures { result ≡ meant reloc word address }
-{
-    if reloc.is_pc() {
-        word.wrapping_add(address).wrapping_add(2)
-    } else {
-        word
-    }
-}
-
 fn segment_word(reloc: Reloc) -> &'static str
     ensures { result.now ≡ segment_word reloc }
 {
@@ -90,39 +80,40 @@ fn segment_word(reloc: Reloc) -> &'static str
 }
 
 /// Appends what a number refers to, with or without a name.
-fn put_referred(
-    text: &mut String,
-    reference: Option<Reference>,
-    reloc: Reloc,
-    number: u16,
-) -> Result<(), AllocError>
-    ensures { OnOk result (string_bytes text.new ≡ string_bytes text.old ++ referred_text reference reloc number) }
+fn put_referred(text: &mut Text, reference: Option<Reference>, reloc: Reloc, number: u16)
+    ensures { Puts text.old text.new (referred_text reference reloc number) }
 {
     match reference {
         Some(reference) => reference.put_text(text),
         None => {
-            text.push_str(segment_word(reloc))?;
-            put_six_digits(text, number)
+            text.put(segment_word(reloc));
+            text.put_six_digits(u32::from(number));
         }
+    }
+}
+
+/// Appends whether a word is relative to the pc.
+fn put_from_the_pc(text: &mut Text, reloc: Reloc)
+    ensures { Puts text.old text.new (from_the_pc reloc) }
+{
+    if reloc.is_pc() {
+        text.put(", from the pc");
     }
 }
 
 /// Appends a word at an address that is relocated and begins a line.
 pub(crate) fn put_relocated(
-    text: &mut String,
+    text: &mut Text,
     names: &Names<'_>,
     reloc: Reloc,
     word: u16,
     address: u16,
-) -> Result<(), AllocError>
-    ensures { OnOk result (string_bytes text.new ≡ string_bytes text.old ++ relocated_text names.now.symbols.now reloc word address) }
+)
+    ensures { Puts text.old text.new (relocated_text names.now.symbols.now reloc word address) }
 {
-    let number = meant(reloc, word, address);
-    put_six_digits(text, word)?;
-    text.push_str(" / ")?;
-    put_referred(text, referred(names, reloc, number), reloc, number)?;
-    if reloc.is_pc() {
-        text.push_str(", from the pc")?;
-    }
-    Ok(())
+    let number = reloc.target(word, address);
+    text.put_six_digits(u32::from(word));
+    text.put(" / ");
+    put_referred(text, referred(names, reloc, number), reloc, number);
+    put_from_the_pc(text, reloc);
 }

@@ -1,5 +1,6 @@
 -- What is found in a file: at which byte, what it is, and its text. (own choice)
-use Rattle.std.specs.Prelude.{ℕ, Bool, if◌then◌else◌, List, [], ◌∷◌, map, string_bytes}
+use Rattle.std.specs.Prelude.{◌≡◌, ℕ, Bool, false, if◌then◌else◌, List, [], ◌∷◌, ◌++◌, map}
+use Rattle.texts.specs.Texts.{Written}
 use Rattle.findings.specs.declared.finding.Finding.{Finding}
 use Rattle.findings.specs.declared.finding.FindingKind.{FindingKind}
 
@@ -9,7 +10,7 @@ pub record Found : Type 0 where
   pub text : List ℕ
 
 abbrev pub found_in : Finding → Found
-found_in f = record { place = f.place; kind = f.kind; text = string_bytes f.text }
+found_in f = record { place = f.place; kind = f.kind; text = f.text.items }
 
 abbrev pub all_found : List Finding → List Found
 all_found findings = map found_in findings
@@ -17,3 +18,16 @@ all_found findings = map found_in findings
 -- one finding at a byte, if the test holds
 abbrev pub found_if : Bool → ℕ → FindingKind → List ℕ → List Found
 found_if test place kind text = if test then record { place = place; kind = kind; text = text } ∷ [] else []
+
+-- what is found so far; once memory ran out it is cut, and says nothing
+pub record Collected : Type 0 where
+  pub found : List Found
+  pub is_cut : Bool
+
+-- these were added, unless memory has run out by now
+abbrev pub Finds : Collected → Collected → List Found → Type 0
+Finds old new more = new.is_cut ≡ false → (old.is_cut ≡ false) × (new.found ≡ old.found ++ more)
+
+-- a text has these bytes, unless memory ran out for it
+abbrev pub Holds : Written → List ℕ → Type 0
+Holds text bytes = text.is_cut ≡ false → text.bytes ≡ bytes

@@ -28,3 +28,7 @@ kind_text h (Some NotAnObject) = Some (program h)
 kind_text h (Some NoRelocation) = Some (program h)
 kind_text h (Some (BadRelocation _)) = None
 kind_text h (Some (BadSymbolNumber _)) = None
+
+abbrev pub or_nothing : Option (List ℕ) → List ℕ
+or_nothing None = []
+or_nothing (Some text) = text

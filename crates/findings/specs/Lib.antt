@@ -1,4 +1,3 @@
-pub mod Words
 pub mod Found
 pub mod Segments
 pub mod Odd

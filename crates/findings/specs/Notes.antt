@@ -1,17 +1,17 @@
 -- Notes on a file: the words of its header by name, and findings in lines. (own choice)
-use Rattle.std.specs.Prelude.{ℕ, ◌/◌, false, eqb, if◌then◌else◌, List, [], ◌∷◌, ◌++◌, codes, string_bytes}
-use Rattle.std.specs.List.{concat}
-use Rattle.std.specs.Fmt.{decimal, digits}
+use Rattle.std.specs.Prelude.{◌≡◌, ℕ, Bool, false, eqb, if◌then◌else◌, List, [], ◌∷◌, ◌++◌, codes, decimal}
+use Rattle.texts.specs.Numbers.{octal, six_digits, three_digits}
 use Rattle.aout_core.specs.declared.header.Header.{Header}
-use Rattle.listings.specs.Octal.{digit, octal}
 use Rattle.findings.specs.declared.finding.Finding.{Finding}
 
--- in octal, with no zeros in front
-abbrev pub short_octal : ℕ → List ℕ
-short_octal n = digits 8 false n
+-- notes so far; once memory ran out they are cut, and say nothing
+pub record Noted : Type 0 where
+  pub lines : List (List ℕ)
+  pub is_cut : Bool
 
-abbrev pub three_digits : ℕ → List ℕ
-three_digits n = digit (n / 64) ∷ digit (n / 8) ∷ digit n ∷ []
+-- these notes were added, unless memory has run out by now
+abbrev pub AddsNotes : Noted → Noted → List (List ℕ) → Type 0
+AddsNotes old new lines = new.is_cut ≡ false → (old.is_cut ≡ false) × (new.lines ≡ old.lines ++ lines)
 
 -- what a magic number says
 abbrev pub magic_text : ℕ → List ℕ
@@ -25,14 +25,21 @@ magic_text magic =
 abbrev pub flag_text : ℕ → List ℕ
 flag_text flag = if eqb flag 0 then codes "flag: relocation is present" else codes "flag: no relocation"
 
-abbrev pub size_text : List ℕ → ℕ → List ℕ
-size_text part size = concat (codes "size of " ∷ part ∷ codes ": " ∷ decimal size ∷ codes " bytes" ∷ [])
+unfoldable pub size_text : List ℕ → ℕ → List ℕ
+size_text part size = codes "size of " ++ part ++ codes ": " ++ decimal size ++ codes " bytes"
 
--- the word at a byte of the header
-unfoldable pub header_line : ℕ → ℕ → List ℕ → List ℕ
-header_line place word meaning = codes " " ++ three_digits place ++ codes "  " ++ octal word ++ codes "  " ++ meaning
+-- a byte of the header
+unfoldable pub place_text : ℕ → List ℕ
+place_text n = three_digits n
 
-unfoldable pub size_line : ℕ → ℕ → List ℕ → List ℕ
+-- the word at a byte of the header, up to its meaning
+unfoldable pub word_front : ℕ → ℕ → List ℕ
+word_front place word = codes " " ++ place_text place ++ codes "  " ++ six_digits word ++ codes "  "
+
+abbrev pub header_line : ℕ → ℕ → List ℕ → List ℕ
+header_line place word meaning = word_front place word ++ meaning
+
+abbrev pub size_line : ℕ → ℕ → List ℕ → List ℕ
 size_line place size part = header_line place size (size_text part size)
 
 abbrev pub size_lines : Header → List (List ℕ)
@@ -51,12 +58,16 @@ header_lines h =
     ++ header_line 12 h.unused (codes "unused") ∷ []
     ++ header_line 14 h.flag (flag_text h.flag) ∷ []
 
--- a byte of a file, in octal and in decimal
+-- a number in octal after a 0, and in decimal
+unfoldable pub in_both : ℕ → List ℕ
+in_both n = codes "0" ++ octal n ++ codes " (" ++ decimal n ++ codes ")"
+
+-- a byte of a file
 abbrev pub byte_text : ℕ → List ℕ
-byte_text place = codes "byte 0" ++ short_octal place ++ codes " (" ++ decimal place ++ codes ")"
+byte_text place = codes "byte " ++ in_both place
 
 abbrev pub finding_text : Finding → List ℕ
-finding_text f = byte_text f.place ++ codes ": " ++ string_bytes f.text
+finding_text f = byte_text f.place ++ codes ": " ++ f.text.items
 
 -- a note; the slash of its line is not there yet
 abbrev pub note_text : List ℕ → List ℕ

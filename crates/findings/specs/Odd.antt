@@ -6,25 +6,33 @@ use Rattle.std.specs.Prelude.{ℕ, ◌+◌, ◌-◌, ◌*◌, ◌%◌, Bool, tru
 use Rattle.std.specs.List.{list_any}
 use Rattle.aout_core.specs.declared.header.Header.{Header}
 use Rattle.aout_core.specs.declared.symbol.Symbol.{Symbol}
+use Rattle.aout_core.specs.declared.symbol.Segment.{Segment}
 use Rattle.aout_core.specs.declared.reloc.Reloc.{Reloc}
 use Rattle.aout_core.specs.declared.reloc.Kind.{Kind}
 use Rattle.aout_core.specs.declared.reloc.Kind.TheVariants.{External}
 use Rattle.aout_core.specs.Contents.{Contents}
 use Rattle.aout_core.specs.Encoding.{relocation_at, symbols_at, file_length}
-use Rattle.aout_core.specs.WellFormed.{is_wanted, kind_of, masked_type, segment_of}
+use Rattle.aout_core.specs.WellFormed.{is_undefined, kind_of, masked_type, segment_of}
 use Rattle.aout_core.specs.Words.{plus}
+use Rattle.aout_core.specs.Addresses.{data_start_in, target}
 use Rattle.findings.specs.declared.finding.FindingKind.TheVariants.{IgnoredEntry, IgnoredWord, BytesAfterTable, IgnoredRelocationBits, OutsideReference, EmptyName, UnprintableName, BytesAfterName, RepeatedName, IgnoredTypeBits, UnknownType, OddCommon, OutsideValue}
 use Rattle.findings.specs.Found.{Found, found_if}
 use Rattle.findings.specs.OddTexts.{entry_text, unused_text, bytes_after_text, ignored_bits_text, outside_reference_text, symbol_title, empty_name_text, hidden_text, rest_text, repeated_text, type_bits_text, unknown_type_text, common_text, outside_value_text}
-use Rattle.findings.specs.Segments.{data_from, has_address, segment_meant}
-use Rattle.findings.specs.Words.{meant}
+use Rattle.findings.specs.Segments.{has_address, segment_meant}
 
--- the entry point of a file with relocation, the unused word, and bytes after the table
+-- the entry point of a file with relocation
+abbrev pub odd_entry : Header → List Found
+odd_entry h = found_if (not (eqb h.entry_point 0) && eqb h.flag 0) 10 IgnoredEntry (entry_text h.entry_point)
+
+abbrev pub odd_unused : Header → List Found
+odd_unused h = found_if (not (eqb h.unused 0)) 12 IgnoredWord (unused_text h.unused)
+
+-- a file of so many bytes
+abbrev pub odd_rest : Header → ℕ → List Found
+odd_rest h size = found_if (nat_lt (file_length h) size) (file_length h) BytesAfterTable (bytes_after_text (size - file_length h))
+
 abbrev pub odd_header : Header → ℕ → List Found
-odd_header h size =
-    found_if (not (eqb h.entry_point 0) && eqb h.flag 0) 10 IgnoredEntry (entry_text h.entry_point)
-    ++ found_if (not (eqb h.unused 0)) 12 IgnoredWord (unused_text h.unused)
-    ++ found_if (nat_lt (file_length h) size) (file_length h) BytesAfterTable (bytes_after_text (size - file_length h))
+odd_header h size = odd_entry h ++ odd_unused h ++ odd_rest h size
 
 -- the bits above 17 count for an external alone
 abbrev pub ignores_number : Option Kind → Bool
@@ -32,11 +40,20 @@ ignores_number None = false
 ignores_number (Some External) = false
 ignores_number (Some _) = true
 
+-- the relocation word at this byte, of the word at an address
+abbrev pub odd_relocation : ℕ → ℕ → Reloc → List Found
+odd_relocation place address r =
+    found_if (nat_le 0o20 r.0 && ignores_number (kind_of r)) place IgnoredRelocationBits (ignored_bits_text r.0 address)
+
+-- a word at an address that refers to an address of a segment, and whose relocation word is at this byte
+abbrev pub odd_target : Header → ℕ → ℕ → Segment → ℕ → List Found
+odd_target h place address segment target =
+    found_if (not (has_address h segment target)) place OutsideReference (outside_reference_text h segment address target)
+
 -- a word at an address, whose relocation word is at this byte
 abbrev pub odd_word : Header → ℕ → ℕ → ℕ → Reloc → List Found
 odd_word h place address word r =
-    found_if (nat_le 0o20 r.0 && ignores_number (kind_of r)) place IgnoredRelocationBits (ignored_bits_text r.0 address)
-    ++ found_if (not (has_address h (segment_meant (kind_of r)) (meant address word r))) place OutsideReference (outside_reference_text h (segment_meant (kind_of r)) address (meant address word r))
+    odd_relocation place address r ++ odd_target h place address (segment_meant (kind_of r)) (target r word address)
 
 -- the words of a segment from number n on, by their relocation words; number 0 has this address, and its relocation word this byte
 abbrev pub odd_words : Header → ℕ → ℕ → List ℕ → ℕ → List Reloc → List Found
@@ -56,27 +73,46 @@ after_name bytes place s = if nat_lt (length bytes) (place + 8) then [] else tak
 abbrev pub has_type : Symbol → Bool
 has_type s = nat_lt (masked_type s) 5 || (eqb (masked_type s) 0o24 || eqb (masked_type s) 0o37)
 
+-- of symbol n, whose entry begins at this byte: what is odd of its name
+abbrev pub odd_empty : ℕ → ℕ → Symbol → List Found
+odd_empty n place s = found_if (eqb (length s.name) 0) place EmptyName (empty_name_text (symbol_title n s.name))
+
+abbrev pub odd_hidden : ℕ → ℕ → Symbol → List Found
+odd_hidden n place s = found_if (list_any is_hidden s.name) place UnprintableName (hidden_text (symbol_title n s.name))
+
+abbrev pub is_byte : ℕ → Bool
+is_byte b = not (eqb b 0)
+
+abbrev pub odd_rest_of_name : List ℕ → ℕ → ℕ → Symbol → List Found
+odd_rest_of_name bytes n place s = found_if (list_any is_byte (after_name bytes place s)) place BytesAfterName (rest_text (symbol_title n s.name))
+
 -- a name that an earlier symbol has, if there is one, by its number
-abbrev pub repeated : ℕ → List ℕ → Option ℕ → List Found
-repeated place title None = []
-repeated place title (Some first) = found_if true place RepeatedName (repeated_text title first)
+abbrev pub odd_repeated : ℕ → ℕ → Symbol → Option ℕ → List Found
+odd_repeated n place s None = []
+odd_repeated n place s (Some first) = found_if true place RepeatedName (repeated_text (symbol_title n s.name) first)
 
--- the name of a symbol, which is called so, and whose entry begins at this byte; the number of the first symbol with the name, if an
--- earlier one has it
-abbrev pub odd_name : List ℕ → List ℕ → Option ℕ → ℕ → Symbol → List Found
-odd_name bytes title first place s =
-    found_if (eqb (length s.name) 0) place EmptyName (empty_name_text title)
-    ++ found_if (list_any is_hidden s.name) place UnprintableName (hidden_text title)
-    ++ found_if (list_any (λ (b : ℕ). not (eqb b 0)) (after_name bytes place s)) place BytesAfterName (rest_text title)
-    ++ repeated place title first
+-- the number of the first symbol with the name, if an earlier one has it
+abbrev pub odd_name : List ℕ → ℕ → Option ℕ → ℕ → Symbol → List Found
+odd_name bytes n first place s =
+    odd_empty n place s ++ odd_hidden n place s ++ odd_rest_of_name bytes n place s ++ odd_repeated n place s first
 
--- its type word and its value
-abbrev pub odd_fields : Header → List ℕ → ℕ → Symbol → List Found
-odd_fields h title place s =
-    found_if (nat_le 0o100 s.type_bits) (place + 8) IgnoredTypeBits (type_bits_text title s.type_bits)
-    ++ found_if (not (has_type s)) (place + 8) UnknownType (unknown_type_text title s.type_bits)
-    ++ found_if (is_wanted (Some s) && eqb (s.value % 2) 1) (place + 10) OddCommon (common_text title s.value)
-    ++ found_if (not (has_address h (segment_of s) s.value)) (place + 10) OutsideValue (outside_value_text h (segment_of s) title s.value)
+-- what is odd of its type word and of its value
+abbrev pub odd_type_bits : ℕ → ℕ → Symbol → List Found
+odd_type_bits n place s = found_if (nat_le 0o100 s.type_bits) (place + 8) IgnoredTypeBits (type_bits_text (symbol_title n s.name) s.type_bits)
+
+abbrev pub odd_type : ℕ → ℕ → Symbol → List Found
+odd_type n place s = found_if (not (has_type s)) (place + 8) UnknownType (unknown_type_text (symbol_title n s.name) s.type_bits)
+
+abbrev pub odd_common : ℕ → ℕ → Symbol → List Found
+odd_common n place s = found_if (is_undefined s && eqb (s.value % 2) 1) (place + 10) OddCommon (common_text (symbol_title n s.name) s.value)
+
+abbrev pub odd_value : Header → ℕ → ℕ → Symbol → List Found
+odd_value h n place s =
+    found_if (not (has_address h (segment_of s) s.value)) (place + 10) OutsideValue (outside_value_text h (segment_of s) (symbol_title n s.name) s.value)
+
+abbrev pub odd_fields : Header → ℕ → ℕ → Symbol → List Found
+odd_fields h n place s =
+    odd_type_bits n place s ++ odd_type n place s ++ odd_common n place s ++ odd_value h n place s
 
 -- the number of the first symbol that has a name, where the first of them has number n; names are equal in eight bytes
 abbrev pub first_named_from : ℕ → List ℕ → List Symbol → Option ℕ
@@ -89,7 +125,7 @@ first_named name symbols = first_named_from 0 name symbols
 -- symbol n, whose entry begins at this byte, and which follows these in the table
 abbrev pub odd_symbol : Header → List ℕ → List Symbol → ℕ → ℕ → Symbol → List Found
 odd_symbol h bytes earlier n place s =
-    odd_name bytes (symbol_title n s.name) (first_named s.name earlier) place s ++ odd_fields h (symbol_title n s.name) place s
+    odd_name bytes n (first_named s.name earlier) place s ++ odd_fields h n place s
 
 abbrev pub symbol_at : Header → ℕ → ℕ
 symbol_at h n = symbols_at h + 12 * n
@@ -103,5 +139,5 @@ abbrev pub odd : List ℕ → Contents → List Found
 odd bytes c =
     odd_header c.header (length bytes)
     ++ odd_words c.header (relocation_at c.header) 0 c.text_words 0 c.text_reloc
-    ++ odd_words c.header (relocation_at c.header + c.header.text_size) (data_from c.header % 65536) c.data_words 0 c.data_reloc
+    ++ odd_words c.header (relocation_at c.header + c.header.text_size) (data_start_in c.header % 65536) c.data_words 0 c.data_reloc
     ++ odd_symbols c bytes 0 c.symbols

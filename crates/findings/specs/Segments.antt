@@ -7,13 +7,10 @@ use Rattle.aout_core.specs.declared.symbol.Segment.{Segment}
 use Rattle.aout_core.specs.declared.symbol.Segment.TheVariants.{TextSeg, DataSeg, BssSeg, Undefined}
 use Rattle.aout_core.specs.declared.reloc.Kind.{Kind}
 use Rattle.aout_core.specs.declared.reloc.Kind.TheVariants as kinds
-use Rattle.listings.specs.Drafts.{data_start}
-
-abbrev pub data_from : Header → ℕ
-data_from h = data_start h.magic h.text_size
+use Rattle.aout_core.specs.Addresses.{data_start_in}
 
 abbrev pub data_to : Header → ℕ
-data_to h = data_from h + h.data_size
+data_to h = data_start_in h + h.data_size
 
 abbrev pub bss_to : Header → ℕ
 bss_to h = data_to h + h.bss_size
@@ -21,13 +18,13 @@ bss_to h = data_to h + h.bss_size
 -- the address is in the segment or at its end; other segments are nowhere, and have every address
 abbrev pub has_address : Header → Segment → ℕ → Bool
 has_address h TextSeg address = nat_le address h.text_size
-has_address h DataSeg address = nat_le (data_from h) address && nat_le address (data_to h)
+has_address h DataSeg address = nat_le (data_start_in h) address && nat_le address (data_to h)
 has_address h BssSeg address = nat_le (data_to h) address && nat_le address (bss_to h)
 has_address h _ address = true
 
 -- where a segment begins and ends; other segments count as text
 abbrev pub segment_from : Header → Segment → ℕ
-segment_from h DataSeg = data_from h
+segment_from h DataSeg = data_start_in h
 segment_from h BssSeg = data_to h
 segment_from h _ = 0
 

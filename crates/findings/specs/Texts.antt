@@ -1,32 +1,31 @@
 -- The texts of findings that are damage: what is wrong, with its numbers. (own choice)
-use Rattle.std.specs.Prelude.{ℕ, ◌+◌, ◌*◌, ◌&&◌, false, not, eqb, nat_lt, if◌then◌else◌, List, [], ◌∷◌, ◌++◌, length, slice_get, codes, Bool, Option, Some, None}
-use Rattle.std.specs.List.{concat, flat_map}
-use Rattle.std.specs.Fmt.{decimal}
+use Rattle.std.specs.Prelude.{ℕ, ◌+◌, ◌*◌, false, nat_lt, if◌then◌else◌, List, [], ◌++◌, length, slice_get, codes, decimal, Bool, Option, Some, None}
 use Rattle.aout_core.specs.declared.header.Header.{Header}
 use Rattle.aout_core.specs.declared.symbol.Symbol.{Symbol}
 use Rattle.aout_core.specs.declared.reloc.Reloc.{Reloc}
 use Rattle.aout_core.specs.Contents.{Contents}
 use Rattle.aout_core.specs.Encoding.{relocation_at, symbols_at, file_length}
 use Rattle.aout_core.specs.WellFormed.{symbol_number}
-use Rattle.listings.specs.Octal.{octal}
+use Rattle.texts.specs.Numbers.{octal, six_digits}
+use Rattle.texts.specs.Names.{printable_name}
+use Rattle.findings.specs.Notes.{in_both}
 use Rattle.disassemblies.specs.Starts.{starts, line_start}
 use Rattle.disassemblies.specs.Lines.{line_text_in}
 use Rattle.findings.specs.declared.finding.FindingKind.{FindingKind}
 use Rattle.findings.specs.declared.finding.FindingKind.TheVariants.{BadRelocation}
-use Rattle.findings.specs.Notes.{short_octal, three_digits}
 
 unfoldable pub short_header_text : List ℕ
 short_header_text = codes "short header: the file ends here, and a header has 16 bytes"
 
 unfoldable pub bad_magic_text : ℕ → List ℕ
-bad_magic_text magic = concat (codes "bad magic number: " ∷ octal magic ∷ codes ", and not 000405, 000407, 000410 or 000411" ∷ [])
+bad_magic_text magic = codes "bad magic number: " ++ six_digits magic ++ codes ", and not 000405, 000407, 000410 or 000411"
 
 unfoldable pub odd_size_text : List ℕ → ℕ → List ℕ
 odd_size_text part size =
-    concat (codes "odd size: " ∷ part ∷ codes " has 0" ∷ short_octal size ∷ codes " (" ∷ decimal size ∷ codes ") bytes, which are no whole words" ∷ [])
+    codes "odd size: " ++ part ++ codes " has " ++ in_both size ++ codes " bytes, which are no whole words"
 
 unfoldable pub odd_table_text : ℕ → List ℕ
-odd_table_text size = concat (codes "odd size: the symbol table has 0" ∷ short_octal size ∷ codes " (" ∷ decimal size ∷ codes ") bytes, and a symbol 12" ∷ [])
+odd_table_text size = codes "odd size: the symbol table has " ++ in_both size ++ codes " bytes, and a symbol 12"
 
 -- the part of a file in which a byte lies
 abbrev pub part_at : Header → ℕ → List ℕ
@@ -39,34 +38,47 @@ part_at h place =
 -- a file with this header ends at a byte
 unfoldable pub truncated_text : Header → ℕ → List ℕ
 truncated_text h place =
-    concat (codes "truncated: the file ends here, in " ∷ part_at h place ∷ codes "; by its header it has 0" ∷ short_octal (file_length h) ∷ codes " (" ∷ decimal (file_length h) ∷ codes ") bytes" ∷ [])
+    codes "truncated: the file ends here, in " ++ part_at h place ++ codes "; by its header it has " ++ in_both (file_length h) ++ codes " bytes"
 
--- a byte that prints stands for itself; any other, a blank and a backslash are a backslash and three octal digits
-abbrev pub shown_byte : ℕ → List ℕ
-shown_byte b = if nat_lt 32 b && (nat_lt b 127 && not (eqb b 92)) then b ∷ [] else codes "\\" ++ three_digits b
+-- symbol n of so many
+unfoldable pub counted_text : ℕ → ℕ → List ℕ
+counted_text count n = codes "symbol " ++ decimal n ++ codes " of " ++ decimal count
 
--- an empty name is shown as a NUL
-abbrev pub shown_name : List ℕ → List ℕ
-shown_name name = if eqb (length name) 0 then shown_byte 0 else flat_map shown_byte name
+unfoldable pub typed_text : Symbol → List ℕ
+typed_text s = printable_name s.name ++ codes " of type " ++ octal s.type_bits
+
+unfoldable pub unwanted_symbol_text : ℕ → ℕ → Symbol → List ℕ
+unwanted_symbol_text count n s = counted_text count n ++ codes ", " ++ typed_text s ++ codes ", and not an undefined external, 40"
+
+unfoldable pub no_symbol_text : ℕ → ℕ → List ℕ
+no_symbol_text count n = codes "symbol " ++ decimal n ++ codes ", and the table has " ++ decimal count ++ codes ", counted from 0"
 
 -- why a word may not refer to a symbol, which is the one of this number, if there is one
 abbrev pub unwanted_by : ℕ → ℕ → Option Symbol → List ℕ
-unwanted_by count number (Some s) =
-    concat (codes "symbol " ∷ decimal number ∷ codes " of " ∷ decimal count ∷ codes ", " ∷ shown_name s.name ∷ codes " of type " ∷ short_octal s.type_bits ∷ codes ", and not an undefined external, 40" ∷ [])
-unwanted_by count number None = concat (codes "symbol " ∷ decimal number ∷ codes ", and the table has " ∷ decimal count ∷ codes ", counted from 0" ∷ [])
+unwanted_by count n (Some s) = unwanted_symbol_text count n s
+unwanted_by count n None = no_symbol_text count n
 
 abbrev pub unwanted_text : List Symbol → ℕ → List ℕ
 unwanted_text symbols number = unwanted_by (length symbols) number (slice_get symbols number)
 
+-- the number of a word, and its relocation word
+unfoldable pub numbered_text : ℕ → Reloc → List ℕ
+numbered_text n r = decimal n ++ codes ": " ++ octal r.0
+
+unfoldable pub bad_relocation_text : ℕ → Reloc → List ℕ
+bad_relocation_text n r = codes "bad relocation at word " ++ numbered_text n r ++ codes " has none of the kinds 0, 2, 4, 6 and 10"
+
+unfoldable pub bad_number_text : List Symbol → ℕ → Reloc → List ℕ
+bad_number_text symbols n r =
+    codes "bad symbol number at word " ++ numbered_text n r ++ codes " refers to " ++ unwanted_text symbols (symbol_number r)
+
 -- word n has a relocation word of this kind
 abbrev pub bad_word_text : List Symbol → ℕ → Reloc → FindingKind → List ℕ
-bad_word_text symbols n r BadRelocation =
-    concat (codes "bad relocation at word " ∷ decimal n ∷ codes ": " ∷ short_octal r.0 ∷ codes " has none of the kinds 0, 2, 4, 6 and 10" ∷ [])
-bad_word_text symbols n r _ =
-    codes "bad symbol number at word " ++ (decimal n ++ (codes ": " ++ (short_octal r.0 ++ (codes " refers to " ++ unwanted_text symbols (symbol_number r)))))
+bad_word_text symbols n r BadRelocation = bad_relocation_text n r
+bad_word_text symbols n r _ = bad_number_text symbols n r
 
 unfoldable pub address_text : ℕ → List ℕ
-address_text address = codes "; the instruction at " ++ octal address ++ codes " is "
+address_text address = codes "; the instruction at " ++ six_digits address ++ codes " is "
 
 -- the instruction that begins at a word, if it is one of text
 abbrev pub instruction_text : Contents → ℕ → List ℕ
@@ -82,4 +94,4 @@ abbrev pub owner_text : Contents → ℕ → List ℕ
 owner_text c n = owner_by c n (slice_get (starts c) n)
 
 unfoldable pub more_text : ℕ → List ℕ
-more_text more = concat (codes "and " ∷ decimal more ∷ codes " more such relocation words" ∷ [])
+more_text more = codes "and " ++ decimal more ++ codes " more such relocation words"

@@ -1,7 +1,6 @@
 -- What is damaged in a file: why it is refused, at which byte, and in which words. (a.out(5); the refusals: own choice)
 use Rattle.std.specs.Prelude.{ℕ, ◌+◌, ◌*◌, ◌-◌, ◌%◌, true, not, eqb, nat_lt, if◌then◌else◌, List, [], ◌∷◌, ◌++◌, take, length, codes, Option, Some, None}
 use Rattle.aout_core.specs.declared.header.Header.{Header}
-use Rattle.aout_core.specs.declared.symbol.Symbol.{Symbol}
 use Rattle.aout_core.specs.declared.reloc.Reloc.{Reloc}
 use Rattle.aout_core.specs.declared.file.ReadFault.{ReadFault}
 use Rattle.aout_core.specs.declared.file.ReadFault.TheVariants as faults
@@ -20,22 +19,35 @@ use Rattle.findings.specs.Texts.{short_header_text, bad_magic_text, odd_size_tex
 abbrev pub odd_size : ℕ → List ℕ → ℕ → List Found
 odd_size place part size = found_if (not (eqb (size % 2) 0)) place OddSize (odd_size_text part size)
 
+abbrev pub odd_table : ℕ → List Found
+odd_table size = found_if (not (eqb (size % 12) 0)) 8 OddSize (odd_table_text size)
+
 -- each size that is not whole
 abbrev pub odd_sizes : Header → List Found
 odd_sizes h =
     odd_size 2 (codes "text") h.text_size
     ++ odd_size 4 (codes "data") h.data_size
     ++ odd_size 6 (codes "bss") h.bss_size
-    ++ found_if (not (eqb (h.symbol_size % 12) 0)) 8 OddSize (odd_table_text h.symbol_size)
+    ++ odd_table h.symbol_size
+
+abbrev pub bad_magic : ℕ → List Found
+bad_magic magic = found_if true 0 BadMagic (bad_magic_text magic)
+
+-- of a file with so many bytes
+abbrev pub truncated : Header → ℕ → List Found
+truncated h size = found_if true size Truncated (truncated_text h size)
+
+abbrev pub short_header : ℕ → List Found
+short_header size = found_if true size ShortHeader short_header_text
 
 -- bytes that are not a file, for this reason
 abbrev pub wrong_by : ReadFault → List ℕ → List Found
-wrong_by faults.BadMagic bytes = found_if true 0 BadMagic (bad_magic_text (header_in bytes).magic)
+wrong_by faults.BadMagic bytes = bad_magic (header_in bytes).magic
 wrong_by faults.OddSize bytes = odd_sizes (header_in bytes)
-wrong_by _ bytes = found_if true (length bytes) Truncated (truncated_text (header_in bytes) (length bytes))
+wrong_by _ bytes = truncated (header_in bytes) (length bytes)
 
 abbrev pub wrong_bytes : ReadFault → List ℕ → List Found
-wrong_bytes fault bytes = if nat_lt (length bytes) 16 then found_if true (length bytes) ShortHeader short_header_text else wrong_by fault bytes
+wrong_bytes fault bytes = if nat_lt (length bytes) 16 then short_header (length bytes) else wrong_by fault bytes
 
 -- what is wrong with a relocation word, by what makes ld refuse an object
 abbrev pub fault_kind : Option ObjectFault → Option FindingKind
@@ -56,8 +68,10 @@ bad_words c place n (r ∷ rs) =
 abbrev pub all_bad_words : Contents → List Found
 all_bad_words c = bad_words c (relocation_at c.header) 0 (c.text_reloc ++ c.data_reloc)
 
+-- that there are more than 16, of so many
+abbrev pub more_bad_words : Header → ℕ → List Found
+more_bad_words h count = found_if (nat_lt 16 count) (relocation_at h) MoreBadWords (more_text (count - 16))
+
 -- the first 16 one by one, and that there are more
 abbrev pub wrong_words : Contents → List Found
-wrong_words c =
-    take 16 (all_bad_words c)
-    ++ found_if (nat_lt 16 (length (all_bad_words c))) (relocation_at c.header) MoreBadWords (more_text (length (all_bad_words c) - 16))
+wrong_words c = take 16 (all_bad_words c) ++ more_bad_words c.header (length (all_bad_words c))

@@ -1,10 +1,12 @@
 //! What is found in a file.
-ghost use Rattle.std.specs.Prelude.{◌≡◌, true, [], ◌∷◌, ◌++◌, map, string_bytes, IfOk, OnOk};
-ghost use Rattle.findings.specs.Found.{all_found, found_if};
-ghost use Rattle.findings.specs.Notes.{finding_text, finding_note};
+ghost use Rattle.std.specs.Prelude.{◌≡◌, [], ◌∷◌, map};
+ghost use Rattle.texts.specs.Texts.{nothing_written, Puts};
+ghost use Rattle.findings.specs.Notes.{finding_text, finding_note, AddsNotes};
 
-use crate::text::{byte_text, put_note};
+use crate::notes::{Notes, put_in_both};
 use std::alloc::{AllocError, Global};
+use std::marker::Model;
+use texts::Text;
 
 /// What is wrong or odd. v7-explain(1) lists what is.
 #[derive(Clone, Copy, Debug, PartialEq, Eq)]
@@ -59,58 +61,107 @@ pub struct Finding {
     /// What is wrong or odd there.
     pub kind: FindingKind,
     /// The same in words, with its numbers.
-    pub text: String,
+    pub text: Vec<u8>,
 }
 
-/// Adds a finding to a list.
-pub(crate) fn find(
-    findings: &mut Vec<Finding>,
-    place: usize,
-    kind: FindingKind,
-    text: String,
-) -> Result<(), AllocError>
-    ensures { OnOk result (all_found findings.new.items ≡ all_found findings.old.items ++ found_if true place kind (string_bytes text)) }
-{
-    findings.push(Finding { place, kind, text })?;
-    Ok(())
+/// Findings while they are collected. Once memory runs out they are cut, and `finish` returns the error.
+#[derive(Drop)]
+pub(crate) struct Findings {
+    list: Vec<Finding>,
+    is_cut: bool,
 }
 
-/// A finding in a line.
-#[tactic(auto, using(crate::proofs::TextLemmas::joined))]
-pub fn finding_text(alloc: Global, finding: &Finding) -> Result<String, AllocError>
-    ensures { IfOk result (λ text. string_bytes text ≡ finding_text finding.now) }
+impl Model for Findings {
+    ghost use Rattle.findings.specs.Found.{Collected, all_found};
+
+    ghost Value = { Collected };
+
+    ghost view = { λ f. record { found = all_found f.list.items; is_cut = f.is_cut } };
+}
+
+impl Findings {
+    ghost use Rattle.std.specs.Prelude.{◌≡◌, ◌++◌, [], false, true, IfOk};
+    ghost use Rattle.texts.specs.Texts.{nothing_written};
+    ghost use Rattle.findings.specs.Found.{all_found, found_if};
+
+    /// None yet.
+    pub(crate) fn new(alloc: Global) -> Findings
+        ensures found { result.found ≡ [] }
+        ensures whole { result.is_cut ≡ false }
+    {
+        Findings {
+            list: Vec::new(alloc),
+            is_cut: false,
+        }
+    }
+
+    /// Where they have their memory.
+    pub(crate) fn allocator(&self) -> Global {
+        *self.list.allocator()
+    }
+
+    /// An empty text.
+    pub(crate) fn text(&self) -> Text
+        ensures { result ≡ nothing_written }
+    {
+        Text::new(self.allocator())
+    }
+
+    /// Adds a finding.
+    pub(crate) fn find(&mut self, place: usize, kind: FindingKind, text: Text)
+        ensures { self.new.is_cut ≡ false → (self.old.is_cut ≡ false) × (text.is_cut ≡ false) × (self.new.found ≡ self.old.found ++ found_if true place kind text.bytes) }
+    {
+        let Ok(text) = text.finish() else {
+            self.is_cut = true;
+            return;
+        };
+        if self.list.push(Finding { place, kind, text }).is_err() {
+            self.is_cut = true;
+        }
+    }
+
+    /// Cuts the findings: memory ran out for something that one needs.
+    pub(crate) fn cut(&mut self)
+        ensures { self.new.is_cut ≡ true }
+    {
+        self.is_cut = true;
+    }
+
+    /// The findings. An error, out of memory, if they are cut.
+    pub(crate) fn finish(self) -> Result<Vec<Finding>, AllocError>
+        ensures { IfOk result (λ list. (self.is_cut ≡ false) × (all_found list.items ≡ self.found)) }
+    {
+        let Findings { list, is_cut } = self;
+        if is_cut { Err(AllocError) } else { Ok(list) }
+    }
+}
+
+/// Appends a finding in a line.
+pub fn put_finding_text(text: &mut Text, finding: &Finding)
+    ensures { Puts text.old text.new (finding_text finding.now) }
 {
-    let byte = byte_text(alloc, finding.place)?;
-    let text = finding.text.as_str();
-    format!(in alloc; "{byte}: {text}")
+    text.put("byte ");
+    put_in_both(text, finding.place);
+    text.put(": ");
+    text.put_bytes(&finding.text);
 }
 
 /// Adds a finding as a note, after this word.
-#[tactic(auto, using(crate::proofs::TextLemmas::joined))]
-fn put_finding(
-    alloc: Global,
-    notes: &mut Vec<String>,
-    word: &str,
-    finding: &Finding,
-) -> Result<(), AllocError>
-    ensures { OnOk result (map string_bytes notes.new.items ≡ map string_bytes notes.old.items ++ finding_note word.now finding.now ∷ []) }
+fn put_finding(notes: &mut Notes, word: &str, finding: &Finding)
+    ensures { AddsNotes notes.old notes.new (finding_note word.now finding.now ∷ []) }
 {
-    let text = finding_text(alloc, finding)?;
-    let note = format!(in alloc; "{word}: {text}")?;
-    put_note(alloc, notes, note.as_str())
+    let mut text = notes.begin();
+    text.put(word);
+    text.put(": ");
+    put_finding_text(&mut text, finding);
+    notes.add(text);
 }
 
-/// Adds findings as notes, each after this word. An error: out of memory.
-pub fn put_findings(
-    alloc: Global,
-    notes: &mut Vec<String>,
-    word: &str,
-    findings: &[Finding],
-) -> Result<(), AllocError>
-    ensures { OnOk result (map string_bytes notes.new.items ≡ map string_bytes notes.old.items ++ map (finding_note word.now) findings.now) }
+/// Adds findings as notes, each after this word.
+pub fn put_findings(notes: &mut Notes, word: &str, findings: &[Finding])
+    ensures { AddsNotes notes.old notes.new (map (finding_note word.now) findings.now) }
 {
     for finding in findings {
-        put_finding(alloc, notes, word, finding)?;
+        put_finding(notes, word, finding);
     }
-    Ok(())
 }

@@ -1,10 +1,12 @@
 //! The words of a header, and what they say.
-ghost use Rattle.std.specs.Prelude.{◌≡◌, [], ◌∷◌, ◌++◌, map, string_bytes, IfOk, OnOk};
-ghost use Rattle.findings.specs.Notes.{magic_text, flag_text, size_text, header_line, size_line, size_lines, header_lines};
+ghost use Rattle.std.specs.Prelude.{◌≡◌, [], ◌∷◌, false};
+ghost use Rattle.findings.specs.Notes.{magic_text, flag_text, size_text, place_text, word_front, header_line, size_line, size_lines, header_lines, AddsNotes};
+ghost use Rattle.texts.specs.Texts.{Puts};
+ghost use Rattle.findings.specs.Found.{Holds};
 
-use crate::octal::{SixDigits, ThreeDigits};
+use crate::notes::Notes;
 use aout_core::Header;
-use std::alloc::{AllocError, Global};
+use texts::Text;
 
 /// What a magic number says.
 fn magic_text(magic: u16) -> &'static str
@@ -30,62 +32,74 @@ fn flag_text(flag: u16) -> &'static str
     }
 }
 
-/// What the size of a part says.
-fn size_text(alloc: Global, part: &str, size: u16) -> Result<String, AllocError>
-    ensures { IfOk result (λ text. string_bytes text ≡ size_text part.now size) }
+/// Appends a byte of the header.
+#[tactic(auto, unfolding(crate::specs::Notes::place_text))]
+fn put_place(text: &mut Text, place: u16)
+    ensures { Puts text.old text.new (place_text place) }
 {
-    format!(in alloc; "size of {part}: {size} bytes")
+    text.put_three_digits(u32::from(place));
 }
 
-/// Adds a note with the word at a byte of the header.
-#[tactic(auto, unfolding(crate::specs::Notes::header_line))]
-fn put_header_word(
-    alloc: Global,
-    lines: &mut Vec<String>,
-    place: u16,
-    word: u16,
-    meaning: &str,
-) -> Result<(), AllocError>
-    ensures { OnOk result (map string_bytes lines.new.items ≡ map string_bytes lines.old.items ++ header_line place word meaning.now ∷ []) }
+/// The note on the word at a byte of the header, up to what it means.
+#[tactic(auto, unfolding(crate::specs::Notes::word_front))]
+fn begin_word(notes: &Notes, place: u16, word: u16) -> Text
+    ensures { Holds result (word_front place word) }
 {
-    let place = ThreeDigits(place as u32);
-    let word = SixDigits(word as u32);
-    lines.push(format!(in alloc; " {place}  {word}  {meaning}")?)?;
-    Ok(())
+    let mut text = notes.begin();
+    put_place(&mut text, place);
+    text.put("  ");
+    text.put_six_digits(u32::from(word));
+    text.put("  ");
+    text
 }
 
-/// Adds a note with a size of the header.
-#[tactic(auto, unfolding(crate::specs::Notes::size_line))]
-fn put_size(
-    alloc: Global,
-    lines: &mut Vec<String>,
-    place: u16,
-    size: u16,
-    part: &str,
-) -> Result<(), AllocError>
-    ensures { OnOk result (map string_bytes lines.new.items ≡ map string_bytes lines.old.items ++ size_line place size part.now ∷ []) }
+/// Adds a note on the word at a byte of the header.
+fn put_word(notes: &mut Notes, place: u16, word: u16, meaning: &str)
+    ensures { AddsNotes notes.old notes.new (header_line place word meaning.now ∷ []) }
 {
-    let text = size_text(alloc, part, size)?;
-    put_header_word(alloc, lines, place, size, text.as_str())
+    let mut text = begin_word(notes, place, word);
+    text.put(meaning);
+    notes.add(text);
 }
 
-/// Adds notes with the sizes of the header.
-fn put_sizes(alloc: Global, lines: &mut Vec<String>, header: &Header) -> Result<(), AllocError>
-    ensures { OnOk result (map string_bytes lines.new.items ≡ map string_bytes lines.old.items ++ size_lines header.now) }
+/// Appends what the size of a part says.
+#[tactic(auto, unfolding(crate::specs::Notes::size_text))]
+fn put_size_text(text: &mut Text, part: &str, size: u16)
+    ensures { Puts text.old text.new (size_text part.now size) }
 {
-    put_size(alloc, lines, 2, header.text_size, "text")?;
-    put_size(alloc, lines, 4, header.data_size, "data")?;
-    put_size(alloc, lines, 6, header.bss_size, "bss")?;
-    put_size(alloc, lines, 8, header.symbol_size, "the symbol table")
+    text.put("size of ");
+    text.put(part);
+    text.put(": ");
+    text.put_decimal(u64::from(size));
+    text.put(" bytes");
 }
 
-/// Adds notes with the words of the header. An error: out of memory.
-pub fn put_header(alloc: Global, lines: &mut Vec<String>, header: &Header) -> Result<(), AllocError>
-    ensures { OnOk result (map string_bytes lines.new.items ≡ map string_bytes lines.old.items ++ header_lines header.now) }
+/// Adds a note on a size of the header.
+fn put_size(notes: &mut Notes, place: u16, size: u16, part: &str)
+    ensures { AddsNotes notes.old notes.new (size_line place size part.now ∷ []) }
 {
-    put_header_word(alloc, lines, 0, header.magic, magic_text(header.magic))?;
-    put_sizes(alloc, lines, header)?;
-    put_header_word(alloc, lines, 10, header.entry_point, "entry point")?;
-    put_header_word(alloc, lines, 12, header.unused, "unused")?;
-    put_header_word(alloc, lines, 14, header.flag, flag_text(header.flag))
+    let mut text = begin_word(notes, place, size);
+    put_size_text(&mut text, part, size);
+    notes.add(text);
+}
+
+/// Adds notes on the sizes of the header.
+fn put_sizes(notes: &mut Notes, header: &Header)
+    ensures { AddsNotes notes.old notes.new (size_lines header.now) }
+{
+    put_size(notes, 2, header.text_size, "text");
+    put_size(notes, 4, header.data_size, "data");
+    put_size(notes, 6, header.bss_size, "bss");
+    put_size(notes, 8, header.symbol_size, "the symbol table");
+}
+
+/// Adds notes on the words of the header.
+pub fn put_header(notes: &mut Notes, header: &Header)
+    ensures { AddsNotes notes.old notes.new (header_lines header.now) }
+{
+    put_word(notes, 0, header.magic, magic_text(header.magic));
+    put_sizes(notes, header);
+    put_word(notes, 10, header.entry_point, "entry point");
+    put_word(notes, 12, header.unused, "unused");
+    put_word(notes, 14, header.flag, flag_text(header.flag));
 }

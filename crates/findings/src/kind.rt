@@ -1,9 +1,10 @@
 //! What a file is.
-ghost use Rattle.std.specs.Prelude.{◌≡◌, option_map, string_bytes, IfOk};
-ghost use Rattle.findings.specs.Kinds.{program_text, table_text, why_refused, program, kind_text};
+ghost use Rattle.std.specs.Prelude.{◌≡◌, is_some};
+ghost use Rattle.texts.specs.Texts.{Puts};
+ghost use Rattle.findings.specs.Kinds.{program_text, table_text, why_refused, program, kind_text, or_nothing};
 
 use aout_core::{Header, ObjectFault};
-use std::alloc::{AllocError, Global};
+use texts::Text;
 
 /// What a file with this magic number is, if it is not an object.
 fn program_text(magic: u16) -> &'static str
@@ -39,31 +40,26 @@ fn why_refused(header: &Header) -> &'static str
     }
 }
 
-/// What a program is, and why `ld` does not take it.
-fn program(alloc: Global, header: &Header) -> Result<String, AllocError>
-    ensures { IfOk result (λ text. string_bytes text ≡ program header.now) }
+/// Appends what a program is, and why `ld` does not take it.
+fn put_program(text: &mut Text, header: &Header)
+    ensures { Puts text.old text.new (program header.now) }
 {
-    let mut text = String::from_str(alloc, program_text(header.magic))?;
-    text.push_str(table_text(header))?;
-    text.push_str("; ")?;
-    text.push_str(why_refused(header))?;
-    Ok(text)
+    text.put(program_text(header.magic));
+    text.put(table_text(header));
+    text.put("; ");
+    text.put(why_refused(header));
 }
 
-/// What a file is that is an object, or that is not taken as one for this reason. A damaged file has no name. An
-/// error: out of memory.
-pub fn kind_text(
-    alloc: Global,
-    header: &Header,
-    refused: Option<ObjectFault>,
-) -> Result<Option<String>, AllocError>
-    ensures { IfOk result (λ kind. option_map string_bytes kind ≡ kind_text header.now refused) }
+/// Appends what a file is that is an object, or that is not taken as one for this reason. For a damaged file, which has no name, it
+/// appends nothing and returns false.
+pub fn put_kind(text: &mut Text, header: &Header, refused: Option<ObjectFault>) -> bool
+    ensures named { result ≡ is_some (kind_text header.now refused) }
+    ensures text { Puts text.old text.new (or_nothing (kind_text header.now refused)) }
 {
     match refused {
-        None => Ok(Some(String::from_str(alloc, "an object")?)),
-        Some(ObjectFault::NotAnObject) => Ok(Some(program(alloc, header)?)),
-        Some(ObjectFault::NoRelocation) => Ok(Some(program(alloc, header)?)),
-        Some(ObjectFault::BadRelocation(_)) => Ok(None),
-        Some(ObjectFault::BadSymbolNumber(_)) => Ok(None),
+        None => text.put("an object"),
+        Some(ObjectFault::NotAnObject | ObjectFault::NoRelocation) => put_program(text, header),
+        Some(ObjectFault::BadRelocation(_) | ObjectFault::BadSymbolNumber(_)) => return false,
     }
+    true
 }

@@ -7,10 +7,10 @@
 //!
 //! ```
 //! /// What is odd of a file, a line each.
-//! fn oddities(alloc: Global, bytes: &[u8]) -> Result<Vec<String>> {
+//! fn oddities(alloc: Global, bytes: &[u8]) -> Result<Notes> {
 //!     let file = read_file(alloc, &mut Wire::new(bytes))?;
-//!     let mut notes = Vec::new(alloc);
-//!     put_findings(alloc, &mut notes, "odd", &odd_of(alloc, bytes, &file)?)?;
+//!     let mut notes = Notes::new(alloc);
+//!     put_findings(&mut notes, "odd", &odd_of(alloc, bytes, &file)?);
 //!     Ok(notes)
 //! }
 //! ```
@@ -19,20 +19,16 @@
 mod finding;
 mod heading;
 mod kind;
-mod octal;
+mod notes;
 mod odd;
-mod odd_texts;
 mod other_files;
 mod places;
-mod text;
-mod words;
 mod wrong;
 
-pub use finding::{Finding, FindingKind, finding_text, put_findings};
+pub use finding::{Finding, FindingKind, put_finding_text, put_findings};
 pub use heading::put_header;
-pub use kind::kind_text;
+pub use kind::put_kind;
+pub use notes::Notes;
 pub use odd::odd_of;
 pub use other_files::{header_of, is_of_gnu, likeness};
-pub use text::{put_name, put_note};
-pub use words::{is_wanted, meant};
 pub use wrong::{wrong_bytes, wrong_words};

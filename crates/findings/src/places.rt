@@ -1,16 +1,16 @@
 //! The places of the parts of a file, by the sizes in its header, and their addresses in memory.
 ghost use Rattle.std.specs.Prelude.{◌≡◌, ◌+◌, ◌^◌, ◌<◌, ◌&&◌, nat_le};
+ghost use Rattle.aout_core.specs.Addresses.{data_start_in};
 ghost use Rattle.aout_core.specs.Encoding.{relocation_at, symbols_at, file_length};
-ghost use Rattle.findings.specs.Segments.{data_from, data_to, bss_to, has_address, segment_from, segment_to};
+ghost use Rattle.findings.specs.Segments.{data_to, bss_to, has_address, segment_from, segment_to};
 ghost use Rattle.findings.specs.Odd.{symbol_at};
 ghost use Rattle.findings.specs.OddTexts.{segment_name};
 
 use aout_core::{Header, Segment};
-use listings::data_start;
 
 /// The bytes of a file at which its parts begin, and the first after them.
 #[derive(Clone, Copy)]
-pub(crate) struct Places {
+pub(crate) struct FilePlaces {
     pub(crate) text: usize,
     pub(crate) data: usize,
     pub(crate) relocation: usize,
@@ -18,9 +18,9 @@ pub(crate) struct Places {
     pub(crate) end: usize,
 }
 
-impl Places {
+impl FilePlaces {
     /// The places that a header announces.
-    pub(crate) fn of(header: &Header) -> Places
+    pub(crate) fn of(header: &Header) -> FilePlaces
         ensures second { result.«data» ≡ 16 + header.now.text_size }
         ensures relocation { result.relocation ≡ relocation_at header.now }
         ensures symbols { result.symbols ≡ symbols_at header.now }
@@ -37,7 +37,7 @@ impl Places {
         } else {
             relocation
         };
-        Places {
+        FilePlaces {
             text,
             data,
             relocation,
@@ -53,7 +53,7 @@ pub(crate) fn symbol_at(header: &Header, number: usize) -> usize
     ensures value { result ≡ symbol_at header.now number }
     ensures small { result < 2 ^ 21 }
 {
-    Places::of(header).symbols + 12 * number
+    FilePlaces::of(header).symbols + 12 * number
 }
 
 /// Addresses at which a segment begins and ends.
@@ -86,13 +86,13 @@ impl Segments {
     pub(crate) fn of(header: &Header) -> Segments
         ensures text_start { result.text.start ≡ 0 }
         ensures text_end { result.text.end ≡ header.now.text_size }
-        ensures data_start { result.«data».start ≡ data_from header.now }
+        ensures data_start { result.«data».start ≡ data_start_in header.now }
         ensures data_end { result.«data».end ≡ data_to header.now }
         ensures bss_start { result.bss.start ≡ data_to header.now }
         ensures bss_end { result.bss.end ≡ bss_to header.now }
     {
         let text_end = u32::from(header.text_size);
-        let data = data_start(header.magic, usize::from(header.text_size)) as u32;
+        let data = header.data_start() as u32;
         let data_end = data + u32::from(header.data_size);
         let bss_end = data_end + u32::from(header.bss_size);
         Segments {

@@ -14,7 +14,7 @@ use Rattle.instructions.specs.declared.operand.Operand.TheVariants as operands
 use Rattle.instructions.specs.Fields.{size}
 use Rattle.instructions.specs.Modes.{mode_numbered, mode_number, register_numbered}
 use Rattle.instructions.specs.Operands.{general, operand_of, value_of, takes_word}
-use Rattle.instructions.specs.References.{octal}
+use Rattle.texts.specs.Numbers.{octal}
 use Rattle.instructions.specs.Texts.{register_text, number, signed, in_parentheses, branch_target, branch_back_target}
 use Rattle.instructions.proofs.PlainTexts.{increment_text, index_text, general_text, operand_text}
 use Rattle.instructions.proofs.FieldLemmas.{mode_again, register_again, general_again}

@@ -9,7 +9,7 @@ use Rattle.instructions.specs.declared.mode.Mode.TheVariants as modes
 use Rattle.instructions.specs.declared.mode.Register.{Register}
 use Rattle.instructions.specs.declared.mode.Register.TheVariants.{R0, R1, R2, R3, R4, R5, Sp, Pc}
 use Rattle.instructions.specs.Modes.{mode_number, register_number, has_word}
-use Rattle.instructions.specs.References.{octal}
+use Rattle.texts.specs.Numbers.{octal}
 use Rattle.instructions.specs.Texts.{register_text, in_parentheses}
 use Rattle.instructions.proofs.PlainTexts.{increment_text, index_text, general_text}
 use Rattle.instructions.proofs.SplitLemmas.{until, past, other_test, until_past, AreDigits, octal_is, digits_free}

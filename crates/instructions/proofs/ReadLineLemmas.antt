@@ -16,7 +16,8 @@ use Rattle.instructions.specs.Operands.{general, operand_of, takes_word, is_miss
 use Rattle.instructions.specs.Instructions.{field_operand, instruction, instruction_in, word_count_of, following_words}
 use Rattle.instructions.specs.Lines.{word_for, line_of, line_at, word_list, words_of}
 use Rattle.instructions.specs.Names.{name_text}
-use Rattle.instructions.specs.Texts.{six_digits, number, is_ldf, name, line_text}
+use Rattle.texts.specs.Numbers.{six_digits}
+use Rattle.instructions.specs.Texts.{number, is_ldf, name, line_text}
 use Rattle.instructions.proofs.PlainTexts.{operand_text, operand_after}
 use Rattle.instructions.specs.Laws.{AreWords, UnambiguousLaw}
 use Rattle.instructions.proofs.FieldLemmas.{in_size, row_begins, row_sum, instruction_starts}
@@ -58,6 +59,7 @@ line_read address cs =
     else layout_read (layout (until 32 cs) (is_f (tail (past 32 cs)))) address (tail (past 32 cs))
 
 plain_back : (address w : ℕ) → w < 0o200000 → line_read address (six_digits w) ≡ w ∷ []
+unfolding six_digits
 plain_back address w h =
     let d : nat_lt (48 + w / 0o100000 % 8) 58 ≡ true = grind (arith, nat_tests) in
     let s : six_read (six_digits w) ≡ w = omega arith in

@@ -4,7 +4,7 @@ use Rattle.std.proofs.lemmas.Bool.Decides.{nat_tests}
 use Rattle.std.proofs.lemmas.Fmt.{digits_is_IsNumeral}
 use Rattle.std.proofs.lemmas.Str.Parse.{digit_from_value}
 use Rattle.std.specs.Str.Parse.{AllDigits, digits_value}
-use Rattle.instructions.specs.References.{octal}
+use Rattle.texts.specs.Numbers.{octal}
 
 -- what stands in front of the first c, and what from it on
 abbrev pub until : ℕ → List ℕ → List ℕ

@@ -14,7 +14,8 @@ use Rattle.instructions.specs.Operands.{operand_of, takes_word, is_missing}
 use Rattle.instructions.specs.Instructions.{field_operand, instruction, instruction_in, instruction_of, word_count_of, following_words}
 use Rattle.instructions.specs.Lines.{word_for, line_of, line_length, words_of, lines}
 use Rattle.instructions.specs.Names.{name_text}
-use Rattle.instructions.specs.Texts.{six_digits, number, is_ldf, name, line_text}
+use Rattle.texts.specs.Numbers.{six_digits}
+use Rattle.instructions.specs.Texts.{number, is_ldf, name, line_text}
 use Rattle.instructions.specs.Laws.{AreWords, lines_text, UnambiguousTextLaw}
 use Rattle.instructions.proofs.PlainTexts.{operand_text, operand_after}
 use Rattle.instructions.proofs.FieldLemmas.{in_size}
@@ -27,6 +28,7 @@ use Rattle.instructions.proofs.ReadLineLemmas.{word_at, room_first, room_second,
 
 -- no line has a newline
 plain_free : (w : ℕ) → free 10 (six_digits w) ≡ true
+unfolding six_digits
 plain_free w =
     digits_free 10 (six_digits w) (omega arith)
     (omega arith, omega arith, (omega arith, omega arith, (omega arith, omega arith, (omega arith, omega arith, (omega arith, omega arith, (omega arith, omega arith, tt))))))

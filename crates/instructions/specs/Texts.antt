@@ -2,7 +2,7 @@
 --
 -- A number is shown in octal. An operand may have a reference, which is shown in place of its number: a name, and how many bytes
 -- beyond it.
-use Rattle.std.specs.Prelude.{ℕ, ◌+◌, ◌-◌, ◌*◌, ◌/◌, ◌%◌, Bool, false, eqb, nat_lt, if◌then◌else◌, Option, Some, None, List, [], ◌∷◌, ◌++◌, map, codes}
+use Rattle.std.specs.Prelude.{ℕ, ◌+◌, ◌-◌, ◌*◌, ◌%◌, Bool, false, eqb, nat_lt, if◌then◌else◌, Option, Some, None, List, [], ◌++◌, codes}
 use Rattle.instructions.specs.declared.reference.Reference.{Reference}
 use Rattle.instructions.specs.declared.reference.References.{References}
 use Rattle.instructions.specs.declared.mode.Mode.{Mode}
@@ -15,12 +15,10 @@ use Rattle.instructions.specs.declared.instruction.Instruction.{Instruction}
 use Rattle.instructions.specs.declared.line.Line.{Line}
 use Rattle.instructions.specs.declared.line.Line.TheVariants.{Plain, Decoded}
 use Rattle.instructions.specs.Names.{name_text}
-use Rattle.instructions.specs.References.{octal, reference_text}
+use Rattle.texts.specs.Numbers.{octal, six_digits}
+use Rattle.instructions.specs.References.{reference_text}
 use Rattle.instructions.specs.Modes.{is_pc}
 use Rattle.instructions.specs.Instructions.{word_count_of}
-
-abbrev pub six_digits : ℕ → List ℕ
-six_digits n = map (λ place. 48 + n / place % 8) (0o100000 ∷ 0o10000 ∷ 0o1000 ∷ 0o100 ∷ 0o10 ∷ 1 ∷ [])
 
 abbrev pub register_text : Register → List ℕ
 register_text R0 = codes "r0"

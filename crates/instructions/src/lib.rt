@@ -4,8 +4,8 @@
 //! use instructions::decode;
 //!
 //! let line = decode(words, 0);
-//! line.put_text(address, text)?;
-//! Ok(&words[line.length()..])
+//! line.put_text(address, text);
+//! &words[line.length()..]
 //! ```
 //!
 //! Types:
@@ -24,7 +24,7 @@
 //! - `row_of`: the row of the table that a first word is in
 //! - `is_relocated`: whether a word is relocated, by its relocation word
 //! - `branch_target`, `branch_back_target`: the address that a branch or `sob` goes to
-//! - `put_name`, `put_octal`, `put_six_digits`: append a name, or a number
+//! - `put_assembly_name`: appends a name as the assembler has it
 //!
 //! Tables and modules:
 //!
@@ -54,9 +54,9 @@ pub use line::{Line, Words, decode, encode};
 pub use mode::{Addressing, Mode, Register};
 pub use operand::Operand;
 pub use operation::Operation;
-pub use reference::{Reference, References, put_name, put_octal};
+pub use reference::{Reference, References, put_assembly_name};
 pub use relocated::is_relocated;
 pub use row::row_of;
 pub use table::{ROWS, Row};
-pub use text::{branch_back_target, branch_target, put_six_digits};
+pub use text::{branch_back_target, branch_target};
 pub use whole::Lines;

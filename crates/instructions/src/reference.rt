@@ -1,11 +1,11 @@
 //! References, which are shown in place of numbers.
-ghost use Rattle.std.specs.Prelude.{◌≡◌, ◌<◌, ◌≤◌, ◌++◌, OnOk, string_bytes};
+ghost use Rattle.std.specs.Prelude.{◌≡◌};
 ghost use Rattle.std.specs.List.{flat_map};
-ghost use Rattle.instructions.specs.References.{octal, is_between, is_digit, is_letter, is_shown, escaped, shown_byte, is_register, shown_name, offset_text, reference_text};
+ghost use Rattle.texts.specs.Texts.{Puts};
+ghost use Rattle.instructions.specs.References.{is_between, is_digit, is_letter, is_plain, assembly_byte, is_register, assembly_name, offset_text, reference_text};
 
 use aout_core::Name;
-use std::alloc::AllocError;
-use std::fmt::Write;
+use texts::Text;
 
 /// A name, and how far beyond it. (as(1))
 #[derive(Clone, Copy, Debug, PartialEq, Eq)]
@@ -20,13 +20,6 @@ pub struct Reference {
 pub struct References {
     pub first: Option<Reference>,
     pub second: Option<Reference>,
-}
-
-/// Appends a number in octal, with no zeros in front. (as(1))
-pub fn put_octal(text: &mut String, number: u16) -> Result<(), AllocError>
-    ensures { OnOk result (string_bytes text.new ≡ string_bytes text.old ++ octal number) }
-{
-    write!(text, "{number:o}")
 }
 
 fn is_between(low: u8, high: u8, byte: u8) -> bool
@@ -47,9 +40,9 @@ fn is_letter(byte: u8) -> bool
     is_between(b'A', b'Z', byte) || is_between(b'a', b'z', byte)
 }
 
-/// Whether a byte of a name is shown as it is.
-fn is_shown(byte: u8) -> bool
-    ensures { result ≡ is_shown byte }
+/// Whether a byte of a name stands for itself.
+fn is_plain(byte: u8) -> bool
+    ensures { result ≡ is_plain byte }
 {
     is_letter(byte) || is_digit(byte) || byte == b'.' || byte == b'_' || byte == b'~'
 }
@@ -69,75 +62,65 @@ fn is_register(name: &[u8]) -> bool
     }
 }
 
-/// Appends a byte as a backslash and three octal digits.
-fn put_escaped(text: &mut String, byte: u8) -> Result<(), AllocError>
-    ensures { OnOk result (string_bytes text.new ≡ string_bytes text.old ++ escaped byte) }
+fn put_assembly_byte(text: &mut Text, byte: u8)
+    ensures { Puts text.old text.new (assembly_byte byte) }
 {
-    text.push_str("\\")?;
-    text.push(char::from(b'0' + byte / 0o100 % 8))?;
-    text.push(char::from(b'0' + byte / 0o10 % 8))?;
-    text.push(char::from(b'0' + byte % 8))
-}
-
-fn put_byte(text: &mut String, byte: u8) -> Result<(), AllocError>
-    ensures { OnOk result (string_bytes text.new ≡ string_bytes text.old ++ shown_byte byte) }
-{
-    if is_shown(byte) {
-        text.push(char::from(byte))
+    if is_plain(byte) {
+        text.put_byte(byte);
     } else {
-        put_escaped(text, byte)
+        text.put_escaped(byte);
     }
 }
 
-fn put_bytes(text: &mut String, bytes: &[u8]) -> Result<(), AllocError>
-    ensures { OnOk result (string_bytes text.new ≡ string_bytes text.old ++ flat_map shown_byte bytes.now) }
+fn put_assembly_bytes(text: &mut Text, bytes: &[u8])
+    ensures { Puts text.old text.new (flat_map assembly_byte bytes.now) }
 {
     for byte in bytes {
-        put_byte(text, *byte)?;
+        put_assembly_byte(text, *byte);
     }
-    Ok(())
 }
 
-/// Appends a name. A byte that is not a letter, a digit, `_`, `.` or `~` is shown as a backslash and three octal digits; so
-/// is the first one of a name that begins with a digit or is a register's, and an empty name is `\000`. (own choice)
-pub fn put_name(text: &mut String, name: &Name) -> Result<(), AllocError>
-    ensures { OnOk result (string_bytes text.new ≡ string_bytes text.old ++ shown_name name.now) }
+/// Appends a name as the assembler has it. A byte that is not a letter, a digit, `_`, `.` or `~` is a backslash and three octal
+/// digits; so is the first one of a name that begins with a digit or is a register's, and an empty name is `\000`. (own choice)
+pub fn put_assembly_name(text: &mut Text, name: &Name)
+    ensures { Puts text.old text.new (assembly_name name.now) }
 {
     let bytes = name.as_bytes();
     match bytes {
-        [] => put_escaped(text, 0),
+        [] => text.put_escaped(0),
         [first, rest @ ..] => {
             if is_digit(*first) || is_register(bytes) {
-                put_escaped(text, *first)?;
+                text.put_escaped(*first);
             } else {
-                put_byte(text, *first)?;
+                put_assembly_byte(text, *first);
             }
-            put_bytes(text, rest)
+            put_assembly_bytes(text, rest);
         }
     }
 }
 
 /// Appends how far beyond a name.
-fn put_offset(text: &mut String, offset: u16) -> Result<(), AllocError>
-    ensures { OnOk result (string_bytes text.new ≡ string_bytes text.old ++ offset_text offset) }
+fn put_offset(text: &mut Text, offset: u16)
+    ensures { Puts text.old text.new (offset_text offset) }
 {
     if offset == 0 {
-        return Ok(());
+        return;
     }
     if offset < 0o100000 {
-        text.push_str("+")?;
-        return put_octal(text, offset);
+        text.put("+");
+        text.put_octal(u64::from(offset));
+    } else {
+        text.put("-");
+        text.put_octal(0o200000 - u64::from(offset));
     }
-    text.push_str("-")?;
-    put_octal(text, (0o200000 - u32::from(offset)) as u16)
 }
 
 impl Reference {
     /// Appends the name and, unless it is 0, the offset: `_x`, `_x+2` or `_x-2`. (as(1))
-    pub fn put_text(&self, text: &mut String) -> Result<(), AllocError>
-        ensures { OnOk result (string_bytes text.new ≡ string_bytes text.old ++ reference_text self.now) }
+    pub fn put_text(&self, text: &mut Text)
+        ensures { Puts text.old text.new (reference_text self.now) }
     {
-        put_name(text, &self.name)?;
-        put_offset(text, self.offset)
+        put_assembly_name(text, &self.name);
+        put_offset(text, self.offset);
     }
 }

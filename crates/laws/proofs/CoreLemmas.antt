@@ -1,5 +1,5 @@
 -- The segments of a file in its spaces: which address is in which, and what the core has there.
-use Rattle.std.proofs.Common.{◌≡◌, ℕ, ◌+◌, ◌-◌, ◌*◌, ◌/◌, ◌<◌, ◌≤◌, ◌⊎◌, inl, inr, Bool, true, false, cond, ◌&&◌, ◌||◌, eqb, Option, Some, None, refl, sym, ◌∙◌, ap, arith}
+use Rattle.std.proofs.Common.{◌≡◌, ℕ, ◌+◌, ◌-◌, ◌<◌, ◌≤◌, ◌⊎◌, inl, inr, Bool, true, false, cond, ◌&&◌, ◌||◌, eqb, Option, Some, None, refl, sym, ◌∙◌, ap, arith, eqb-true}
 use Rattle.std.specs.Prelude.{nat_le, nat_lt}
 use Rattle.std.proofs.lemmas.Bool.{and_parts, and_from, ltb-true, leb-true, lt-ltb, le-leb, false_from_ne_true}
 use Rattle.aout_core.specs.declared.header.Header.{Header}
@@ -7,7 +7,7 @@ use Rattle.aout_core.specs.declared.symbol.Segment.{Segment}
 use Rattle.aout_core.specs.declared.symbol.Segment.TheVariants.{Undefined, Absolute, TextSeg, DataSeg, BssSeg, Other}
 use Rattle.aout_core.specs.Contents.{Contents}
 use Rattle.aout_core.specs.WellFormed.{first_of}
-use Rattle.link_out.specs.relation.Relocated.{data_base_in}
+use Rattle.aout_core.specs.Addresses.{data_start_in, next_boundary}
 use Rattle.laws.specs.Core.{Space, of_instructions, of_data, has_one_space, has_segment, first_address, bytes_of, segment_byte, is_in, loaded_byte, core}
 
 -- what it is to be in a segment
@@ -29,16 +29,17 @@ module _ (h : Header) (space : Space) (segment : Segment) (address : ℕ) where
       (and_from (nat_le (first_address h segment) address) (nat_lt address (first_address h segment + bytes_of h segment)) (le-leb (first_address h segment) address w.from) (lt-ltb address (first_address h segment + bytes_of h segment) w.before))
 
 -- text ends before data where they share a space
-pub text_before : (h : Header) → has_one_space h.magic ≡ true → h.text_size ≤ data_base_in h
-text_before h e = by_tests (eqb h.magic 263) (eqb h.magic 264) e
+pub text_before : (h : Header) → has_one_space h.magic ≡ true → h.text_size ≤ data_start_in h
+text_before h e = by_tests (eqb h.magic 0o407) (eqb h.magic 0o410) (eqb h.magic 0o411) e (λ plain. ap (λ m. eqb m 0o411) (eqb-true h.magic 0o407 plain))
   where
-    rounded : (t : ℕ) → t ≤ (t + 8191) / 8192 * 8192
+    rounded : (t : ℕ) → t ≤ next_boundary t
     rounded t = omega arith
 
-    by_tests : (t u : Bool) → (t || u) ≡ true → h.text_size ≤ cond t h.text_size (cond u ((h.text_size + 8191) / 8192 * 8192) 0)
-    by_tests true u e = omega arith
-    by_tests false true e = rounded h.text_size
-    by_tests false false e = absurd (cc)
+    by_tests : (plain pure split : Bool) → (plain || pure) ≡ true → (plain ≡ true → split ≡ false) → h.text_size ≤ cond pure (next_boundary h.text_size) (cond split 0 h.text_size)
+    by_tests plain true split e f = rounded h.text_size
+    by_tests plain false false e f = omega arith
+    by_tests true false true e f = absurd (let bad : true ≡ false = f refl in cc)
+    by_tests false false true e f = absurd (cc)
 
 below_text : (a t d n : ℕ) → a < 0 + t → d + n ≤ a → t ≤ d → ⊥
 below_text a t d n f g h = omega arith
@@ -56,7 +57,7 @@ module _ (h : Header) (space : Space) (address : ℕ) where
   text_or_data p q =
       let t = within h space TextSeg address p in
       let d = within h space DataSeg address q in
-      clash address h.text_size (data_base_in h) t.before d.from (text_before h (shared space t.has d.has))
+      clash address h.text_size (data_start_in h) t.before d.from (text_before h (shared space t.has d.has))
     where
       clash : (a t d : ℕ) → a < 0 + t → d ≤ a → t ≤ d → ⊥
       clash a t d f g h = omega arith
@@ -65,13 +66,13 @@ module _ (h : Header) (space : Space) (address : ℕ) where
   text_or_bss p q =
       let t = within h space TextSeg address p in
       let b = within h space BssSeg address q in
-      below_text address h.text_size (data_base_in h) h.data_size t.before b.from (text_before h (shared_bss space t.has b.has))
+      below_text address h.text_size (data_start_in h) h.data_size t.before b.from (text_before h (shared_bss space t.has b.has))
 
   data_or_bss : is_in h space DataSeg address ≡ true → is_in h space BssSeg address ≡ true → ⊥
   data_or_bss p q =
       let d = within h space DataSeg address p in
       let b = within h space BssSeg address q in
-      clash address (data_base_in h + h.data_size) d.before b.from
+      clash address (data_start_in h + h.data_size) d.before b.from
     where
       clash : (a e : ℕ) → a < e → e ≤ a → ⊥
       clash a e f g = omega arith

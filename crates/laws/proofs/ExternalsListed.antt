@@ -23,7 +23,8 @@ use Rattle.link_out.specs.KeptSymbols.{is_kept_local}
 use Rattle.link_out.specs.ReservedNames.{etext, edata, end_name}
 use Rattle.link_out.specs.Results.{Outcome}
 use Rattle.link_out.specs.relation.NameStates.{HasState}
-use Rattle.link_out.specs.relation.Relocated.{data_base_in, base_in, entry_of}
+use Rattle.aout_core.specs.Addresses.{data_start_in}
+use Rattle.link_out.specs.relation.Relocated.{base_in, entry_of}
 use Rattle.link_out.specs.relation.LinkedTable.{shown as row_of_name, row_for, room_for, AreRows, moved_local_in, moved_locals_in}
 use Rattle.link_out.specs.relation.Refusals.{CommonsTake}
 use Rattle.link_out.specs.relation.LinkedFrom.{IsLinkedFrom}
@@ -60,7 +61,7 @@ module _ (h : Header) (bss : ℕ) (o : Choices) (at : ℕ) (name : List ℕ) whe
   -- each part of the row of a wanted name
   abbrev wanted_row : ℕ → Bool → Bool → Bool → Bool → Bool → Bool → Symbol
   wanted_row size z r c t d e =
-      cond z (cond r (row_of_name name 32 0) (cond t (row_of_name name 34 h.text_size) (cond d (row_of_name name 35 (data_base_in h + h.data_size)) (cond e (row_of_name name 36 (data_base_in h + h.data_size + h.bss_size)) (row_of_name name 32 0)))))
+      cond z (cond r (row_of_name name 32 0) (cond t (row_of_name name 34 h.text_size) (cond d (row_of_name name 35 (data_start_in h + h.data_size)) (cond e (row_of_name name 36 (data_start_in h + h.data_size + h.bss_size)) (row_of_name name 32 0)))))
       (cond (not r || c) (row_of_name name 36 at) (row_of_name name 32 size))
 
   row_outer : (st : State) → is_external (row_for h bss o at name st) ≡ true
@@ -228,7 +229,7 @@ module _ (forced : List (List ℕ)) (os : List Contents) (o : Choices) (x : Outc
   bss = total BssSeg os
 
   abbrev at : ℕ
-  at = data_base_in x.file.header + x.file.header.data_size
+  at = data_start_in x.file.header + x.file.header.data_size
 
   abbrev end : ℕ
   end = base_in x.file.header bss BssSeg

@@ -27,7 +27,8 @@ use Rattle.link_out.specs.Layouts.{magic_of, data_base}
 use Rattle.link_out.specs.Results.{Outcome}
 use Rattle.link_out.specs.function.Plans.{plan, commons_laid}
 use Rattle.link_out.specs.function.Link.{link, linked_file}
-use Rattle.link_out.specs.relation.Relocated.{data_base_in, base_in, move_in, entry_of, IsRelocated, HoldsObjects}
+use Rattle.aout_core.specs.Addresses.{data_start_in}
+use Rattle.link_out.specs.relation.Relocated.{base_in, move_in, entry_of, IsRelocated, HoldsObjects}
 use Rattle.link_out.specs.relation.LinkedFrom.{IsLinkedFrom}
 use Rattle.link_out.specs.laws.CommonsAndLayouts.{IsCommon, HasRoom}
 use Rattle.link_out.proofs.OutcomeLemmas.{made_file, made_fits}
@@ -203,8 +204,8 @@ module _ (forced : List (List ℕ)) (os : List Contents) (o : Choices) (x : Outc
       record {
         address = address;
         place = place_at x.file.header os before k BssSeg tt n;
-        zero = zero_at x.file (found_in forced os o x linked BssSeg tt) address (over (data_base_in x.file.header + x.file.header.data_size) (x.file.header.bss_size - total BssSeg os) (total BssSeg before) n)
-            (under (data_base_in x.file.header + x.file.header.data_size) x.file.header.bss_size (total BssSeg os) (total BssSeg before) k.header.bss_size (total BssSeg after) n sum full.bss h);
+        zero = zero_at x.file (found_in forced os o x linked BssSeg tt) address (over (data_start_in x.file.header + x.file.header.data_size) (x.file.header.bss_size - total BssSeg os) (total BssSeg before) n)
+            (under (data_start_in x.file.header + x.file.header.data_size) x.file.header.bss_size (total BssSeg os) (total BssSeg before) k.header.bss_size (total BssSeg after) n sum full.bss h);
       }
     where
       over : (e c t n : ℕ) → e ≤ e + c + t + n
@@ -220,8 +221,8 @@ common_zero forced os o x others lays linked name size common row found n h =
     let room : HasRoom x.file os name size = commons_have_room forced os o x others lays linked name size common in
     let same : room.row ≡ row = same_Some room.row row (sym room.found ∙ found) in
     subst (λ (s : Symbol). core x.file of_data (s.value + n) ≡ Some 0) same
-    (zero_at x.file (found_in forced os o x linked BssSeg tt) (room.row.value + n) (over (data_base_in x.file.header + x.file.header.data_size) room.row.value n room.after)
-    (under (data_base_in x.file.header + x.file.header.data_size) x.file.header.bss_size (total BssSeg os) room.row.value size n room.before h))
+    (zero_at x.file (found_in forced os o x linked BssSeg tt) (room.row.value + n) (over (data_start_in x.file.header + x.file.header.data_size) room.row.value n room.after)
+    (under (data_start_in x.file.header + x.file.header.data_size) x.file.header.bss_size (total BssSeg os) room.row.value size n room.before h))
   where
     over : (e v n : ℕ) → e ≤ v → e ≤ v + n
     over e v n f = omega arith
@@ -341,10 +342,10 @@ nothing_else forced os o x good linked space address byte e = by_case (core_back
 
 -- no address is after the last
 
-file_short : (forced : List (List ℕ)) (os : List Contents) (o : Choices) (x : Outcome) → link forced os o ≡ Ok x → data_base_in x.file.header + x.file.header.data_size + x.file.header.bss_size ≤ 65535
+file_short : (forced : List (List ℕ)) (os : List Contents) (o : Choices) (x : Outcome) → link forced os o ≡ Ok x → data_start_in x.file.header + x.file.header.data_size + x.file.header.bss_size ≤ 65535
 file_short forced os o x linked =
-    subst (λ (f : Contents). data_base_in f.header + f.header.data_size + f.header.bss_size ≤ 65535) (made_file (plan forced os o) os x linked)
-    (sums (data_base o.layout (total TextSeg os)) (data_base_in (linked_file (plan forced os o) os).header) (total DataSeg os) (commons_laid o (mentions forced os)) (total BssSeg os) (data_begun o.layout (total TextSeg os)) (made_fits (plan forced os o) os x linked))
+    subst (λ (f : Contents). data_start_in f.header + f.header.data_size + f.header.bss_size ≤ 65535) (made_file (plan forced os o) os x linked)
+    (sums (data_base o.layout (total TextSeg os)) (data_start_in (linked_file (plan forced os o) os).header) (total DataSeg os) (commons_laid o (mentions forced os)) (total BssSeg os) (data_begun o.layout (total TextSeg os)) (made_fits (plan forced os o) os x linked))
   where
     sums : (a b d c n : ℕ) → a ≡ b → a + d + c + n ≤ 65535 → b + d + (c + n) ≤ 65535
     sums a b d c n e h = omega arith
@@ -364,8 +365,8 @@ addresses_fit forced os o x linked short space address byte e = by_case (core_ba
 
     by_case : IsByteOf x.file space address byte TextSeg ⊎ (IsByteOf x.file space address byte DataSeg ⊎ IsByteOf x.file space address byte BssSeg) → address < 65535
     by_case (inl b) = in_text address x.file.header.text_size (within x.file.header space TextSeg address b.in).before short
-    by_case (inr (inl b)) = in_data address (data_base_in x.file.header) x.file.header.data_size x.file.header.bss_size (within x.file.header space DataSeg address b.in).before (file_short forced os o x linked)
-    by_case (inr (inr b)) = in_bss address (data_base_in x.file.header) x.file.header.data_size x.file.header.bss_size (within x.file.header space BssSeg address b.in).before (file_short forced os o x linked)
+    by_case (inr (inl b)) = in_data address (data_start_in x.file.header) x.file.header.data_size x.file.header.bss_size (within x.file.header space DataSeg address b.in).before (file_short forced os o x linked)
+    by_case (inr (inr b)) = in_bss address (data_start_in x.file.header) x.file.header.data_size x.file.header.bss_size (within x.file.header space BssSeg address b.in).before (file_short forced os o x linked)
 
 -- each word of a link that keeps symbols is loaded
 

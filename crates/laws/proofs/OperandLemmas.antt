@@ -30,7 +30,8 @@ use Rattle.link_out.specs.function.Plans.{Plan, plan, common_offset}
 use Rattle.link_out.specs.function.Finals.{Final, final_by, bound_at, waiting, reserved_or_waiting, etext, edata, end_name}
 use Rattle.link_out.specs.function.Tables.{external_row}
 use Rattle.link_out.specs.function.Link.{link}
-use Rattle.link_out.specs.relation.Relocated.{data_base_in, move_in, entry_of, address_in, IsAddressOf, IsAdded, base_in, external_type, HoldsObjects}
+use Rattle.aout_core.specs.Addresses.{data_start_in}
+use Rattle.link_out.specs.relation.Relocated.{move_in, entry_of, address_in, IsAddressOf, IsAdded, base_in, external_type, HoldsObjects}
 use Rattle.link_out.proofs.RelocatedLemmas.{objects_fill}
 use Rattle.link_out.specs.laws.WordsAndNames.{IsDefined}
 use Rattle.link_out.proofs.OutcomeLemmas.{made_file}
@@ -245,13 +246,13 @@ byte_in forced os o x good linked front c back all space segment there n inside 
     })
     by_segment DataSeg has h = within_back x.file.header space DataSeg (address_of x.file.header os front c DataSeg n) (record {
       has = has;
-      from = over (data_base_in x.file.header) (total DataSeg front) n;
-      before = under (data_base_in x.file.header) x.file.header.data_size (total DataSeg os) (total DataSeg front) c.header.data_size (total DataSeg back) n full.data (sum DataSeg) h;
+      from = over (data_start_in x.file.header) (total DataSeg front) n;
+      before = under (data_start_in x.file.header) x.file.header.data_size (total DataSeg os) (total DataSeg front) c.header.data_size (total DataSeg back) n full.data (sum DataSeg) h;
     })
     by_segment BssSeg has h = within_back x.file.header space BssSeg (address_of x.file.header os front c BssSeg n) (record {
       has = has;
-      from = over_commons (data_base_in x.file.header + x.file.header.data_size) (x.file.header.bss_size - total BssSeg os) (total BssSeg front) n;
-      before = under_commons (data_base_in x.file.header + x.file.header.data_size) x.file.header.bss_size (total BssSeg os) (total BssSeg front) c.header.bss_size (total BssSeg back) n (sum BssSeg) full.bss h;
+      from = over_commons (data_start_in x.file.header + x.file.header.data_size) (x.file.header.bss_size - total BssSeg os) (total BssSeg front) n;
+      before = under_commons (data_start_in x.file.header + x.file.header.data_size) x.file.header.bss_size (total BssSeg os) (total BssSeg front) c.header.bss_size (total BssSeg back) n (sum BssSeg) full.bss h;
     })
     by_segment Undefined has h = absurd (omega arith)
     by_segment Absolute has h = absurd (omega arith)

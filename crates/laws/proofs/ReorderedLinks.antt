@@ -17,12 +17,12 @@ use Rattle.link_out.specs.declared.linked.LinkFault.TheVariants.{DoesNotFit, Too
 use Rattle.tool_options.specs.Choices.{Choices, lays_commons}
 use Rattle.link_out.specs.KeptSymbols.{is_kept_local}
 use Rattle.link_out.specs.Layouts.{Bases, bases, magic_of}
-use Rattle.link_out.specs.Results.{Findings}
+use Rattle.link_out.specs.Results.{ReportNames}
 use Rattle.link_out.specs.relation.Refusals.{kept_locals, entries}
 use Rattle.link_out.specs.function.Plans.{Plan, plan, commons_laid, common_offset}
 use Rattle.link_out.specs.function.Finals.{Final, final, final_at, bound_at, waiting, etext, edata, end_name, type_of}
 use Rattle.link_out.specs.function.Tables.{table, has_far_word}
-use Rattle.link_out.specs.function.Reports.{findings, entry_found_bad, undefined_names}
+use Rattle.link_out.specs.function.Reports.{report_of, entry_found_bad, undefined_names}
 use Rattle.link_out.specs.function.Link.{Outcome, linked_header, linked_file, link}
 use Rattle.link_out.proofs.HasStateLemmas.{state_is}
 use Rattle.link_out.proofs.OutcomeLemmas.{made_file, made_report}
@@ -70,10 +70,10 @@ module _ (forced : List (List ℕ)) (os ps : List Contents) (o : Choices) (same 
       subst (λ (n : ℕ). link_at n (length (table q ps)) ≡ Err fault) (ap (λ (b : Bases). b.bss_end) same_bases)
       (subst (λ (n : ℕ). link_at p.at.bss_end n ≡ Err fault) table_counted
       (refused_alike (nat_lt 65535 p.at.bss_end) (nat_lt 5461 (length (table p os))) (o.relocatable && has_far_word p os) (o.relocatable && has_far_word q ps)
-      (record { file = linked_file p os; report = findings p }) (record { file = linked_file q ps; report = findings q }) fault (λ i. r i && has_far_word p os) h))
+      (record { file = linked_file p os; report = report_of p }) (record { file = linked_file q ps; report = report_of q }) fault (λ i. r i && has_far_word p os) h))
     where
       link_at : ℕ → ℕ → Result Outcome LinkFault
-      link_at end count = cond (nat_lt 65535 end) (Err DoesNotFit) (cond (nat_lt 5461 count) (Err TooManySymbols) (cond (o.relocatable && has_far_word q ps) (Err SymbolNumber) (Ok (record { file = linked_file q ps; report = findings q }))))
+      link_at end count = cond (nat_lt 65535 end) (Err DoesNotFit) (cond (nat_lt 5461 count) (Err TooManySymbols) (cond (o.relocatable && has_far_word q ps) (Err SymbolNumber) (Ok (record { file = linked_file q ps; report = report_of q }))))
 
   same_header : (record (linked_header p os) { entry_point = (linked_header q ps).entry_point }) ≡ linked_header q ps
   same_header = λ i. record {
@@ -147,8 +147,8 @@ pub reported_alike : (forced : List (List ℕ)) (os ps : List Contents) (o : Cho
 reported_alike forced os ps o x y h =
     let one = made_report (plan forced os o) os x h.one in
     let other = made_report (plan forced ps o) ps y h.other in (
-      sym (ap (λ (f : Findings). f.reserved) one) ∙ same_reserved forced os ps h.same ∙ ap (λ (f : Findings). f.reserved) other,
-      subst (λ (f : Findings). IsPermutation x.report.undefined f.undefined) other (subst (λ (f : Findings). IsPermutation f.undefined (findings (plan forced ps o)).undefined) one (by_test o.relocatable)),
+      sym (ap (λ (f : ReportNames). f.reserved) one) ∙ same_reserved forced os ps h.same ∙ ap (λ (f : ReportNames). f.reserved) other,
+      subst (λ (f : ReportNames). IsPermutation x.report.undefined f.undefined) other (subst (λ (f : ReportNames). IsPermutation f.undefined (report_of (plan forced ps o)).undefined) one (by_test o.relocatable)),
     )
   where
     by_test : (r : Bool) → IsPermutation (cond r [] (undefined_names (mentions forced os))) (cond r [] (undefined_names (mentions forced ps)))
@@ -159,6 +159,6 @@ pub entry_found : (forced : List (List ℕ)) (os ps : List Contents) (o : Choice
 entry_found forced os ps o x y h none =
     let one = made_report (plan forced os o) os x h.one in
     let other = made_report (plan forced ps o) ps y h.other in
-    sym (ap (λ (f : Findings). f.entry_bad) one)
-    ∙ same_entry forced os ps o h.same (ap (λ (f : Findings). f.multiples) one ∙ none) o.entry
-    ∙ ap (λ (f : Findings). f.entry_bad) other
+    sym (ap (λ (f : ReportNames). f.entry_bad) one)
+    ∙ same_entry forced os ps o h.same (ap (λ (f : ReportNames). f.multiples) one ∙ none) o.entry
+    ∙ ap (λ (f : ReportNames). f.entry_bad) other

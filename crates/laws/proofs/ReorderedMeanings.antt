@@ -29,9 +29,10 @@ use Rattle.link_session.proofs.UpdateLemmas.{unmentioned}
 use Rattle.tool_options.specs.declared.options.Keep.TheVariants.{Nothing}
 use Rattle.tool_options.specs.Choices.{Choices, lays_commons}
 use Rattle.link_out.specs.Layouts.{Bases, base}
-use Rattle.link_out.specs.Results.{Findings}
+use Rattle.link_out.specs.Results.{ReportNames}
 use Rattle.link_out.specs.relation.NameStates.{HasState, IsWanted}
-use Rattle.link_out.specs.relation.Relocated.{data_base_in, entry_of, external_type, IsRelocated}
+use Rattle.aout_core.specs.Addresses.{data_start_in}
+use Rattle.link_out.specs.relation.Relocated.{entry_of, external_type, IsRelocated}
 use Rattle.link_out.specs.relation.LinkedTable.{shown, undefined_row}
 use Rattle.link_out.specs.laws.WordsAndNames.{IsDefined, IsSaid}
 use Rattle.link_out.specs.laws.CommonsAndLayouts.{IsCommon}
@@ -59,11 +60,11 @@ module _ (forced : List (List ℕ)) (os : List Contents) (o : Choices) where
   abbrev h : Header
   h = linked_header (plan forced os o) os
 
-  data_ends : p.at.data_end ≡ data_base_in h + h.data_size
+  data_ends : p.at.data_end ≡ data_start_in h + h.data_size
   data_ends = ap (λ (n : ℕ). n + total DataSeg os) (data_begun o.layout (total TextSeg os))
 
-  bss_ends : p.at.bss_end ≡ data_base_in h + h.data_size + h.bss_size
-  bss_ends = sums p.at.data_end (data_base_in h + h.data_size) (commons_laid o (mentions forced os)) (total BssSeg os) data_ends
+  bss_ends : p.at.bss_end ≡ data_start_in h + h.data_size + h.bss_size
+  bss_ends = sums p.at.data_end (data_start_in h + h.data_size) (commons_laid o (mentions forced os)) (total BssSeg os) data_ends
     where
       sums : (a b c n : ℕ) → a ≡ b → a + c + n ≡ b + (c + n)
       sums a b c n e = omega arith
@@ -73,7 +74,7 @@ module _ (forced : List (List ℕ)) (os : List Contents) (o : Choices) where
     where
       by_tests : (r t d e : Bool) →
           row_at name (cond r (waiting 0) (cond t (bound_at TextSeg p.at.text_end) (cond d (bound_at DataSeg p.at.data_end) (cond e (bound_at BssSeg p.at.bss_end) (waiting 0)))))
-          ≡ cond r (shown name 0o40 0) (cond t (shown name 0o42 h.text_size) (cond d (shown name 0o43 (data_base_in h + h.data_size)) (cond e (shown name 0o44 (data_base_in h + h.data_size + h.bss_size)) (shown name 0o40 0))))
+          ≡ cond r (shown name 0o40 0) (cond t (shown name 0o42 h.text_size) (cond d (shown name 0o43 (data_start_in h + h.data_size)) (cond e (shown name 0o44 (data_start_in h + h.data_size + h.bss_size)) (shown name 0o40 0))))
       by_tests true t d e = refl
       by_tests false true d e = refl
       by_tests false false true e = ap (λ (n : ℕ). shown name 0o43 n) data_ends
@@ -194,7 +195,7 @@ meanings_kept forced os ps o x y h others r none name known = by_state (state (m
         }
 
     single : multiple_names (mentions forced os) ≡ []
-    single = ap (λ (f : Findings). f.multiples) (made_report (plan forced os o) os x h.one) ∙ none
+    single = ap (λ (f : ReportNames). f.multiples) (made_report (plan forced os o) os x h.one) ∙ none
 
     -- the definition that is the first in the other order is one in this
     by_state : (s : State) → state (mentions forced os) name ≡ s → (t : State) → state (mentions forced ps) name ≡ t → HasState (mentions forced os) name s → MeansTheSame forced os ps o x y name

@@ -6,7 +6,7 @@ use Rattle.std.specs.Prelude.{String, Vec, string_bytes}
 use Rattle.aout_core.specs.Wires.{Latched}
 use Rattle.link_out.specs.declared.linked.Linked.{Linked}
 use Rattle.tool_options.specs.Choices.{Choices}
-use Rattle.link_out.specs.Outcomes.{findings_of}
+use Rattle.link_out.specs.Outcomes.{report_names}
 use Rattle.link_out.specs.function.Reports.{report_text, status_of}
 use Rattle.command_words.specs.declared.words.Call.{Call}
 use Rattle.command_words.specs.declared.words.Call.TheVariants.{Ld, Nm, Size, Strip, Session}
@@ -43,8 +43,8 @@ pub record LinkDone {W E : Type 0} (contents : W → Option (List ℕ)) (forced 
   pub all : paths_of found ≡ paths
   pub answer : LinksAll forced o (inputs_opened found) made
   pub asked : r.events ≡ opens found ++ stored out made.file Kept ∷ []
-  pub report : Writes contents r (report_text (findings_of made.report))
-  pub status : r.status ≡ status_of (findings_of made.report)
+  pub report : Writes contents r (report_text (report_names made.report))
+  pub status : r.status ≡ status_of (report_names made.report)
 
 module _ {W E : Type 0} (contents : W → Option (List ℕ)) (r : Run W E) (status : ℕ) (is : r.status ≡ status) where
   abbrev Done : List (List ℕ) → Choices → List ℕ → List (List ℕ) → Type 0
@@ -52,7 +52,7 @@ module _ {W E : Type 0} (contents : W → Option (List ℕ)) (r : Run W E) (stat
 
   by_stored : (forced : List (List ℕ)) (o : Choices) (output : String Global) (paths : List (List ℕ)) (made : Linked) (what : Stored) (found : List Opened) →
       IsLinkOfFiles forced o paths found (Ok made) → Extends (Some r.earlier) (Some (r.earlier ++ r.events)) (opens found ++ stored (string_bytes output) made.file what ∷ []) →
-      ReportsIf contents what output (findings_of made.report) (Ok status) r.output_before r.output_after → Done forced o (string_bytes output) paths
+      ReportsIf contents what output (report_names made.report) (Ok status) r.output_before r.output_after → Done forced o (string_bytes output) paths
   by_stored forced o output paths made Kept found answer asked reports = record {
     made = made;
     found = found;

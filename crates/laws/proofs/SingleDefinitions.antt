@@ -16,7 +16,7 @@ use Rattle.link_session.specs.States.{Definition, definition_by, first_definitio
 use Rattle.link_session.proofs.ListLemmas.{all_map}
 use Rattle.link_session.proofs.UpdateLemmas.{own_name}
 use Rattle.tool_options.specs.Choices.{Choices}
-use Rattle.link_out.specs.Results.{Findings}
+use Rattle.link_out.specs.Results.{ReportNames}
 use Rattle.link_out.specs.function.Plans.{plan}
 use Rattle.link_out.specs.function.Link.{Outcome, link}
 use Rattle.link_out.proofs.MultipleLemmas.{AgreesIn, of_each_name, no_multiples, own_again}
@@ -123,5 +123,5 @@ module _ (name : List ℕ) where
 
 pub once_in_any_order : (forced : List (List ℕ)) (os ps : List Contents) (o : Choices) (y : Outcome) → IsPermutation os ps → DefineOnce os → link forced ps o ≡ Ok y → y.report.multiples ≡ []
 once_in_any_order forced os ps o y same once linked =
-    ap (λ (f : Findings). f.multiples) (sym (made_report (plan forced ps o) ps y linked))
+    ap (λ (f : ReportNames). f.multiples) (sym (made_report (plan forced ps o) ps y linked))
     ∙ none_multiple (mentions forced ps) (λ name. subst (λ (n : ℕ). n ≤ 1) (sym (sum_by-IsPermutation (defined_in name) os ps same) ∙ sym (all_definers name forced ps)) (once name))

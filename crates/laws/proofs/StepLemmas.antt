@@ -17,10 +17,10 @@ use Rattle.link_out.specs.declared.linked.LinkFault.{LinkFault}
 use Rattle.tool_options.specs.declared.options.Keep.TheVariants.{Nothing}
 use Rattle.tool_options.specs.declared.options.Layout.{Layout}
 use Rattle.tool_options.specs.Choices.{Choices, option_fault}
-use Rattle.link_out.specs.Outcomes.{outcome_of, findings_of}
+use Rattle.link_out.specs.Outcomes.{outcome_of, report_names}
 use Rattle.link_out.specs.Results.{Outcome}
 use Rattle.link_out.specs.function.Link.{link}
-use Rattle.link_out.specs.function.Reports.{Findings, report_text, status_of}
+use Rattle.link_out.specs.function.Reports.{ReportNames, report_text, status_of}
 use Rattle.link_out.specs.laws.PartialLinksAmongOthers.{PartialStandsAmongOthers}
 use Rattle.link_out.specs.laws.Stripping.{StripLaw}
 use Rattle.v7tools.specs.Events.{Event, opens, paths_of, stored}
@@ -38,8 +38,8 @@ pub record Linking {W E : Type 0} (contents : W → Option (List ℕ)) (forced :
   pub well : AllByRecursion IsWellFormed os
   pub text : total TextSeg os ≤ 65534
   pub there : file_after r out ≡ Some (encoding made.file)
-  pub report : Writes contents r (report_text (findings_of made.report))
-  pub status : r.status ≡ status_of (findings_of made.report)
+  pub report : Writes contents r (report_text (report_names made.report))
+  pub status : r.status ≡ status_of (report_names made.report)
 
 module _ {W E : Type 0} (out_contents : W → Option (List ℕ)) (error_contents : E → Option (List ℕ)) where
   linking : (r : Run W E) (forced : List (List ℕ)) (o : Choices) (out : List ℕ) (paths : List (List ℕ)) (os : List Contents) → Links out_contents error_contents forced o out paths r → AreAt r.disk paths os →
@@ -65,12 +65,12 @@ module _ {W E : Type 0} (out_contents : W → Option (List ℕ)) (error_contents
   same_outcome : (a b : Outcome) → (let x : Result Outcome LinkFault = Ok a in let y : Result Outcome LinkFault = Ok b in x ≡ y) → a ≡ b
   same_outcome a b e = cc
 
-  reports_same : (f g : Findings) (r s : Run W E) → f ≡ g → Writes out_contents r (report_text f) → Writes out_contents s (report_text g) →
+  reports_same : (f g : ReportNames) (r s : Run W E) → f ≡ g → Writes out_contents r (report_text f) → Writes out_contents s (report_text g) →
       r.status ≡ status_of f → s.status ≡ status_of g → ReportTheSame out_contents r s
   reports_same f g r s e one two first second = record {
     report = report_text f;
     one = one;
-    two = subst (λ (h : Findings). Writes out_contents s (report_text h)) (sym e) two;
+    two = subst (λ (h : ReportNames). Writes out_contents s (report_text h)) (sym e) two;
     status = first ∙ ap status_of e ∙ sym second;
   }
 
@@ -87,7 +87,7 @@ module _ {W E : Type 0} (out_contents : W → Option (List ℕ)) (error_contents
       (record { allowed = first_links.asks.asks.whole.1; relocatable = relocatable; no_commons = no_commons; linked = x.link }) less part single in
       let outcome : outcome_of y.made ≡ outcome_of z.made = same_outcome (outcome_of y.made) (outcome_of z.made) (sym y.link ∙ same ∙ z.link) in (
         record { bytes = encoding y.made.file; one = y.there; two = z.there ∙ ap (λ (it : Outcome). Some (encoding it.file)) (sym outcome) },
-        reports_same (findings_of y.made.report) (findings_of z.made.report) second whole (ap (λ (it : Outcome). it.report) outcome) y.report z.report y.status z.status,
+        reports_same (report_names y.made.report) (report_names z.made.report) second whole (ap (λ (it : Outcome). it.report) outcome) y.report z.report y.status z.status,
       )
 
   -- relocation is not kept where no symbols are
@@ -120,13 +120,13 @@ module _ {W E : Type 0} (out_contents : W → Option (List ℕ)) (error_contents
       let x = linking linked forced o p paths os linked_links at in
       let z = linking whole forced (record o { keep = Nothing }) q paths os whole_links all_at in
       let d = strip_done out_contents error_contents strip p strips in
-      let expected : Outcome = record { file = stripped x.made.file; report = findings_of x.made.report } in
+      let expected : Outcome = record { file = stripped x.made.file; report = report_names x.made.report } in
       let outcome : expected ≡ outcome_of z.made = same_outcome expected (outcome_of z.made) (sym (law forced os o (outcome_of x.made) (not_relocatable o whole_links.asks.asks.whole.1) x.link) ∙ z.link) in (
         record {
           bytes = encoding (stripped x.made.file);
           one = stripped_there encodes strip p x.made.file (linked_sound forced os o (outcome_of x.made) names sound x.well x.text x.link) (intact ∙ x.there) strips.ends.on_disk d;
           two = z.there ∙ ap (λ (it : Outcome). Some (encoding it.file)) (sym outcome);
         },
-        reports_same (findings_of x.made.report) (findings_of z.made.report) linked whole (ap (λ (it : Outcome). it.report) outcome) x.report z.report x.status z.status,
+        reports_same (report_names x.made.report) (report_names z.made.report) linked whole (ap (λ (it : Outcome). it.report) outcome) x.report z.report x.status z.status,
         d.status,
       )

@@ -21,7 +21,7 @@ use Rattle.link_out.specs.Layouts.{Bases}
 use Rattle.link_out.specs.function.Plans.{Plan, plan, common_offset}
 use Rattle.link_out.specs.function.Finals.{Final, final_by, bound_at, waiting, etext, edata, end_name}
 use Rattle.link_out.specs.function.Tables.{moved_value, moved_local, local_rows, external_row, external_rows}
-use Rattle.link_out.specs.function.Reports.{Findings, is_missing, undefined_names}
+use Rattle.link_out.specs.function.Reports.{ReportNames, is_missing, undefined_names}
 use Rattle.link_out.specs.function.Link.{Outcome, link}
 use Rattle.link_out.specs.relation.Refusals.{kept_locals}
 use Rattle.link_out.proofs.ExternalLemmas.{row_at}
@@ -144,7 +144,7 @@ module _ (forced : List (List ℕ)) (os : List Contents) (o : Choices) where
     symbols_are = sym (ap (λ (f : Contents). f.symbols) (made_file p os x linked)) ∙ rows_kept-others o.keep (local_rows p os ++ external_rows p) others
 
     reported : undefined_names ms ≡ x.report.undefined
-    reported = ap (λ (r : Bool). cond r [] (undefined_names ms)) (sym plain) ∙ ap (λ (f : Findings). f.undefined) (made_report p os x linked)
+    reported = ap (λ (r : Bool). cond r [] (undefined_names ms)) (sym plain) ∙ ap (λ (f : ReportNames). f.undefined) (made_report p os x linked)
 
     passed : filter (is_shown n) x.file.symbols ≡ listed_locals n (undefined_locals o os) ++ map undefined_symbol x.report.undefined
     passed =

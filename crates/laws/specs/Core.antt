@@ -1,6 +1,6 @@
 -- Which byte is at which address when a file is loaded. (exec(2), a.out(5))
 --
--- A plain file (0407) and one with pure text (0410) are loaded into one space: text from 0, data from `data_base_in`, and zeros for
+-- A plain file (0407) and one with pure text (0410) are loaded into one space: text from 0, data from `data_start_in`, and zeros for
 -- bss after data. With split spaces (0411) text is loaded from 0 into the space of instructions, and data from 0 into that of
 -- data, with bss after it. A word has its low byte first. The stack is not told of here.
 use Rattle.std.specs.Prelude.{◌≡◌, ℕ, ◌+◌, ◌-◌, ◌/◌, ◌%◌, Bool, false, ◌&&◌, ◌||◌, eqb, if◌then◌else◌, nat_le, nat_lt, Option, Some, None, slice_get}
@@ -10,7 +10,7 @@ use Rattle.aout_core.specs.declared.symbol.Segment.TheVariants.{TextSeg, DataSeg
 use Rattle.aout_core.specs.Contents.{Contents}
 use Rattle.aout_core.specs.Words.{all_word_bytes}
 use Rattle.aout_core.specs.WellFormed.{first_of}
-use Rattle.link_out.specs.relation.Relocated.{data_base_in}
+use Rattle.aout_core.specs.Addresses.{data_start_in}
 
 pub data Space : Type 0 where
   of_instructions : Space
@@ -31,8 +31,8 @@ has_segment magic _ space = false
 
 -- the first address of a segment of the file, and how many bytes it has
 abbrev pub first_address : Header → Segment → ℕ
-first_address h DataSeg = data_base_in h
-first_address h BssSeg = data_base_in h + h.data_size
+first_address h DataSeg = data_start_in h
+first_address h BssSeg = data_start_in h + h.data_size
 first_address h _ = 0
 
 abbrev pub bytes_of : Header → Segment → ℕ

@@ -20,7 +20,8 @@ use Rattle.tool_options.specs.Choices.{Choices}
 use Rattle.link_out.specs.ReservedNames.{etext, edata, end_name}
 use Rattle.link_out.specs.function.Link.{Outcome, link}
 use Rattle.link_out.specs.relation.NameStates.{HasState}
-use Rattle.link_out.specs.relation.Relocated.{data_base_in, entry_of}
+use Rattle.aout_core.specs.Addresses.{data_start_in}
+use Rattle.link_out.specs.relation.Relocated.{entry_of}
 use Rattle.link_out.specs.relation.LinkedTable.{row_for, moved_locals_in}
 use Rattle.link_out.specs.relation.Refusals.{CommonsTake, kept_locals}
 use Rattle.link_out.specs.relation.LinkedFrom.{IsLinkedFrom}
@@ -87,7 +88,7 @@ pub record IsAfterCommons (forced : List (List ℕ)) (os : List Contents) (o : C
   pub order : externals forced os ≡ earlier ++ name ∷ later
   pub taken : ℕ
   pub take : CommonsTake o (mentions forced os) earlier taken
-  pub after : at ≡ data_base_in h + h.data_size + taken
+  pub after : at ≡ data_start_in h + h.data_size + taken
 
 -- the external symbol of a name stands once among the symbols that are listed; it is the row of the name's state, and has that
 -- state's letter; a common that is laid out has an address of its own

@@ -4,19 +4,20 @@ use disassemblies::{NamedFile, line_in, line_starts, put_line_text};
 use instructions::Line;
 use reports::JsonWriter;
 use std::alloc::{AllocError, Global};
+use texts::Text;
 
 /// For each word of a file's text the instruction that begins there; an empty text if none does.
-pub(crate) fn instructions_of(alloc: Global, file: &File) -> Result<Vec<String>, AllocError> {
+pub(crate) fn instructions_of(alloc: Global, file: &File) -> Result<Vec<Vec<u8>>, AllocError> {
     let named = NamedFile::new(alloc, file)?;
     let mut texts = Vec::new(alloc);
     for (place, is_start) in line_starts(alloc, file)?.iter().enumerate() {
-        let mut text = String::new(alloc);
+        let mut text = Text::new(alloc);
         if *is_start && place < file.text_words().len() {
             if let Line::Decoded(..) = line_in(file, place) {
-                put_line_text(&mut text, &named, place)?;
+                put_line_text(&mut text, &named, place);
             }
         }
-        texts.push(text)?;
+        texts.push(text.finish()?)?;
     }
     Ok(texts)
 }
@@ -27,17 +28,18 @@ pub(crate) fn put_instructions(
     out: &mut JsonWriter,
     file: &File,
 ) -> Result<(), AllocError> {
-    out.put_key("instructions")?;
-    out.begin_object()?;
-    out.put_key("text")?;
-    out.begin_object()?;
+    out.put_key("instructions");
+    out.begin_object();
+    out.put_key("text");
+    out.begin_object();
     for (index, text) in instructions_of(alloc, file)?.iter().enumerate() {
         if !text.is_empty() {
             let key = format!(in alloc; "{index}")?;
-            out.put_key(key.as_str())?;
-            out.put_text(text.as_str())?;
+            out.put_key(key.as_str());
+            out.put_bytes(b"", text);
         }
     }
-    out.end_object()?;
-    out.end_object()
+    out.end_object();
+    out.end_object();
+    Ok(())
 }

@@ -1,17 +1,13 @@
 //! Files and objects by their paths.
 use anyhow::{Result, anyhow};
-use aout_core::{Object, Wire, read_all, read_file};
+use aout_core::{Object, Wire, read_all, read_object};
 use std::alloc::Global;
 
 /// The object in the bytes of the file at a path.
 pub(crate) fn object_in(alloc: Global, path: &str, bytes: &[u8]) -> Result<Object> {
-    let file = match read_file(alloc, &mut Wire::new(bytes)) {
-        Ok(file) => file,
-        Err(fault) => return Err(anyhow!("{path}: {fault}")),
-    };
-    match Object::from_file(file) {
+    match read_object(alloc, &mut Wire::new(bytes)) {
         Ok(object) => Ok(object),
-        Err((_, fault)) => Err(anyhow!("{path}: {fault}")),
+        Err(fault) => Err(anyhow!("{path}: {fault}")),
     }
 }
 

@@ -45,12 +45,12 @@ pub(crate) fn fronts_of(room: Vec<Fronts>, session: &Session) -> Result<Vec<Fron
 }
 
 /// Adds where the segments of the last object start, as a list; an empty list where there is no object.
-pub(crate) fn put_last_front(out: &mut JsonWriter, fronts: &[Fronts]) -> Result<(), AllocError> {
-    out.begin_list()?;
+pub(crate) fn put_last_front(out: &mut JsonWriter, fronts: &[Fronts]) {
+    out.begin_list();
     if let Some(last) = fronts.last() {
         for segment in [Segment::TextSeg, Segment::DataSeg, Segment::BssSeg] {
-            out.put_number(u64::from(last.starts.of(segment)))?;
+            out.put_number(u64::from(last.starts.of(segment)));
         }
     }
-    out.end_list()
+    out.end_list();
 }

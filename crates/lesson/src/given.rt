@@ -3,7 +3,7 @@ use crate::decoded::put_instructions;
 use crate::files::{bytes_at, object_in};
 use crate::fronts::Fronts;
 use crate::json::put_words;
-use crate::parts::{place_meant, put_name_meant, target_number};
+use crate::parts::{put_name_meant, target_number};
 use crate::shapes::{put_labels, put_operands, put_texts};
 use crate::sources::put_sources;
 use crate::symbols::put_lines;
@@ -18,7 +18,7 @@ pub(crate) static SEGMENTS: [Segment; 2] = [Segment::TextSeg, Segment::DataSeg];
 
 /// A word of an object that refers to something.
 #[derive(Clone, Copy)]
-pub(crate) struct Reference {
+pub(crate) struct RelocatedWord {
     pub(crate) segment: Segment,
     /// Its place in the segment, in bytes.
     pub(crate) offset: u16,
@@ -36,9 +36,9 @@ pub(crate) struct Given {
     /// Where its segments would be without other objects.
     pub(crate) alone: Fronts,
     /// The words that refer to something, those of text first.
-    pub(crate) references: Vec<Reference>,
+    pub(crate) references: Vec<RelocatedWord>,
     /// The first word of each group.
-    pub(crate) groups: Vec<Reference>,
+    pub(crate) groups: Vec<RelocatedWord>,
 }
 
 impl Given {
@@ -52,10 +52,10 @@ impl Given {
     }
 
     /// The place that a word refers to.
-    pub(crate) fn meant(&self, reference: Reference) -> u16 {
+    pub(crate) fn meant(&self, reference: RelocatedWord) -> u16 {
         let start = self.alone.own(reference.segment);
         let address = reference.offset.wrapping_add(start);
-        place_meant(reference.word, reference.reloc.is_pc(), address)
+        reference.reloc.target(reference.word, address)
     }
 }
 
@@ -113,7 +113,7 @@ fn gather_word(
         .groups
         .iter()
         .position(|first| first.segment == segment && first.reloc == reloc);
-    let reference = Reference {
+    let reference = RelocatedWord {
         segment,
         offset,
         word,
@@ -128,9 +128,9 @@ fn gather_word(
 }
 
 /// Adds a group: 0 for text and 1 for data, and what its words refer to.
-fn put_group(out: &mut JsonWriter, symbols: &[Symbol], first: Reference) -> Result<(), AllocError> {
+fn put_group(out: &mut JsonWriter, symbols: &[Symbol], first: RelocatedWord) {
     let pc = first.reloc.is_pc();
-    out.put_number(u64::from(first.segment == Segment::DataSeg))?;
+    out.put_number(u64::from(first.segment == Segment::DataSeg));
     let target = match first.reloc.kind() {
         Some(Kind::External) => {
             if let Some(symbol) = symbols.get(usize::from(first.reloc.number())) {
@@ -143,37 +143,32 @@ fn put_group(out: &mut JsonWriter, symbols: &[Symbol], first: Reference) -> Resu
         Some(Kind::BssSeg) => Target::BssSeg,
         Some(Kind::Absolute) | None => Target::Absolute,
     };
-    out.put_number(u64::from(target_number(target, pc)))
+    out.put_number(u64::from(target_number(target, pc)));
 }
 
 /// Adds the groups, as a list.
-fn put_groups(out: &mut JsonWriter, symbols: &[Symbol], given: &Given) -> Result<(), AllocError> {
-    out.put_key("groups")?;
-    out.begin_list()?;
+fn put_groups(out: &mut JsonWriter, symbols: &[Symbol], given: &Given) {
+    out.put_key("groups");
+    out.begin_list();
     for first in &given.groups {
-        put_group(out, symbols, *first)?;
+        put_group(out, symbols, *first);
     }
-    out.end_list()
+    out.end_list();
 }
 
 /// Adds the words of a segment that refer to something, as a list: the index of each, its group, and to which place of
 /// what it refers.
-fn put_references(
-    out: &mut JsonWriter,
-    key: &str,
-    given: &Given,
-    segment: Segment,
-) -> Result<(), AllocError> {
-    out.put_key(key)?;
-    out.begin_list()?;
+fn put_references(out: &mut JsonWriter, key: &str, given: &Given, segment: Segment) {
+    out.put_key(key);
+    out.begin_list();
     for reference in &given.references {
         if reference.segment == segment {
-            out.put_number(u64::from(reference.offset / 2))?;
-            out.put_number(reference.group as u64)?;
-            out.put_number(u64::from(given.meant(*reference)))?;
+            out.put_number(u64::from(reference.offset / 2));
+            out.put_number(reference.group as u64);
+            out.put_number(u64::from(given.meant(*reference)));
         }
     }
-    out.end_list()
+    out.end_list();
 }
 
 /// Adds the words and symbols of an object.
@@ -183,40 +178,41 @@ fn put_file(
     given: &Given,
     file: &File,
 ) -> Result<(), AllocError> {
-    out.put_key("at")?;
+    out.put_key("at");
     put_words(
         out,
         &[
             given.alone.own(Segment::TextSeg),
             given.alone.own(Segment::DataSeg),
         ],
-    )?;
-    out.put_key("text")?;
-    put_words(out, file.text_words())?;
-    out.put_key("data")?;
-    put_words(out, file.data_words())?;
-    out.put_key("bss")?;
-    out.put_number(u64::from(file.header().bss_size))?;
-    put_groups(out, file.symbols(), given)?;
-    put_references(out, "textReferences", given, Segment::TextSeg)?;
-    put_references(out, "dataReferences", given, Segment::DataSeg)?;
+    );
+    out.put_key("text");
+    put_words(out, file.text_words());
+    out.put_key("data");
+    put_words(out, file.data_words());
+    out.put_key("bss");
+    out.put_number(u64::from(file.header().bss_size));
+    put_groups(out, file.symbols(), given);
+    put_references(out, "textReferences", given, Segment::TextSeg);
+    put_references(out, "dataReferences", given, Segment::DataSeg);
     put_instructions(alloc, out, file)?;
     put_operands(alloc, out, file)?;
-    put_labels(out, given, file.symbols())?;
+    put_labels(out, given, file.symbols());
     put_texts(alloc, out, file)?;
-    out.put_key("symbols")?;
-    put_lines(alloc, out, file.symbols())
+    out.put_key("symbols");
+    put_lines(alloc, out, file.symbols());
+    Ok(())
 }
 
 /// Adds an object as it is given.
 pub(crate) fn put_given(rt: &HostRuntime, out: &mut JsonWriter, given: &Given) -> Result<()> {
     let alloc = rt.alloc();
     let object = object_in(alloc, given.path.as_str(), &given.bytes)?;
-    out.begin_object()?;
-    out.put_key("path")?;
-    out.put_text(given.path.as_str())?;
+    out.begin_object();
+    out.put_key("path");
+    out.put_text(given.path.as_str());
     put_file(alloc, out, given, object.file())?;
     put_sources(rt, out, given, object.file())?;
-    out.end_object()?;
+    out.end_object();
     Ok(())
 }

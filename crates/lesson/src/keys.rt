@@ -35,9 +35,14 @@ pub(crate) enum Act {
 }
 
 impl WordPlace {
-    /// A word by its segment and its offset in octal digits.
+    /// A word by its segment and its offset in octal digits, in one text.
     pub(crate) fn parse(text: &str) -> Option<WordPlace> {
         let (segment, digits) = text.split_once(' ')?;
+        WordPlace::at(segment, digits)
+    }
+
+    /// A word by its segment and its offset in octal digits.
+    pub(crate) fn at(segment: &str, digits: &str) -> Option<WordPlace> {
         let segment = match segment {
             "text" => Segment::TextSeg,
             "data" => Segment::DataSeg,
@@ -50,10 +55,10 @@ impl WordPlace {
     }
 
     /// Adds two values: the segment and the offset.
-    pub(crate) fn put(self, out: &mut JsonWriter) -> Result<(), AllocError> {
+    pub(crate) fn put(self, out: &mut JsonWriter) {
         let is_data = self.segment == Segment::DataSeg;
-        out.put_text(if is_data { "data" } else { "text" })?;
-        out.put_number(u64::from(self.offset))
+        out.put_text(if is_data { "data" } else { "text" });
+        out.put_number(u64::from(self.offset));
     }
 
     /// Whether the image has the word.
@@ -124,40 +129,35 @@ fn place_after(alloc: Global, session: &Session, act: Act, name: &Name) -> Resul
 }
 
 /// Adds the answer of a question about a word: the word, its value after the step, and its value before it.
-fn put_value(
-    out: &mut JsonWriter,
-    word: WordPlace,
-    value: u16,
-    before: u16,
-) -> Result<(), AllocError> {
-    out.begin_list()?;
-    out.put_text("value")?;
-    word.put(out)?;
-    out.put_number(u64::from(value))?;
-    out.put_number(u64::from(before))?;
-    out.end_list()
+fn put_value(out: &mut JsonWriter, word: WordPlace, value: u16, before: u16) {
+    out.begin_list();
+    out.put_text("value");
+    word.put(out);
+    out.put_number(u64::from(value));
+    out.put_number(u64::from(before));
+    out.end_list();
 }
 
 /// Adds the answer of a question about a name: the name, and its place.
-fn put_where(out: &mut JsonWriter, name: &Name, place: Option<u16>) -> Result<(), AllocError> {
-    out.begin_list()?;
-    out.put_text("where")?;
-    out.put_bytes(b"", name.as_bytes())?;
+fn put_where(out: &mut JsonWriter, name: &Name, place: Option<u16>) {
+    out.begin_list();
+    out.put_text("where");
+    out.put_bytes(b"", name.as_bytes());
     match place {
-        Some(place) => out.put_number(u64::from(place))?,
-        None => out.put_null()?,
+        Some(place) => out.put_number(u64::from(place)),
+        None => out.put_null(),
     }
-    out.end_list()
+    out.end_list();
 }
 
 /// Adds the words that a step changes.
-fn put_changes(out: &mut JsonWriter, changed: &[WordPlace]) -> Result<(), AllocError> {
-    out.begin_list()?;
-    out.put_text("changes")?;
+fn put_changes(out: &mut JsonWriter, changed: &[WordPlace]) {
+    out.begin_list();
+    out.put_text("changes");
     for word in changed {
-        word.put(out)?;
+        word.put(out);
     }
-    out.end_list()
+    out.end_list();
 }
 
 /// The key that a file gives has to be the answer.
@@ -205,17 +205,17 @@ pub(crate) fn put_answer(
         Wanted::Nothing => {}
         Wanted::Changes => {
             compare_words(asked.words, changed)?;
-            put_changes(out, changed)?;
+            put_changes(out, changed);
         }
         Wanted::Value(word) => {
             let value = value_after(alloc, session, act, word)?;
             compare_key(asked.number, Some(value))?;
-            put_value(out, word, value, asked.before)?;
+            put_value(out, word, value, asked.before);
         }
         Wanted::Where => {
             let place = place_after(alloc, session, act, asked.name)?;
             compare_key(asked.number, place)?;
-            put_where(out, asked.name, place)?;
+            put_where(out, asked.name, place);
         }
     }
     Ok(())

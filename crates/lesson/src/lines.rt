@@ -5,9 +5,10 @@ use link_session::Session;
 use reports::state_lines;
 use std::alloc::{AllocError, Global};
 use std::io::{self, Write};
+use texts::Text;
 
 /// The instructions of the objects, for the words of the merged text.
-fn merged_instructions(alloc: Global, session: &Session) -> Result<Vec<String>, AllocError> {
+fn merged_instructions(alloc: Global, session: &Session) -> Result<Vec<Vec<u8>>, AllocError> {
     let mut all = Vec::new(alloc);
     for entry in session.entries() {
         for text in instructions_of(alloc, entry.object().file())? {
@@ -21,19 +22,19 @@ fn merged_instructions(alloc: Global, session: &Session) -> Result<Vec<String>, 
 pub(crate) fn show(rt: &HostRuntime, session: &Session) -> Result<()> {
     let lines = state_lines(rt.alloc(), session)?;
     let instructions = merged_instructions(rt.alloc(), session)?;
-    let mut text = Vec::new(rt.alloc());
+    let mut text = Text::new(rt.alloc());
     // the words of text come first
     for (index, line) in lines.split_inclusive(|byte| *byte == b'\n').enumerate() {
         match instructions.get(index) {
             Some(instruction) if !instruction.is_empty() => {
-                text.extend_from_slice(line.strip_suffix(b"\n").unwrap_or(line))?;
-                text.extend_from_slice(b" / ")?;
-                text.extend_from_slice(instruction.as_bytes())?;
-                text.push(b'\n')?;
+                text.put_bytes(line.strip_suffix(b"\n").unwrap_or(line));
+                text.put(" / ");
+                text.put_bytes(instruction);
+                text.put("\n");
             }
-            _ => text.extend_from_slice(line)?,
+            _ => text.put_bytes(line),
         }
     }
-    io::writer(rt).write_all(&text)?;
+    io::writer(rt).write_all(&text.finish()?)?;
     Ok(())
 }

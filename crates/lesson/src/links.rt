@@ -104,9 +104,9 @@ fn report_lines(alloc: Global, report: &Report) -> Vec<u8> {
 /// Adds a link, with the bounds of its segments, or why it is refused.
 fn put_link(alloc: Global, out: &mut JsonWriter, link: &Link) -> Result<(), AllocError> {
     let at = &link.bases;
-    out.begin_object()?;
-    out.put_key("bases")?;
-    out.begin_list()?;
+    out.begin_object();
+    out.put_key("bases");
+    out.begin_list();
     for bound in [
         at.text_end,
         at.data_start,
@@ -114,21 +114,22 @@ fn put_link(alloc: Global, out: &mut JsonWriter, link: &Link) -> Result<(), Allo
         at.bss_start,
         at.bss_end,
     ] {
-        out.put_number(bound)?;
+        out.put_number(bound);
     }
-    out.end_list()?;
+    out.end_list();
     match &link.outcome {
         Ok(linked) => {
-            out.put_key("report")?;
-            out.put_bytes(b"", &report_lines(alloc, &linked.report))?;
+            out.put_key("report");
+            out.put_bytes(b"", &report_lines(alloc, &linked.report));
         }
         Err(fault) => {
             let text = format!(in alloc; "{fault}")?;
-            out.put_key("refused")?;
-            out.put_text(text.as_str())?;
+            out.put_key("refused");
+            out.put_text(text.as_str());
         }
     }
-    out.end_object()
+    out.end_object();
+    Ok(())
 }
 
 /// Adds the links, as a list.
@@ -137,9 +138,10 @@ pub(crate) fn put_links(
     out: &mut JsonWriter,
     links: &[Link],
 ) -> Result<(), AllocError> {
-    out.begin_list()?;
+    out.begin_list();
     for link in links {
         put_link(alloc, out, link)?;
     }
-    out.end_list()
+    out.end_list();
+    Ok(())
 }

@@ -10,6 +10,7 @@ mod keys;
 mod lines;
 mod links;
 mod marks;
+mod number_list;
 mod numbers;
 mod page;
 mod parts;

@@ -6,8 +6,8 @@ use crate::states::put_states;
 use anyhow::{Result, anyhow};
 use link_session::Session;
 use reports::JsonWriter;
-use std::alloc::AllocError;
 use std::io::{self, Write};
+use texts::Text;
 
 /// How many bytes a page has at most.
 const PAGE_LIMIT: usize = 5_000_000;
@@ -52,31 +52,30 @@ fn givens_at(rt: &HostRuntime, files: Vec<String>) -> Result<Vec<Given>> {
 
 /// Adds the objects, as a list.
 fn put_givens(rt: &HostRuntime, out: &mut JsonWriter, givens: &[Given]) -> Result<()> {
-    out.put_key("objects")?;
-    out.begin_list()?;
+    out.put_key("objects");
+    out.begin_list();
     for given in givens {
         put_given(rt, out, given)?;
     }
-    out.end_list()?;
+    out.end_list();
     Ok(())
 }
 
 /// Adds a file of a folder as it is; one that is not a text is a fault.
-fn put_text_of(rt: &HostRuntime, out: &mut Vec<u8>, folder: &str, file: &str) -> Result<()> {
+fn put_text_of(rt: &HostRuntime, out: &mut Text, folder: &str, file: &str) -> Result<()> {
     let path = format!(in rt.alloc(); "{folder}/{file}")?;
-    out.extend_from_slice(text_at(rt, path.as_str())?.as_bytes())?;
+    out.put(text_at(rt, path.as_str())?.as_str());
     Ok(())
 }
 
 /// Adds JSON inside a script: a `<`, which only strings have, is escaped, so that none ends the script.
-fn put_script(out: &mut Vec<u8>, json: &[u8]) -> Result<(), AllocError> {
+fn put_script(out: &mut Text, json: &[u8]) {
     for byte in json {
         match *byte {
-            b'<' => out.extend_from_slice(b"\\u003c")?,
-            byte => out.push(byte)?,
+            b'<' => out.put("\\u003c"),
+            byte => out.put_byte(byte),
         }
     }
-    Ok(())
 }
 
 /// Adds the lessons, the objects and all their states.
@@ -86,15 +85,15 @@ fn put_data(
     session: &mut Session,
     parts: Parts<'_>,
 ) -> Result<()> {
-    out.begin_object()?;
+    out.begin_object();
     if let Some(questions) = parts.questions {
-        out.put_key("lessons")?;
+        out.put_key("lessons");
         put_questions(rt, out, questions, parts.givens)?;
     }
     put_givens(rt, out, parts.givens)?;
-    out.put_key("states")?;
+    out.put_key("states");
     put_states(rt.alloc(), out, session, parts.givens)?;
-    out.end_object()?;
+    out.end_object();
     Ok(())
 }
 
@@ -107,13 +106,14 @@ pub(crate) fn write_page(
     files: Vec<String>,
 ) -> Result<()> {
     let givens = givens_at(rt, files)?;
-    let mut out = Vec::new(rt.alloc());
+    let mut out = Text::new(rt.alloc());
     let parts = Parts {
         folder,
         questions,
         givens: &givens,
     };
     put_page(rt, &mut out, session, parts)?;
+    let out = out.finish()?;
     if PAGE_LIMIT < out.len() {
         return Err(anyhow!("the page would have more than {PAGE_LIMIT} bytes"));
     }
@@ -124,25 +124,25 @@ pub(crate) fn write_page(
 /// Adds the page.
 fn put_page(
     rt: &HostRuntime,
-    out: &mut Vec<u8>,
+    out: &mut Text,
     session: &mut Session,
     parts: Parts<'_>,
 ) -> Result<()> {
     let folder = parts.folder;
-    out.extend_from_slice(HEAD.as_bytes())?;
+    out.put(HEAD);
     put_text_of(rt, out, folder, "lesson.css")?;
-    out.extend_from_slice(b"</style>\n</head>\n<body>\n")?;
+    out.put("</style>\n</head>\n<body>\n");
     put_text_of(rt, out, folder, "body.html")?;
-    out.extend_from_slice(b"<script type=\"application/json\" id=\"data\">\n")?;
+    out.put("<script type=\"application/json\" id=\"data\">\n");
     let mut data = JsonWriter::new(rt.alloc());
     put_data(rt, &mut data, session, parts)?;
-    put_script(out, &data.into_text())?;
-    out.extend_from_slice(b"</script>\n")?;
+    put_script(out, &data.finish()?);
+    out.put("</script>\n");
     for script in &SCRIPTS {
-        out.extend_from_slice(b"<script>\n")?;
+        out.put("<script>\n");
         put_text_of(rt, out, folder, script)?;
-        out.extend_from_slice(b"</script>\n")?;
+        out.put("</script>\n");
     }
-    out.extend_from_slice(b"</body>\n</html>\n")?;
+    out.put("</body>\n</html>\n");
     Ok(())
 }

@@ -1,110 +1,145 @@
-//! The places that words refer to: where an arrow of the page ends. Each is a number: 65,536 times its kind, and an offset or an
-//! address.
+//! The places that words refer to: where an arrow of the page ends.
 use crate::links::Link;
 use crate::parts::place_meant;
 use aout_core::Segment;
 use link_out::Bases;
 use link_session::{Cell, Session, Target};
 
-/// A word that refers to no place: a number, or one that waits for a name.
-pub(crate) const NO_PLACE: u32 = 1;
-/// In a link: the same place as in the image.
-const AS_IN_IMAGE: u32 = 0;
-
-/// The kinds of places. Those of text, data and bss follow each other in each of three groups.
-const ROW: u32 = 1;
-
-const END: u32 = 4;
-
-const BEYOND: u32 = 7;
-/// A place of the commons, and one outside of all segments, each by its address.
-const COMMON: u32 = 10;
-
-const OUTSIDE: u32 = 11;
-
-/// The number of a place.
-fn place_number(kind: u32, offset: u16) -> u32 {
-    kind.saturating_mul(65_536)
-        .saturating_add(u32::from(offset))
+/// A merged segment.
+#[derive(Clone, Copy, PartialEq, Eq)]
+pub(crate) enum Merged {
+    Text,
+    Data,
+    Bss,
 }
 
-/// The number of the word that has this byte of a segment; of bss, where no words are, that of the byte.
-fn row_number(segment: u32, offset: u16) -> u32 {
-    let row = if segment == 2 { offset } else { offset & !1 };
-    place_number(ROW.saturating_add(segment), row)
+/// The place that a word refers to, in the image or in a link.
+#[derive(Clone, Copy, PartialEq, Eq)]
+pub(crate) enum ArrowEnd {
+    /// No place: the word is a number, or waits for a name.
+    Nowhere,
+    /// In a link: the same place as in the image.
+    AsInImage,
+    /// The word at an offset of a segment; of bss, where no words are, the byte.
+    Row(Merged, u16),
+    /// The end of a segment: its offset in the image, its address in a link.
+    End(Merged, u16),
+    /// An offset that is beyond the end of its segment.
+    Beyond(Merged, u16),
+    /// A place of the commons, by its address.
+    Common(u16),
+    /// A place outside of all segments, by its address.
+    Outside(u16),
 }
 
-/// Text, data and bss as 0, 1 and 2.
-fn segment_of(target: Target) -> Option<u32> {
+impl ArrowEnd {
+    /// The row that has this byte of a segment.
+    fn row(segment: Merged, offset: u16) -> ArrowEnd {
+        let row = if segment == Merged::Bss {
+            offset
+        } else {
+            offset & !1
+        };
+        ArrowEnd::Row(segment, row)
+    }
+
+    /// What the page has for the kind of the place, and its offset or address.
+    fn kind_and_offset(self) -> (u16, u16) {
+        match self {
+            ArrowEnd::AsInImage => (0, 0),
+            ArrowEnd::Nowhere => (0, 1),
+            ArrowEnd::Row(Merged::Text, offset) => (1, offset),
+            ArrowEnd::Row(Merged::Data, offset) => (2, offset),
+            ArrowEnd::Row(Merged::Bss, offset) => (3, offset),
+            ArrowEnd::End(Merged::Text, offset) => (4, offset),
+            ArrowEnd::End(Merged::Data, offset) => (5, offset),
+            ArrowEnd::End(Merged::Bss, offset) => (6, offset),
+            ArrowEnd::Beyond(Merged::Text, offset) => (7, offset),
+            ArrowEnd::Beyond(Merged::Data, offset) => (8, offset),
+            ArrowEnd::Beyond(Merged::Bss, offset) => (9, offset),
+            ArrowEnd::Common(address) => (10, address),
+            ArrowEnd::Outside(address) => (11, address),
+        }
+    }
+
+    /// The place as the page has it: 65,536 times its kind, and its offset or address.
+    pub(crate) fn number(self) -> u32 {
+        let (kind, offset) = self.kind_and_offset();
+        u32::from(kind) * 65_536 + u32::from(offset)
+    }
+}
+
+/// The segment that a target is in.
+fn segment_of(target: Target) -> Option<Merged> {
     match target {
-        Target::TextSeg => Some(0),
-        Target::DataSeg => Some(1),
-        Target::BssSeg => Some(2),
+        Target::TextSeg => Some(Merged::Text),
+        Target::DataSeg => Some(Merged::Data),
+        Target::BssSeg => Some(Merged::Bss),
         _ => None,
     }
 }
 
 /// The size of a merged segment, in bytes.
-fn size_of(session: &Session, segment: u32) -> usize {
+fn size_of(session: &Session, segment: Merged) -> usize {
     match segment {
-        0 => session.text_cells().len().saturating_mul(2),
-        1 => session.data_cells().len().saturating_mul(2),
-        _ => usize::from(session.bss_total()),
+        Merged::Text => session.text_cells().len().saturating_mul(2),
+        Merged::Data => session.data_cells().len().saturating_mul(2),
+        Merged::Bss => usize::from(session.bss_total()),
     }
 }
 
 /// The place in the merged image that the cell at an offset refers to.
-pub(crate) fn image_place(session: &Session, cell: Cell, offset: u16) -> u32 {
+pub(crate) fn image_place(session: &Session, cell: Cell, offset: u16) -> ArrowEnd {
     let meant = place_meant(cell.value, cell.pc, offset);
     let Some(segment) = segment_of(cell.target) else {
         let is_address = cell.pc && matches!(cell.target, Target::Absolute);
         return if is_address {
-            place_number(OUTSIDE, meant)
+            ArrowEnd::Outside(meant)
         } else {
-            NO_PLACE
+            ArrowEnd::Nowhere
         };
     };
     let size = size_of(session, segment);
     if usize::from(meant) < size {
-        row_number(segment, meant)
+        ArrowEnd::row(segment, meant)
     } else if usize::from(meant) == size {
-        place_number(END.saturating_add(segment), meant)
+        ArrowEnd::End(segment, meant)
     } else {
-        place_number(BEYOND.saturating_add(segment), meant)
+        ArrowEnd::Beyond(segment, meant)
     }
 }
 
 /// The row at an address. A link with `-i` has two address spaces: `in_text` says whether that of text is meant.
-fn row_at(bases: &Bases, is_split: bool, in_text: bool, address: u16) -> Option<u32> {
+fn row_at(bases: &Bases, is_split: bool, in_text: bool, address: u16) -> Option<ArrowEnd> {
     let at = u64::from(address);
     if (in_text || !is_split) && at < bases.text_end {
-        return Some(row_number(0, address));
+        return Some(ArrowEnd::row(Merged::Text, address));
     }
     if is_split && in_text || at < bases.data_start || bases.bss_end <= at {
         return None;
     }
     if at < bases.data_end {
         let offset = u16::try_from(at.saturating_sub(bases.data_start)).unwrap_or(0);
-        Some(row_number(1, offset))
+        Some(ArrowEnd::row(Merged::Data, offset))
     } else if at < bases.bss_start {
-        Some(place_number(COMMON, address))
+        Some(ArrowEnd::Common(address))
     } else {
         let offset = u16::try_from(at.saturating_sub(bases.bss_start)).unwrap_or(0);
-        Some(row_number(2, offset))
+        Some(ArrowEnd::row(Merged::Bss, offset))
     }
 }
 
 /// The end of a segment at an address where no row is, or the address alone.
-fn end_at(bases: &Bases, in_text: bool, address: u16) -> u32 {
+fn end_at(bases: &Bases, in_text: bool, address: u16) -> ArrowEnd {
     let at = u64::from(address);
     if in_text && at == bases.text_end {
-        place_number(END, address)
+        ArrowEnd::End(Merged::Text, address)
     } else if at == bases.data_end && bases.data_start < bases.data_end {
-        place_number(END.saturating_add(1), address)
+        ArrowEnd::End(Merged::Data, address)
     } else if at == bases.bss_end && bases.data_end < bases.bss_end {
-        place_number(END.saturating_add(2), address)
+        ArrowEnd::End(Merged::Bss, address)
     } else {
-        place_number(OUTSIDE, address)
+        ArrowEnd::Outside(address)
     }
 }
 
@@ -121,9 +156,15 @@ fn is_in_text(link: &Link, cell: Cell) -> Option<bool> {
 }
 
 /// The place that a word refers to in a link, where this is the word at this address; `in_image` is the place in the image.
-pub(crate) fn link_place(link: &Link, cell: Cell, word: u16, address: u16, in_image: u32) -> u32 {
+pub(crate) fn link_place(
+    link: &Link,
+    cell: Cell,
+    word: u16,
+    address: u16,
+    in_image: ArrowEnd,
+) -> ArrowEnd {
     let Some(in_text) = is_in_text(link, cell) else {
-        return NO_PLACE;
+        return ArrowEnd::Nowhere;
     };
     let meant = place_meant(word, cell.pc, address);
     let bases = link.bases();
@@ -132,7 +173,7 @@ pub(crate) fn link_place(link: &Link, cell: Cell, word: u16, address: u16, in_im
         None => end_at(bases, in_text, meant),
     };
     if place == in_image {
-        AS_IN_IMAGE
+        ArrowEnd::AsInImage
     } else {
         place
     }

@@ -5,7 +5,7 @@ use crate::keys::{Act, Asked, Wanted, WordPlace, changed_words, put_answer};
 use crate::numbers::cell_at;
 use crate::walk::ALL_ORDERS;
 use anyhow::{Result, anyhow};
-use aout_core::{Name, Segment};
+use aout_core::Name;
 use link_session::Session;
 use reports::JsonWriter;
 use std::alloc::{AllocError, Global};
@@ -20,6 +20,30 @@ enum Begun {
     Answers,
     /// A question, in this line, whose answer the next step gives.
     Computed(usize),
+}
+
+impl Begun {
+    /// Whether a line may begin by this word.
+    fn allows(self, word: &str) -> bool {
+        match self {
+            Begun::Nothing => word == "lesson",
+            Begun::Question(_) => matches!(word, "word" | "name" | "right" | "wrong"),
+            Begun::Computed(_) => matches!(
+                word,
+                "word" | "number" | "add" | "withdraw" | "link" | "image"
+            ),
+            Begun::Lesson | Begun::Answers => true,
+        }
+    }
+
+    /// The line of a question that is open, and what it has not yet.
+    fn missing(self) -> Option<(usize, &'static str)> {
+        match self {
+            Begun::Question(line) => Some((line, "answer")),
+            Begun::Computed(line) => Some((line, "step")),
+            _ => None,
+        }
+    }
 }
 
 /// A file of questions that is read, with the session that its steps make.
@@ -56,8 +80,8 @@ impl<'a> Reader<'a> {
         if text.is_empty() {
             return Err(anyhow!("{word} is followed by a text"));
         }
-        out.put_text(word)?;
-        out.put_text(text)?;
+        out.put_text(word);
+        out.put_text(text);
         Ok(())
     }
 
@@ -82,8 +106,8 @@ impl<'a> Reader<'a> {
     fn put_answer_word(&mut self, out: &mut JsonWriter, text: &str) -> Result<()> {
         self.answer()?;
         let word = self.word_at(text)?;
-        out.put_text("word")?;
-        word.put(out)?;
+        out.put_text("word");
+        word.put(out);
         Ok(())
     }
 
@@ -118,7 +142,7 @@ impl<'a> Reader<'a> {
 
     /// A question: one of the step after it, or one that has its answers in the file.
     fn put_ask(&mut self, out: &mut JsonWriter, line: usize, text: &str) -> Result<()> {
-        let (word, rest) = text.split_once(' ').unwrap_or((text, ""));
+        let (word, rest) = first_word(text);
         let wanted = wanted_of(word, rest)?;
         let said = match wanted {
             Wanted::Nothing => text,
@@ -225,7 +249,7 @@ impl<'a> Reader<'a> {
         };
         put_answer(self.alloc, out, &self.session, asked, act, &changed)?;
         self.wanted = Wanted::Nothing;
-        put_act(out, act)?;
+        put_act(out, act);
         Ok(())
     }
 
@@ -237,21 +261,11 @@ impl<'a> Reader<'a> {
         word: &str,
         rest: &str,
     ) -> Result<()> {
-        if self.begun == Begun::Nothing && word != "lesson" {
-            return Err(anyhow!("no lesson has begun"));
-        }
-        if let Begun::Question(asked) = self.begun
-            && !matches!(word, "word" | "name" | "right" | "wrong")
-        {
-            return Err(anyhow!("the question of line {asked} has no answer"));
-        }
-        if let Begun::Computed(asked) = self.begun
-            && !matches!(
-                word,
-                "word" | "number" | "add" | "withdraw" | "link" | "image"
-            )
-        {
-            return Err(anyhow!("the question of line {asked} has no step"));
+        if !self.begun.allows(word) {
+            return match self.begun.missing() {
+                Some((asked, what)) => Err(anyhow!("the question of line {asked} has no {what}")),
+                None => Err(anyhow!("no lesson has begun")),
+            };
         }
         match word {
             "add" | "withdraw" | "link" | "image" => self.put_step(out, word, rest),
@@ -269,7 +283,7 @@ impl<'a> Reader<'a> {
         word: &str,
         rest: &str,
     ) -> Result<()> {
-        out.begin_list()?;
+        out.begin_list();
         match word {
             "lesson" => self.put_lesson(out, rest)?,
             "say" => self.put_said(out, word, rest)?,
@@ -282,17 +296,20 @@ impl<'a> Reader<'a> {
             }
             _ => return Err(anyhow!("{word} begins no line of a lesson")),
         }
-        out.end_list()?;
+        out.end_list();
         Ok(())
     }
 }
 
+/// The first word of a text, and what follows it.
+fn first_word(text: &str) -> (&str, &str) {
+    text.split_once(' ').unwrap_or((text, ""))
+}
+
 /// A text without its first word.
 fn without_word(text: &str) -> &str {
-    match text.trim_start().split_once(' ') {
-        Some((_, rest)) => rest,
-        None => "",
-    }
+    let (_, rest) = first_word(text.trim_start());
+    rest
 }
 
 /// What a question asks, by its first word and what follows it.
@@ -307,30 +324,23 @@ fn wanted_of(word: &str, rest: &str) -> Result<Wanted> {
 
 /// A question of a word's value.
 fn wanted_value(text: &str) -> Result<Wanted> {
-    let (segment, rest) = text.split_once(' ').unwrap_or((text, ""));
-    let rest = rest.trim_start();
-    let (digits, _) = rest.split_once(' ').unwrap_or((rest, ""));
-    let segment = match segment {
-        "text" => Segment::TextSeg,
-        "data" => Segment::DataSeg,
-        _ => return Err(anyhow!("value is followed by text or data, an offset and a text")),
-    };
-    match u16::from_str_radix(digits, 8) {
-        Ok(offset) if offset % 2 == 0 => Ok(Wanted::Value(WordPlace { segment, offset })),
-        _ => Err(anyhow!("value is followed by text or data, an offset and a text")),
+    let (segment, rest) = first_word(text);
+    let (digits, _) = first_word(rest.trim_start());
+    match WordPlace::at(segment, digits) {
+        Some(word) => Ok(Wanted::Value(word)),
+        None => Err(anyhow!("value is followed by text or data, an offset and a text")),
     }
 }
 
 /// The name that a text begins with.
 fn name_in(text: &str) -> Name {
-    let text = text.trim_start();
-    let (name, _) = text.split_once(' ').unwrap_or((text, ""));
+    let (name, _) = first_word(text.trim_start());
     Name::from_bytes(name.as_bytes())
 }
 
 /// A question of a name's place.
 fn wanted_name(text: &str) -> Result<Wanted> {
-    let (name, _) = text.split_once(' ').unwrap_or((text, ""));
+    let (name, _) = first_word(text);
     if name.is_empty() {
         return Err(anyhow!("where is followed by a name and a text"));
     }
@@ -338,21 +348,21 @@ fn wanted_name(text: &str) -> Result<Wanted> {
 }
 
 /// Adds a step.
-fn put_act(out: &mut JsonWriter, act: Act) -> Result<(), AllocError> {
-    out.begin_list()?;
+fn put_act(out: &mut JsonWriter, act: Act) {
+    out.begin_list();
     match act {
         Act::Add(object) => {
-            out.put_text("add")?;
-            out.put_number(object as u64)?;
+            out.put_text("add");
+            out.put_number(object as u64);
         }
         Act::Link(layout) => {
-            out.put_text("link")?;
-            out.put_number(layout as u64)?;
+            out.put_text("link");
+            out.put_number(layout as u64);
         }
-        Act::Withdraw => out.put_text("withdraw")?,
-        Act::Image => out.put_text("image")?,
+        Act::Withdraw => out.put_text("withdraw"),
+        Act::Image => out.put_text("image"),
     }
-    out.end_list()
+    out.end_list();
 }
 
 /// Adds the lines of a text, and returns the number of the line that a fault is in.
@@ -360,7 +370,7 @@ fn put_lines(reader: &mut Reader<'_>, out: &mut JsonWriter, path: &str, text: &s
     for (index, line) in text.lines().enumerate() {
         let line = line.trim();
         let number = index.saturating_add(1);
-        let (word, rest) = line.split_once(' ').unwrap_or((line, ""));
+        let (word, rest) = first_word(line);
         if word.is_empty() || word.starts_with('#') {
             continue;
         }
@@ -368,10 +378,9 @@ fn put_lines(reader: &mut Reader<'_>, out: &mut JsonWriter, path: &str, text: &s
             return Err(anyhow!("{path}: line {number}: {fault}"));
         }
     }
-    match reader.begun {
-        Begun::Question(asked) => Err(anyhow!("{path}: line {asked}: the question has no answer")),
-        Begun::Computed(asked) => Err(anyhow!("{path}: line {asked}: the question has no step")),
-        _ => Ok(()),
+    match reader.begun.missing() {
+        Some((asked, what)) => Err(anyhow!("{path}: line {asked}: the question has no {what}")),
+        None => Ok(()),
     }
 }
 
@@ -395,8 +404,8 @@ pub(crate) fn put_questions(
         words: Vec::new(alloc),
         number: None,
     };
-    out.begin_list()?;
+    out.begin_list();
     put_lines(&mut reader, out, path, text.as_str())?;
-    out.end_list()?;
+    out.end_list();
     Ok(())
 }

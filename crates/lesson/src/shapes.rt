@@ -14,45 +14,37 @@ pub(crate) fn put_operands(
     out: &mut JsonWriter,
     file: &File,
 ) -> Result<(), AllocError> {
-    out.put_key("operands")?;
-    out.begin_list()?;
+    out.put_key("operands");
+    out.begin_list();
     for (index, is_start) in line_starts(alloc, file)?.iter().enumerate() {
         if !*is_start {
-            out.put_number(index as u64)?;
+            out.put_number(index as u64);
         }
     }
-    out.end_list()
+    out.end_list();
+    Ok(())
 }
 
 /// Adds a label: 0 for text and 1 for data, the index of the word, 1 if other objects see the name, and the name.
-fn put_label(
-    out: &mut JsonWriter,
-    symbol: &Symbol,
-    segment: u64,
-    at: u16,
-) -> Result<(), AllocError> {
-    out.put_number(segment)?;
-    out.put_number(u64::from(symbol.value.wrapping_sub(at) / 2))?;
-    out.put_number(u64::from(symbol.is_external()))?;
-    out.put_bytes(b"", symbol.name.as_bytes())
+fn put_label(out: &mut JsonWriter, symbol: &Symbol, segment: u64, at: u16) {
+    out.put_number(segment);
+    out.put_number(u64::from(symbol.value.wrapping_sub(at) / 2));
+    out.put_number(u64::from(symbol.is_external()));
+    out.put_bytes(b"", symbol.name.as_bytes());
 }
 
 /// Adds the names that an object defines in text and in data, as a list.
-pub(crate) fn put_labels(
-    out: &mut JsonWriter,
-    given: &Given,
-    symbols: &[Symbol],
-) -> Result<(), AllocError> {
-    out.put_key("labels")?;
-    out.begin_list()?;
+pub(crate) fn put_labels(out: &mut JsonWriter, given: &Given, symbols: &[Symbol]) {
+    out.put_key("labels");
+    out.begin_list();
     for symbol in symbols {
         match symbol.segment() {
-            Segment::TextSeg => put_label(out, symbol, 0, given.alone.own(Segment::TextSeg))?,
-            Segment::DataSeg => put_label(out, symbol, 1, given.alone.own(Segment::DataSeg))?,
+            Segment::TextSeg => put_label(out, symbol, 0, given.alone.own(Segment::TextSeg)),
+            Segment::DataSeg => put_label(out, symbol, 1, given.alone.own(Segment::DataSeg)),
             _ => {}
         }
     }
-    out.end_list()
+    out.end_list();
 }
 
 /// Whether a byte can be one of a text: it prints, or ends a line or the text.
@@ -87,7 +79,8 @@ fn put_bytes_of(alloc: Global, out: &mut JsonWriter, words: &[u16]) -> Result<()
     for word in words {
         bytes.extend_from_slice(&word.to_le_bytes())?;
     }
-    out.put_bytes(b"", &bytes)
+    out.put_bytes(b"", &bytes);
+    Ok(())
 }
 
 /// Adds the words of data that are texts, as a list: the index after the last word of each, how many words it has, and its bytes.
@@ -97,13 +90,13 @@ pub(crate) fn put_texts(
     file: &File,
 ) -> Result<(), AllocError> {
     let lengths = text_lengths(alloc, file)?;
-    out.put_key("texts")?;
-    out.begin_list()?;
+    out.put_key("texts");
+    out.begin_list();
     for (index, length) in lengths.iter().enumerate() {
         let next = index.saturating_add(1);
         if SHORTEST <= *length && lengths.get(next).is_none_or(|after| *after <= *length) {
-            out.put_number(next as u64)?;
-            out.put_number(*length as u64)?;
+            out.put_number(next as u64);
+            out.put_number(*length as u64);
             let first = next.saturating_sub(*length);
             put_bytes_of(
                 alloc,
@@ -112,5 +105,6 @@ pub(crate) fn put_texts(
             )?;
         }
     }
-    out.end_list()
+    out.end_list();
+    Ok(())
 }

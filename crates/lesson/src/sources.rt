@@ -46,8 +46,8 @@ fn put_source(
     let index = line.address.wrapping_sub(start) / 2;
     if words.get(usize::from(index)) == Some(&line.word) && !line.source.is_empty() {
         let key = format!(in rt.alloc(); "{index}")?;
-        out.put_key(key.as_str())?;
-        out.put_text(line.source)?;
+        out.put_key(key.as_str());
+        out.put_text(line.source);
     }
     Ok(())
 }
@@ -62,7 +62,7 @@ fn put_segment(
     text: &str,
 ) -> Result<()> {
     let mut here = None;
-    out.begin_object()?;
+    out.begin_object();
     for line in text.lines() {
         here = segment_after(line, here);
         if here == Some(segment)
@@ -77,7 +77,7 @@ fn put_segment(
             )?;
         }
     }
-    out.end_object()?;
+    out.end_object();
     Ok(())
 }
 
@@ -93,13 +93,13 @@ pub(crate) fn put_sources(
     };
     let path = format!(in rt.alloc(); "{front}.lst")?;
     if let Ok(text) = text_at(rt, path.as_str()) {
-        out.put_key("source")?;
-        out.begin_object()?;
-        out.put_key("text")?;
+        out.put_key("source");
+        out.begin_object();
+        out.put_key("text");
         put_segment(rt, out, given, file, Segment::TextSeg, text.as_str())?;
-        out.put_key("data")?;
+        out.put_key("data");
         put_segment(rt, out, given, file, Segment::DataSeg, text.as_str())?;
-        out.end_object()?;
+        out.end_object();
     }
     Ok(())
 }

@@ -20,20 +20,20 @@ struct Before {
 }
 
 /// Adds the names from this one on, as a list.
-fn put_new_names(out: &mut JsonWriter, session: &Session, first: u16) -> Result<(), AllocError> {
-    out.put_key("newNames")?;
-    out.begin_list()?;
+fn put_new_names(out: &mut JsonWriter, session: &Session, first: u16) {
+    out.put_key("newNames");
+    out.begin_list();
     for index in first..session.external_count() {
         if let Some((name, _)) = session.external(index) {
-            out.put_bytes(b"", name.as_bytes())?;
+            out.put_bytes(b"", name.as_bytes());
         }
     }
-    out.end_list()
+    out.end_list();
 }
 
 /// Adds the sizes of the merged segments, text and data in words.
-fn put_sizes(out: &mut JsonWriter, session: &Session) -> Result<(), AllocError> {
-    out.put_key("sizes")?;
+fn put_sizes(out: &mut JsonWriter, session: &Session) {
+    out.put_key("sizes");
     put_numbers(
         out,
         &[
@@ -41,7 +41,7 @@ fn put_sizes(out: &mut JsonWriter, session: &Session) -> Result<(), AllocError> 
             session.data_cells().len(),
             usize::from(session.bss_total()),
         ],
-    )
+    );
 }
 
 /// Adds the state of a session, as far as it differs from the state before the last object was added, and returns what
@@ -62,22 +62,22 @@ fn put_session(
         links: &links,
     };
     let numbers = Numbers::of(alloc, computed, givens, &walk.list)?;
-    out.begin_object()?;
-    out.put_key("list")?;
-    put_numbers(out, &walk.list)?;
-    put_sizes(out, session)?;
-    out.put_key("front")?;
-    put_last_front(out, &fronts)?;
-    put_new_names(out, session, before.name_count)?;
-    numbers.put(out, &before.numbers)?;
-    out.put_key("multiples")?;
-    put_names(out, session.multiples())?;
-    out.put_key("marks")?;
-    put_marks(out, session)?;
-    out.put_key("links")?;
+    out.begin_object();
+    out.put_key("list");
+    put_numbers(out, &walk.list);
+    put_sizes(out, session);
+    out.put_key("front");
+    put_last_front(out, &fronts);
+    put_new_names(out, session, before.name_count);
+    numbers.put(out, &before.numbers);
+    out.put_key("multiples");
+    put_names(out, session.multiples());
+    out.put_key("marks");
+    put_marks(out, session);
+    out.put_key("links");
     put_links(alloc, out, &links)?;
-    out.end_object()?;
-    out.end_line()?;
+    out.end_object();
+    out.end_line();
     Ok(Before {
         numbers,
         name_count: session.external_count(),
@@ -93,14 +93,15 @@ fn put_refused(
     cause: AddFault,
 ) -> Result<(), AllocError> {
     let text = format!(in alloc; "{cause}")?;
-    out.begin_object()?;
-    out.put_key("list")?;
-    put_numbers(out, list)?;
-    out.put_key("object")?;
-    put_numbers(out, &[object])?;
-    out.put_key("refused")?;
-    out.put_text(text.as_str())?;
-    out.end_object()
+    out.begin_object();
+    out.put_key("list");
+    put_numbers(out, list);
+    out.put_key("object");
+    put_numbers(out, &[object]);
+    out.put_key("refused");
+    out.put_text(text.as_str());
+    out.end_object();
+    Ok(())
 }
 
 /// Takes a step of the walk to a list that has one object more, and returns why it is refused, if it is.
@@ -131,7 +132,7 @@ pub(crate) fn put_states(
 ) -> Result<()> {
     let mut walk = Walk::new(givens.len(), Vec::new(alloc));
     let mut trail = Vec::new(alloc);
-    out.begin_list()?;
+    out.begin_list();
     let first = Before {
         numbers: Numbers::none(alloc),
         name_count: 0,
@@ -154,6 +155,6 @@ pub(crate) fn put_states(
             None => break,
         }
     }
-    out.end_list()?;
+    out.end_list();
     Ok(())
 }

@@ -1,7 +1,7 @@
 //! Symbols as the lines of `nm -p`.
 use aout_core::{Symbol, Wire};
 use reports::JsonWriter;
-use std::alloc::{AllocError, Global};
+use std::alloc::Global;
 use symtools::line;
 
 /// The line of `nm -p` for a symbol, without its end.
@@ -14,14 +14,10 @@ fn nm_line(alloc: Global, symbol: &Symbol) -> Vec<u8> {
 }
 
 /// Adds the lines, as a list.
-pub(crate) fn put_lines(
-    alloc: Global,
-    out: &mut JsonWriter,
-    symbols: &[Symbol],
-) -> Result<(), AllocError> {
-    out.begin_list()?;
+pub(crate) fn put_lines(alloc: Global, out: &mut JsonWriter, symbols: &[Symbol]) {
+    out.begin_list();
     for symbol in symbols {
-        out.put_bytes(b"", &nm_line(alloc, symbol))?;
+        out.put_bytes(b"", &nm_line(alloc, symbol));
     }
-    out.end_list()
+    out.end_list();
 }

@@ -10,12 +10,12 @@ use Rattle.link_session.specs.Limits.{refusal}
 use Rattle.tool_options.specs.Choices.{Choices}
 use Rattle.link_out.specs.function.Link.{Outcome, link}
 use Rattle.link_out.specs.Steps.{and_then, refused_as, unless}
-use Rattle.link_out.specs.Results.{Findings}
+use Rattle.link_out.specs.Results.{ReportNames}
 use Rattle.link_out.specs.function.Reports.{report_text, status_of}
 use Rattle.library_calls.specs.declared.cause.Cause.{Cause}
 use Rattle.library_calls.specs.declared.cause.Cause.TheVariants.{NotAdded, NotLinked}
 use Rattle.library_calls.specs.declared.cause.Refusal.{Refusal}
-use Rattle.library_calls.specs.declared.findings_call.Finding.{Finding}
+use Rattle.library_calls.specs.declared.findings_call.ReportedName.{ReportedName}
 use Rattle.library_calls.specs.declared.findings_call.Found.{Found}
 use Rattle.library_calls.specs.declared.link_call.Program.{Program}
 use Rattle.library_calls.specs.declared.parts.ObjectBytes.{ObjectBytes}
@@ -85,22 +85,22 @@ output_each bits entry forced parts = and_then (outcome_each bits entry forced p
 -- ---- the report as a list
 
 -- 1: multiply defined, 2: a reserved name that is defined or a common, 3: an entry point that is not in text, 4: undefined
-abbrev pub finding_of : ℕ → List ℕ → Finding
+abbrev pub finding_of : ℕ → List ℕ → ReportedName
 finding_of kind name = record { name = padded name; kind = kind }
 
-abbrev pub entry_findings : Option (List ℕ) → List Finding
+abbrev pub entry_findings : Option (List ℕ) → List ReportedName
 entry_findings None = []
 entry_findings (Some name) = finding_of 3 name ∷ []
 
 -- in the order of the lines
-abbrev pub all_findings : Findings → List Finding
+abbrev pub all_findings : ReportNames → List ReportedName
 all_findings f = ((map (finding_of 1) f.multiples ++ map (finding_of 2) f.reserved) ++ entry_findings f.entry_bad) ++ map (finding_of 4) f.undefined
 
-abbrev pub found_of : Outcome → Output Finding
+abbrev pub found_of : Outcome → Output ReportedName
 found_of x = record { status = status_of x.report; file = encoding x.file; report = all_findings x.report }
 
-abbrev pub founds_of : Found → Output Finding
+abbrev pub founds_of : Found → Output ReportedName
 founds_of f = record { status = f.status; file = f.file.items; report = f.findings.items }
 
-abbrev pub found_each : ℕ → List ℕ → List ℕ → List (List ℕ) → Result (Output Finding) Refusal
+abbrev pub found_each : ℕ → List ℕ → List ℕ → List (List ℕ) → Result (Output ReportedName) Refusal
 found_each bits entry forced parts = and_then (outcome_each bits entry forced parts) (λ x. Ok (found_of x))

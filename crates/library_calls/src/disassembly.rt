@@ -9,14 +9,15 @@ use crate::first::first_file;
 use aout_core::File;
 use disassemblies::{put_disassembly, put_plain_disassembly};
 use std::alloc::{AllocError, Global};
+use texts::Text;
 
 /// The text of a file as instructions.
 fn disassembly_of(alloc: Global, file: &File) -> Result<Vec<u8>, AllocError>
     ensures { IfOk result (λ text. text.items ≡ disassembly file.now) }
 {
-    let mut text = String::new(alloc);
-    put_disassembly(&mut text, file)?;
-    Ok(text.into_bytes())
+    let mut text = Text::new(alloc);
+    put_disassembly(&mut text, file);
+    text.finish()
 }
 
 /// The text of the file that the bytes begin with as instructions, with names and labels, as
@@ -41,7 +42,7 @@ pub fn disassemble_words(alloc: Global, address: u16, words: &[u16]) -> Result<V
     ensures err { IfErr result (λ cause. cause ≡ Memory) }
     ensures memory { IsErr result → words.now ≢ [] }
 {
-    let mut text = String::new(alloc);
-    put_plain_disassembly(&mut text, address, words)?;
-    Ok(text.into_bytes())
+    let mut text = Text::new(alloc);
+    put_plain_disassembly(&mut text, address, words);
+    Ok(text.finish()?)
 }

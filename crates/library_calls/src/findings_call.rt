@@ -1,6 +1,6 @@
 //! The link of objects whose report is a list.
 ghost use Rattle.std.specs.Prelude.{◌≡◌, ◌≢◌, map, Ok, Err, IfOk, IfErr};
-ghost use Rattle.link_out.specs.Outcomes.{findings_of, outcome_of};
+ghost use Rattle.link_out.specs.Outcomes.{report_names, outcome_of};
 ghost use Rattle.library_calls.specs.LinkAnswers.{all_findings, each_of, entry_findings, finding_of, found_each, found_of, founds_of};
 ghost use Rattle.library_calls.specs.MemoryWanted.{LinkOfEachMayRunOut};
 ghost use Rattle.library_calls.specs.declared.cause.Cause.TheVariants.{Memory};
@@ -16,7 +16,7 @@ use std::alloc::{AllocError, Global};
 /// A name of a report, and why it is reported. (ld(1); the numbers: own choice)
 #[repr(C)]
 #[derive(Clone, Copy, Debug, PartialEq, Eq)]
-pub struct Finding {
+pub struct ReportedName {
     /// The name, filled up with NULs.
     pub name: [u8; 8],
     /// 1 if it is multiply defined, 2 if it is `_etext`, `_edata` or `_end` and an object defines it or makes it a common, 3
@@ -32,20 +32,20 @@ pub struct Found {
     /// The bytes of the file.
     pub file: Vec<u8>,
     /// What is reported, in the order of the lines.
-    pub findings: Vec<Finding>,
+    pub findings: Vec<ReportedName>,
 }
 
-fn finding_of(kind: u32, name: &Name) -> Finding
+fn finding_of(kind: u32, name: &Name) -> ReportedName
     ensures { result ≡ finding_of kind name.now }
 {
-    Finding {
+    ReportedName {
         name: padded(name),
         kind,
     }
 }
 
 /// A finding of each name.
-fn named(alloc: Global, kind: u32, names: &[Name]) -> Result<Vec<Finding>, AllocError>
+fn named(alloc: Global, kind: u32, names: &[Name]) -> Result<Vec<ReportedName>, AllocError>
     ensures { IfOk result (λ found. found.items ≡ map (finding_of kind) names.now) }
 {
     names
@@ -55,7 +55,7 @@ fn named(alloc: Global, kind: u32, names: &[Name]) -> Result<Vec<Finding>, Alloc
 }
 
 /// The finding of an entry point that is not in text.
-fn entry_findings(alloc: Global, entry: &Option<Name>) -> Result<Vec<Finding>, AllocError>
+fn entry_findings(alloc: Global, entry: &Option<Name>) -> Result<Vec<ReportedName>, AllocError>
     ensures { IfOk result (λ found. found.items ≡ entry_findings entry.now) }
 {
     match entry {
@@ -65,8 +65,8 @@ fn entry_findings(alloc: Global, entry: &Option<Name>) -> Result<Vec<Finding>, A
 }
 
 /// What is reported of a link, in the order of its lines.
-fn all_findings(alloc: Global, report: &Report) -> Result<Vec<Finding>, AllocError>
-    ensures { IfOk result (λ found. found.items ≡ all_findings (findings_of report.now)) }
+fn all_findings(alloc: Global, report: &Report) -> Result<Vec<ReportedName>, AllocError>
+    ensures { IfOk result (λ found. found.items ≡ all_findings (report_names report.now)) }
 {
     let mut found = named(alloc, 1, &report.multiples)?;
     found.extend_from_slice(&named(alloc, 2, &report.reserved)?)?;

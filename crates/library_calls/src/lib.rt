@@ -13,7 +13,7 @@
 //!
 //! - `LinkRequest`: options, entry point and forced names of a link
 //! - `Program`: a linked file, its report and the status
-//! - `Found`, `Finding`: a linked file with its report as a list, and a name that is reported
+//! - `Found`, `ReportedName`: a linked file with its report as a list, and a name that is reported
 //! - `ObjectBytes`: the bytes of an object that is given apart
 //! - `Ran`, `Shown`, `Form`: what a session gives, the state that it shows, and in which form
 //! - `ObjectParts`, `PartLists`: the parts that an object is made of, and those that one is taken apart into
@@ -57,7 +57,7 @@ pub use apart::{read_apart, take_apart};
 pub use cause::{Cause, LongPart, Refusal};
 pub use disassembly::{disassemble, disassemble_words};
 pub use file_calls::{check, list_symbols, show_sizes, strip};
-pub use findings_call::{Finding, Found, link_findings};
+pub use findings_call::{Found, ReportedName, link_findings};
 pub use link_call::{LinkRequest, Program, link, link_each};
 pub use make_call::make;
 pub use parts::{FileLists, ObjectBytes, ObjectParts, ObjectWord, PartLists, SymbolRow};

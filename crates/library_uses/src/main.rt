@@ -17,7 +17,7 @@ mod strip;
 mod trial;
 
 use anyhow::{Result, anyhow};
-use aout_core::{Header, Object, Wire, read_file};
+use aout_core::{Header, Object, Wire, read_all, read_file};
 use bytes::bare_program;
 use choices::partial_options;
 use command::linked;
@@ -31,15 +31,17 @@ use link_session::{Session, Starts};
 use listed::read_back;
 use program::program_of;
 use state::state_without_last;
-use std::io::{Read, Write};
+use std::io::Write;
 use std::{env, fs, io};
 use strip::stripped_bytes;
+use texts::Text;
 use trial::new_names;
 
 fn bytes_at(rt: &HostRuntime, path: &str) -> Result<Vec<u8>> {
-    let mut bytes = Vec::new(rt.alloc());
-    fs::open(rt, path)?.read_to_end(&mut bytes)?;
-    Ok(bytes)
+    match read_all(rt, path) {
+        Ok(bytes) => Ok(bytes),
+        Err(fault) => Err(anyhow!("{path}: {fault}")),
+    }
 }
 
 /// The object at a path, by way of its listing.
@@ -80,8 +82,7 @@ fn show_file(rt: &HostRuntime, path: &str) -> Result<()> {
     let copy = stripped_bytes(rt.alloc(), &bytes)?;
     println!(rt; "{path} stripped has {} bytes", copy.len())?;
     let text = disassembled(rt.alloc(), &bytes)?;
-    print!(rt; "{text}")?;
-    Ok(())
+    Ok(io::writer(rt).write_all(&text)?)
 }
 
 /// Brings the files that the arguments name to the session.
@@ -105,15 +106,14 @@ fn list_program(rt: &HostRuntime, session: &Session) -> Result<()> {
 
 /// Prints two lines of words as instructions.
 fn show_words(rt: &HostRuntime) -> Result<()> {
-    let mut text = String::new(rt.alloc());
-    let rest = put_first(&[0o012700, 5, 0o104401], 0o1000, &mut text)?;
-    text.push_str("\n")?;
+    let mut text = Text::new(rt.alloc());
+    let rest = put_first(&[0o012700, 5, 0o104401], 0o1000, &mut text);
+    text.put("\n");
     if !rest.is_empty() {
-        put_first(rest, 0o1004, &mut text)?;
-        text.push_str("\n")?;
+        let _ = put_first(rest, 0o1004, &mut text);
+        text.put("\n");
     }
-    print!(rt; "{text}")?;
-    Ok(())
+    Ok(io::writer(rt).write_all(&text.finish()?)?)
 }
 
 /// Links the files that the arguments name by `ld`, and as libv7 does; prints how long the text and the bare file are.

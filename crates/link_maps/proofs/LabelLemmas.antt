@@ -13,7 +13,7 @@ use Rattle.symtools.specs.NmLists.{inserted, in_order}
 use Rattle.aout_core.specs.Contents.{Contents}
 use Rattle.aout_core.specs.Words.{plus}
 use Rattle.link_session.specs.Starts.{own}
-use Rattle.link_maps.specs.declared.references.Part.{Part}
+use Rattle.aout_core.specs.declared.part.Part.{Part}
 use Rattle.link_maps.specs.declared.references.Before.{Before}
 use Rattle.link_maps.specs.References.{segment_of_part, is_nearer, nearer, nearest, before, before_line}
 use Rattle.link_maps.specs.internal.Labels.{is_of, is_higher, AreLabels, first_from}

@@ -6,7 +6,7 @@ use Rattle.tool_options.specs.NameLists.{is_among}
 use Rattle.link_session.specs.Mentions.{names_by_first_mention, place_of}
 use Rattle.link_out.specs.function.Plans.{Plan}
 use Rattle.link_out.specs.function.Tables.{external_row, external_rows}
-use Rattle.link_out.proofs.FindingLemmas.{position-place}
+use Rattle.link_out.proofs.ReportNameLemmas.{position-place}
 use Rattle.link_out.proofs.CellWordLemmas.{mapped_at_place}
 use Rattle.link_maps.specs.Rows.{row_at}
 

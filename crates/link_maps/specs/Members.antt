@@ -9,8 +9,8 @@ use Rattle.link_out.specs.Layouts.{Bases}
 use Rattle.link_maps.specs.declared.members.Refused.{Refused}
 use Rattle.link_maps.specs.declared.members.Objects.{Objects}
 use Rattle.link_maps.specs.declared.places.Places.{Places}
-use Rattle.link_maps.specs.declared.references.Part.{Part}
-use Rattle.link_maps.specs.declared.references.Part.TheVariants.{Text, Data}
+use Rattle.aout_core.specs.declared.part.Part.{Part}
+use Rattle.aout_core.specs.declared.part.Part.TheVariants.{Text, Data}
 
 abbrev pub left_of : Option Refused → List Labelled
 left_of None = []

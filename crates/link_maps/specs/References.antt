@@ -16,10 +16,10 @@ use Rattle.aout_core.specs.WellFormed.{segment_of, segment_number, kind_of, symb
 use Rattle.disassemblies.specs.Lines.{line_text_in}
 use Rattle.disassemblies.specs.Starts.{line_start}
 use Rattle.link_session.specs.Starts.{own}
-use Rattle.link_maps.specs.declared.references.Part.{Part}
-use Rattle.link_maps.specs.declared.references.Part.TheVariants.{Text, Data}
+use Rattle.aout_core.specs.declared.part.Part.{Part}
+use Rattle.aout_core.specs.declared.part.Part.TheVariants.{Text, Data}
 use Rattle.link_maps.specs.declared.references.Before.{Before}
-use Rattle.link_maps.specs.declared.references.Reference.{Reference}
+use Rattle.link_maps.specs.declared.references.ReferringWord.{ReferringWord}
 
 abbrev pub segment_of_part : Part → Segment
 segment_of_part Text = TextSeg
@@ -68,7 +68,7 @@ abbrev pub before_line : Contents → Part → ℕ → Option Before
 before_line o part line = label_before o.symbols (segment_of_part part) (plus line (own o (segment_of_part part)))
 
 -- the word of a part so many bytes after its first
-abbrev pub reference_at : List Bool → Contents → Part → ℕ → Reference
+abbrev pub reference_at : List Bool → Contents → Part → ℕ → ReferringWord
 reference_at starts o part offset =
     record { part = part; offset = offset; line = line_of starts part offset; before = before_line o part (line_of starts part offset) }
 
@@ -80,17 +80,17 @@ abbrev pub refers_to : ℕ → Reloc → Bool
 refers_to number r = is_external_kind (kind_of r) && eqb (symbol_number r) number
 
 -- the word with this relocation word, if it refers to the symbol
-abbrev pub reference_by : List Bool → Contents → Part → ℕ → ℕ → Reloc → List Reference
+abbrev pub reference_by : List Bool → Contents → Part → ℕ → ℕ → Reloc → List ReferringWord
 reference_by starts o part number offset r = if refers_to number r then reference_at starts o part offset ∷ [] else []
 
 -- the words with these relocation words, of which the first is so many bytes after the first of the part
-abbrev pub references_in : List Bool → Contents → Part → ℕ → ℕ → List Reloc → List Reference
+abbrev pub references_in : List Bool → Contents → Part → ℕ → ℕ → List Reloc → List ReferringWord
 references_in starts o part number offset [] = []
 references_in starts o part number offset (r ∷ rs) = reference_by starts o part number offset r ++ references_in starts o part number (plus offset 2) rs
 
-abbrev pub references_of : List Bool → Contents → Part → ℕ → List Reference
+abbrev pub references_of : List Bool → Contents → Part → ℕ → List ReferringWord
 references_of starts o part number = references_in starts o part number 0 (relocs_of o part)
 
 -- the words of an object that refer to the symbol of this number: those of text, and then those of data
-abbrev pub references_to : List Bool → Contents → ℕ → List Reference
+abbrev pub references_to : List Bool → Contents → ℕ → List ReferringWord
 references_to starts o number = references_of starts o Text number ++ references_of starts o Data number

@@ -13,14 +13,14 @@ use Rattle.disassemblies.specs.Starts.{starts}
 use Rattle.link_session.specs.declared.state.State.TheVariants.{Wanted}
 use Rattle.link_out.specs.function.Reports.{is_missing}
 use Rattle.symtools.specs.NmLists.{in_order}
-use Rattle.link_maps.specs.declared.references.Reference.{Reference}
+use Rattle.link_maps.specs.declared.references.ReferringWord.{ReferringWord}
 use Rattle.link_maps.specs.References.{references_to}
 
 -- the number of the object, counted from 0; none for a forced name
 pub record Use : Type 0 where
   pub object : Option ℕ
   pub symbol : Symbol
-  pub references : List Reference
+  pub references : List ReferringWord
 
 abbrev pub use_of : ℕ → List Bool → Contents → ℕ → Symbol → Use
 use_of object starts o number s = record { object = Some object; symbol = s; references = references_to starts o number }

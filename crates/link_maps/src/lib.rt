@@ -33,5 +33,5 @@ pub use members::{Left, Member, Objects, Refused};
 pub use names::{stays_undefined, telling};
 pub use outcome::{Outcome, largest_number, row_of};
 pub use places::Places;
-pub use references::{Before, Part, Reference, put_line_of};
+pub use references::{Before, ReferringWord, put_line_of};
 pub use uses::Use;

@@ -3,8 +3,7 @@ ghost use Rattle.std.specs.Prelude.{◌≡◌, Option, IfOk};
 ghost use Rattle.link_maps.specs.Members.{capped, first_places, next_places, places_from, start_in};
 
 use crate::members::Member;
-use crate::references::Part;
-use aout_core::Header;
+use aout_core::{Header, Part};
 use link_out::Bases;
 use std::alloc::{AllocError, Global};
 

@@ -1,5 +1,6 @@
 //! The words of an object that refer to a symbol, each with its line and the label before that.
-ghost use Rattle.std.specs.Prelude.{◌≡◌, ◌++◌, [], length, replicate, IfOk, OnOk, string_bytes};
+ghost use Rattle.std.specs.Prelude.{◌≡◌, ◌++◌, [], length, replicate, IfOk, OnOk};
+ghost use Rattle.texts.specs.Texts.{Puts};
 ghost use Rattle.std.specs.List.Sorted.{IsSortedBy};
 ghost use Rattle.aout_core.specs.WellFormed.{kind_of};
 ghost use Rattle.link_session.specs.Starts.{own};
@@ -8,16 +9,10 @@ ghost use Rattle.link_maps.specs.internal.Labels.{is_higher, first_from, AreSort
 ghost use Rattle.link_maps.specs.internal.Lists.{lists_of, each_more, by_symbol};
 
 use crate::labels::nearest;
-use aout_core::{File, Kind, Name, Reloc, Symbol};
+use aout_core::{File, Kind, Name, Part, Reloc, Symbol};
 use disassemblies::{NamedFile, line_start, put_line_text};
 use std::alloc::{AllocError, Global};
-
-/// A part of a file that has words.
-#[derive(Clone, Copy, Debug, PartialEq, Eq)]
-pub enum Part {
-    Text,
-    Data,
-}
+use texts::Text;
 
 /// The label before a line.
 #[derive(Clone, Copy, Debug)]
@@ -29,7 +24,7 @@ pub struct Before {
 
 /// A word that refers to a symbol.
 #[derive(Clone, Copy, Debug)]
-pub struct Reference {
+pub struct ReferringWord {
     pub part: Part,
     /// The place of the word in the part, in bytes.
     pub offset: u16,
@@ -105,23 +100,19 @@ fn before_line(lined: &Lined<'_>, part: Part, line: u16) -> Option<Before>
 }
 
 /// Appends the text of the line that has a word of text: an instruction or a plain word, with the names of the object. For a
-/// word of data it appends nothing. An error: out of memory.
-pub fn put_line_of(
-    text: &mut String,
-    named: &NamedFile<'_>,
-    reference: &Reference,
-) -> Result<(), AllocError>
-    ensures { OnOk result (string_bytes text.new ≡ string_bytes text.old ++ text_of_line named.now reference.now.part reference.now.line) }
+/// word of data it appends nothing.
+pub fn put_line_of(text: &mut Text, named: &NamedFile<'_>, reference: &ReferringWord)
+    ensures { Puts text.old text.new (text_of_line named.now reference.now.part reference.now.line) }
 {
     let place = usize::from(reference.line / 2);
     match reference.part {
         Part::Text if place < named.file().text_words().len() => put_line_text(text, named, place),
-        _ => Ok(()),
+        _ => {},
     }
 }
 
 /// An empty list for each of so many symbols.
-fn empty_lists(alloc: Global, count: usize) -> Result<Vec<Vec<Reference>>, AllocError>
+fn empty_lists(alloc: Global, count: usize) -> Result<Vec<Vec<ReferringWord>>, AllocError>
     ensures { IfOk result (λ lists. lists_of lists.items ≡ replicate count []) }
 {
     let mut lists = Vec::new(alloc);
@@ -140,7 +131,7 @@ fn has_symbol(reloc: Reloc) -> bool
 
 /// Appends a word to the list of the symbol that it refers to, if it refers to one of these.
 fn put_word(
-    lists: &mut Vec<Vec<Reference>>,
+    lists: &mut Vec<Vec<ReferringWord>>,
     lined: &Lined<'_>,
     part: Part,
     offset: u16,
@@ -155,7 +146,7 @@ fn put_word(
     let line = line_of(lined.starts, part, offset);
     let before = before_line(lined, part, line);
     if let Some(list) = lists.get_mut(usize::from(reloc.number())) {
-        list.push(Reference {
+        list.push(ReferringWord {
             part,
             offset,
             line,
@@ -167,7 +158,7 @@ fn put_word(
 
 /// Appends the words of a part, each to the list of the symbol that it refers to.
 fn put_words(
-    lists: &mut Vec<Vec<Reference>>,
+    lists: &mut Vec<Vec<ReferringWord>>,
     lined: &Lined<'_>,
     part: Part,
 ) -> Result<(), AllocError>
@@ -189,7 +180,7 @@ fn put_words(
 pub(crate) fn references_by_symbol(
     alloc: Global,
     lined: &Lined<'_>,
-) -> Result<Vec<Vec<Reference>>, AllocError>
+) -> Result<Vec<Vec<ReferringWord>>, AllocError>
     requires { AreSorted lined.now.file.now.symbols lined.now.text_labels.now lined.now.data_labels.now }
     ensures { IfOk result (λ lists. lists_of lists.items ≡ by_symbol lined.now.starts.now lined.now.file.now 0 (length lined.now.file.now.symbols)) }
 {

@@ -5,7 +5,7 @@ ghost use Rattle.link_maps.specs.Uses.{uses_in, forced_use, is_before};
 ghost use Rattle.link_maps.specs.internal.Lists.{lists_of, use_with, uses_with};
 
 use crate::labels::labels_of;
-use crate::references::{Lined, Reference, references_by_symbol};
+use crate::references::{Lined, ReferringWord, references_by_symbol};
 use aout_core::{File, Name, Segment, Symbol};
 use disassemblies::line_starts;
 use std::alloc::{AllocError, Global};
@@ -21,7 +21,7 @@ pub struct Use {
     pub object: Option<usize>,
     pub symbol: Symbol,
     /// In the order of their places, text before data.
-    pub references: Vec<Reference>,
+    pub references: Vec<ReferringWord>,
 }
 
 impl Model for Use {
@@ -66,7 +66,7 @@ fn put_use(
     uses: &mut Vec<Use>,
     object: usize,
     symbol: &Symbol,
-    references: Vec<Reference>,
+    references: Vec<ReferringWord>,
 ) -> Result<(), AllocError>
     ensures { OnOk result (uses.new.items ≡ uses.old.items ++ use_with object symbol.now references.items) }
 {
@@ -86,7 +86,7 @@ fn put_symbols(
     uses: &mut Vec<Use>,
     object: usize,
     symbols: &[Symbol],
-    lists: Vec<Vec<Reference>>,
+    lists: Vec<Vec<ReferringWord>>,
 ) -> Result<(), AllocError>
     requires { length lists.items ≡ length symbols.now }
     ensures { OnOk result (uses.new.items ≡ uses.old.items ++ uses_with object symbols.now (lists_of lists.items)) }

@@ -22,7 +22,8 @@ use Rattle.link_out.specs.function.Finals.{Final, final, final_by, type_of, boun
 use Rattle.link_out.specs.function.Tables.{external_row}
 use Rattle.link_out.specs.function.Link.{Outcome, linked_file, link}
 use Rattle.link_out.specs.laws.CommonsAndLayouts.{IsCommon, HasRoom}
-use Rattle.link_out.specs.relation.Relocated.{data_base_in, entry_of}
+use Rattle.aout_core.specs.Addresses.{data_start_in}
+use Rattle.link_out.specs.relation.Relocated.{entry_of}
 use Rattle.link_out.proofs.HasStateLemmas.{state_is}
 use Rattle.link_out.proofs.OutcomeLemmas.{made_file, made_fits}
 use Rattle.link_out.proofs.ExternalLemmas.{entry_there}
@@ -137,15 +138,15 @@ module _ (forced : List (List ℕ)) (os : List Contents) (o : Choices) (others :
 
   room_for : p.at.bss_end ≤ 65535 → (name : List ℕ) (size : ℕ) → IsCommon forced os name size → HasRoom (linked_file p os) os name size
   room_for fits name size c =
-      let start : p.at.data_end ≡ data_base_in (linked_file p os).header + total DataSeg os = ap (λ (n : ℕ). n + total DataSeg os) (data_begun o.layout (total TextSeg os)) in
+      let start : p.at.data_end ≡ data_start_in (linked_file p os).header + total DataSeg os = ap (λ (n : ℕ). n + total DataSeg os) (data_begun o.layout (total TextSeg os)) in
       let rest : (linked_file p os).header.bss_size - total BssSeg os ≡ commons_laid o ms = rest_back (commons_laid o ms) (total BssSeg os) in
       record {
         row = external_row p name;
         found = entry_there p os name others (common_known name size c);
         type_bits = ap (λ (f : Final). type_of f.bound) (common_final name size c);
-        after = over (external_row p name).value p.at.data_end (common_offset ms name) (data_base_in (linked_file p os).header + total DataSeg os) (common_row fits name size c) start;
+        after = over (external_row p name).value p.at.data_end (common_offset ms name) (data_start_in (linked_file p os).header + total DataSeg os) (common_row fits name size c) start;
         before =
-            under (external_row p name).value p.at.data_end (common_offset ms name) (data_base_in (linked_file p os).header + total DataSeg os) size ((linked_file p os).header.bss_size - total BssSeg os) (commons_laid o ms)
+            under (external_row p name).value p.at.data_end (common_offset ms name) (data_start_in (linked_file p os).header + total DataSeg os) size ((linked_file p os).header.bss_size - total BssSeg os) (commons_laid o ms)
             (common_row fits name size c) start rest (common_fits name size c);
       }
     where

@@ -21,7 +21,7 @@ use Rattle.link_out.specs.Layouts.{base}
 use Rattle.link_out.specs.function.Plans.{Plan, plan}
 use Rattle.link_out.specs.function.Finals.{Final, final, final_by, type_of, bound_at}
 use Rattle.link_out.specs.function.Tables.{external_row}
-use Rattle.link_out.specs.function.Reports.{Findings}
+use Rattle.link_out.specs.function.Reports.{ReportNames}
 use Rattle.link_out.specs.function.Link.{Outcome, linked_file, link}
 use Rattle.link_out.specs.laws.WordsAndNames.{IsDefined}
 use Rattle.link_out.specs.relation.Relocated.{move_in, external_type}
@@ -92,6 +92,6 @@ pub definitions_hold : (forced : List (List ℕ)) (before : List Contents) (k : 
     IsDefined x.file (before ++ k ∷ after) before k s
 definitions_hold forced before k after o x others linked none j s e outer inner =
     let os = before ++ k ∷ after in
-    let single : multiple_names (mentions forced os) ≡ [] = ap (λ (f : Findings). f.multiples) (made_report (plan forced os o) os x linked) ∙ none in
+    let single : multiple_names (mentions forced os) ≡ [] = ap (λ (f : ReportNames). f.multiples) (made_report (plan forced os o) os x linked) ∙ none in
     subst (λ (f : Contents). IsDefined f os before k s) (made_file (plan forced os o) os x linked)
     (defined_by forced os o others before k s (segment_of s) inner refl (entry_agrees forced before k after single j s e outer))

@@ -27,10 +27,11 @@ use Rattle.link_out.specs.function.Finals.{final, final_by, type_of, bound_at, w
 use Rattle.link_out.specs.ReservedNames.{etext, edata, end_name}
 use Rattle.link_out.specs.KeptSymbols.{is_kept_local, rows_kept}
 use Rattle.link_out.specs.function.Tables.{moved_value, moved_local, local_rows, external_row, external_rows, table, name_bits, referent_bits, final_relocs}
-use Rattle.link_out.specs.function.Reports.{entry_word, entry_found_bad, findings}
+use Rattle.link_out.specs.function.Reports.{entry_word, entry_found_bad, report_of}
 use Rattle.link_out.specs.Results.{Outcome}
 use Rattle.link_out.specs.function.Link.{linked_header, linked_file, link}
-use Rattle.link_out.specs.relation.Relocated.{data_base_in, base_in}
+use Rattle.aout_core.specs.Addresses.{data_start_in}
+use Rattle.link_out.specs.relation.Relocated.{base_in}
 use Rattle.link_out.specs.laws.CommonsAndLayouts.{IsShifted, AreShifted, DifferInPlace}
 use Rattle.link_out.proofs.PartialLemmas.{IsProper, state_is_proper}
 use Rattle.link_out.proofs.MoveLemmas.{data_begun, rest_back}
@@ -89,10 +90,10 @@ module _ (forced : List (List ℕ)) (os : List Contents) (o : Choices) (layout :
   ms = mentions forced os
 
   -- where data and bss begin
-  data_p : data_base_in g ≡ p.at.data_start
+  data_p : data_start_in g ≡ p.at.data_start
   data_p = sym (data_begun o.layout (total TextSeg os))
 
-  data_q : data_base_in h ≡ q.at.data_start
+  data_q : data_start_in h ≡ q.at.data_start
   data_q = sym (data_begun layout (total TextSeg os))
 
   bss_p : base_in g bss BssSeg ≡ p.at.data_end + commons_laid o ms
@@ -235,17 +236,17 @@ module _ (forced : List (List ℕ)) (os : List Contents) (o : Choices) (layout :
   relocs_same : (segment : Segment) → final_relocs p os segment ≡ final_relocs q os segment
   relocs_same segment = λ i. flat_map (λ c. map (λ wr. let s : Reloc = record { 0 = wr.1.0 % 2 + bits_same (referent c.1 wr.1) i } in s) (words_of segment c.1)) (with_earlier [] os)
 
-  differ : DifferInPlace os (record { file = linked_file p os; report = findings p }) (record { file = linked_file q os; report = findings q })
+  differ : DifferInPlace os (record { file = linked_file p os; report = report_of p }) (record { file = linked_file q os; report = report_of q })
   differ = record {
     header = λ i. record h { symbol_size = 12 * (table_long forced os o ∙ sym (table_long forced os (record o { layout = layout }))) i; entry_point = (entry_same o.entry).0 i };
     text_reloc = ap (λ (rs : List Reloc). let ts : List Reloc = cond o.relocatable rs [] in ts) (relocs_same TextSeg);
     data_reloc = ap (λ (rs : List Reloc). let ts : List Reloc = cond o.relocatable rs [] in ts) (relocs_same DataSeg);
     symbols = table_shifted;
-    report = λ i. record (findings q) { entry_bad = (entry_same o.entry).1 i };
+    report = λ i. record (report_of q) { entry_bad = (entry_same o.entry).1 i };
   }
 
 pub layouts_differ : (forced : List (List ℕ)) (os : List Contents) (o : Choices) (layout : Layout) (x y : Outcome) → link forced os o ≡ Ok x → link forced os (record o { layout = layout }) ≡ Ok y → DifferInPlace os x y
 layouts_differ forced os o layout x y one two =
     subst (λ (a : Outcome). DifferInPlace os a y) (made (plan forced os o) os x one).outcome
-    (subst (λ (b : Outcome). DifferInPlace os (record { file = linked_file (plan forced os o) os; report = findings (plan forced os o) }) b) (made (plan forced os (record o { layout = layout })) os y two).outcome
+    (subst (λ (b : Outcome). DifferInPlace os (record { file = linked_file (plan forced os o) os; report = report_of (plan forced os o) }) b) (made (plan forced os (record o { layout = layout })) os y two).outcome
     (differ forced os o layout))

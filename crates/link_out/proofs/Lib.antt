@@ -37,6 +37,6 @@ pub mod ReportLemmas
 pub mod InOrderLemmas
 pub mod RowLemmas
 pub mod ReachLemmas
-pub mod FindingLemmas
+pub mod ReportNameLemmas
 pub mod FinishLemmas
 pub mod RunLemmas

@@ -16,7 +16,7 @@ use Rattle.link_out.specs.function.Finals.{Final, final, bound_at, waiting, rese
 use Rattle.link_out.specs.function.Tables.{external_row}
 use Rattle.link_out.specs.function.Finals.{final_at}
 use Rattle.link_out.specs.internal.InOrder.{finals_from, room_in}
-use Rattle.link_out.specs.relation.Relocated.{data_base_in}
+use Rattle.aout_core.specs.Addresses.{data_start_in}
 use Rattle.link_out.specs.relation.LinkedTable.{undefined_row, row_for, room_for, AreRows}
 use Rattle.link_out.proofs.PartialLemmas.{IsProper}
 use Rattle.link_out.proofs.ExternalLemmas.{row_at}
@@ -31,18 +31,18 @@ rows_at _ _ = []
 -- a header says where the segments lie
 pub record Tells (h : Header) (bss : ℕ) (b : Bases) : Type 0 where
   pub text_end : h.text_size ≡ b.text_end
-  pub data_start : data_base_in h ≡ b.data_start
-  pub data_end : data_base_in h + h.data_size ≡ b.data_end
-  pub bss_start : data_base_in h + h.data_size + (h.bss_size - bss) ≡ b.bss_start
-  pub bss_end : data_base_in h + h.data_size + h.bss_size ≡ b.bss_end
+  pub data_start : data_start_in h ≡ b.data_start
+  pub data_end : data_start_in h + h.data_size ≡ b.data_end
+  pub bss_start : data_start_in h + h.data_size + (h.bss_size - bss) ≡ b.bss_start
+  pub bss_end : data_start_in h + h.data_size + h.bss_size ≡ b.bss_end
 
 module _ (h : Header) (bss : ℕ) (o : Choices) (b : Bases) (tells : Tells h bss b) where
   undefined_same : (name : List ℕ) → undefined_row h o name ≡ row_at name (cond o.relocatable (waiting 0) (reserved_or_waiting b name))
   undefined_same name = by_tests o.relocatable (bytes_eq name etext) (bytes_eq name edata) (bytes_eq name end_name)
     where
       by_tests : (r t d e : Bool) →
-          (let s : Symbol = cond r (record { name = name; type_bits = 32; value = 0 }) (cond t (record { name = name; type_bits = 34; value = h.text_size }) (cond d (record { name = name; type_bits = 35; value = data_base_in h + h.data_size })
-          (cond e (record { name = name; type_bits = 36; value = data_base_in h + h.data_size + h.bss_size }) (record { name = name; type_bits = 32; value = 0 })))) in s)
+          (let s : Symbol = cond r (record { name = name; type_bits = 32; value = 0 }) (cond t (record { name = name; type_bits = 34; value = h.text_size }) (cond d (record { name = name; type_bits = 35; value = data_start_in h + h.data_size })
+          (cond e (record { name = name; type_bits = 36; value = data_start_in h + h.data_size + h.bss_size }) (record { name = name; type_bits = 32; value = 0 })))) in s)
           ≡ row_at name (cond r (waiting 0) (cond t (bound_at TextSeg b.text_end) (cond d (bound_at DataSeg b.data_end) (cond e (bound_at BssSeg b.bss_end) (waiting 0)))))
       by_tests true t d e = refl
       by_tests false true d e = ap (λ (n : ℕ). let s : Symbol = record { name = name; type_bits = 34; value = n } in s) tells.text_end

@@ -19,10 +19,11 @@ use Rattle.link_out.specs.Layouts.{data_base}
 use Rattle.link_out.specs.function.Plans.{Plan, plan, commons_laid}
 use Rattle.link_out.specs.function.Tables.{local_rows, external_row, external_rows, rows_kept, table, final_reloc, final_relocs, has_far_in, has_far_word}
 use Rattle.link_out.specs.function.Words.{final_words}
-use Rattle.link_out.specs.function.Reports.{findings, reserved_names, undefined_names, entry_word, entry_found_bad}
+use Rattle.link_out.specs.function.Reports.{report_of, reserved_names, undefined_names, entry_word, entry_found_bad}
 use Rattle.link_out.specs.internal.InOrder.{finals_from, room_in}
 use Rattle.link_out.specs.function.Link.{Outcome, linked_header, linked_file, link}
-use Rattle.link_out.specs.relation.Relocated.{data_base_in, base_in, IsEntry}
+use Rattle.aout_core.specs.Addresses.{data_start_in}
+use Rattle.link_out.specs.relation.Relocated.{base_in, IsEntry}
 use Rattle.link_out.specs.relation.LinkedTable.{AreRows, moved_locals_in}
 use Rattle.link_out.specs.relation.LinkedWords.{AreRelocated, AreKept}
 use Rattle.link_out.specs.relation.Reported.{ArePicked, IsReported}
@@ -59,13 +60,13 @@ module _ (forced : List (List ℕ)) (os : List Contents) (o : Choices) where
 
   tells : (s e : ℕ) → Tells (header_with s e) bss p.at
   tells s e =
-      let start : data_base_in (header_with s e) ≡ data_base o.layout (total TextSeg os) = sym (data_begun o.layout (total TextSeg os)) in
+      let start : data_start_in (header_with s e) ≡ data_base o.layout (total TextSeg os) = sym (data_begun o.layout (total TextSeg os)) in
       record {
         text_end = refl;
         data_start = start;
         data_end = ap (λ (n : ℕ). n + total DataSeg os) start;
         bss_start = λ i. start i + total DataSeg os + rest_back (commons_laid o ms) bss i;
-        bss_end = sums (data_base_in (header_with s e)) (data_base o.layout (total TextSeg os)) (total DataSeg os) (commons_laid o ms) bss start;
+        bss_end = sums (data_start_in (header_with s e)) (data_base o.layout (total TextSeg os)) (total DataSeg os) (commons_laid o ms) bss start;
       }
     where
       sums : (a b d c n : ℕ) → a ≡ b → a + d + (c + n) ≡ b + d + c + n
@@ -91,7 +92,7 @@ module _ (forced : List (List ℕ)) (os : List Contents) (o : Choices) where
     h = linked_header p os
 
     abbrev at : ℕ
-    at = data_base_in h + h.data_size
+    at = data_start_in h + h.data_size
 
     abbrev end : ℕ
     end = base_in h bss BssSeg
@@ -103,7 +104,7 @@ module _ (forced : List (List ℕ)) (os : List Contents) (o : Choices) where
     fits = ltb-false 65535 p.at.bss_end m.short
 
     short : end ≤ 65535
-    short = less (data_base_in h + h.data_size) h.bss_size bss p.at.bss_end told.bss_end fits
+    short = less (data_start_in h + h.data_size) h.bss_size bss p.at.bss_end told.bss_end fits
       where
         less : (a b n e : ℕ) → a + b ≡ e → e ≤ 65535 → a + (b - n) ≤ 65535
         less a b n e f g = omega arith
@@ -125,7 +126,7 @@ module _ (forced : List (List ℕ)) (os : List Contents) (o : Choices) where
     relocs_long true rs n e = e
     relocs_long false rs n e = refl
 
-    reported : IsReported forced os o (record { file = linked_file p os; report = findings p })
+    reported : IsReported forced os o (record { file = linked_file p os; report = report_of p })
     reported = record {
       others = others_of ms;
       picked = others_picked ms;
@@ -135,7 +136,7 @@ module _ (forced : List (List ℕ)) (os : List Contents) (o : Choices) where
       none = λ r. ap (λ (t : Bool). let ns : List (List ℕ) = cond t [] (undefined_names ms) in ns) r;
     }
 
-    linked : IsLinkedFrom forced os o (record { file = linked_file p os; report = findings p })
+    linked : IsLinkedFrom forced os o (record { file = linked_file p os; report = report_of p })
     linked = record {
       rows = external_rows p;
       holds = file_filled forced os o good;
@@ -171,9 +172,9 @@ module _ (forced : List (List ℕ)) (os : List Contents) (o : Choices) where
     -- the rows' commons and the objects' bytes are bss
     bss_same : g.bss_size ≡ commons_laid o ms + bss
     bss_same =
-        let room : (data_base_in g + g.data_size) + cond (lays_commons o) (room_in (named_by ms (map (λ s. s.name) l.rows))) 0 ≡ base_in g bss BssSeg = rows_end g bss o ms l.rows (data_base_in g + g.data_size) (base_in g bss BssSeg) l.are_rows in
+        let room : (data_start_in g + g.data_size) + cond (lays_commons o) (room_in (named_by ms (map (λ s. s.name) l.rows))) 0 ≡ base_in g bss BssSeg = rows_end g bss o ms l.rows (data_start_in g + g.data_size) (base_in g bss BssSeg) l.are_rows in
         let laid : cond (lays_commons o) (room_in (named_by ms (map (λ s. s.name) l.rows))) 0 ≡ commons_laid o ms = ap (λ (ns : List (List ℕ)). cond (lays_commons o) (room_in (named_by ms ns)) 0) l.names ∙ ap (λ (n : ℕ). cond (lays_commons o) n 0) (room-commons ms) in
-        sums (data_base_in g + g.data_size) (cond (lays_commons o) (room_in (named_by ms (map (λ s. s.name) l.rows))) 0) (commons_laid o ms) g.bss_size bss room laid l.holds.bss
+        sums (data_start_in g + g.data_size) (cond (lays_commons o) (room_in (named_by ms (map (λ s. s.name) l.rows))) 0) (commons_laid o ms) g.bss_size bss room laid l.holds.bss
       where
         sums : (a r c b n : ℕ) → a + r ≡ a + (b - n) → r ≡ c → n ≤ b → b ≡ c + n
         sums a r c b n e f k = omega arith
@@ -195,8 +196,8 @@ module _ (forced : List (List ℕ)) (os : List Contents) (o : Choices) where
 
     rows_same : l.rows ≡ external_rows p
     rows_same =
-        rows_are g bss o p.at told_back ms proper (base_in g bss BssSeg) (less (data_base_in g + g.data_size) g.bss_size bss l.header.short) l.rows (data_base_in g + g.data_size) 0
-        (record { here = λ lays. told_back.data_end ∙ omega arith; ends = rows_end g bss o ms l.rows (data_base_in g + g.data_size) (base_in g bss BssSeg) l.are_rows }) l.are_rows
+        rows_are g bss o p.at told_back ms proper (base_in g bss BssSeg) (less (data_start_in g + g.data_size) g.bss_size bss l.header.short) l.rows (data_start_in g + g.data_size) 0
+        (record { here = λ lays. told_back.data_end ∙ omega arith; ends = rows_end g bss o ms l.rows (data_start_in g + g.data_size) (base_in g bss BssSeg) l.are_rows }) l.are_rows
         ∙ ap (λ (ns : List (List ℕ)). rows_at ns (finals_from o p.at 0 (named_by ms ns))) l.names
         ∙ rows_finals
       where
@@ -257,7 +258,7 @@ module _ (forced : List (List ℕ)) (os : List Contents) (o : Choices) where
         by_test true e = l.report.none e
         by_test false e = undefined_are ms (externals forced os) x.report.undefined (l.report.undefined e)
 
-    report_same : findings p ≡ x.report
+    report_same : report_of p ≡ x.report
     report_same = λ i. record {
       multiples = sym (l.report.multiples ∙ ap (λ (ks : List Mention). map (λ m. m.name) ks) (others_are ms l.report.others l.report.picked)) i;
       reserved = sym (reserved_are ms x.report.reserved l.report.reserved) i;

@@ -1,5 +1,5 @@
 -- How far the segments of objects are moved.
-use Rattle.std.proofs.Common.{◌≡◌, ℕ, ◌+◌, ◌-◌, ◌*◌, ◌/◌, cond, eqb, List, refl, sym, ◌∙◌, ap, arith}
+use Rattle.std.proofs.Common.{◌≡◌, ℕ, ◌+◌, ◌-◌, List, refl, sym, ◌∙◌, ap, arith}
 use Rattle.aout_core.specs.declared.symbol.Segment.{Segment}
 use Rattle.aout_core.specs.declared.symbol.Segment.TheVariants.{Undefined, Absolute, TextSeg, DataSeg, BssSeg, Other}
 use Rattle.aout_core.specs.Contents.{Contents}
@@ -13,7 +13,8 @@ use Rattle.link_out.specs.Layouts.{data_base, magic_of}
 use Rattle.link_out.specs.function.Plans.{plan, commons_laid}
 use Rattle.link_out.specs.function.Words.{move}
 use Rattle.link_out.specs.function.Link.{linked_file}
-use Rattle.link_out.specs.relation.Relocated.{data_base_in, base_in, move_in}
+use Rattle.aout_core.specs.Addresses.{data_start, data_start_in}
+use Rattle.link_out.specs.relation.Relocated.{base_in, move_in}
 
 sum_moved : (b t n : ℕ) → plus b (minus t n) ≡ minus (b + t) n
 sum_moved b t n = omega arith
@@ -21,7 +22,7 @@ sum_moved b t n = omega arith
 pub rest_back : (c t : ℕ) → (c + t) - t ≡ c
 rest_back c t = omega arith
 
-pub data_begun : (layout : Layout) (t : ℕ) → data_base layout t ≡ cond (eqb (magic_of layout) 263) t (cond (eqb (magic_of layout) 264) ((t + 8191) / 8192 * 8192) 0)
+pub data_begun : (layout : Layout) (t : ℕ) → data_base layout t ≡ data_start (magic_of layout) t
 data_begun Plain t = refl
 data_begun Pure t = refl
 data_begun Split t = refl
@@ -34,7 +35,7 @@ move_by_header forced os o before k Other = refl
 move_by_header forced os o before k TextSeg = sum_moved 0 (total TextSeg before) 0
 move_by_header forced os o before k DataSeg =
     ap (λ (b : ℕ). plus b (minus (total DataSeg before) (own k DataSeg))) (data_begun o.layout (total TextSeg os))
-    ∙ sum_moved (data_base_in (linked_file (plan forced os o) os).header) (total DataSeg before) (own k DataSeg)
+    ∙ sum_moved (data_start_in (linked_file (plan forced os o) os).header) (total DataSeg before) (own k DataSeg)
 move_by_header forced os o before k BssSeg =
     let c = commons_laid o (mentions forced os) in
     (λ i. plus (data_begun o.layout (total TextSeg os) i + total DataSeg os + sym (rest_back c (total BssSeg os)) i) (minus (total BssSeg before) (own k BssSeg)))

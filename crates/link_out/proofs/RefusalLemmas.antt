@@ -32,7 +32,7 @@ use Rattle.link_out.specs.Layouts.{data_base}
 use Rattle.link_out.specs.function.Plans.{Plan, plan, common_size, common_offset}
 use Rattle.link_out.specs.function.Finals.{final, final_by, bound_at, waiting, reserved_or_waiting}
 use Rattle.link_out.specs.function.Tables.{is_kept_local, rows_kept, moved_local, local_rows, external_row, external_rows, table, row_of, waits_far, is_out_of_reach, has_far_in, has_far_word}
-use Rattle.link_out.specs.function.Reports.{findings}
+use Rattle.link_out.specs.function.Reports.{report_of}
 use Rattle.link_out.specs.internal.InOrder.{room_in}
 use Rattle.link_out.specs.relation.NameStates.{HasState, IsWanted}
 use Rattle.link_out.specs.relation.LinkedTable.{room_for}
@@ -315,7 +315,7 @@ module _ (forced : List (List ℕ)) (os : List Contents) (o : Choices) where
   -- refusals
 
   abbrev made_by : Bool → Bool → Bool → Result Outcome LinkFault
-  made_by t u v = cond t (Err DoesNotFit) (cond u (Err TooManySymbols) (cond v (Err SymbolNumber) (Ok (record { file = linked_file p os; report = findings p }))))
+  made_by t u v = cond t (Err DoesNotFit) (cond u (Err TooManySymbols) (cond v (Err SymbolNumber) (Ok (record { file = linked_file p os; report = report_of p }))))
 
   refused_by : AllByRecursion IsObject os → (fault : LinkFault) → link forced os o ≡ Err fault → IsRefused forced os o fault
   refused_by good fault h = by_tests (nat_lt 65535 p.at.bss_end) refl (nat_lt 5461 (length (table p os))) refl o.relocatable refl (has_far_word p os) refl h

@@ -3,7 +3,7 @@ use Rattle.std.proofs.Common.{◌≡◌, ℕ, ◌<◌, Bool, true, false, cond, 
 use Rattle.std.specs.Prelude.{codes, ◌==◌, ◌&&◌, is_none}
 use Rattle.std.specs.List.{flat_map}
 use Rattle.std.proofs.lemmas.List.Concat.{flat_map-append}
-use Rattle.link_out.specs.function.Reports.{Findings, line, entry_lines, undefined_lines, report_text, status_of}
+use Rattle.link_out.specs.function.Reports.{ReportNames, line, entry_lines, undefined_lines, report_text, status_of}
 use Rattle.link_out.specs.internal.ReportParts.{is_silent, multiple_lines}
 
 abbrev pub status : Bool → ℕ
@@ -21,10 +21,10 @@ line_counts : (name text lines more : List ℕ) → 0 < length (name ++ text ++ 
 line_counts name text lines more =
     omega (arith, length-append (name ++ text ++ 10 ∷ [] ++ lines) more, length-append (name ++ text ++ 10 ∷ []) lines, length-append (name ++ text) (10 ∷ []))
 
-pub status_by_silence : (f : Findings) → status_of f ≡ status (is_silent f)
+pub status_by_silence : (f : ReportNames) → status_of f ≡ status (is_silent f)
 status_by_silence f = by_parts f.multiples f.reserved f.entry_bad f.undefined
   where
-    found : List (List ℕ) → List (List ℕ) → Option (List ℕ) → List (List ℕ) → Findings
+    found : List (List ℕ) → List (List ℕ) → Option (List ℕ) → List (List ℕ) → ReportNames
     found m r e u = record { multiples = m; reserved = r; entry_bad = e; undefined = u }
 
     rest : Option (List ℕ) → List (List ℕ) → List ℕ

@@ -17,7 +17,7 @@ use Rattle.link_session.proofs.ListLemmas.{all_append, all_split}
 use Rattle.link_session.proofs.MentionLemmas.{mentions-append}
 use Rattle.tool_options.specs.Choices.{Choices}
 use Rattle.link_out.specs.function.Plans.{plan}
-use Rattle.link_out.specs.function.Reports.{Findings}
+use Rattle.link_out.specs.function.Reports.{ReportNames}
 use Rattle.link_out.specs.function.Link.{Outcome, link}
 use Rattle.link_out.specs.laws.WordsAndNames.{IsSaid, HasTwoDefinitions}
 use Rattle.link_out.proofs.IndexLemmas.{all_get, all_filtered}
@@ -171,5 +171,5 @@ module _ (forced : List (List ℕ)) (os : List Contents) (name : List ℕ) where
 pub multiples_differ : (forced : List (List ℕ)) (os : List Contents) (o : Choices) (x : Outcome) → link forced os o ≡ Ok x →
     (name : List ℕ) → (is_among x.report.multiples name ≡ true) ↔ HasTwoDefinitions os name
 multiples_differ forced os o x linked name =
-    let report = ap (λ (f : Findings). is_among f.multiples name) (made_report (plan forced os o) os x linked) in
+    let report = ap (λ (f : ReportNames). is_among f.multiples name) (made_report (plan forced os o) os x linked) in
     ((λ h. two_differ forced os name (report ∙ h)), (λ h. sym report ∙ among_multiples forced os name h))

@@ -18,7 +18,7 @@ use Rattle.link_out.specs.Layouts.{Bases}
 use Rattle.link_out.specs.function.Plans.{Plan, plan, common_offset}
 use Rattle.link_out.specs.function.Finals.{Final, final, final_by, type_of, bound_at, waiting, reserved_or_waiting, etext, edata, end_name}
 use Rattle.link_out.specs.function.Tables.{external_row}
-use Rattle.link_out.specs.function.Reports.{Findings, is_undefined, undefined_names, reserved_names}
+use Rattle.link_out.specs.function.Reports.{ReportNames, is_undefined, undefined_names, reserved_names}
 use Rattle.link_out.specs.function.Link.{Outcome, link}
 use Rattle.link_out.specs.relation.Relocated.{entry_of}
 use Rattle.link_out.proofs.PartialLemmas.{IsProper, state_is_proper}
@@ -75,7 +75,7 @@ names_have_addresses forced os o x others plain linked none name row e =
     undefined : undefined_names (mentions forced os) ≡ []
     undefined =
         ap (λ (r : Bool). cond r [] (undefined_names (mentions forced os))) (sym plain)
-        ∙ ap (λ (f : Findings). f.undefined) (made_report (plan forced os o) os x linked) ∙ none
+        ∙ ap (λ (f : ReportNames). f.undefined) (made_report (plan forced os o) os x linked) ∙ none
 
     by_test : (t : Bool) → is_among (names_by_first_mention (mentions forced os)) name ≡ t → cond t (Some (external_row (plan forced os o) name)) None ≡ Some row → eqb (masked_type row) 0 ≡ false
     by_test false k f = absurd (no_row row f)
@@ -117,7 +117,7 @@ waiting_still p name (Wanted size) h = by_tests (plus p.at.data_end (common_offs
 pub missing_have_no_address : (forced : List (List ℕ)) (os : List Contents) (o : Choices) (x : Outcome) → o.keep ≢ Nothing → link forced os o ≡ Ok x →
     (name : List ℕ) → is_among x.report.undefined name ≡ true → (row : Symbol) × (entry_of x.file.symbols name ≡ Some row) × (row.type_bits ≡ 32) × (row.value ≡ 0)
 missing_have_no_address forced os o x others linked name h =
-    by_relocation o.relocatable (ap (λ (f : Findings). is_among f.undefined name) (made_report (plan forced os o) os x linked) ∙ h)
+    by_relocation o.relocatable (ap (λ (f : ReportNames). is_among f.undefined name) (made_report (plan forced os o) os x linked) ∙ h)
   where
     by_relocation : (r : Bool) → is_among (cond r [] (undefined_names (mentions forced os))) name ≡ true → (row : Symbol) × (entry_of x.file.symbols name ≡ Some row) × (row.type_bits ≡ 32) × (row.value ≡ 0)
     by_relocation true k = absurd (cc)

@@ -6,10 +6,10 @@ use Rattle.link_out.specs.declared.linked.Report.{Report}
 use Rattle.link_out.specs.declared.linked.Linked.{Linked}
 use Rattle.link_out.specs.declared.linked.LinkFault.{LinkFault}
 use Rattle.link_out.specs.declared.linked.LinkFault.TheVariants.{Memory}
-use Rattle.link_out.specs.Results.{Findings, Outcome}
+use Rattle.link_out.specs.Results.{ReportNames, Outcome}
 
-abbrev pub findings_of : Report → Findings
-findings_of r = record {
+abbrev pub report_names : Report → ReportNames
+report_names r = record {
   multiples = r.multiples.items;
   reserved = r.reserved.items;
   entry_bad = r.entry_bad;
@@ -17,7 +17,7 @@ findings_of r = record {
 }
 
 abbrev pub outcome_of : Linked → Outcome
-outcome_of l = record { file = l.file; report = findings_of l.report }
+outcome_of l = record { file = l.file; report = report_names l.report }
 
 -- a result is the link of the objects; Memory is returned only if there is a file
 abbrev pub IsLinkOf : Result Linked LinkFault → Result Outcome LinkFault → Type 0

@@ -3,7 +3,7 @@ use Rattle.std.specs.Prelude.{ℕ, List, Option}
 use Rattle.aout_core.specs.Contents.{Contents}
 
 -- names multiply defined, reserved names that are defined or common, an entry point that is not in text, undefined names
-pub record Findings : Type 0 where
+pub record ReportNames : Type 0 where
   pub multiples : List (List ℕ)
   pub reserved : List (List ℕ)
   pub entry_bad : Option (List ℕ)
@@ -11,4 +11,4 @@ pub record Findings : Type 0 where
 
 pub record Outcome : Type 0 where
   pub file : Contents
-  pub report : Findings
+  pub report : ReportNames

@@ -11,6 +11,7 @@ ghost use Rattle.link_out.specs.Layouts.{bases, data_base};
 ghost use Rattle.link_out.specs.function.Plans.{common_size, commons_laid, plan};
 ghost use Rattle.link_out.specs.internal.InOrder.{room_in};
 
+use aout_core::next_boundary;
 use link_session::{Session, State};
 use std::marker::Model;
 use tool_options::{Layout, Options};
@@ -43,7 +44,7 @@ fn data_base(layout: Layout, text: u16) -> u64
 {
     match layout {
         Layout::Plain => text as u64,
-        Layout::Pure => (text as u64 + 8191) / 8192 * 8192,
+        Layout::Pure => next_boundary(text as usize) as u64,
         Layout::Split => 0,
     }
 }

@@ -36,7 +36,6 @@
 mod edit;
 mod externals;
 mod finals;
-mod findings;
 mod kept_symbols;
 pub mod laws;
 mod layout;
@@ -44,6 +43,7 @@ mod linked;
 mod linker;
 mod reach;
 mod relocs;
+mod report;
 mod reserved_names;
 mod runner;
 mod table;

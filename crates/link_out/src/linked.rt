@@ -3,7 +3,7 @@ ghost use Rattle.std.specs.Prelude.{◌≡◌, ◌++◌};
 ghost use Rattle.std.specs.List.{flat_map};
 ghost use Rattle.aout_core.specs.Wires.{Writes};
 ghost use Rattle.link_out.specs.function.Reports.{report_text, status_of, entry_lines, undefined_lines};
-ghost use Rattle.link_out.specs.Outcomes.{findings_of};
+ghost use Rattle.link_out.specs.Outcomes.{report_names};
 ghost use Rattle.link_out.specs.internal.ReportParts.{is_silent, multiple_lines};
 ghost use Rattle.link_out.specs.declared.linked.LinkFault.TheVariants.{Memory};
 
@@ -75,14 +75,14 @@ fn put_names<W: Write>(names: &[Name], text: &[u8], out: &mut Wire<W>) -> Result
 impl Report {
     /// The status that a program ends with: 0 if there is nothing to report, else 1. (own choice)
     pub fn status(&self) -> u8
-        ensures { result ≡ status_of (findings_of self.now) }
+        ensures { result ≡ status_of (report_names self.now) }
     {
         if self.is_silent() { 0 } else { 1 }
     }
 
     /// Whether there is nothing to report.
     fn is_silent(&self) -> bool
-        ensures { result ≡ is_silent (findings_of self.now) }
+        ensures { result ≡ is_silent (report_names self.now) }
     {
         self.multiples.is_empty()
             && self.reserved.is_empty()
@@ -94,7 +94,7 @@ impl Report {
     /// `NAME: Entry point not in text`, and the line `Undefined:` with the undefined names below it, one a line.
     /// On a fault a prefix of this went out. (own choice)
     pub fn write<W: Write>(&self, out: &mut Wire<W>) -> Result<(), DeviceFault>
-        ensures { Writes W.contents result out.old out.new (report_text (findings_of self.now)) }
+        ensures { Writes W.contents result out.old out.new (report_text (report_names self.now)) }
     {
         self.write_multiples(out)?;
         self.write_entry_and_undefined(out)

@@ -14,12 +14,12 @@ ghost use Rattle.link_out.specs.internal.Passes.{IsPassed};
 ghost use Rattle.link_out.specs.Outcomes.{IsLinkOf, outcome_of};
 
 use crate::finals::{Final, finals_of};
-use crate::findings::{entry_point, report_of};
 use crate::kept_symbols::locals_within;
 use crate::layout::{Bases, link_bases};
 use crate::linked::{LinkFault, Linked};
 use crate::reach::has_far_word;
 use crate::relocs::relocs_of_cells;
+use crate::report::{entry_point, report_of};
 use crate::table::table;
 use crate::words::words_of_cells;
 use aout_core::{File, Header, Parts, Reloc, Segment};

@@ -13,7 +13,8 @@ use Rattle.listings.specs.declared.fault.Word.TheVariants.{Text, Data, Symbols, 
 use Rattle.listings.specs.Octal.{number}
 use Rattle.listings.specs.Columns.{Row}
 use Rattle.listings.specs.Names.{name_of}
-use Rattle.listings.specs.Drafts.{Segment, Draft, empty_draft, finished, data_start}
+use Rattle.aout_core.specs.Addresses.{data_start}
+use Rattle.listings.specs.Drafts.{Segment, Draft, empty_draft, finished}
 use Rattle.listings.specs.Reading.{Mistake, ◌>>=◌, in_column, relocs_of, with_word, word_entry, symbol_entry, entry_in, word_in, rank, only_first, not_last, named_by, named, is_decimal, is_label, row_by, row_read}
 use Rattle.listings.specs.internal.Whole.{IsWhole, IsEmpty, Begins, IsDraft}
 

@@ -12,16 +12,18 @@ use Rattle.aout_core.specs.Contents.{Contents, is_magic, has_whole_sizes, IsWord
 use Rattle.listings.specs.declared.fault.Reason.{Reason}
 use Rattle.listings.specs.declared.fault.Reason.TheVariants.{NoMagic, OddSize}
 use Rattle.listings.specs.declared.fault.Section.TheVariants.{InText, InData, InSymbols}
-use Rattle.listings.specs.Octal.{octal, short_octal, number}
+use Rattle.texts.specs.Numbers.{six_digits, octal}
+use Rattle.listings.specs.Octal.{number}
 use Rattle.listings.specs.Columns.{lines_in, Row, row_of, column, from_third, from_fourth}
-use Rattle.listings.specs.Names.{shown_name}
-use Rattle.listings.specs.Drafts.{Segment, Draft, empty_segment, empty_draft, finished, data_start}
+use Rattle.texts.specs.Names.{printable_name}
+use Rattle.aout_core.specs.Addresses.{data_start}
+use Rattle.listings.specs.Drafts.{Segment, Draft, empty_segment, empty_draft, finished}
 use Rattle.listings.specs.Listing.{Remarks, gap, wide, remarked, word_line, word_lines, symbol_lines, named_line, unusual, note_lines, head_lines, text_lines, data_lines, bss_lines, table_lines, listing_lines, listing}
 use Rattle.listings.specs.Reading.{◌>>=◌, in_column, named, is_label, row_read, lines_read, file_of, read}
 use Rattle.listings.proofs.OctalLemmas.{IsNumber, octal_again, short_again, octal_digits, short_digits}
 use Rattle.listings.proofs.ColumnLemmas.{IsColumn, ink, number_column, row_two, line_of_column, line_gap, line_last, lines_again}
-use Rattle.listings.specs.declared.part.Part.{Part}
-use Rattle.listings.specs.declared.part.Part.TheVariants as parts
+use Rattle.aout_core.specs.declared.part.Part.{Part}
+use Rattle.aout_core.specs.declared.part.Part.TheVariants as parts
 use Rattle.listings.specs.Laws.{IsLine, IsLabel, AreRemarks}
 use Rattle.listings.proofs.NameLemmas.{name_column}
 use Rattle.listings.proofs.RowLemmas.{Reads, reads_nil, reads_one, reads_both, reads_more, entry_row, Enters, AreRelocs, line_with, line_alone, words_with, words_alone, symbols_read}
@@ -34,20 +36,20 @@ lines_append : (xs ys : List (List ℕ)) → AreLines xs → AreLines ys → Are
 lines_append [] ys hx hy = hy
 lines_append (x ∷ xs) ys hx hy = (hx.0, lines_append xs ys hx.1 hy)
 
-octal_column : (n : ℕ) → IsColumn (octal n)
-octal_column n = number_column (octal n) (octal_digits n)
+octal_column : (n : ℕ) → IsColumn (six_digits n)
+octal_column n = number_column (six_digits n) (octal_digits n)
 
-short_column : (n : ℕ) → IsColumn (short_octal n)
-short_column n = number_column (short_octal n) (short_digits n)
+short_column : (n : ℕ) → IsColumn (octal n)
+short_column n = number_column (octal n) (short_digits n)
 
 word_line_is : (said : List ℕ) (at w : ℕ) (r : Option Reloc) → IsLine said → IsLine (word_line said at w r)
 word_line_is said at w None is =
-    subst IsLine (sym (line_alone said at w)) (line_gap 1 (octal at) (octal w ++ remarked said) (octal_column at) (line_last (octal w) said (octal_column w) is))
+    subst IsLine (sym (line_alone said at w)) (line_gap 1 (six_digits at) (six_digits w ++ remarked said) (octal_column at) (line_last (six_digits w) said (octal_column w) is))
 word_line_is said at w (Some r) is =
-    let k = short_octal r.0 in
+    let k = octal r.0 in
     subst IsLine (sym (line_with said at w r))
-    (line_gap 1 (octal at) (gap (wide 4 k) (octal w) (k ++ remarked said)) (octal_column at)
-    (line_gap (wide 4 k) (octal w) (k ++ remarked said) (octal_column w) (line_last k said (short_column r.0) is)))
+    (line_gap 1 (six_digits at) (gap (wide 4 k) (six_digits w) (k ++ remarked said)) (octal_column at)
+    (line_gap (wide 4 k) (six_digits w) (k ++ remarked said) (octal_column w) (line_last k said (short_column r.0) is)))
 
 labels_are : (ls : List (List ℕ)) → AllByRecursion IsLabel ls → AreLines ls
 labels_are [] h = tt
@@ -62,13 +64,13 @@ word_lines_are x p i at (w ∷ ws) rs are =
 symbol_lines_are : (x : Remarks) (n : ℕ) (ss : List Symbol) → AreRemarks x → AreLines (symbol_lines x n ss)
 symbol_lines_are x n [] are = tt
 symbol_lines_are x n (s ∷ ss) are =
-    let a = short_octal n in
-    let b = shown_name s.name in
-    let c = short_octal s.type_bits in
-    let e = octal s.value ++ remarked (x.symbol s) in (
+    let a = octal n in
+    let b = printable_name s.name in
+    let c = octal s.type_bits in
+    let e = six_digits s.value ++ remarked (x.symbol s) in (
       line_gap (wide 4 a) a (gap (wide 8 b + (3 - length c)) b (gap 1 c e)) (short_column n)
           (line_gap (wide 8 b + (3 - length c)) b (gap 1 c e) (name_column s.name)
-          (line_gap 1 c e (short_column s.type_bits) (line_last (octal s.value) (x.symbol s) (octal_column s.value) (are.symbol s)))),
+          (line_gap 1 c e (short_column s.type_bits) (line_last (six_digits s.value) (x.symbol s) (octal_column s.value) (are.symbol s)))),
       symbol_lines_are x (n + 1) ss are,
     )
 
@@ -97,7 +99,7 @@ symbols_column : IsColumn (codes "symbols")
 symbols_column = (omega arith, (omega arith, (omega arith, (omega arith, (omega arith, (omega arith, (omega arith, tt)))))))
 
 named_line_is : (w : List ℕ) (n : ℕ) → IsColumn w → IsLine (named_line w n)
-named_line_is w n h = line_gap 0 w (octal n) h (line_of_column (octal n) (ink (octal n) (octal_column n)))
+named_line_is w n h = line_gap 0 w (six_digits n) h (line_of_column (six_digits n) (ink (six_digits n) (octal_column n)))
 
 unusual_by : (usual n : ℕ) (w : List ℕ) (t : Bool) → eqb n usual ≡ t → IsColumn w → AreLines (unusual usual w n)
 unusual_by usual n w true e h = rw e tt
@@ -121,7 +123,7 @@ listing_lines_are x c are =
     (lines_append (data_lines x c) (bss_lines c.header ++ (table_lines x c ++ note_lines x.findings))
     (line_of_column (codes "data") data_column, word_lines_are x parts.Data 0 (data_start c.header.magic c.header.text_size) c.data_words c.data_reloc are)
     (lines_append (bss_lines c.header) (table_lines x c ++ note_lines x.findings) (
-      line_gap 0 (codes "bss") (short_octal c.header.bss_size) bss_column (line_of_column (short_octal c.header.bss_size) (ink (short_octal c.header.bss_size) (short_column c.header.bss_size))),
+      line_gap 0 (codes "bss") (octal c.header.bss_size) bss_column (line_of_column (octal c.header.bss_size) (ink (octal c.header.bss_size) (short_column c.header.bss_size))),
       lines_append (unusual 0 (codes "entry") c.header.entry_point) (unusual 0 (codes "unused") c.header.unused)
           (unusual_are 0 c.header.entry_point (codes "entry") entry_column) (unusual_are 0 c.header.unused (codes "unused") unused_column),
     )
@@ -144,21 +146,21 @@ unlabelled d f g k m h =
 
 -- a word of the header
 header_row : (d : Draft) (w : List ℕ) (n : ℕ) (put : ℕ → Draft) → IsColumn w → IsWord n →
-    ((k m : List ℕ) → row_read d (record { first = w; second = octal n; third = k; fourth = m }) ≡ (in_column 1 (number (octal n)) >>= (λ (x : ℕ). Ok (put x)))) →
+    ((k m : List ℕ) → row_read d (record { first = w; second = six_digits n; third = k; fourth = m }) ≡ (in_column 1 (number (six_digits n)) >>= (λ (x : ℕ). Ok (put x)))) →
     row_read d (row_of (named_line w n)) ≡ Ok (put n)
 header_row d w n put h small found =
-    ap (row_read d) (ap (λ (y : List ℕ). row_of (gap 0 w y)) (sym (append-nil (octal n))) ∙ row_two 0 w (octal n) [] h (octal_column n))
-    ∙ found (column (from_third (gap 0 w (octal n ++ [])))) (column (from_fourth (gap 0 w (octal n ++ []))))
+    ap (row_read d) (ap (λ (y : List ℕ). row_of (gap 0 w y)) (sym (append-nil (six_digits n))) ∙ row_two 0 w (six_digits n) [] h (octal_column n))
+    ∙ found (column (from_third (gap 0 w (six_digits n ++ [])))) (column (from_fourth (gap 0 w (six_digits n ++ []))))
     ∙ ap (λ (x : Result ℕ Reason). in_column 1 x >>= (λ (y : ℕ). Ok (put y))) (octal_again n small)
 
 -- the size of bss, which has to be even
 short_row : (d : Draft) (w : List ℕ) (n : ℕ) (put : ℕ → Draft) → IsColumn w → IsWord n → eqb (n % 2) 0 ≡ true →
-    ((k m : List ℕ) → row_read d (record { first = w; second = short_octal n; third = k; fourth = m })
-    ≡ (in_column 1 (number (short_octal n)) >>= (λ (x : ℕ). if eqb (x % 2) 0 then Ok (put x) else Err (1, OddSize)))) →
-    row_read d (row_of (gap 0 w (short_octal n))) ≡ Ok (put n)
+    ((k m : List ℕ) → row_read d (record { first = w; second = octal n; third = k; fourth = m })
+    ≡ (in_column 1 (number (octal n)) >>= (λ (x : ℕ). if eqb (x % 2) 0 then Ok (put x) else Err (1, OddSize)))) →
+    row_read d (row_of (gap 0 w (octal n))) ≡ Ok (put n)
 short_row d w n put h small even found =
-    ap (row_read d) (ap (λ (y : List ℕ). row_of (gap 0 w y)) (sym (append-nil (short_octal n))) ∙ row_two 0 w (short_octal n) [] h (short_column n))
-    ∙ found (column (from_third (gap 0 w (short_octal n ++ [])))) (column (from_fourth (gap 0 w (short_octal n ++ []))))
+    ap (row_read d) (ap (λ (y : List ℕ). row_of (gap 0 w y)) (sym (append-nil (octal n))) ∙ row_two 0 w (octal n) [] h (short_column n))
+    ∙ found (column (from_third (gap 0 w (octal n ++ [])))) (column (from_fourth (gap 0 w (octal n ++ []))))
     ∙ ap (λ (x : Result ℕ Reason). in_column 1 x >>= (λ (y : ℕ). if eqb (y % 2) 0 then Ok (put y) else Err (1, OddSize))) (short_again n small)
     ∙ rw even refl
 
@@ -178,8 +180,8 @@ whole_bss h whole = whole_bss_by (eqb (h.text_size % 2) 0) (eqb (h.data_size % 2
 -- the magic number, which has to be one that a file has
 magic_row : (n : ℕ) → IsWord n → IsTrue (is_magic n) → row_read empty_draft (row_of (named_line (codes "magic") n)) ≡ Ok (with_magic n)
 magic_row n small is =
-    ap (row_read empty_draft) (ap (λ (y : List ℕ). row_of (gap 0 (codes "magic") y)) (sym (append-nil (octal n))) ∙ row_two 0 (codes "magic") (octal n) [] magic_column (octal_column n))
-    ∙ unlabelled empty_draft (codes "magic") (octal n) (column (from_third (gap 0 (codes "magic") (octal n ++ [])))) (column (from_fourth (gap 0 (codes "magic") (octal n ++ [])))) (octal_digits n)
+    ap (row_read empty_draft) (ap (λ (y : List ℕ). row_of (gap 0 (codes "magic") y)) (sym (append-nil (six_digits n))) ∙ row_two 0 (codes "magic") (six_digits n) [] magic_column (octal_column n))
+    ∙ unlabelled empty_draft (codes "magic") (six_digits n) (column (from_third (gap 0 (codes "magic") (six_digits n ++ [])))) (column (from_fourth (gap 0 (codes "magic") (six_digits n ++ [])))) (octal_digits n)
     ∙ ap (λ (x : Result ℕ Reason). in_column 1 x >>= (λ (y : ℕ). if is_magic y then Ok (with_magic y) else Err (1, NoMagic))) (octal_again n small)
     ∙ rw is refl
 
@@ -210,7 +212,7 @@ head_reads c sound =
     reads_both empty_draft (with_magic c.header.magic) (head_draft c) (unusual 0o407 (codes "magic") c.header.magic) (unusual 0 (codes "flag") c.header.flag)
     (unusual_reads with_magic 0o407 c.header.magic (codes "magic") (magic_row c.header.magic h.magic sound.fits.magic))
     (unusual_reads (with_flag c) 0 c.header.flag (codes "flag")
-    (header_row (with_magic c.header.magic) (codes "flag") c.header.flag (with_flag c) flag_column h.flag (λ k m. unlabelled (with_magic c.header.magic) (codes "flag") (octal c.header.flag) k m (octal_digits c.header.flag))))
+    (header_row (with_magic c.header.magic) (codes "flag") c.header.flag (with_flag c) flag_column h.flag (λ k m. unlabelled (with_magic c.header.magic) (codes "flag") (six_digits c.header.flag) k m (octal_digits c.header.flag))))
 
 -- what has been read within the text, the data and the table
 abbrev in_text : Contents → Segment → Draft
@@ -244,15 +246,15 @@ bss_reads : (c : Contents) → IsSound c → Reads (in_data c (data_segment c)) 
 bss_reads c sound =
     let h = sound.header in
     let data_draft = in_data c (data_segment c) in
-    reads_more data_draft (with_bss c c.header.bss_size) (header_draft c) (gap 0 (codes "bss") (short_octal c.header.bss_size))
+    reads_more data_draft (with_bss c c.header.bss_size) (header_draft c) (gap 0 (codes "bss") (octal c.header.bss_size))
     (unusual 0 (codes "entry") c.header.entry_point ++ unusual 0 (codes "unused") c.header.unused)
-    (short_row data_draft (codes "bss") c.header.bss_size (with_bss c) bss_column h.bss_size (whole_bss c.header sound.fits.sizes) (λ k m. unlabelled data_draft (codes "bss") (short_octal c.header.bss_size) k m (short_digits c.header.bss_size)))
+    (short_row data_draft (codes "bss") c.header.bss_size (with_bss c) bss_column h.bss_size (whole_bss c.header sound.fits.sizes) (λ k m. unlabelled data_draft (codes "bss") (octal c.header.bss_size) k m (short_digits c.header.bss_size)))
     (reads_both (with_bss c c.header.bss_size) (with_entry c c.header.entry_point) (header_draft c)
     (unusual 0 (codes "entry") c.header.entry_point) (unusual 0 (codes "unused") c.header.unused)
     (unusual_reads (with_entry c) 0 c.header.entry_point (codes "entry")
-    (header_row (with_bss c c.header.bss_size) (codes "entry") c.header.entry_point (with_entry c) entry_column h.entry_point (λ k m. unlabelled (with_bss c c.header.bss_size) (codes "entry") (octal c.header.entry_point) k m (octal_digits c.header.entry_point))))
+    (header_row (with_bss c c.header.bss_size) (codes "entry") c.header.entry_point (with_entry c) entry_column h.entry_point (λ k m. unlabelled (with_bss c c.header.bss_size) (codes "entry") (six_digits c.header.entry_point) k m (octal_digits c.header.entry_point))))
     (unusual_reads (with_unused c) 0 c.header.unused (codes "unused")
-    (header_row (with_entry c c.header.entry_point) (codes "unused") c.header.unused (with_unused c) unused_column h.unused (λ k m. unlabelled (with_entry c c.header.entry_point) (codes "unused") (octal c.header.unused) k m (octal_digits c.header.unused)))))
+    (header_row (with_entry c c.header.entry_point) (codes "unused") c.header.unused (with_unused c) unused_column h.unused (λ k m. unlabelled (with_entry c c.header.entry_point) (codes "unused") (six_digits c.header.unused) k m (octal_digits c.header.unused)))))
 
 -- the relocation of a segment is whole, or not there
 segment_reads : (x : Remarks) (p : Part) (put : Segment → Draft) (start flag at size : ℕ) (ws : List ℕ) (rs : List Reloc) (t : Bool) → AreRemarks x → eqb flag 0 ≡ t →

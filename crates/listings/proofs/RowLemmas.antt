@@ -7,11 +7,13 @@ use Rattle.aout_core.specs.declared.reloc.Reloc.{Reloc}
 use Rattle.aout_core.specs.declared.symbol.Symbol.{Symbol}
 use Rattle.aout_core.specs.Contents.{IsWord, IsSymbol}
 use Rattle.listings.specs.declared.fault.Section.TheVariants.{InSymbols}
-use Rattle.listings.specs.Octal.{octal, short_octal, number}
+use Rattle.texts.specs.Numbers.{six_digits, octal}
+use Rattle.listings.specs.Octal.{number}
 use Rattle.listings.specs.Columns.{row_of, column, from_third, from_fourth}
-use Rattle.listings.specs.Names.{shown_name, name_of}
+use Rattle.texts.specs.Names.{printable_name}
+use Rattle.listings.specs.Names.{name_of}
 use Rattle.listings.specs.Drafts.{Segment, Draft}
-use Rattle.listings.specs.declared.part.Part.{Part}
+use Rattle.aout_core.specs.declared.part.Part.{Part}
 use Rattle.listings.specs.Laws.{IsLabel, AreRemarks}
 use Rattle.listings.specs.Listing.{Remarks, gap, wide, remarked, word_line, word_lines, symbol_line, symbol_lines}
 use Rattle.listings.specs.Reading.{Mistake, ◌>>=◌, relocs_of, with_word, word_entry, symbol_entry, entry_in, row_read, in_line, lines_read}
@@ -58,7 +60,7 @@ word_found start flag at w s rs f g k m hf hg hk place room =
     let fits : ltb (length s.words) 32767 ≡ true = lt-ltb (length s.words) 32767 room in
     rw (hf, hg, hk, there, fits) refl
 
-relocs_there : (flag : ℕ) (r : Reloc) → eqb flag 0 ≡ true → IsWord r.0 → relocs_of flag (short_octal r.0) ≡ Ok (r ∷ [])
+relocs_there : (flag : ℕ) (r : Reloc) → eqb flag 0 ≡ true → IsWord r.0 → relocs_of flag (octal r.0) ≡ Ok (r ∷ [])
 relocs_there flag r on h = rw (on, short_again r.0 h) refl
 
 relocs_none : (flag : ℕ) (k : List ℕ) → eqb flag 0 ≡ false → relocs_of flag k ≡ Ok []
@@ -87,14 +89,14 @@ gap_append : (n : ℕ) (a b t : List ℕ) → gap n a b ++ t ≡ gap n a (b ++ t
 gap_append n a b t = append_assoc a (32 ∷ (replicate n 32 ++ b)) t ∙ ap (λ (y : List ℕ). a ++ 32 ∷ y) (append_assoc (replicate n 32) b t)
 
 pub line_with : (said : List ℕ) (at w : ℕ) (r : Reloc) →
-    word_line said at w (Some r) ≡ gap 1 (octal at) (gap (wide 4 (short_octal r.0)) (octal w) (short_octal r.0 ++ remarked said))
+    word_line said at w (Some r) ≡ gap 1 (six_digits at) (gap (wide 4 (octal r.0)) (six_digits w) (octal r.0 ++ remarked said))
 line_with said at w r =
-    let k = short_octal r.0 in
-    gap_append 1 (octal at) (gap (wide 4 k) (octal w) k) (remarked said)
-    ∙ ap (λ (y : List ℕ). gap 1 (octal at) y) (gap_append (wide 4 k) (octal w) k (remarked said))
+    let k = octal r.0 in
+    gap_append 1 (six_digits at) (gap (wide 4 k) (six_digits w) k) (remarked said)
+    ∙ ap (λ (y : List ℕ). gap 1 (six_digits at) y) (gap_append (wide 4 k) (six_digits w) k (remarked said))
 
-pub line_alone : (said : List ℕ) (at w : ℕ) → word_line said at w None ≡ gap 1 (octal at) (octal w ++ remarked said)
-line_alone said at w = gap_append 1 (octal at) (octal w) (remarked said)
+pub line_alone : (said : List ℕ) (at w : ℕ) → word_line said at w None ≡ gap 1 (six_digits at) (six_digits w ++ remarked said)
+line_alone said at w = gap_append 1 (six_digits at) (six_digits w) (remarked said)
 
 labels_read : (d : Draft) (ls : List (List ℕ)) → AllByRecursion IsLabel ls → Reads d ls d
 labels_read d [] h = reads_nil d
@@ -111,9 +113,9 @@ words_with x p i put start flag at s (w ∷ ws) [] are enters on place same word
 words_with x p i put start flag at s (w ∷ ws) (r ∷ rs) are enters on place same words relocs room =
     let place_here : at % 65536 ≡ (start + 2 * length s.words) % 65536 = omega arith in
     let here = at % 65536 in
-    let a = octal here in
-    let b = octal w in
-    let k = short_octal r.0 in
+    let a = six_digits here in
+    let b = six_digits w in
+    let k = octal r.0 in
     let note = x.word p i in
     let line = word_line note here w (Some r) in
     let form = gap 1 a (gap (wide 4 k) b (k ++ remarked note)) in
@@ -142,8 +144,8 @@ words_alone x p i put start flag at s [] are enters off place words room =
 words_alone x p i put start flag at s (w ∷ ws) are enters off place words room =
     let place_here : at % 65536 ≡ (start + 2 * length s.words) % 65536 = omega arith in
     let here = at % 65536 in
-    let a = octal here in
-    let b = octal w in
+    let a = six_digits here in
+    let b = six_digits w in
     let note = x.word p i in
     let line = word_line note here w None in
     let form = gap 1 a (b ++ remarked note) in
@@ -182,10 +184,10 @@ symbols_read x d n done (s ∷ ss) place are room =
     let from : Draft = record d { section = InSymbols; symbols = done } in
     let next : Draft = record d { section = InSymbols; symbols = done ++ s ∷ [] } in
     let last : Draft = record d { section = InSymbols; symbols = done ++ s ∷ ss } in
-    let a = short_octal n in
-    let b = shown_name s.name in
-    let c = short_octal s.type_bits in
-    let e = octal s.value in
+    let a = octal n in
+    let b = printable_name s.name in
+    let c = octal s.type_bits in
+    let e = six_digits s.value in
     let found : row_read from (row_of (symbol_line x n s)) ≡ Ok next =
     ap (row_read from) (row_four (wide 4 a) (wide 8 b + (3 - length c)) 1 a b c e (x.symbol s)
     (number_column a (short_digits n)) (name_column s.name) (number_column c (short_digits s.type_bits)) (number_column e (octal_digits s.value)))

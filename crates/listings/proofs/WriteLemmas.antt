@@ -1,21 +1,18 @@
 -- One more word of a segment is written.
-use Rattle.std.proofs.Common.{◌≡◌, ℕ, zero, suc, ◌+◌, ◌-◌, replicate, ◌*◌, ◌%◌, ◌<◌, List, [], ◌∷◌, ◌++◌, drop, length, get_or, refl, sym, ◌∙◌, ap, arith, append_assoc, drop-drop}
+use Rattle.std.proofs.Common.{◌≡◌, ℕ, zero, suc, ◌+◌, ◌*◌, ◌%◌, ◌<◌, List, [], ◌∷◌, ◌++◌, drop, length, get_or, refl, sym, ◌∙◌, ap, arith, append_assoc, drop-drop}
 use Rattle.std.specs.Prelude.{Option, slice_get}
 use Rattle.std.proofs.lemmas.List.{drop_more}
 use Rattle.std.proofs.Math.Seq.{drop-length}
 use Rattle.aout_core.specs.declared.reloc.Reloc.{Reloc}
-use Rattle.listings.specs.declared.part.Part.{Part}
-use Rattle.listings.specs.Listing.{Remarks, word_line, word_lines, text_of}
+use Rattle.aout_core.specs.declared.part.Part.{Part}
+use Rattle.texts.specs.Lines.{text_of}
+use Rattle.texts.proofs.LineLemmas.{two_texts}
+use Rattle.listings.specs.Listing.{Remarks, word_line, word_lines}
 
 get_dropped : (i : ℕ) (rs : List Reloc) → slice_get (drop i rs) 0 ≡ slice_get rs i
 get_dropped zero rs = refl
 get_dropped (suc i) [] = refl
 get_dropped (suc i) (r ∷ rs) = get_dropped i rs
-
--- the parts of a listing, one after another
-pub two_texts : (xs ys : List (List ℕ)) → text_of (xs ++ ys) ≡ text_of xs ++ text_of ys
-two_texts [] ys = refl
-two_texts (x ∷ xs) ys = ap (λ (t : List ℕ). (x ++ 10 ∷ []) ++ t) (two_texts xs ys) ∙ sym (append_assoc (x ++ 10 ∷ []) (text_of xs) (text_of ys))
 
 lines_step : (x : Remarks) (p : Part) (start i w : ℕ) (ws : List ℕ) (rs : List Reloc) → i < length ws → w ≡ get_or ws i 0 →
     word_lines x p i (start + 2 * i) (drop i ws) (drop i rs)
@@ -50,24 +47,13 @@ put_end x p init items new start i ws rs end grown before =
     ∙ ap (λ (y : List ℕ). items ++ text_of (word_lines x p i (start + 2 * i) y (drop i rs))) (sym (ap (λ (k : ℕ). drop k ws) end ∙ drop-length ws))
     ∙ before
 
--- one more blank
-blanks_step : (n i : ℕ) → i < n → replicate {A = ℕ} (n - i) 32 ≡ 32 ∷ replicate {A = ℕ} (n - (i + 1)) 32
-blanks_step n i lt = let e : n - i ≡ suc (n - (i + 1)) = omega arith in ap (λ (k : ℕ). replicate {A = ℕ} k 32) e
-
-pub blank_more : (init items new : List ℕ) (n i : ℕ) → i < n → new ≡ items ++ 32 ∷ [] → items ++ replicate (n - i) 32 ≡ init → new ++ replicate (n - (i + 1)) 32 ≡ init
-blank_more init items new n i lt grown before =
-    ap (λ (x : List ℕ). x ++ replicate (n - (i + 1)) 32) grown
-    ∙ append_assoc items (32 ∷ []) (replicate (n - (i + 1)) 32)
-    ∙ ap (λ (x : List ℕ). items ++ x) (sym (blanks_step n i lt))
-    ∙ before
-
 grown : (from next : List ℕ) (xs ys : List (List ℕ)) → next ≡ from ++ text_of xs → next ++ text_of ys ≡ from ++ text_of (xs ++ ys)
 grown from next xs ys e =
     ap (λ (t : List ℕ). t ++ text_of ys) e ∙ append_assoc from (text_of xs) (text_of ys) ∙ ap (λ (t : List ℕ). from ++ t) (sym (two_texts xs ys))
 
-pub whole : (t0 t1 t2 t3 t4 t5 t6 t7 : List ℕ) (n h x d b s f : List (List ℕ)) → t0 ≡ [] → t1 ≡ t0 ++ text_of n → t2 ≡ t1 ++ text_of h → t3 ≡ t2 ++ text_of x → t4 ≡ t3 ++ text_of d →
-    t5 ≡ t4 ++ text_of b → t6 ≡ t5 ++ text_of s → t7 ≡ t6 ++ text_of f → t7 ≡ text_of (n ++ (h ++ (x ++ (d ++ (b ++ (s ++ f))))))
-whole t0 t1 t2 t3 t4 t5 t6 t7 n h x d b s f e0 e1 e2 e3 e4 e5 e6 e7 =
+-- the parts of a listing, one after another
+pub whole : (t0 t1 t2 t3 t4 t5 t6 t7 : List ℕ) (n h x d b s f : List (List ℕ)) → t1 ≡ t0 ++ text_of n → t2 ≡ t1 ++ text_of h → t3 ≡ t2 ++ text_of x → t4 ≡ t3 ++ text_of d →
+    t5 ≡ t4 ++ text_of b → t6 ≡ t5 ++ text_of s → t7 ≡ t6 ++ text_of f → t7 ≡ t0 ++ text_of (n ++ (h ++ (x ++ (d ++ (b ++ (s ++ f))))))
+whole t0 t1 t2 t3 t4 t5 t6 t7 n h x d b s f e1 e2 e3 e4 e5 e6 e7 =
     e7 ∙ grown t5 t6 s f e6 ∙ grown t4 t5 b (s ++ f) e5 ∙ grown t3 t4 d (b ++ (s ++ f)) e4 ∙ grown t2 t3 x (d ++ (b ++ (s ++ f))) e3 ∙ grown t1 t2 h (x ++ (d ++ (b ++ (s ++ f)))) e2
     ∙ grown t0 t1 n (h ++ (x ++ (d ++ (b ++ (s ++ f))))) e1
-    ∙ ap (λ (t : List ℕ). t ++ text_of (n ++ (h ++ (x ++ (d ++ (b ++ (s ++ f))))))) e0

@@ -1,5 +1,5 @@
 -- What has been read of a file so far, and the file that it makes.
-use Rattle.std.specs.Prelude.{ℕ, ◌+◌, ◌*◌, ◌/◌, eqb, if◌then◌else◌, List, [], length}
+use Rattle.std.specs.Prelude.{ℕ, ◌*◌, List, [], length}
 use Rattle.aout_core.specs.declared.reloc.Reloc.{Reloc}
 use Rattle.aout_core.specs.declared.symbol.Symbol.{Symbol}
 use Rattle.aout_core.specs.Contents.{Contents}
@@ -45,9 +45,3 @@ finished d = record {
   data_reloc = d.data_part.relocs;
   symbols = d.symbols;
 }
-
--- the address at which data begins, by the magic number and the bytes of text: after text, in pure text at the next multiple of 020000
--- bytes, and in split spaces at 0
-abbrev pub data_start : ℕ → ℕ → ℕ
-data_start magic text_size =
-    if eqb magic 0o410 then (text_size + 0o17777) / 0o20000 * 0o20000 else (if eqb magic 0o411 then 0 else text_size)

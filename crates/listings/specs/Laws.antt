@@ -3,7 +3,7 @@ use Rattle.std.specs.Prelude.{◌≡◌, ℕ, ◌≤◌, List, Ok}
 use Rattle.std.specs.List.{AllByRecursion}
 use Rattle.aout_core.specs.declared.symbol.Symbol.{Symbol}
 use Rattle.aout_core.specs.Contents.{Contents, IsSound}
-use Rattle.listings.specs.declared.part.Part.{Part}
+use Rattle.aout_core.specs.declared.part.Part.{Part}
 use Rattle.listings.specs.Columns.{row_of}
 use Rattle.listings.specs.Drafts.{Draft}
 use Rattle.listings.specs.Listing.{Remarks, listing}

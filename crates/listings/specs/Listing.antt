@@ -4,16 +4,16 @@
 -- 0407, and another the flag unless it is 0. The words of text and of data follow, the size of bss, the entry point and the unused word
 -- unless they are 0, and the table. A line may end with a remark, and labels may precede the line of a word or follow the last one.
 use Rattle.std.specs.Prelude.{ℕ, ◌+◌, ◌-◌, ◌%◌, eqb, if◌then◌else◌, List, [], ◌∷◌, ◌++◌, drop, map, replicate, length, Option, Some, None, slice_get, codes}
-use Rattle.std.specs.List.{flat_map}
 use Rattle.aout_core.specs.declared.header.Header.{Header}
 use Rattle.aout_core.specs.declared.reloc.Reloc.{Reloc}
 use Rattle.aout_core.specs.declared.symbol.Symbol.{Symbol}
 use Rattle.aout_core.specs.Contents.{Contents}
-use Rattle.listings.specs.declared.part.Part.{Part}
-use Rattle.listings.specs.declared.part.Part.TheVariants as parts
-use Rattle.listings.specs.Octal.{octal, short_octal}
-use Rattle.listings.specs.Drafts.{data_start}
-use Rattle.listings.specs.Names.{shown_name}
+use Rattle.aout_core.specs.declared.part.Part.{Part}
+use Rattle.aout_core.specs.declared.part.Part.TheVariants as parts
+use Rattle.texts.specs.Numbers.{six_digits, octal}
+use Rattle.texts.specs.Names.{printable_name}
+use Rattle.texts.specs.Lines.{text_of}
+use Rattle.aout_core.specs.Addresses.{data_start_in}
 
 -- remarks for people beside a file; readers pass over them
 pub record Remarks : Type 0 where
@@ -37,8 +37,8 @@ remarked (b ∷ bs) = 32 ∷ 32 ∷ b ∷ bs
 
 -- an address, a word, and its relocation word if it has one
 abbrev pub word_columns : ℕ → ℕ → Option Reloc → List ℕ
-word_columns at w None = gap 1 (octal at) (octal w)
-word_columns at w (Some r) = gap 1 (octal at) (gap (wide 4 (short_octal r.0)) (octal w) (short_octal r.0))
+word_columns at w None = gap 1 (six_digits at) (six_digits w)
+word_columns at w (Some r) = gap 1 (six_digits at) (gap (wide 4 (octal r.0)) (six_digits w) (octal r.0))
 
 abbrev pub word_line : List ℕ → ℕ → ℕ → Option Reloc → List ℕ
 word_line said at w r = word_columns at w r ++ remarked said
@@ -50,19 +50,19 @@ word_lines x p i at (w ∷ ws) rs = x.labels p i ++ (word_line (x.word p i) (at 
 
 -- the numbers of a symbol, and a remark
 abbrev pub symbol_numbers : Remarks → Symbol → List ℕ
-symbol_numbers x s = gap 1 (short_octal s.type_bits) (octal s.value ++ remarked (x.symbol s))
+symbol_numbers x s = gap 1 (octal s.type_bits) (six_digits s.value ++ remarked (x.symbol s))
 
 abbrev pub symbol_line : Remarks → ℕ → Symbol → List ℕ
 symbol_line x n s =
-    gap (wide 4 (short_octal n)) (short_octal n)
-    (gap (wide 8 (shown_name s.name) + (3 - length (short_octal s.type_bits))) (shown_name s.name) (symbol_numbers x s))
+    gap (wide 4 (octal n)) (octal n)
+    (gap (wide 8 (printable_name s.name) + (3 - length (octal s.type_bits))) (printable_name s.name) (symbol_numbers x s))
 
 abbrev pub symbol_lines : Remarks → ℕ → List Symbol → List (List ℕ)
 symbol_lines x n [] = []
 symbol_lines x n (s ∷ ss) = symbol_line x n s ∷ symbol_lines x (n + 1) ss
 
 abbrev pub named_line : List ℕ → ℕ → List ℕ
-named_line word n = gap 0 word (octal n)
+named_line word n = gap 0 word (six_digits n)
 
 -- a line, unless the number is the usual one
 abbrev pub unusual : ℕ → List ℕ → ℕ → List (List ℕ)
@@ -78,20 +78,16 @@ abbrev pub text_lines : Remarks → Contents → List (List ℕ)
 text_lines x c = codes "text" ∷ word_lines x parts.Text 0 0 c.text_words c.text_reloc
 
 abbrev pub data_lines : Remarks → Contents → List (List ℕ)
-data_lines x c = codes "data" ∷ word_lines x parts.Data 0 (data_start c.header.magic c.header.text_size) c.data_words c.data_reloc
+data_lines x c = codes "data" ∷ word_lines x parts.Data 0 (data_start_in c.header) c.data_words c.data_reloc
 
 abbrev pub bss_lines : Header → List (List ℕ)
-bss_lines h = gap 0 (codes "bss") (short_octal h.bss_size) ∷ (unusual 0 (codes "entry") h.entry_point ++ unusual 0 (codes "unused") h.unused)
+bss_lines h = gap 0 (codes "bss") (octal h.bss_size) ∷ (unusual 0 (codes "entry") h.entry_point ++ unusual 0 (codes "unused") h.unused)
 
 abbrev pub table_lines : Remarks → Contents → List (List ℕ)
 table_lines x c = codes "symbols" ∷ symbol_lines x 0 c.symbols
 
 abbrev pub listing_lines : Remarks → Contents → List (List ℕ)
 listing_lines x c = note_lines x.notes ++ (head_lines c.header ++ (text_lines x c ++ (data_lines x c ++ (bss_lines c.header ++ (table_lines x c ++ note_lines x.findings)))))
-
--- each line with its newline
-abbrev pub text_of : List (List ℕ) → List ℕ
-text_of ls = flat_map (λ (l : List ℕ). l ++ 10 ∷ []) ls
 
 abbrev pub listing : Remarks → Contents → List ℕ
 listing x c = text_of (listing_lines x c)

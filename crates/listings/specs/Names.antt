@@ -1,30 +1,19 @@
--- Names in bytes that print, and back.
+-- Names in bytes that print, as they are read.
 --
--- A byte that prints is written as it is, except the blank and the backslash. Any other byte is a backslash and three octal digits.
--- The empty name is written as a NUL.
-use Rattle.std.specs.Prelude.{ℕ, ◌+◌, ◌-◌, ◌*◌, ◌/◌, Bool, ◌&&◌, not, nat_lt, eqb, if◌then◌else◌, List, [], ◌∷◌, ◌++◌, take, Result, Ok, Err}
-use Rattle.std.specs.List.{flat_map}
+-- A byte that prints stands for itself, except the blank and the backslash. A backslash and three octal digits are any other byte.
+use Rattle.std.specs.Prelude.{ℕ, ◌+◌, ◌-◌, ◌*◌, nat_lt, eqb, if◌then◌else◌, List, [], ◌∷◌, ◌++◌, take, Result, Ok, Err}
 use Rattle.aout_core.specs.Names.{before_nul}
 use Rattle.listings.specs.declared.fault.Reason.{Reason}
 use Rattle.listings.specs.declared.fault.Reason.TheVariants.{Missing, BadName}
-use Rattle.listings.specs.Octal.{digit, is_digit}
-
-abbrev pub is_plain : ℕ → Bool
-is_plain b = nat_lt 32 b && (nat_lt b 127 && not (eqb b 92))
-
-abbrev pub shown_byte : ℕ → List ℕ
-shown_byte b = if is_plain b then b ∷ [] else 92 ∷ digit (b / 64) ∷ digit (b / 8) ∷ digit b ∷ []
-
-abbrev pub shown_name : List ℕ → List ℕ
-shown_name [] = shown_byte 0
-shown_name (b ∷ bs) = flat_map shown_byte (b ∷ bs)
+use Rattle.texts.specs.Names.{is_printable}
+use Rattle.listings.specs.Octal.{is_digit}
 
 -- the bytes of a name, after those of `out`; `left` digits of an escaped byte are still to come, and those before them make `sum`
 abbrev pub bytes_from : List ℕ → ℕ → ℕ → List ℕ → Result (List ℕ) Reason
 bytes_from out left sum [] = if eqb left 0 then Ok out else Err BadName
 bytes_from out left sum (b ∷ bs) =
     if eqb left 0
-    then (if eqb b 92 then bytes_from out 3 0 bs else (if is_plain b then bytes_from (out ++ b ∷ []) 0 0 bs else Err BadName))
+    then (if eqb b 92 then bytes_from out 3 0 bs else (if is_printable b then bytes_from (out ++ b ∷ []) 0 0 bs else Err BadName))
     else (if is_digit b
     then (if nat_lt (8 * sum + (b - 48)) 256
     then (if eqb left 1 then bytes_from (out ++ (8 * sum + (b - 48)) ∷ []) 0 0 bs else bytes_from out (left - 1) (8 * sum + (b - 48)) bs)

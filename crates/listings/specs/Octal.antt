@@ -1,23 +1,7 @@
--- Numbers of 16 bits in octal: six digits as they are written, and any number of digits as they are read.
-use Rattle.std.specs.Prelude.{ℕ, ◌+◌, ◌-◌, ◌*◌, ◌/◌, ◌%◌, Bool, ◌&&◌, nat_le, nat_lt, eqb, if◌then◌else◌, List, [], ◌∷◌, Result, Ok, Err}
+-- Octal numbers of 16 bits, with any number of digits, as they are read.
+use Rattle.std.specs.Prelude.{ℕ, ◌+◌, ◌-◌, ◌*◌, Bool, ◌&&◌, nat_le, nat_lt, if◌then◌else◌, List, [], ◌∷◌, Result, Ok, Err}
 use Rattle.listings.specs.declared.fault.Reason.{Reason}
 use Rattle.listings.specs.declared.fault.Reason.TheVariants.{Missing, NotOctal, TooLarge}
-
-abbrev pub digit : ℕ → ℕ
-digit n = 48 + n % 8
-
--- six digits
-abbrev pub octal : ℕ → List ℕ
-octal n = digit (n / 32768) ∷ digit (n / 4096) ∷ digit (n / 512) ∷ digit (n / 64) ∷ digit (n / 8) ∷ digit n ∷ []
-
--- without zeros at the front, but for the last digit
-abbrev pub short : List ℕ → List ℕ
-short [] = []
-short (d ∷ []) = d ∷ []
-short (d ∷ (e ∷ ds)) = if eqb d 48 then short (e ∷ ds) else d ∷ (e ∷ ds)
-
-abbrev pub short_octal : ℕ → List ℕ
-short_octal n = short (octal n)
 
 abbrev pub is_digit : ℕ → Bool
 is_digit b = nat_le 48 b && nat_lt b 56

@@ -18,7 +18,8 @@ use Rattle.listings.specs.declared.fault.Fault.{Fault}
 use Rattle.listings.specs.Octal.{number}
 use Rattle.listings.specs.Columns.{lines_in, Row, row_of, column_place}
 use Rattle.listings.specs.Names.{name_of}
-use Rattle.listings.specs.Drafts.{Segment, Draft, empty_draft, finished, data_start}
+use Rattle.aout_core.specs.Addresses.{data_start}
+use Rattle.listings.specs.Drafts.{Segment, Draft, empty_draft, finished}
 
 -- the number of a column, and what is wrong in it
 abbrev pub Mistake : Type 0

@@ -1,6 +1,6 @@
 //! What has been read of a file so far.
-ghost use Rattle.std.specs.Prelude.{◌≡◌, ◌<◌};
-ghost use Rattle.listings.specs.Drafts.{empty_draft, data_start};
+ghost use Rattle.std.specs.Prelude.{◌≡◌};
+ghost use Rattle.listings.specs.Drafts.{empty_draft};
 ghost use Rattle.listings.specs.internal.DraftParts.{draft_of};
 
 use crate::fault::Section;
@@ -50,18 +50,5 @@ impl FileDraft {
             },
             symbols: Vec::new(alloc),
         }
-    }
-}
-
-/// The address at which data begins: after text, with magic 0410 at the next multiple of 020000, and with 0411 at 0. (a.out(5))
-pub fn data_start(magic: u16, text_size: usize) -> usize
-    requires { text_size < 65536 }
-    ensures value { result ≡ data_start magic text_size }
-    ensures bound { result < 131072 }
-{
-    match magic {
-        0o410 => (text_size + 0o17777) / 0o20000 * 0o20000,
-        0o411 => 0,
-        _ => text_size,
     }
 }

@@ -11,15 +11,11 @@
 //!
 //! - `ListingFault`, `Fault`, `Reason`: why a listing was not read: its first mistake, by line, column and reason
 //! - `Remark`, `Nothing`: what a listing remarks beside the file, and no remarks
-//! - `Part`: text or data, the parts that have words
 //!
 //! Functions:
 //!
 //! - `write_listing`: the listing of a file, with remarks
 //! - `read_listing`: the file of a listing
-//! - `data_start`: the address at which data begins
-//! - `put_name`: appends a name as a listing shows it
-//! - `put_octal`, `put_short_octal`: append a word in six octal digits, or without zeros in front
 //!
 //! Modules:
 //!
@@ -34,15 +30,12 @@ mod draft;
 mod fault;
 pub mod laws;
 mod numbers;
-mod part;
 mod read;
 mod remark;
 mod rows;
 mod write;
 
-pub use draft::data_start;
 pub use fault::{Fault, ListingFault, Reason};
-pub use part::Part;
 pub use read::read_listing;
 pub use remark::{Nothing, Remark};
-pub use write::{put_name, put_octal, put_short_octal, write_listing};
+pub use write::write_listing;

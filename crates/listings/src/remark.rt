@@ -1,35 +1,36 @@
 //! What is remarked in a listing.
-ghost use Rattle.std.specs.Prelude.{◌≡◌, ◌++◌, [], OnOk};
-ghost use Rattle.listings.specs.Listing.{Remarks, no_remarks, remarked, note_lines, text_of};
+ghost use Rattle.std.specs.Prelude.{◌≡◌, []};
+ghost use Rattle.texts.specs.Lines.{text_of};
+ghost use Rattle.texts.specs.Texts.{Puts};
+ghost use Rattle.listings.specs.Listing.{Remarks, no_remarks, remarked, note_lines};
 ghost use Rattle.listings.specs.Laws.{AreRemarks};
 
-use crate::part::Part;
-use aout_core::Symbol;
-use std::alloc::AllocError;
+use aout_core::{Part, Symbol};
+use texts::Text;
 
 /// What a listing says to people beside the file. Reading a listing skips it.
 pub trait Remark {
     ghost said: { Self → Remarks };
 
     /// Appends the notes, a line each, which begins with a slash.
-    fn put_notes(&self, text: &mut Vec<u8>) -> Result<(), AllocError>
-        ensures { OnOk result (text.new.items ≡ text.old.items ++ text_of (note_lines (said self.now).notes)) };
+    fn put_notes(&self, text: &mut Text)
+        ensures { Puts text.old text.new (text_of (note_lines (said self.now).notes)) };
 
     /// Appends the notes that follow the table, in the same form.
-    fn put_findings(&self, text: &mut Vec<u8>) -> Result<(), AllocError>
-        ensures { OnOk result (text.new.items ≡ text.old.items ++ text_of (note_lines (said self.now).findings)) };
+    fn put_findings(&self, text: &mut Text)
+        ensures { Puts text.old text.new (text_of (note_lines (said self.now).findings)) };
 
     /// Appends the labels before the word at a place of a part, a line each, or at the end of the part those of the end.
-    fn put_labels(&self, text: &mut Vec<u8>, part: Part, place: usize) -> Result<(), AllocError>
-        ensures { OnOk result (text.new.items ≡ text.old.items ++ text_of ((said self.now).labels part place)) };
+    fn put_labels(&self, text: &mut Text, part: Part, place: usize)
+        ensures { Puts text.old text.new (text_of ((said self.now).labels part place)) };
 
     /// Appends two blanks and what is remarked of the word at a place of a part, or nothing if there is no remark.
-    fn put_word(&self, text: &mut Vec<u8>, part: Part, place: usize) -> Result<(), AllocError>
-        ensures { OnOk result (text.new.items ≡ text.old.items ++ remarked ((said self.now).word part place)) };
+    fn put_word(&self, text: &mut Text, part: Part, place: usize)
+        ensures { Puts text.old text.new (remarked ((said self.now).word part place)) };
 
     /// Appends two blanks and what is remarked of a symbol, or nothing.
-    fn put_symbol(&self, text: &mut Vec<u8>, symbol: &Symbol) -> Result<(), AllocError>
-        ensures { OnOk result (text.new.items ≡ text.old.items ++ remarked ((said self.now).symbol symbol.now)) };
+    fn put_symbol(&self, text: &mut Text, symbol: &Symbol)
+        ensures { Puts text.old text.new (remarked ((said self.now).symbol symbol.now)) };
 
     ghost are: { (r : Self) → AreRemarks (said r) };
 }
@@ -40,25 +41,15 @@ pub struct Nothing;
 impl Remark for Nothing {
     ghost said = { λ r. no_remarks };
 
-    fn put_notes(&self, text: &mut Vec<u8>) -> Result<(), AllocError> {
-        Ok(())
-    }
+    fn put_notes(&self, text: &mut Text) {}
 
-    fn put_findings(&self, text: &mut Vec<u8>) -> Result<(), AllocError> {
-        Ok(())
-    }
+    fn put_findings(&self, text: &mut Text) {}
 
-    fn put_labels(&self, text: &mut Vec<u8>, part: Part, place: usize) -> Result<(), AllocError> {
-        Ok(())
-    }
+    fn put_labels(&self, text: &mut Text, part: Part, place: usize) {}
 
-    fn put_word(&self, text: &mut Vec<u8>, part: Part, place: usize) -> Result<(), AllocError> {
-        Ok(())
-    }
+    fn put_word(&self, text: &mut Text, part: Part, place: usize) {}
 
-    fn put_symbol(&self, text: &mut Vec<u8>, symbol: &Symbol) -> Result<(), AllocError> {
-        Ok(())
-    }
+    fn put_symbol(&self, text: &mut Text, symbol: &Symbol) {}
 
     ghost are = { λ r. record { notes = tt; findings = tt; labels = λ p i. tt; word = λ p i. tt; symbol = λ s. tt } };
 }

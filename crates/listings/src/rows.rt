@@ -5,17 +5,17 @@ ghost use Rattle.listings.specs.Columns.{row_of};
 ghost use Rattle.listings.specs.internal.Rows.{row_in};
 ghost use Rattle.listings.specs.declared.fault.Word.TheVariants.{Bss, Magic, Flag};
 ghost use Rattle.listings.specs.Octal.{number};
-ghost use Rattle.listings.specs.Drafts.{data_start};
+ghost use Rattle.aout_core.specs.Addresses.{data_start};
 ghost use Rattle.listings.specs.Reading.{in_column, relocs_of, with_word, word_entry, symbol_entry, entry_in, is_word, word_in, rank, opened, named_by, named, is_label, row_read};
 ghost use Rattle.listings.specs.internal.DraftParts.{segment_of, draft_of};
 ghost use Rattle.listings.specs.internal.Whole.{IsDraft};
 ghost use Rattle.listings.specs.internal.Answers.{Found, Leaves};
 
 use crate::columns::{Columns, columns_of};
-use crate::draft::{FileDraft, SegmentDraft, data_start};
+use crate::draft::{FileDraft, SegmentDraft};
 use crate::fault::{Reason, RowFault, Section, Word};
 use crate::numbers::{name_at, number_at};
-use aout_core::{Reloc, Symbol, is_magic};
+use aout_core::{Reloc, Symbol, data_start, is_magic};
 use std::alloc::Global;
 
 /// A relocation word, if the file has relocation.

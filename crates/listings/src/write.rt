@@ -1,48 +1,18 @@
 //! Writes the listing of a file.
-ghost use Rattle.std.specs.Prelude.{◌≡◌, ◌<◌, [], ◌∷◌, ◌++◌, codes, length, replicate, slice_get, Ok, IfOk, OnOk};
-ghost use Rattle.listings.specs.Octal.{digit, octal, short, short_octal};
-ghost use Rattle.listings.specs.Names.{shown_byte, shown_name};
-ghost use Rattle.listings.specs.Listing.{note_lines, gap, wide, word_columns, word_line, word_lines, symbol_numbers, symbol_line, symbol_lines, named_line, unusual, head_lines, text_lines, data_lines, bss_lines, table_lines, text_of, listing};
+ghost use Rattle.std.specs.Prelude.{◌≡◌, ◌<◌, [], ◌∷◌, ◌++◌, codes, length, replicate, slice_get, Ok, IfOk};
+ghost use Rattle.texts.specs.Numbers.{six_digits, octal};
+ghost use Rattle.texts.specs.Names.{printable_name};
+ghost use Rattle.texts.specs.Lines.{text_of};
+ghost use Rattle.texts.specs.Texts.{Puts};
+ghost use Rattle.listings.specs.Listing.{gap, wide, word_columns, word_line, word_lines, symbol_numbers, symbol_line, symbol_lines};
+ghost use Rattle.listings.specs.Listing.{named_line, unusual, head_lines, text_lines, data_lines, bss_lines, table_lines, listing};
 ghost use Rattle.listings.specs.Reading.{read};
 
-use crate::draft::data_start;
-use crate::part::Part;
 use crate::remark::Remark;
 use aout_core::laws::sound_law;
-use aout_core::{File, Header, Name, Reloc, Symbol};
+use aout_core::{File, Header, Name, Part, Reloc, Symbol};
 use std::alloc::{AllocError, Global};
-
-fn octal_digit(number: u16) -> u8
-    ensures { result ≡ digit number }
-{
-    b'0' + (number % 8) as u8
-}
-
-/// Six octal digits.
-fn octal(word: u16) -> [u8; 6]
-    ensures { result ≡ octal word }
-{
-    [
-        octal_digit(word / 0o100000),
-        octal_digit(word / 0o10000),
-        octal_digit(word / 0o1000),
-        octal_digit(word / 0o100),
-        octal_digit(word / 0o10),
-        octal_digit(word),
-    ]
-}
-
-/// Without zeros at the front, but for the last digit.
-fn short(digits: &[u8]) -> &[u8]
-    ensures { result.now ≡ short digits.now }
-{
-    for (index, digit) in digits.iter().enumerate() {
-        if *digit != b'0' || index + 1 == digits.len() {
-            return &digits[index..];
-        }
-    }
-    &[]
-}
+use texts::{OctalBuffer, Text, six_digits};
 
 /// How many blanks more than one follow a column in this width.
 fn wide(width: usize, column: &[u8]) -> usize
@@ -53,80 +23,40 @@ fn wide(width: usize, column: &[u8]) -> usize
     1 + width.saturating_sub(column.len())
 }
 
-/// Appends blanks.
-fn put_blanks(text: &mut Vec<u8>, count: usize) -> Result<(), AllocError>
-    ensures { OnOk result (text.new.items ≡ text.old.items ++ replicate count 32) }
-{
-    for index in 0..count {
-        text.extend_from_slice(b" ")?;
-    }
-    Ok(())
-}
-
-/// Appends a number in six octal digits.
-pub fn put_octal(text: &mut Vec<u8>, word: u16) -> Result<(), AllocError>
-    ensures { OnOk result (text.new.items ≡ text.old.items ++ octal word) }
-{
-    text.extend_from_slice(&octal(word))
-}
-
-/// Appends a number in octal without zeros at the front.
-pub fn put_short_octal(text: &mut Vec<u8>, word: u16) -> Result<(), AllocError>
-    ensures { OnOk result (text.new.items ≡ text.old.items ++ short_octal word) }
-{
-    let digits = octal(word);
-    text.extend_from_slice(short(&digits))
-}
-
-/// Appends a blank, and so many more: at once if they are few, as in most lines.
-fn put_gap(text: &mut Vec<u8>, blanks: usize) -> Result<(), AllocError>
-    ensures { OnOk result (text.new.items ≡ text.old.items ++ (32 ∷ replicate blanks 32)) }
-{
-    match blanks {
-        0 => text.extend_from_slice(b" "),
-        1 => text.extend_from_slice(b"  "),
-        2 => text.extend_from_slice(b"   "),
-        3 => text.extend_from_slice(b"    "),
-        4 => text.extend_from_slice(b"     "),
-        _ => {
-            text.extend_from_slice(b" ")?;
-            put_blanks(text, blanks)
-        }
-    }
-}
-
 /// Appends a blank, and so many more, and a column.
-fn put_column(text: &mut Vec<u8>, blanks: usize, column: &[u8]) -> Result<(), AllocError>
-    ensures { OnOk result (text.new.items ≡ text.old.items ++ (32 ∷ (replicate blanks 32 ++ column.now))) }
+fn put_column(text: &mut Text, blanks: usize, column: &[u8])
+    ensures { Puts text.old text.new (32 ∷ (replicate blanks 32 ++ column.now)) }
 {
-    put_gap(text, blanks)?;
-    text.extend_from_slice(column)
+    text.put_byte(b' ');
+    text.put_blanks(blanks);
+    text.put_bytes(column);
+}
+
+/// Appends a blank, and so many more, and a word in six digits.
+fn put_word_column(text: &mut Text, blanks: usize, word: u16)
+    ensures { Puts text.old text.new (32 ∷ (replicate blanks 32 ++ six_digits word)) }
+{
+    put_column(text, blanks, &six_digits(u32::from(word)));
 }
 
 /// Appends the address of a word, and the word.
-fn put_place(text: &mut Vec<u8>, at: u16, word: u16) -> Result<(), AllocError>
-    ensures { OnOk result (text.new.items ≡ text.old.items ++ gap 1 (octal at) (octal word)) }
+fn put_place(text: &mut Text, at: u16, word: u16)
+    ensures { Puts text.old text.new (gap 1 (six_digits at) (six_digits word)) }
 {
-    text.extend_from_slice(&octal(at))?;
-    put_column(text, 1, &octal(word))
+    text.put_six_digits(u32::from(at));
+    put_word_column(text, 1, word);
 }
 
 /// Appends the address of a word, the word, and its relocation word if it has one.
-fn put_columns(
-    text: &mut Vec<u8>,
-    at: u16,
-    word: u16,
-    reloc: Option<Reloc>,
-) -> Result<(), AllocError>
-    ensures { OnOk result (text.new.items ≡ text.old.items ++ word_columns at word reloc) }
+fn put_columns(text: &mut Text, at: u16, word: u16, reloc: Option<Reloc>)
+    ensures { Puts text.old text.new (word_columns at word reloc) }
 {
-    put_place(text, at, word)?;
-    let Some(reloc) = reloc else {
-        return Ok(());
-    };
-    let digits = octal(reloc.0);
-    let digits = short(&digits);
-    put_column(text, wide(4, digits), digits)
+    put_place(text, at, word);
+    if let Some(reloc) = reloc {
+        let mut buffer = OctalBuffer::new();
+        let digits = buffer.format(u64::from(reloc.0));
+        put_column(text, wide(4, digits), digits);
+    }
 }
 
 /// A word of a part, by its place and its address.
@@ -138,19 +68,13 @@ struct Place {
 }
 
 /// Appends the line of a word, and the labels before it.
-fn put_word<R: Remark>(
-    remarks: &R,
-    text: &mut Vec<u8>,
-    place: Place,
-    word: u16,
-    reloc: Option<Reloc>,
-) -> Result<(), AllocError>
-    ensures { OnOk result (text.new.items ≡ text.old.items ++ (text_of ((R.said remarks.now).labels place.part place.index) ++ (word_line ((R.said remarks.now).word place.part place.index) place.at word reloc ++ 10 ∷ []))) }
+fn put_word<R: Remark>(remarks: &R, text: &mut Text, place: Place, word: u16, reloc: Option<Reloc>)
+    ensures { Puts text.old text.new (text_of ((R.said remarks.now).labels place.part place.index) ++ (word_line ((R.said remarks.now).word place.part place.index) place.at word reloc ++ 10 ∷ [])) }
 {
-    remarks.put_labels(text, place.part, place.index)?;
-    put_columns(text, place.at, word, reloc)?;
-    remarks.put_word(text, place.part, place.index)?;
-    text.extend_from_slice(b"\n")
+    remarks.put_labels(text, place.part, place.index);
+    put_columns(text, place.at, word, reloc);
+    remarks.put_word(text, place.part, place.index);
+    text.put_byte(b'\n');
 }
 
 fn reloc_at(relocs: &[Reloc], index: usize) -> Option<Reloc>
@@ -162,185 +86,143 @@ fn reloc_at(relocs: &[Reloc], index: usize) -> Option<Reloc>
 /// Appends the words of a part that begins at an address, and the labels of its end.
 fn put_words<R: Remark>(
     remarks: &R,
-    text: &mut Vec<u8>,
+    text: &mut Text,
     part: Part,
     start: usize,
     words: &[u16],
     relocs: &[Reloc],
-) -> Result<(), AllocError>
+)
     requires { start < 131072 }
-    ensures { OnOk result (text.new.items ≡ text.old.items ++ text_of (word_lines (R.said remarks.now) part 0 start words.now relocs.now)) }
+    ensures { Puts text.old text.new (text_of (word_lines (R.said remarks.now) part 0 start words.now relocs.now)) }
 {
     let mut at = (start % 65536) as u16;
     for (index, word) in words.iter().enumerate() {
         let place = Place { part, index, at };
-        put_word(remarks, text, place, *word, reloc_at(relocs, index))?;
+        put_word(remarks, text, place, *word, reloc_at(relocs, index));
         at = at.wrapping_add(2);
     }
-    remarks.put_labels(text, part, words.len())
+    remarks.put_labels(text, part, words.len());
 }
 
-/// Appends a byte of a name.
-fn put_byte(text: &mut Vec<u8>, byte: u8) -> Result<(), AllocError>
-    ensures { OnOk result (text.new.items ≡ text.old.items ++ shown_byte byte) }
+/// A name as it prints.
+fn printable(alloc: Global, name: &Name) -> Result<Vec<u8>, AllocError>
+    ensures { IfOk result (λ v. v.items ≡ printable_name name.now) }
 {
-    if byte > b' ' && byte < 127 && byte != b'\\' {
-        return text.extend_from_slice(&[byte]);
-    }
-    text.extend_from_slice(&[
-        b'\\',
-        octal_digit(u16::from(byte / 0o100)),
-        octal_digit(u16::from(byte / 0o10)),
-        octal_digit(u16::from(byte)),
-    ])
-}
-
-/// Appends a name as it is shown: a blank, a backslash and each byte that does not print as `\ooo`, and an empty name as `\000`.
-pub fn put_name(text: &mut Vec<u8>, name: &Name) -> Result<(), AllocError>
-    ensures { OnOk result (text.new.items ≡ text.old.items ++ shown_name name.now) }
-{
-    let bytes = name.as_bytes();
-    if bytes.is_empty() {
-        return put_byte(text, 0);
-    }
-    for byte in bytes {
-        put_byte(text, *byte)?;
-    }
-    Ok(())
-}
-
-/// A name as it is shown.
-fn shown(alloc: Global, name: &Name) -> Result<Vec<u8>, AllocError>
-    ensures { IfOk result (λ v. v.items ≡ shown_name name.now) }
-{
-    let mut text = Vec::new(alloc);
-    put_name(&mut text, name)?;
-    Ok(text)
+    let mut text = Text::new(alloc);
+    text.put_printable_name(name.as_bytes());
+    text.finish()
 }
 
 /// Appends the numbers of a symbol, and a newline.
 fn put_numbers<R: Remark>(
     remarks: &R,
-    text: &mut Vec<u8>,
+    text: &mut Text,
     blanks: usize,
     symbol: &Symbol,
     digits: &[u8],
-) -> Result<(), AllocError>
-    requires { digits.now ≡ short_octal symbol.now.type_bits }
-    ensures { OnOk result (text.new.items ≡ text.old.items ++ (32 ∷ (replicate blanks 32 ++ symbol_numbers (R.said remarks.now) symbol.now) ++ 10 ∷ [])) }
+)
+    requires { digits.now ≡ octal symbol.now.type_bits }
+    ensures { Puts text.old text.new (32 ∷ (replicate blanks 32 ++ symbol_numbers (R.said remarks.now) symbol.now) ++ 10 ∷ []) }
 {
-    put_column(text, blanks, digits)?;
-    put_column(text, 1, &octal(symbol.value))?;
-    remarks.put_symbol(text, symbol)?;
-    text.extend_from_slice(b"\n")
+    put_column(text, blanks, digits);
+    put_word_column(text, 1, symbol.value);
+    remarks.put_symbol(text, symbol);
+    text.put_byte(b'\n');
 }
 
 /// Appends the number of a symbol and its name.
-fn put_label(text: &mut Vec<u8>, number: u16, name: &[u8]) -> Result<(), AllocError>
-    ensures { OnOk result (text.new.items ≡ text.old.items ++ gap (wide 4 (short_octal number)) (short_octal number) name.now) }
+fn put_label(text: &mut Text, number: u16, name: &[u8])
+    ensures { Puts text.old text.new (gap (wide 4 (octal number)) (octal number) name.now) }
 {
-    let digits = octal(number);
-    let digits = short(&digits);
-    text.extend_from_slice(digits)?;
-    put_column(text, wide(4, digits), name)
+    let mut buffer = OctalBuffer::new();
+    let digits = buffer.format(u64::from(number));
+    text.put_bytes(digits);
+    put_column(text, wide(4, digits), name);
 }
 
 /// Appends an entry of the symbol table.
-fn put_symbol<R: Remark>(
-    remarks: &R,
-    alloc: Global,
-    text: &mut Vec<u8>,
-    number: u16,
-    symbol: &Symbol,
-) -> Result<(), AllocError>
-    ensures { OnOk result (text.new.items ≡ text.old.items ++ (symbol_line (R.said remarks.now) number symbol.now ++ 10 ∷ [])) }
+fn put_symbol<R: Remark>(remarks: &R, text: &mut Text, number: u16, symbol: &Symbol)
+    ensures { Puts text.old text.new (symbol_line (R.said remarks.now) number symbol.now ++ 10 ∷ []) }
 {
-    let name = shown(alloc, &symbol.name)?;
-    let digits = octal(symbol.type_bits);
-    let digits = short(&digits);
+    let Ok(name) = printable(text.allocator(), &symbol.name) else {
+        return text.cut();
+    };
+    let mut buffer = OctalBuffer::new();
+    let digits = buffer.format(u64::from(symbol.type_bits));
     let blanks = wide(8, &name) + 3usize.saturating_sub(digits.len());
-    put_label(text, number, &name)?;
-    put_numbers(remarks, text, blanks, symbol, digits)
+    put_label(text, number, &name);
+    put_numbers(remarks, text, blanks, symbol, digits);
 }
 
 /// Appends the symbol table.
-fn put_symbols<R: Remark>(
-    remarks: &R,
-    alloc: Global,
-    text: &mut Vec<u8>,
-    symbols: &[Symbol],
-) -> Result<(), AllocError>
+fn put_symbols<R: Remark>(remarks: &R, text: &mut Text, symbols: &[Symbol])
     requires { length symbols.now < 5462 }
-    ensures { OnOk result (text.new.items ≡ text.old.items ++ text_of (symbol_lines (R.said remarks.now) 0 symbols.now)) }
+    ensures { Puts text.old text.new (text_of (symbol_lines (R.said remarks.now) 0 symbols.now)) }
 {
     let mut number = 0u16;
     for symbol in symbols {
-        put_symbol(remarks, alloc, text, number, symbol)?;
+        put_symbol(remarks, text, number, symbol);
         number += 1;
     }
-    Ok(())
 }
 
 /// Appends a line of the header.
-fn put_named(text: &mut Vec<u8>, word: &[u8], number: u16) -> Result<(), AllocError>
-    ensures { OnOk result (text.new.items ≡ text.old.items ++ (named_line word.now number ++ 10 ∷ [])) }
+fn put_named(text: &mut Text, word: &str, number: u16)
+    ensures { Puts text.old text.new (named_line word.now number ++ 10 ∷ []) }
 {
-    text.extend_from_slice(word)?;
-    put_column(text, 0, &octal(number))?;
-    text.extend_from_slice(b"\n")
+    text.put(word);
+    put_word_column(text, 0, number);
+    text.put_byte(b'\n');
 }
 
 /// Appends a line of the header, unless its number is the usual one.
-fn put_unusual(text: &mut Vec<u8>, usual: u16, word: &[u8], number: u16) -> Result<(), AllocError>
-    ensures { OnOk result (text.new.items ≡ text.old.items ++ text_of (unusual usual word.now number)) }
+fn put_unusual(text: &mut Text, usual: u16, word: &str, number: u16)
+    ensures { Puts text.old text.new (text_of (unusual usual word.now number)) }
 {
-    if number == usual {
-        return Ok(());
+    if number != usual {
+        put_named(text, word, number);
     }
-    put_named(text, word, number)
 }
 
 /// Appends the magic number and the flag.
-fn put_head(text: &mut Vec<u8>, file: &File) -> Result<(), AllocError>
-    ensures { OnOk result (text.new.items ≡ text.old.items ++ text_of (head_lines file.now.header)) }
+fn put_head(text: &mut Text, file: &File)
+    ensures { Puts text.old text.new (text_of (head_lines file.now.header)) }
 {
     let header = file.header();
-    put_unusual(text, 0o407, b"magic", header.magic)?;
-    put_unusual(text, 0, b"flag", header.flag)
+    put_unusual(text, 0o407, "magic", header.magic);
+    put_unusual(text, 0, "flag", header.flag);
 }
 
 /// Appends the size of bss.
-fn put_bss_size(text: &mut Vec<u8>, size: u16) -> Result<(), AllocError>
-    ensures { OnOk result (text.new.items ≡ text.old.items ++ (gap 0 (codes "bss") (short_octal size) ++ 10 ∷ [])) }
+fn put_bss_size(text: &mut Text, size: u16)
+    ensures { Puts text.old text.new (gap 0 (codes "bss") (octal size) ++ 10 ∷ []) }
 {
-    let digits = octal(size);
-    let digits = short(&digits);
-    text.extend_from_slice(b"bss")?;
-    put_column(text, 0, digits)?;
-    text.extend_from_slice(b"\n")
+    text.put("bss ");
+    text.put_octal(u64::from(size));
+    text.put_byte(b'\n');
 }
 
-/// Appends the other words of the header.
-fn put_bss_words(text: &mut Vec<u8>, header: &Header) -> Result<(), AllocError>
-    ensures { OnOk result (text.new.items ≡ text.old.items ++ text_of (bss_lines header.now)) }
+/// Appends the size of bss, and the other words of the header.
+fn put_bss_words(text: &mut Text, header: &Header)
+    ensures { Puts text.old text.new (text_of (bss_lines header.now)) }
 {
-    put_bss_size(text, header.bss_size)?;
-    put_unusual(text, 0, b"entry", header.entry_point)?;
-    put_unusual(text, 0, b"unused", header.unused)
+    put_bss_size(text, header.bss_size);
+    put_unusual(text, 0, "entry", header.entry_point);
+    put_unusual(text, 0, "unused", header.unused);
 }
 
 /// Appends the words of the header that follow the data.
-fn put_bss(text: &mut Vec<u8>, file: &File) -> Result<(), AllocError>
-    ensures { OnOk result (text.new.items ≡ text.old.items ++ text_of (bss_lines file.now.header)) }
+fn put_bss(text: &mut Text, file: &File)
+    ensures { Puts text.old text.new (text_of (bss_lines file.now.header)) }
 {
-    put_bss_words(text, file.header())
+    put_bss_words(text, file.header());
 }
 
 /// Appends the lines of the text.
-fn put_text<R: Remark>(remarks: &R, text: &mut Vec<u8>, file: &File) -> Result<(), AllocError>
-    ensures { OnOk result (text.new.items ≡ text.old.items ++ text_of (text_lines (R.said remarks.now) file.now)) }
+fn put_text<R: Remark>(remarks: &R, text: &mut Text, file: &File)
+    ensures { Puts text.old text.new (text_of (text_lines (R.said remarks.now) file.now)) }
 {
-    text.extend_from_slice(b"text\n")?;
+    text.put("text\n");
     put_words(
         remarks,
         text,
@@ -348,51 +230,53 @@ fn put_text<R: Remark>(remarks: &R, text: &mut Vec<u8>, file: &File) -> Result<(
         0,
         file.text_words(),
         file.text_reloc(),
-    )
+    );
 }
 
 /// Appends the lines of the data.
-fn put_data<R: Remark>(remarks: &R, text: &mut Vec<u8>, file: &File) -> Result<(), AllocError>
-    ensures { OnOk result (text.new.items ≡ text.old.items ++ text_of (data_lines (R.said remarks.now) file.now)) }
+fn put_data<R: Remark>(remarks: &R, text: &mut Text, file: &File)
+    ensures { Puts text.old text.new (text_of (data_lines (R.said remarks.now) file.now)) }
 {
     let header = file.header();
-    text.extend_from_slice(b"data\n")?;
+    text.put("data\n");
     put_words(
         remarks,
         text,
         Part::Data,
-        data_start(header.magic, usize::from(header.text_size)),
+        header.data_start(),
         file.data_words(),
         file.data_reloc(),
-    )
+    );
 }
 
 /// Appends the lines of the symbol table.
-fn put_table<R: Remark>(
-    remarks: &R,
-    alloc: Global,
-    text: &mut Vec<u8>,
-    file: &File,
-) -> Result<(), AllocError>
-    ensures { OnOk result (text.new.items ≡ text.old.items ++ text_of (table_lines (R.said remarks.now) file.now)) }
+fn put_table<R: Remark>(remarks: &R, text: &mut Text, file: &File)
+    ensures { Puts text.old text.new (text_of (table_lines (R.said remarks.now) file.now)) }
 {
-    text.extend_from_slice(b"symbols\n")?;
-    put_symbols(remarks, alloc, text, file.symbols())
+    text.put("symbols\n");
+    put_symbols(remarks, text, file.symbols());
+}
+
+/// Appends the listing of a file, with remarks.
+fn put_listing<R: Remark>(remarks: &R, text: &mut Text, file: &File)
+    ensures { Puts text.old text.new (listing (R.said remarks.now) file.now) }
+{
+    remarks.put_notes(text);
+    put_head(text, file);
+    put_text(remarks, text, file);
+    put_data(remarks, text, file);
+    put_bss(text, file);
+    put_table(remarks, text, file);
+    remarks.put_findings(text);
 }
 
 /// The listing of a file, with remarks.
 fn listing_of<R: Remark>(alloc: Global, file: &File, remarks: &R) -> Result<Vec<u8>, AllocError>
     ensures { IfOk result (λ v. v.items ≡ listing (R.said remarks.now) file.now) }
 {
-    let mut text = Vec::new(alloc);
-    remarks.put_notes(&mut text)?;
-    put_head(&mut text, file)?;
-    put_text(remarks, &mut text, file)?;
-    put_data(remarks, &mut text, file)?;
-    put_bss(&mut text, file)?;
-    put_table(remarks, alloc, &mut text, file)?;
-    remarks.put_findings(&mut text)?;
-    Ok(text)
+    let mut text = Text::new(alloc);
+    put_listing(remarks, &mut text, file);
+    text.finish()
 }
 
 /// The listing of a file, with remarks. Whatever is remarked, reading the listing gives the file.

@@ -1,5 +1,5 @@
 -- A JSON text that is written value by value, with the commas between the values of a list or an object. (own choice; JSON: RFC 8259)
-use Rattle.std.specs.Prelude.{ℕ, Bool, true, false, List, [], ◌++◌, codes}
+use Rattle.std.specs.Prelude.{◌≡◌, ℕ, Bool, true, false, List, [], ◌++◌, codes}
 use Rattle.std.specs.List.{flat_map}
 use Rattle.reports.specs.StateJson.{json_byte, json_text_byte}
 
@@ -10,6 +10,15 @@ pub record JsonText : Type 0 where
 
 abbrev pub nothing_written : JsonText
 nothing_written = record { text = []; is_after_value = false }
+
+-- a text while it is written; once memory ran out it is cut, and says nothing
+pub record JsonWritten : Type 0 where
+  pub json : JsonText
+  pub is_cut : Bool
+
+-- the text was changed so, unless it is cut now; a text that was cut stays cut
+abbrev pub Becomes : JsonWritten → JsonWritten → (JsonText → JsonText) → Type 0
+Becomes old new change = new.is_cut ≡ false → (old.is_cut ≡ false) × (new.json ≡ change old.json)
 
 abbrev pub separator : Bool → List ℕ
 separator true = codes ","

@@ -94,12 +94,18 @@ listed_mark es i mark = comma i ++ mark_json es mark
 abbrev pub words_json : Image → List ℕ
 words_json m = codes ",\"text\":[" ++ each (word_json m.externals) m.text_cells ++ codes "],\"data\":[" ++ each (word_json m.externals) m.data_cells ++ codes "]"
 
+-- the names, after the size of bss
+abbrev pub lists_json : Image → List ℕ
+lists_json m =
+    codes ",\"externals\":[" ++ each external_json m.externals ++ codes "],\"multiples\":[" ++ each multiple_json m.multiples ++ codes "]"
+
 abbrev pub names_json : Image → List ℕ
-names_json m =
-    codes ",\"bss\":" ++ decimal m.bss_total ++ codes ",\"externals\":[" ++ each external_json m.externals ++ codes "],\"multiples\":["
-    ++ each multiple_json m.multiples ++ codes "]"
+names_json m = codes ",\"bss\":" ++ decimal m.bss_total ++ lists_json m
+
+-- the last marks, and the end of the object
+abbrev pub marks_json : Kept → List ℕ
+marks_json s = codes ",\"marks\":[" ++ each (listed_mark (image_of s).externals) (newest s.journal) ++ codes "]}"
 
 abbrev pub state_json : Kept → List ℕ
 state_json s =
-    codes "{\"objects\":" ++ decimal (length s.entries) ++ words_json (image_of s) ++ names_json (image_of s) ++ codes ",\"marks\":["
-    ++ each (listed_mark (image_of s).externals) (newest s.journal) ++ codes "]}"
+    codes "{\"objects\":" ++ decimal (length s.entries) ++ words_json (image_of s) ++ names_json (image_of s) ++ marks_json s

@@ -19,8 +19,9 @@ use Rattle.link_session.specs.Image.{Image, Named}
 use Rattle.link_session.specs.Labelled.{Labelled}
 use Rattle.link_session.specs.Sessions.{newest}
 use Rattle.link_session.specs.Undo.{Kept, image_of}
-use Rattle.symtools.specs.SymbolLines.{octal_word}
-use Rattle.reports.specs.Items.{each, name_at, shown_name}
+use Rattle.texts.specs.Numbers.{six_digits}
+use Rattle.texts.specs.Names.{printable_name}
+use Rattle.reports.specs.Items.{each, name_at}
 
 -- what a word refers to, or waits for
 abbrev pub target_text : Named → Target → List ℕ
@@ -28,14 +29,14 @@ target_text es targets.Absolute = codes "a number"
 target_text es targets.TextSeg = codes "text"
 target_text es targets.DataSeg = codes "data"
 target_text es targets.BssSeg = codes "bss"
-target_text es (targets.External i) = codes "waits for " ++ shown_name (name_at es i)
+target_text es (targets.External i) = codes "waits for " ++ printable_name (name_at es i)
 
 abbrev pub pc_text : Bool → List ℕ
 pc_text true = codes " pc  "
 pc_text false = codes "     "
 
 abbrev pub cell_text : Named → Cell → List ℕ
-cell_text es c = octal_word c.value ++ pc_text c.pc ++ target_text es c.target
+cell_text es c = six_digits c.value ++ pc_text c.pc ++ target_text es c.target
 
 -- the segment of a definition
 abbrev pub segment_text : Segment → List ℕ
@@ -48,27 +49,27 @@ abbrev pub wanted_text : ℕ → List ℕ
 wanted_text size = if eqb size 0 then codes "undefined" else codes "a common of " ++ decimal size ++ codes " bytes"
 
 abbrev pub state_text : State → List ℕ
-state_text (Defined segment offset) = segment_text segment ++ octal_word offset
+state_text (Defined segment offset) = segment_text segment ++ six_digits offset
 state_text (Wanted size) = wanted_text size
 
 -- the word of this index in a segment
 abbrev pub cell_line : Named → List ℕ → ℕ → Cell → List ℕ
-cell_line es segment i c = codes "  " ++ segment ++ octal_word (2 * i) ++ codes "  " ++ cell_text es c ++ codes "\n"
+cell_line es segment i c = codes "  " ++ segment ++ six_digits (2 * i) ++ codes "  " ++ cell_text es c ++ codes "\n"
 
 abbrev pub external_line : List ℕ × State → List ℕ
-external_line e = codes "  name " ++ shown_name e.0 ++ codes ": " ++ state_text e.1 ++ codes "\n"
+external_line e = codes "  name " ++ printable_name e.0 ++ codes ": " ++ state_text e.1 ++ codes "\n"
 
 abbrev pub multiple_line : List ℕ → List ℕ
-multiple_line name = codes "  name " ++ shown_name name ++ codes ": multiply defined\n"
+multiple_line name = codes "  name " ++ printable_name name ++ codes ": multiply defined\n"
 
 -- where a mark belongs
 abbrev pub place_text : Place → List ℕ
-place_text (InText i) = codes "text " ++ octal_word (2 * i)
-place_text (InData i) = codes "data " ++ octal_word (2 * i)
+place_text (InText i) = codes "text " ++ six_digits (2 * i)
+place_text (InData i) = codes "data " ++ six_digits (2 * i)
 
 abbrev pub mark_text : Named → Mark → List ℕ
 mark_text es (CellWas place c) = place_text place ++ codes " was " ++ cell_text es c
-mark_text es (StateWas i s) = shown_name (name_at es i) ++ codes " was " ++ state_text s
+mark_text es (StateWas i s) = printable_name (name_at es i) ++ codes " was " ++ state_text s
 
 abbrev pub mark_line : Named → Mark → List ℕ
 mark_line es mark = codes "  mark " ++ mark_text es mark ++ codes "\n"

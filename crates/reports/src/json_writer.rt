@@ -1,168 +1,148 @@
 //! A JSON text that is written value by value.
-ghost use Rattle.std.specs.Prelude.{◌≡◌, ◌++◌, codes, decimal, OnOk};
-ghost use Rattle.reports.specs.JsonTexts.{bytes_string, list_end, list_start, nothing_written, object_end, object_start, separator, text_string, with_end, with_line_end, with_start, with_value};
+ghost use Rattle.std.specs.Prelude.{◌≡◌, ◌++◌, false, codes, decimal, IfOk};
+ghost use Rattle.reports.specs.JsonTexts.{Becomes, bytes_string, list_end, list_start, nothing_written, object_end, object_start, separator, text_string, with_end, with_line_end, with_start, with_value};
 
-use crate::json::{push_json_bytes, push_json_text};
+use crate::json::{put_json_bytes, put_json_text};
 use itoa::Buffer;
 use std::alloc::{AllocError, Global};
 use std::marker::Model;
+use texts::Text;
 
-/// A JSON text while it is written. It puts a comma between the values of a list, and between the members of an object. After
-/// an error, for which memory ran out, the text is of no use. (own choice)
+/// A JSON text while it is written. It puts a comma between the values of a list, and between the members of an object. Once
+/// memory runs out the text is cut, and `finish` returns the error. (own choice)
 #[derive(Drop)]
 pub struct JsonWriter {
-    text: Vec<u8>,
+    text: Text,
     /// Whether a value was written last.
     is_after_value: bool,
 }
 
 impl Model for JsonWriter {
-    ghost use Rattle.reports.specs.JsonTexts.{JsonText};
+    ghost use Rattle.reports.specs.JsonTexts.{JsonWritten};
 
-    ghost Value = { JsonText };
+    ghost Value = { JsonWritten };
 
-    ghost view = { λ w. record { text = w.text.items; is_after_value = w.is_after_value } };
+    ghost view = { λ w. record { json = record { text = w.text.bytes; is_after_value = w.is_after_value }; is_cut = w.text.is_cut } };
 }
 
-fn separator(is_after_value: bool) -> &'static [u8]
+fn separator(is_after_value: bool) -> &'static str
     ensures { result.now ≡ separator is_after_value }
 {
-    if is_after_value { b"," } else { b"" }
+    if is_after_value { "," } else { "" }
 }
 
 impl JsonWriter {
     /// An empty text.
     pub fn new(alloc: Global) -> JsonWriter
-        ensures { result ≡ nothing_written }
+        ensures json { result.json ≡ nothing_written }
+        ensures whole { result.is_cut ≡ false }
     {
         JsonWriter {
-            text: Vec::new(alloc),
+            text: Text::new(alloc),
             is_after_value: false,
         }
     }
 
     /// Adds what comes before a value, and what it starts with.
-    fn start(&mut self, start: &[u8]) -> Result<(), AllocError>
-        ensures { OnOk result (self.new ≡ with_start self.old start.now) }
+    fn start(&mut self, start: &str)
+        ensures { Becomes self.old self.new (λ json. with_start json start.now) }
     {
-        self.text.extend_from_slice(separator(self.is_after_value))?;
-        self.text.extend_from_slice(start)?;
+        self.text.put(separator(self.is_after_value));
+        self.text.put(start);
         self.is_after_value = false;
-        Ok(())
     }
 
     /// Adds what a value ends with.
-    fn end(&mut self, end: &[u8]) -> Result<(), AllocError>
-        ensures { OnOk result (self.new ≡ with_end self.old end.now) }
+    fn end(&mut self, end: &str)
+        ensures { Becomes self.old self.new (λ json. with_end json end.now) }
     {
-        self.text.extend_from_slice(end)?;
+        self.text.put(end);
         self.is_after_value = true;
-        Ok(())
     }
 
     /// Adds a number.
-    ///
-    /// An error: out of memory.
-    pub fn put_number(&mut self, number: u64) -> Result<(), AllocError>
-        ensures { OnOk result (self.new ≡ with_value self.old (decimal number)) }
+    pub fn put_number(&mut self, number: u64)
+        ensures { Becomes self.old self.new (λ json. with_value json (decimal number)) }
     {
-        self.start(Buffer::new().format(number).as_bytes())?;
-        self.end(b"")
+        self.start(Buffer::new().format(number));
+        self.end("");
     }
 
     /// Adds `null`.
-    ///
-    /// An error: out of memory.
-    pub fn put_null(&mut self) -> Result<(), AllocError>
-        ensures { OnOk result (self.new ≡ with_value self.old (codes "null")) }
+    pub fn put_null(&mut self)
+        ensures { Becomes self.old self.new (λ json. with_value json (codes "null")) }
     {
-        self.start(b"null")?;
-        self.end(b"")
+        self.start("null");
+        self.end("");
     }
 
     /// Adds a text as a string, with the characters beyond ASCII as they are.
-    ///
-    /// An error: out of memory.
-    pub fn put_text(&mut self, characters: &str) -> Result<(), AllocError>
-        ensures { OnOk result (self.new ≡ with_value self.old (text_string characters.now)) }
+    pub fn put_text(&mut self, characters: &str)
+        ensures { Becomes self.old self.new (λ json. with_value json (text_string characters.now)) }
     {
-        self.start(b"\"")?;
-        push_json_text(&mut self.text, characters)?;
-        self.end(b"\"")
+        self.start("\"");
+        put_json_text(&mut self.text, characters);
+        self.end("\"");
     }
 
     /// Adds bytes after a front as a string, each as the character of its number.
-    ///
-    /// An error: out of memory.
-    pub fn put_bytes(&mut self, front: &[u8], bytes: &[u8]) -> Result<(), AllocError>
-        ensures { OnOk result (self.new ≡ with_value self.old (bytes_string front.now bytes.now)) }
+    pub fn put_bytes(&mut self, front: &[u8], bytes: &[u8])
+        ensures { Becomes self.old self.new (λ json. with_value json (bytes_string front.now bytes.now)) }
     {
-        self.start(b"\"")?;
-        push_json_bytes(&mut self.text, front)?;
-        push_json_bytes(&mut self.text, bytes)?;
-        self.end(b"\"")
+        self.start("\"");
+        put_json_bytes(&mut self.text, front);
+        put_json_bytes(&mut self.text, bytes);
+        self.end("\"");
     }
 
     /// Adds the key of a member of an object; its value comes next.
-    ///
-    /// An error: out of memory.
-    pub fn put_key(&mut self, key: &str) -> Result<(), AllocError>
-        ensures { OnOk result (self.new ≡ with_start self.old (text_string key.now ++ codes ":")) }
+    pub fn put_key(&mut self, key: &str)
+        ensures { Becomes self.old self.new (λ json. with_start json (text_string key.now ++ codes ":")) }
     {
-        self.start(b"\"")?;
-        push_json_text(&mut self.text, key)?;
-        self.text.extend_from_slice(b"\":")
+        self.start("\"");
+        put_json_text(&mut self.text, key);
+        self.text.put("\":");
     }
 
     /// Begins a list.
-    ///
-    /// An error: out of memory.
-    pub fn begin_list(&mut self) -> Result<(), AllocError>
-        ensures { OnOk result (self.new ≡ with_start self.old list_start) }
+    pub fn begin_list(&mut self)
+        ensures { Becomes self.old self.new (λ json. with_start json list_start) }
     {
-        self.start(b"[")
+        self.start("[");
     }
 
     /// Ends a list.
-    ///
-    /// An error: out of memory.
-    pub fn end_list(&mut self) -> Result<(), AllocError>
-        ensures { OnOk result (self.new ≡ with_end self.old list_end) }
+    pub fn end_list(&mut self)
+        ensures { Becomes self.old self.new (λ json. with_end json list_end) }
     {
-        self.end(b"]")
+        self.end("]");
     }
 
     /// Begins an object.
-    ///
-    /// An error: out of memory.
-    pub fn begin_object(&mut self) -> Result<(), AllocError>
-        ensures { OnOk result (self.new ≡ with_start self.old object_start) }
+    pub fn begin_object(&mut self)
+        ensures { Becomes self.old self.new (λ json. with_start json object_start) }
     {
-        self.start(b"{")
+        self.start("{");
     }
 
     /// Ends an object.
-    ///
-    /// An error: out of memory.
-    pub fn end_object(&mut self) -> Result<(), AllocError>
-        ensures { OnOk result (self.new ≡ with_end self.old object_end) }
+    pub fn end_object(&mut self)
+        ensures { Becomes self.old self.new (λ json. with_end json object_end) }
     {
-        self.end(b"}")
+        self.end("}");
     }
 
     /// Adds the end of a line, which JSON passes over.
-    ///
-    /// An error: out of memory.
-    pub fn end_line(&mut self) -> Result<(), AllocError>
-        ensures { OnOk result (self.new ≡ with_line_end self.old) }
+    pub fn end_line(&mut self)
+        ensures { Becomes self.old self.new with_line_end }
     {
-        self.text.extend_from_slice(b"\n")
+        self.text.put("\n");
     }
 
-    /// The text that was written.
-    pub fn into_text(self) -> Vec<u8>
-        ensures { result.items ≡ self.text }
+    /// The text that was written. An error, out of memory, if it is cut.
+    pub fn finish(self) -> Result<Vec<u8>, AllocError>
+        ensures { IfOk result (λ text. (self.is_cut ≡ false) × (text.items ≡ self.json.text)) }
     {
-        self.text
+        self.text.finish()
     }
 }

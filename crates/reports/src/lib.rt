@@ -15,15 +15,13 @@
 //!
 //! - `state_lines`: the image and the last marks, a line each
 //! - `state_json`: the same as one JSON object
-//! - `push_json_bytes`, `push_json_text`: what is between the quotes of a JSON string
 #![tactic(auto)]
 
 mod json;
 mod json_writer;
 mod lines;
 mod names;
-mod numbers;
 
-pub use json::{push_json_bytes, push_json_text, state_json};
+pub use json::state_json;
 pub use json_writer::JsonWriter;
 pub use lines::state_lines;

@@ -19,7 +19,6 @@
 //! - `size`: the sizes of files
 //! - `line`: the line of one symbol
 //! - `value_column`, `letter`: its value and its letter, as nm shows them
-//! - `octal_word`: the six octal digits of a word
 #![tactic(auto)]
 
 mod buffer;
@@ -32,5 +31,5 @@ mod symbol_line;
 pub use fault::ToolFault;
 pub use listing::nm;
 pub use sizes::size;
-pub use symbol_line::{letter, line, octal_word, value_column};
+pub use symbol_line::{letter, line, value_column};
 pub use tool_options::NmOptions;

@@ -1,12 +1,13 @@
 //! The nm line of one symbol.
-ghost use Rattle.std.specs.Prelude.{◌≡◌, ◌≤◌, ◌+◌, ◌/◌, ◌%◌};
+ghost use Rattle.std.specs.Prelude.{◌≡◌, ◌≤◌};
 ghost use Rattle.aout_core.specs.Wires.{Writes};
 ghost use Rattle.aout_core.specs.WellFormed.{masked_type};
-ghost use Rattle.symtools.specs.SymbolLines.{octal_word, small_letter, letter, is_shown_undefined, value_column, symbol_line};
+ghost use Rattle.symtools.specs.SymbolLines.{small_letter, letter, is_shown_undefined, value_column, symbol_line};
 
 use crate::buffer::LineBuffer;
 use aout_core::{DeviceFault, Symbol, Wire};
 use std::io::Write;
+use texts::six_digits;
 
 /// Writes the nm line of one symbol, and a newline: value, space, letter, space, name. The value is six octal digits,
 /// or six blanks for the letters u and U. (nm(1))
@@ -38,29 +39,8 @@ pub fn value_column(symbol: &Symbol) -> [u8; 6]
     if is_shown_undefined(symbol) {
         *b"      "
     } else {
-        octal_word(u32::from(symbol.value))
+        six_digits(u32::from(symbol.value))
     }
-}
-
-/// A number in six octal digits. Of a larger one the last six are given. (nm(1))
-pub fn octal_word(word: u32) -> [u8; 6]
-    ensures { result ≡ octal_word word }
-{
-    [
-        octal_digit(word, 0o100000),
-        octal_digit(word, 0o10000),
-        octal_digit(word, 0o1000),
-        octal_digit(word, 0o100),
-        octal_digit(word, 0o10),
-        octal_digit(word, 1),
-    ]
-}
-
-fn octal_digit(word: u32, place: u32) -> u8
-    requires { 1 ≤ place }
-    ensures { result ≡ 48 + word / place % 8 }
-{
-    b'0' + (word / place % 8) as u8
 }
 
 /// Whether the letter of a symbol is u or U.

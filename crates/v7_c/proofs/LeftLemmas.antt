@@ -6,7 +6,7 @@ use Rattle.aout_core.specs.declared.object.ObjectFault.TheVariants as objects
 use Rattle.library_calls.specs.declared.cause.Cause.{Cause}
 use Rattle.library_calls.specs.declared.cause.Cause.TheVariants.{NoOption, Excluded, LongName, CutNames, ManyNames, TooLong, NoEdit, BadFile, BadObject, NotAdded, NotLinked, Memory}
 use Rattle.library_calls.specs.declared.cause.Refusal.{Refusal}
-use Rattle.library_calls.specs.declared.findings_call.Finding.{Finding}
+use Rattle.library_calls.specs.declared.findings_call.ReportedName.{ReportedName}
 use Rattle.library_calls.specs.declared.findings_call.Found.{Found}
 use Rattle.library_calls.specs.declared.link_call.Program.{Program}
 use Rattle.library_calls.proofs.NumberLemmas.{IsNotMemory, CauseIsNotMemory, not_memory_made}
@@ -206,7 +206,7 @@ module _ (status : ℕ) (answer : Answer) (old new report_old report_new : List 
   shown_fault (Err refusal) is h =
       output_fault status answer old new report_old report_new (λ (s : Shown). record { status = s.status; file = s.state.items; report = s.replies.items }) (Err refusal) (Err refusal) refl is h
 
-pub found_fault : (status : ℕ) (answer : Answer) (old new : List ℕ) (report_old report_new : List Finding) (r : Result Found Refusal) → link_left status answer new report_new ≡ output_left (founds_or r) old report_old → answer.fault ≡ 50 →
+pub found_fault : (status : ℕ) (answer : Answer) (old new : List ℕ) (report_old report_new : List ReportedName) (r : Result Found Refusal) → link_left status answer new report_new ≡ output_left (founds_or r) old report_old → answer.fault ≡ 50 →
     IsErrAnd r (λ refusal. (number_of refusal.cause ≡ 50) × (answer.place ≡ refusal.place))
 found_fault status answer old new report_old report_new (Ok x) is h = output_fault status answer old new report_old report_new founds_of (Ok x) (Ok (founds_of x)) refl is h
 found_fault status answer old new report_old report_new (Err refusal) is h = output_fault status answer old new report_old report_new founds_of (Err refusal) (Err refusal) refl is h

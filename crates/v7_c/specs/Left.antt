@@ -8,7 +8,7 @@ use Rattle.aout_core.specs.declared.header.Header.{Header}
 use Rattle.library_calls.specs.declared.cause.Cause.{Cause}
 use Rattle.library_calls.specs.declared.cause.Cause.TheVariants.{Memory}
 use Rattle.library_calls.specs.declared.cause.Refusal.{Refusal}
-use Rattle.library_calls.specs.declared.findings_call.Finding.{Finding}
+use Rattle.library_calls.specs.declared.findings_call.ReportedName.{ReportedName}
 use Rattle.library_calls.specs.declared.findings_call.Found.{Found}
 use Rattle.library_calls.specs.declared.link_call.Program.{Program}
 use Rattle.library_calls.specs.declared.parts.FileLists.{FileLists}
@@ -187,7 +187,7 @@ abbrev pub outputs_or : Result Program Refusal → Result (Output ℕ) Refusal
 outputs_or (Ok program) = Ok (outputs_of program)
 outputs_or (Err r) = Err r
 
-abbrev pub founds_or : Result Found Refusal → Result (Output Finding) Refusal
+abbrev pub founds_or : Result Found Refusal → Result (Output ReportedName) Refusal
 founds_or (Ok found) = Ok (founds_of found)
 founds_or (Err r) = Err r
 

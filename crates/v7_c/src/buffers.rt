@@ -8,7 +8,7 @@ ghost use Rattle.v7_c.specs.Left.{apart_left, counted_by, counts_of, file_left, 
 
 use crate::answer::{Answer, Counts, FileHeader};
 use library_calls::{
-    Cause, FileLists, Finding, Found, ObjectWord, PartLists, Program, Ran, Refusal, Shown,
+    Cause, FileLists, Found, ObjectWord, PartLists, Program, Ran, Refusal, ReportedName, Shown,
     SymbolRow,
 };
 
@@ -133,7 +133,7 @@ pub(crate) fn leave_output(
 fn leave_found(
     found: &Found,
     buffer: &mut [u8],
-    findings: &mut [Finding],
+    findings: &mut [ReportedName],
     answer: &mut Answer,
 ) -> u32
     ensures { link_left result answer.new buffer.new findings.new ≡ output_left (Ok (founds_of found.now)) buffer.old findings.old }
@@ -150,7 +150,7 @@ fn leave_found(
 pub(crate) fn leave_findings(
     found: Result<Found, Refusal>,
     buffer: &mut [u8],
-    findings: &mut [Finding],
+    findings: &mut [ReportedName],
     answer: &mut Answer,
 ) -> u32
     ensures { link_left result answer.new buffer.new findings.new ≡ output_left (founds_or found) buffer.old findings.old }

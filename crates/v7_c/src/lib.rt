@@ -22,7 +22,7 @@ use crate::buffers::{
     leave_bytes, leave_count, leave_file, leave_findings, leave_output, leave_parts, leave_session,
     leave_state,
 };
-use library_calls::{Finding, LinkRequest, ObjectBytes, ObjectParts, ObjectWord, SymbolRow};
+use library_calls::{LinkRequest, ObjectBytes, ObjectParts, ObjectWord, ReportedName, SymbolRow};
 use std::alloc::Global;
 
 /// The version of the library, 0.4.0: 65,536 for each major version, 256 for each minor version, and the patch.
@@ -189,7 +189,7 @@ pub extern "C" fn v7_link_findings(
     forced: &[u8],
     objects: &[ObjectBytes<'_>],
     room: &mut [u8],
-    findings: &mut [Finding],
+    findings: &mut [ReportedName],
     answer: &mut Answer,
 ) -> u32
     ensures value { answer.new.fault ≢ 50 → link_left result answer.new room.new findings.new

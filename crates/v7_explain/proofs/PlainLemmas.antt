@@ -1,8 +1,8 @@
 -- Bytes of which none is below the blank are printed as they are.
-use Rattle.std.proofs.Common.{◌≡◌, ℕ, ◌/◌, Bool, true, false, ◌&&◌, nat_lt, nat_le, List, [], ◌∷◌, ◌++◌, refl, ap, ◌∙◌, arith}
+use Rattle.std.proofs.Common.{◌≡◌, ℕ, Bool, true, false, ◌&&◌, nat_lt, nat_le, List, [], ◌∷◌, ◌++◌, refl, ap, ◌∙◌, arith}
 use Rattle.std.proofs.lemmas.Bool.Decides.{nat_tests}
 use Rattle.std.specs.Prelude.{if◌then◌else◌}
-use Rattle.listings.specs.Octal.{digit}
+use Rattle.texts.specs.Names.{escaped}
 use Rattle.v7_explain.specs.Said.{printed, is_plain}
 
 both : (a b : Bool) → (a && b) ≡ true → (a ≡ true) × (b ≡ true)
@@ -14,5 +14,5 @@ plain_printed [] h = refl
 plain_printed (b ∷ bs) h =
     let parts = both (nat_le 32 b) (is_plain bs) h in
     let shown : nat_lt b 32 ≡ false = grind (arith, nat_tests) in
-    ap (λ (t : Bool). (if t then 92 ∷ digit (b / 64) ∷ digit (b / 8) ∷ digit b ∷ [] else b ∷ []) ++ printed bs) shown
+    ap (λ (t : Bool). (if t then escaped b else b ∷ []) ++ printed bs) shown
     ∙ ap (λ (l : List ℕ). b ∷ l) (plain_printed bs parts.1)

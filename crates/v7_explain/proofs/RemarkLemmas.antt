@@ -1,7 +1,5 @@
--- A remark that is not empty is written after two blanks; a text is appended.
-use Rattle.std.proofs.Common.{◌≡◌, ℕ, ◌<◌, Bool, true, false, ltb, List, [], ◌∷◌, ◌++◌, length, Result, Ok, Err, refl, sym, ◌∙◌, ap, arith, append_assoc}
-use Rattle.std.specs.Prelude.{if◌then◌else◌, OnOk}
-use Rattle.std.specs.Result.{is_ok}
+-- A remark that is not empty is written after two blanks.
+use Rattle.std.proofs.Common.{◌≡◌, ℕ, ◌<◌, Bool, true, false, ltb, List, [], ◌∷◌, ◌++◌, length, refl, sym, ◌∙◌, ap, arith, append_assoc}
 use Rattle.listings.specs.Listing.{remarked}
 use Rattle.v7_explain.specs.Said.{printed_byte, printed}
 
@@ -19,8 +17,3 @@ remark_put old bytes new bs full blanks grown =
     ∙ ap (λ (t : List ℕ). t ++ printed bs) blanks
     ∙ append_assoc old (32 ∷ 32 ∷ []) (printed bs)
     ∙ ap (λ (t : List ℕ). old ++ t) (sym (remarked_is bs full))
-
--- a text is appended that is this one
-pub text_put : {T E : Type 0} (r : Result T E) (old new added wanted : List ℕ) → new ≡ (if is_ok r then old ++ added else old) → added ≡ wanted → OnOk r (new ≡ old ++ wanted)
-text_put (Ok x) old new added wanted h e = h ∙ ap (λ (l : List ℕ). old ++ l) e
-text_put (Err x) old new added wanted h e = tt

@@ -2,29 +2,28 @@
 -- relocation word says, and the letter that nm has for each symbol.
 --
 -- A byte below the blank is shown as a backslash and three octal digits, so a note or a remark never leaves its line.
-use Rattle.std.specs.Prelude.{ℕ, ◌+◌, ◌*◌, ◌/◌, ◌%◌, Bool, true, false, ◌&&◌, nat_lt, nat_le, eqb, if◌then◌else◌, List, [], ◌∷◌, ◌++◌, length, map, Option, Some, None, slice_get, slice_index, codes, decimal}
+use Rattle.std.specs.Prelude.{ℕ, ◌+◌, ◌*◌, ◌%◌, Bool, true, ◌&&◌, nat_lt, nat_le, eqb, if◌then◌else◌, List, [], ◌∷◌, ◌++◌, length, map, Option, Some, None, slice_get, slice_index, codes, decimal}
 use Rattle.std.specs.List.{flat_map}
 use Rattle.aout_core.specs.declared.reloc.Reloc.{Reloc}
 use Rattle.aout_core.specs.declared.reloc.Kind.{Kind}
 use Rattle.aout_core.specs.declared.reloc.Kind.TheVariants as kinds
 use Rattle.aout_core.specs.declared.symbol.Symbol.{Symbol}
-use Rattle.aout_core.specs.WellFormed.{is_wanted, is_pc_relative, kind_of, symbol_number}
+use Rattle.aout_core.specs.WellFormed.{is_undefined, is_pc_relative, kind_of, symbol_number}
 use Rattle.symtools.specs.SymbolLines.{letter}
-use Rattle.listings.specs.Octal.{digit, octal, short_octal}
-use Rattle.listings.specs.Names.{shown_name}
+use Rattle.texts.specs.Numbers.{six_digits, octal}
+use Rattle.texts.specs.Names.{escaped, printable_name}
 use Rattle.aout_core.specs.Contents.{Contents}
-use Rattle.listings.specs.declared.part.Part.{Part}
-use Rattle.listings.specs.declared.part.Part.TheVariants as parts
-use Rattle.listings.specs.Drafts.{data_start}
+use Rattle.aout_core.specs.declared.part.Part.{Part}
+use Rattle.aout_core.specs.declared.part.Part.TheVariants as parts
+use Rattle.aout_core.specs.Addresses.{data_start_in, target}
 use Rattle.listings.specs.Listing.{Remarks}
 use Rattle.instructions.specs.Lines.{line_length}
 use Rattle.disassemblies.specs.Lines.{line_in, line_text_in}
 use Rattle.disassemblies.specs.Labels.{label_lines}
 use Rattle.disassemblies.specs.Starts.{is_start}
-use Rattle.findings.specs.Words.{meant}
 
 abbrev pub printed_byte : ℕ → List ℕ
-printed_byte b = if nat_lt b 32 then 92 ∷ digit (b / 64) ∷ digit (b / 8) ∷ digit b ∷ [] else b ∷ []
+printed_byte b = if nat_lt b 32 then escaped b else b ∷ []
 
 abbrev pub printed : List ℕ → List ℕ
 printed bs = flat_map printed_byte bs
@@ -35,25 +34,25 @@ is_plain [] = true
 is_plain (b ∷ bs) = nat_le 32 b && is_plain bs
 
 abbrev pub number_said : ℕ → ℕ → Reloc → List ℕ
-number_said at w r = if is_pc_relative r then codes "the number " ++ octal (meant at w r) else codes "a number"
+number_said at w r = if is_pc_relative r then codes "the number " ++ six_digits (target r w at) else codes "a number"
 
 -- the symbol of a number, if there is one
 abbrev pub symbol_said : ℕ → Option Symbol → List ℕ
 symbol_said n None = codes "no symbol " ++ decimal n
 symbol_said n (Some s) =
-    if is_wanted (Some s) then shown_name s.name else codes "not wanted: symbol " ++ (decimal n ++ 32 ∷ shown_name s.name)
+    if is_undefined s then printable_name s.name else codes "not wanted: symbol " ++ (decimal n ++ 32 ∷ printable_name s.name)
 
 abbrev pub addend_said : ℕ → List ℕ
-addend_said n = if eqb n 0 then [] else codes " + " ++ short_octal n
+addend_said n = if eqb n 0 then [] else codes " + " ++ octal n
 
 abbrev pub target_said : List Symbol → ℕ → ℕ → Reloc → Option Kind → List ℕ
 target_said symbols at w r None = codes "no kind of relocation"
 target_said symbols at w r (Some kinds.Absolute) = number_said at w r
-target_said symbols at w r (Some kinds.TextSeg) = codes "text " ++ octal (meant at w r)
-target_said symbols at w r (Some kinds.DataSeg) = codes "data " ++ octal (meant at w r)
-target_said symbols at w r (Some kinds.BssSeg) = codes "bss " ++ octal (meant at w r)
+target_said symbols at w r (Some kinds.TextSeg) = codes "text " ++ six_digits (target r w at)
+target_said symbols at w r (Some kinds.DataSeg) = codes "data " ++ six_digits (target r w at)
+target_said symbols at w r (Some kinds.BssSeg) = codes "bss " ++ six_digits (target r w at)
 target_said symbols at w r (Some kinds.External) =
-    symbol_said (symbol_number r) (slice_get symbols (symbol_number r)) ++ addend_said (meant at w r)
+    symbol_said (symbol_number r) (slice_get symbols (symbol_number r)) ++ addend_said (target r w at)
 
 abbrev pub pc_said : Reloc → List ℕ
 pc_said r = if is_pc_relative r then codes ", from the pc" else []
@@ -76,7 +75,7 @@ text_said starts c i =
 abbrev pub data_said : Contents → ℕ → List ℕ
 data_said c i =
     if nat_lt i (length c.data_words)
-    then reloc_said c.symbols ((data_start c.header.magic c.header.text_size + 2 * i) % 65536) (slice_index c.data_words i) (slice_get c.data_reloc i)
+    then reloc_said c.symbols ((data_start_in c.header + 2 * i) % 65536) (slice_index c.data_words i) (slice_get c.data_reloc i)
     else []
 
 abbrev pub word_remark : List Bool → Contents → Part → ℕ → List ℕ

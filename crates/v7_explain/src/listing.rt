@@ -1,34 +1,120 @@
-//! The listing of a file, in the form that `read_listing` of `listings` reads.
-ghost use Rattle.std.specs.Prelude.{◌≡◌, Ok, IfOk, map, string_bytes};
+//! Files as listings, in the form that `read_listing` of `listings` reads.
+ghost use Rattle.std.specs.Prelude.{◌≡◌, Ok, IfOk};
 ghost use Rattle.listings.specs.Listing.{listing};
 ghost use Rattle.listings.specs.Reading.{read};
 ghost use Rattle.disassemblies.specs.Starts.{starts};
 ghost use Rattle.v7_explain.specs.Said.{explained};
 
+use crate::output::Output;
 use crate::remarks::Explained;
+use crate::source::{GNU_NOTE, Source, as_object, bytes_at, file_in, put_kind_note, put_wrong};
+use crate::words::ListingWords;
 use aout_core::File;
 use disassemblies::{NamedFile, line_starts};
+use findings::{Notes, is_of_gnu, odd_of, put_findings, put_header, wrong_words};
 use listings::write_listing;
 use std::alloc::{AllocError, Global};
+use std::io::Write;
+use std::{fs, mem};
+use texts::Text;
 
 /// The listing of a file, with notes before it and findings after it. Reading the listing gives the file.
-pub(crate) fn listing_of(
+fn listing_of(
     alloc: Global,
     file: &File,
-    notes: &[String],
-    findings: &[String],
+    notes: &Notes,
+    findings: &Notes,
 ) -> Result<Vec<u8>, AllocError>
-    ensures lists { IfOk result (λ v. v.items ≡ listing (explained (starts file.now) file.now (map string_bytes notes.now) (map string_bytes findings.now)) file.now) }
+    ensures lists { IfOk result (λ v. v.items ≡ listing (explained (starts file.now) file.now notes.now.lines findings.now.lines) file.now) }
     ensures again { IfOk result (λ v. read v.items ≡ Ok file.now) }
 {
     let starts = line_starts(alloc, file)?;
     let named = NamedFile::new(alloc, file)?;
     let remarks = Explained {
-        alloc,
         file: &named,
         starts: &starts,
         notes,
         findings,
     };
     write_listing(alloc, file, &remarks)
+}
+
+/// Adds the listing of a file, after these notes.
+fn list_file(
+    alloc: Global,
+    output: &mut Output,
+    notes: &mut Notes,
+    source: Source<'_>,
+    file: File,
+) -> Result<(), AllocError> {
+    let (file, refused) = as_object(file);
+    let is_damaged = put_kind_note(notes, file.header(), refused);
+    put_header(notes, file.header());
+    let mut findings = Notes::new(alloc);
+    if is_damaged {
+        let wrong = wrong_words(alloc, &file)?;
+        put_wrong(output, &mut findings, source, &wrong);
+    }
+    let odd = odd_of(alloc, source.bytes, &file)?;
+    put_findings(&mut findings, "odd", &odd);
+    if is_of_gnu(alloc, source.bytes, false) {
+        findings.put(GNU_NOTE);
+    }
+    if notes.is_cut() || findings.is_cut() {
+        return Err(AllocError);
+    }
+    let listing = listing_of(alloc, &file, notes, &findings)?;
+    output.text.put_bytes(&listing);
+    Ok(())
+}
+
+/// Adds the listing of the file at a path.
+fn list_at(
+    rt: &HostRuntime,
+    output: &mut Output,
+    path: &str,
+    is_reported: bool,
+) -> Result<(), AllocError> {
+    let alloc = rt.alloc();
+    let Some(bytes) = bytes_at(rt, output, path)? else {
+        return Ok(());
+    };
+    let source = Source {
+        path,
+        bytes: bytes.as_slice(),
+        is_reported,
+    };
+    let mut notes = Notes::new(alloc);
+    match file_in(alloc, output, &mut notes, source)? {
+        Some(file) => list_file(alloc, output, &mut notes, source, file),
+        None => Ok(()),
+    }
+}
+
+/// Stores the listing in place of writing it to standard output, if nothing was wrong.
+fn store(rt: &HostRuntime, output: &mut Output, path: &str) -> Result<(), AllocError> {
+    let text = mem::replace(&mut output.text, Text::new(rt.alloc())).finish()?;
+    if output.status == 0 {
+        match fs::create(rt, path) {
+            Ok(mut device) => {
+                if device.write_all(&text).is_err() {
+                    output.fault(path, "write error", 2);
+                }
+            }
+            Err(_) => output.fault(path, "cannot create", 2),
+        }
+    }
+    Ok(())
+}
+
+/// The listings of the files; they are stored if a file for them is given.
+pub(crate) fn list_files(rt: &HostRuntime, words: &ListingWords) -> Result<Output, AllocError> {
+    let mut output = Output::new(rt.alloc());
+    for path in &words.files {
+        list_at(rt, &mut output, path.as_str(), words.out.is_some())?;
+    }
+    if let Some(path) = &words.out {
+        store(rt, &mut output, path.as_str())?;
+    }
+    Ok(output)
 }

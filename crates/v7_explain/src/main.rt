@@ -2,8 +2,8 @@
 //! a link.
 #![tactic(auto)]
 
+mod checking;
 mod disassembly;
-mod explaining;
 mod listing;
 mod map;
 mod map_limits;
@@ -12,13 +12,16 @@ mod map_objects;
 mod map_text;
 mod output;
 mod remarks;
+mod source;
 mod words;
 mod words_in;
 
 use aout_core::show;
-use explaining::{check_files, disassemble_files, explain_files};
+use checking::check_files;
+use disassembly::disassemble_files;
+use listing::list_files;
 use map::write_map;
-use output::{Output, write_output};
+use output::write_output;
 use std::process::ExitCode;
 use words::{Asked, what_is_asked};
 
@@ -43,13 +46,13 @@ fn run(rt: &HostRuntime, asked: Asked) -> u8 {
         Asked::Nothing => return usage(rt),
         Asked::Show(shown) => return show(rt, "v7-explain", SYNOPSIS, *shown),
         Asked::Memory => return no_memory(rt),
-        Asked::Listing(listing) => explain_files(rt, listing),
+        Asked::Listing(listing) => list_files(rt, listing),
         Asked::Check(files) => check_files(rt, files),
         Asked::Disassembly(files) => disassemble_files(rt, files),
         Asked::Map(call) => write_map(rt, call),
     };
-    match output {
-        Ok(output) => write_output(rt, &output),
+    match write_output(rt, output) {
+        Ok(status) => status,
         Err(_) => no_memory(rt),
     }
 }

@@ -1,54 +1,32 @@
 //! The objects of a link, from their files.
 use crate::output::Output;
-use aout_core::{Object, ObjectFault, ReadFault, Wire, read_file};
+use aout_core::{NoObject, Object, ReadFault, Wire, read_object};
 use link_maps::Objects;
 use std::alloc::{AllocError, Global};
 use std::fs;
 
-/// Why there is no object at a path.
-#[derive(Clone, Copy)]
-enum Unread {
-    NotOpened,
-    NoFile(ReadFault),
-    NoObject(ObjectFault),
-}
-
-fn object_at(rt: &HostRuntime, path: &str) -> Result<Object, Unread> {
-    let Ok(device) = fs::open(rt, path) else {
-        return Err(Unread::NotOpened);
-    };
-    let file = match read_file(rt.alloc(), &mut Wire::new(device)) {
-        Ok(file) => file,
-        Err(fault) => return Err(Unread::NoFile(fault)),
-    };
-    match Object::from_file(file) {
-        Ok(object) => Ok(object),
-        Err((_, fault)) => Err(Unread::NoObject(fault)),
+/// The object at a path; `None` if the path can't be opened.
+fn object_at(rt: &HostRuntime, path: &str) -> Option<Result<Object, NoObject>> {
+    match fs::open(rt, path) {
+        Ok(device) => Some(read_object(rt.alloc(), &mut Wire::new(device))),
+        Err(_) => None,
     }
 }
 
 /// Reports why there is no object: status 1 for a file that `ld` refuses, 2 for one that can't be read.
-fn tell_unread(
+fn report_refused(
     alloc: Global,
     output: &mut Output,
     path: &str,
-    unread: Unread,
+    refused: NoObject,
 ) -> Result<(), AllocError> {
-    match unread {
-        Unread::NotOpened => output.fault(path, "cannot open", 2),
-        Unread::NoFile(fault) => {
-            let line = format!(in alloc; "{fault}")?;
-            let status = match fault {
-                ReadFault::Device | ReadFault::Memory => 2,
-                _ => 1,
-            };
-            output.fault(path, line.as_str(), status)
-        }
-        Unread::NoObject(fault) => {
-            let line = format!(in alloc; "{fault}")?;
-            output.fault(path, line.as_str(), 1)
-        }
-    }
+    let status = match refused {
+        NoObject::NotRead(ReadFault::Device | ReadFault::Memory) => 2,
+        NoObject::NotRead(_) | NoObject::NotFit(_) => 1,
+    };
+    let line = format!(in alloc; "{refused}")?;
+    output.fault(path, line.as_str(), status);
+    Ok(())
 }
 
 /// Takes the objects at these paths in order, and reports what is not an object.
@@ -61,11 +39,12 @@ pub(crate) fn read_objects(
     let alloc = rt.alloc();
     for path in paths {
         match object_at(rt, path.as_str()) {
-            Ok(object) => {
+            Some(Ok(object)) => {
                 let label = String::from_str(alloc, path.as_str())?;
                 objects.take(alloc, label, object)?;
             }
-            Err(unread) => tell_unread(alloc, output, path.as_str(), unread)?,
+            Some(Err(refused)) => report_refused(alloc, output, path.as_str(), refused)?,
+            None => output.fault(path.as_str(), "cannot open", 2),
         }
     }
     Ok(())

@@ -1,44 +1,44 @@
 //! What a listing remarks of a file.
-ghost use Rattle.std.specs.Prelude.{◌≡◌, ◌<◌, ◌+◌, ◌*◌, ◌%◌, ◌++◌, ◌∷◌, [], length, map, slice_get, slice_index, string_bytes, OnOk, IfOk};
-ghost use Rattle.listings.specs.Drafts.{data_start};
-ghost use Rattle.listings.specs.Listing.{remarked, note_lines, text_of};
+ghost use Rattle.std.specs.Prelude.{◌≡◌, ◌<◌, ◌+◌, ◌*◌, ◌%◌, ◌++◌, ◌∷◌, [], false, length, map, slice_get, slice_index};
+ghost use Rattle.texts.specs.Lines.{text_of};
+ghost use Rattle.texts.specs.Texts.{Puts};
+ghost use Rattle.aout_core.specs.Addresses.{data_start_in};
+ghost use Rattle.listings.specs.Listing.{remarked, note_lines};
+ghost use Rattle.findings.specs.Found.{Holds};
 ghost use Rattle.disassemblies.specs.Lines.{line_text_in};
 ghost use Rattle.disassemblies.specs.Labels.{label_lines};
-ghost use Rattle.v7_explain.specs.Said.{printed_byte, printed, is_plain, word_said, reloc_said, text_said, data_said, labels_said};
+ghost use Rattle.v7_explain.specs.Said.{printed_byte, printed, is_plain, reloc_said, text_said, data_said, labels_said};
 
 use crate::words_in::put_word_text;
-use aout_core::{File, Reloc, Symbol};
+use aout_core::{File, Part, Reloc, Symbol};
 use disassemblies::{NamedFile, is_start, line_in, put_labels, put_line_text};
-use listings::{Part, Remark, data_start};
-use std::alloc::{AllocError, Global};
+use findings::Notes;
+use listings::Remark;
+use std::alloc::Global;
 use symtools::letter;
+use texts::Text;
 
 /// A file that is listed, with what is remarked of it.
 #[derive(Clone, Copy)]
 pub(crate) struct Explained<'a> {
-    pub(crate) alloc: Global,
     pub(crate) file: &'a NamedFile<'a>,
     /// For each word of the text, whether a line of instructions begins there.
     pub(crate) starts: &'a [bool],
     /// Lines before the file, each without its slash.
-    pub(crate) notes: &'a [String],
+    pub(crate) notes: &'a Notes,
     /// Lines after it.
-    pub(crate) findings: &'a [String],
+    pub(crate) findings: &'a Notes,
 }
 
 /// Appends a byte; one below the blank as `\ooo`.
-fn put_printed_byte(text: &mut Vec<u8>, byte: u8) -> Result<(), AllocError>
-    ensures { OnOk result (text.new.items ≡ text.old.items ++ printed_byte byte) }
+fn put_printed_byte(text: &mut Text, byte: u8)
+    ensures { Puts text.old text.new (printed_byte byte) }
 {
     if byte >= b' ' {
-        return text.extend_from_slice(&[byte]);
+        text.put_byte(byte);
+    } else {
+        text.put_escaped(byte);
     }
-    text.extend_from_slice(&[
-        b'\\',
-        b'0' + byte / 0o100 % 8,
-        b'0' + byte / 0o10 % 8,
-        b'0' + byte % 8,
-    ])
 }
 
 /// Whether no byte is below the blank.
@@ -55,222 +55,216 @@ fn is_plain(bytes: &[u8]) -> bool
 
 /// Appends bytes; those below the blank as `\ooo`. If there are none, all are appended at once.
 #[tactic(auto, using(crate::proofs::PlainLemmas::plain_printed))]
-fn put_printed(text: &mut Vec<u8>, bytes: &[u8]) -> Result<(), AllocError>
-    ensures { OnOk result (text.new.items ≡ text.old.items ++ printed bytes.now) }
+fn put_printed(text: &mut Text, bytes: &[u8])
+    ensures { Puts text.old text.new (printed bytes.now) }
 {
     if is_plain(bytes) {
-        return text.extend_from_slice(bytes);
+        return text.put_bytes(bytes);
     }
     for byte in bytes {
-        put_printed_byte(text, *byte)?;
+        put_printed_byte(text, *byte);
     }
-    Ok(())
 }
 
 /// Appends a note in a line.
-fn put_line(text: &mut Vec<u8>, note: &str) -> Result<(), AllocError>
-    ensures { OnOk result (text.new.items ≡ text.old.items ++ ((47 ∷ printed note.now) ++ 10 ∷ [])) }
+fn put_line(text: &mut Text, note: &[u8])
+    ensures { Puts text.old text.new ((47 ∷ printed note.now) ++ 10 ∷ []) }
 {
-    text.extend_from_slice(b"/")?;
-    put_printed(text, note.as_bytes())?;
-    text.extend_from_slice(b"\n")
+    text.put_byte(b'/');
+    put_printed(text, note);
+    text.put_byte(b'\n');
+}
+
+fn put_list(text: &mut Text, notes: &[Vec<u8>])
+    ensures { Puts text.old text.new (text_of (note_lines (map printed (map (λ v. v.items) notes.now)))) }
+{
+    for note in notes {
+        put_line(text, note);
+    }
 }
 
 /// Appends notes, a line each.
-pub(crate) fn put_lines(text: &mut Vec<u8>, notes: &[String]) -> Result<(), AllocError>
-    ensures { OnOk result (text.new.items ≡ text.old.items ++ text_of (note_lines (map printed (map string_bytes notes.now)))) }
+pub(crate) fn put_lines(text: &mut Text, notes: &Notes)
+    ensures { Puts text.old text.new (text_of (note_lines (map printed notes.now.lines))) }
 {
-    for note in notes {
-        put_line(text, note.as_str())?;
-    }
-    Ok(())
+    put_list(text, notes.lines());
 }
 
 /// Appends two blanks and a remark, or nothing if it is empty.
-fn put_remark(text: &mut Vec<u8>, remark: &[u8]) -> Result<(), AllocError>
-    ensures { OnOk result (text.new.items ≡ text.old.items ++ remarked (printed remark.now)) }
+fn put_remark(text: &mut Text, remark: &[u8])
+    ensures { Puts text.old text.new (remarked (printed remark.now)) }
 {
     if remark.is_empty() {
-        return Ok(());
+        return;
     }
-    text.extend_from_slice(b"  ")?;
-    put_printed(text, remark)
+    text.put("  ");
+    put_printed(text, remark);
+}
+
+/// Appends two blanks and a remark that was made, or nothing if it is empty.
+fn put_made(text: &mut Text, remark: Text)
+    ensures { text.new.is_cut ≡ false → (remark.is_cut ≡ false) × (text.old.is_cut ≡ false) × (text.new.bytes ≡ text.old.bytes ++ remarked (printed remark.bytes)) }
+{
+    match remark.finish() {
+        Ok(remark) => put_remark(text, &remark),
+        Err(_) => text.cut(),
+    }
 }
 
 /// A word at an address, and its relocation word if it has one.
 #[derive(Clone, Copy)]
-struct Spot {
+struct PlacedWord {
     at: u16,
     word: u16,
     reloc: Option<Reloc>,
 }
 
 /// What the relocation word of a word says.
-fn reloc_text(alloc: Global, symbols: &[Symbol], spot: Spot) -> Result<Vec<u8>, AllocError>
-    ensures { IfOk result (λ v. v.items ≡ reloc_said symbols.now spot.at spot.word spot.reloc) }
+fn reloc_text(alloc: Global, symbols: &[Symbol], spot: PlacedWord) -> Text
+    ensures { Holds result (reloc_said symbols.now spot.at spot.word spot.reloc) }
 {
-    let mut text = Vec::new(alloc);
+    let mut text = Text::new(alloc);
     if let Some(reloc) = spot.reloc {
-        put_word_text(&mut text, symbols, spot.at, spot.word, reloc)?;
+        put_word_text(&mut text, symbols, spot.at, spot.word, reloc);
     }
-    Ok(text)
+    text
 }
 
 /// Appends what the relocation word of a word says.
-fn put_reloc(
-    alloc: Global,
-    text: &mut Vec<u8>,
-    symbols: &[Symbol],
-    spot: Spot,
-) -> Result<(), AllocError>
-    ensures { OnOk result (text.new.items ≡ text.old.items ++ remarked (printed (reloc_said symbols.now spot.at spot.word spot.reloc))) }
+fn put_reloc(text: &mut Text, symbols: &[Symbol], spot: PlacedWord)
+    ensures { Puts text.old text.new (remarked (printed (reloc_said symbols.now spot.at spot.word spot.reloc))) }
 {
-    let remark = reloc_text(alloc, symbols, spot)?;
-    put_remark(text, &remark)
+    let remark = reloc_text(text.allocator(), symbols, spot);
+    put_made(text, remark);
 }
 
-fn text_spot(file: &File, place: usize) -> Spot
+fn text_spot(file: &File, place: usize) -> PlacedWord
     requires { place < length file.now.text_words }
     ensures at { result.at ≡ 2 * place }
     ensures word { result.word ≡ slice_index file.now.text_words place }
     ensures reloc { result.reloc ≡ slice_get file.now.text_reloc place }
 {
     let words = file.text_words();
-    Spot {
+    PlacedWord {
         at: (2 * place) as u16,
         word: words[place],
         reloc: file.text_reloc().get(place).copied(),
     }
 }
 
-fn data_spot(file: &File, place: usize) -> Spot
+fn data_spot(file: &File, place: usize) -> PlacedWord
     requires { place < length file.now.data_words }
-    ensures at { result.at ≡ (data_start file.now.header.magic file.now.header.text_size + 2 * place) % 65536 }
+    ensures at { result.at ≡ (data_start_in file.now.header + 2 * place) % 65536 }
     ensures word { result.word ≡ slice_index file.now.data_words place }
     ensures reloc { result.reloc ≡ slice_get file.now.data_reloc place }
 {
     let header = file.header();
-    let start = data_start(header.magic, usize::from(header.text_size));
+    let start = header.data_start();
     let words = file.data_words();
-    Spot {
+    PlacedWord {
         at: ((start + 2 * place) % 65536) as u16,
         word: words[place],
         reloc: file.data_reloc().get(place).copied(),
     }
 }
 
-/// Appends the instruction that begins at a place of the text.
-fn put_instruction(
-    alloc: Global,
-    text: &mut Vec<u8>,
-    file: &NamedFile<'_>,
-    place: usize,
-) -> Result<(), AllocError>
+/// The instruction that begins at a place of the text.
+fn instruction_text(alloc: Global, file: &NamedFile<'_>, place: usize) -> Text
     requires { place < length file.now.text_words }
-    ensures { OnOk result (text.new.items ≡ text.old.items ++ remarked (printed (line_text_in file.now place))) }
+    ensures { Holds result (line_text_in file.now place) }
 {
-    let mut line = String::new(alloc);
-    put_line_text(&mut line, file, place)?;
-    put_remark(text, line.as_bytes())
+    let mut text = Text::new(alloc);
+    put_line_text(&mut text, file, place);
+    text
+}
+
+/// Appends the instruction that begins at a place of the text.
+fn put_instruction(text: &mut Text, file: &NamedFile<'_>, place: usize)
+    requires { place < length file.now.text_words }
+    ensures { Puts text.old text.new (remarked (printed (line_text_in file.now place))) }
+{
+    let remark = instruction_text(text.allocator(), file, place);
+    put_made(text, remark);
 }
 
 /// Appends what is remarked of a word of text: its instruction, or what its relocation word says.
-fn put_text_remark(x: &Explained<'_>, text: &mut Vec<u8>, place: usize) -> Result<(), AllocError>
-    ensures { OnOk result (text.new.items ≡ text.old.items ++ remarked (printed (text_said x.now.starts.now x.now.file.now place))) }
+fn put_text_remark(x: &Explained<'_>, text: &mut Text, place: usize)
+    ensures { Puts text.old text.new (remarked (printed (text_said x.now.starts.now x.now.file.now place))) }
 {
-    if place >= x.file.file().text_words().len() {
-        return Ok(());
+    let file = x.file.file();
+    if place >= file.text_words().len() {
+        return;
     }
     if is_start(x.starts, place) {
-        put_instruction(x.alloc, text, x.file, place)
+        put_instruction(text, x.file, place);
     } else {
-        put_reloc(
-            x.alloc,
-            text,
-            x.file.file().symbols(),
-            text_spot(x.file.file(), place),
-        )
+        put_reloc(text, file.symbols(), text_spot(file, place));
     }
 }
 
 /// Appends what is remarked of a word of data.
-fn put_data_remark(x: &Explained<'_>, text: &mut Vec<u8>, place: usize) -> Result<(), AllocError>
-    ensures { OnOk result (text.new.items ≡ text.old.items ++ remarked (printed (data_said x.now.file.now place))) }
+fn put_data_remark(x: &Explained<'_>, text: &mut Text, place: usize)
+    ensures { Puts text.old text.new (remarked (printed (data_said x.now.file.now place))) }
 {
-    if place >= x.file.file().data_words().len() {
-        return Ok(());
+    let file = x.file.file();
+    if place < file.data_words().len() {
+        put_reloc(text, file.symbols(), data_spot(file, place));
     }
-    put_reloc(
-        x.alloc,
-        text,
-        x.file.file().symbols(),
-        data_spot(x.file.file(), place),
-    )
 }
 
 /// Appends the labels of a line of so many words at a place of the text, 0 for its end.
-fn put_line_labels(
-    alloc: Global,
-    text: &mut Vec<u8>,
-    file: &NamedFile<'_>,
-    place: usize,
-    length: u8,
-) -> Result<(), AllocError>
+fn put_line_labels(text: &mut Text, file: &NamedFile<'_>, place: usize, length: u8)
     requires { place < 32768 }
-    ensures { OnOk result (text.new.items ≡ text.old.items ++ text_of (label_lines file.now.symbols (2 * place) length)) }
+    ensures { Puts text.old text.new (text_of (label_lines file.now.symbols (2 * place) length)) }
 {
-    let mut lines = String::new(alloc);
-    put_labels(&mut lines, file, (2 * place) as u16, length)?;
-    text.extend_from_slice(lines.as_bytes())
+    put_labels(text, file, (2 * place) as u16, length);
 }
 
 /// Appends the labels before the line that begins at a place of the text, or at the end of the text.
-fn put_text_labels(x: &Explained<'_>, text: &mut Vec<u8>, place: usize) -> Result<(), AllocError>
-    ensures { OnOk result (text.new.items ≡ text.old.items ++ text_of (labels_said x.now.starts.now x.now.file.now place)) }
+fn put_text_labels(x: &Explained<'_>, text: &mut Text, place: usize)
+    ensures { Puts text.old text.new (text_of (labels_said x.now.starts.now x.now.file.now place)) }
 {
     let end = x.file.file().text_words().len();
     if place == end {
-        return put_line_labels(x.alloc, text, x.file, place, 0);
+        return put_line_labels(text, x.file, place, 0);
     }
     if place < end && is_start(x.starts, place) {
         let length = line_in(x.file.file(), place).length() as u8;
-        return put_line_labels(x.alloc, text, x.file, place, length);
+        put_line_labels(text, x.file, place, length);
     }
-    Ok(())
 }
 
 impl Remark for Explained<'_> {
-    ghost use Rattle.std.specs.Prelude.{map, string_bytes};
     ghost use Rattle.v7_explain.specs.Said.{explained};
     ghost use Rattle.v7_explain.specs.internal.Lines.{explained_lines};
 
-    ghost said = { λ x. explained x.starts.now x.file.now (map string_bytes x.notes.now) (map string_bytes x.findings.now) };
+    ghost said = { λ x. explained x.starts.now x.file.now x.notes.now.lines x.findings.now.lines };
 
-    fn put_notes(&self, text: &mut Vec<u8>) -> Result<(), AllocError> {
-        put_lines(text, self.notes)
+    fn put_notes(&self, text: &mut Text) {
+        put_lines(text, self.notes);
     }
 
-    fn put_findings(&self, text: &mut Vec<u8>) -> Result<(), AllocError> {
-        put_lines(text, self.findings)
+    fn put_findings(&self, text: &mut Text) {
+        put_lines(text, self.findings);
     }
 
-    fn put_labels(&self, text: &mut Vec<u8>, part: Part, place: usize) -> Result<(), AllocError> {
+    fn put_labels(&self, text: &mut Text, part: Part, place: usize) {
         match part {
             Part::Text => put_text_labels(self, text, place),
-            Part::Data => Ok(()),
+            Part::Data => {}
         }
     }
 
-    fn put_word(&self, text: &mut Vec<u8>, part: Part, place: usize) -> Result<(), AllocError> {
+    fn put_word(&self, text: &mut Text, part: Part, place: usize) {
         match part {
             Part::Text => put_text_remark(self, text, place),
             Part::Data => put_data_remark(self, text, place),
         }
     }
 
-    fn put_symbol(&self, text: &mut Vec<u8>, symbol: &Symbol) -> Result<(), AllocError> {
-        put_remark(text, &[letter(symbol)])
+    fn put_symbol(&self, text: &mut Text, symbol: &Symbol) {
+        put_remark(text, &[letter(symbol)]);
     }
 
-    ghost are = { λ x. explained_lines x.starts.now x.file.now (map string_bytes x.notes.now) (map string_bytes x.findings.now) };
+    ghost are = { λ x. explained_lines x.starts.now x.file.now x.notes.now.lines x.findings.now.lines };
 }

@@ -11,7 +11,7 @@ use Rattle.link_session.specs.Undo.{Kept}
 use Rattle.tool_options.specs.Choices.{Choices}
 use Rattle.link_out.specs.declared.linked.Linked.{Linked}
 use Rattle.link_out.specs.function.Link.{Outcome, link}
-use Rattle.link_out.specs.Outcomes.{findings_of, outcome_of}
+use Rattle.link_out.specs.Outcomes.{report_names, outcome_of}
 use Rattle.v7tools.specs.Answers.{absent, Verdict, done, refused, to_store, Stepped, add_step, input_from, failing, giving, withdraw_step, link_answer_text, link_status}
 use Rattle.v7tools.specs.Events.{Event, History, Extends, opened, stored}
 use Rattle.v7tools.specs.FaultTexts.{cli_text, fault_of_link}
@@ -183,10 +183,10 @@ module _ {W : Type 0} (contents : W → Option (List ℕ)) where
 
     -- there is a link, and it is known what became of its file
     pub stored_link : (old new : History) (made : Linked) (what : Stored) → link kept.forced (objects kept.entries) o ≡ Ok (outcome_of made) → Extends old new (stored path made.file what ∷ []) →
-        IfOk result (λ status. status ≡ link_status (findings_of made.report) what) → IfErr result (λ e. e ≡ faults.WriteFailed) → (IsErr result ↔ IsTrue after.has_failed) →
-        Puts result (contents before.device) (contents after.device) (link_answer_text (findings_of made.report) path what) → AnswersLine contents o (to_link path) kept kept old new result before after
+        IfOk result (λ status. status ≡ link_status (report_names made.report) what) → IfErr result (λ e. e ≡ faults.WriteFailed) → (IsErr result ↔ IsTrue after.has_failed) →
+        Puts result (contents before.device) (contents after.device) (link_answer_text (report_names made.report) path what) → AnswersLine contents o (to_link path) kept kept old new result before after
     stored_link old new made what is asked status write_failed failed bytes = record {
-      run = record { line = to_link path; events = stored path made.file what ∷ []; answer = link_answer_text (findings_of made.report) path what; status = link_status (findings_of made.report) what; kept = kept };
+      run = record { line = to_link path; events = stored path made.file what ∷ []; answer = link_answer_text (report_names made.report) path what; status = link_status (report_names made.report) what; kept = kept };
       line = refl;
       leaves = refl;
       is_run = inr (record { outcome = outcome_of made; is_link = is; what = what; events = refl; answer = refl; status = refl; same = refl });

@@ -6,7 +6,7 @@ use Rattle.std.specs.List.{AllByRecursion}
 use Rattle.aout_core.specs.Wires.{Latched}
 use Rattle.link_out.specs.declared.linked.Linked.{Linked}
 use Rattle.tool_options.specs.Choices.{Choices}
-use Rattle.link_out.specs.Outcomes.{findings_of}
+use Rattle.link_out.specs.Outcomes.{report_names}
 use Rattle.v7tools.specs.Events.{History, Extends, stored}
 use Rattle.v7tools.specs.LinkAnswers.{Input, inputs_of, IsLinkOf}
 use Rattle.v7tools.specs.internal.Openings.{sources, IsOpening, IsWorking, OpensAll}
@@ -58,7 +58,7 @@ module _ {R : Type 0} (remaining : R → Option (List ℕ)) where
     })))
 
     pub stores_link : (mid new : History) (inputs : List (String Global × Latched R)) (made : Linked) (what : Stored) → OpensAll remaining old mid files inputs →
-        IsLinkOf forced o (inputs_of remaining inputs) (Ok made) → Extends mid new (stored (string_bytes out) made.file what ∷ []) → ReportsIf contents what out (findings_of made.report) result before after →
+        IsLinkOf forced o (inputs_of remaining inputs) (Ok made) → Extends mid new (stored (string_bytes out) made.file what ∷ []) → ReportsIf contents what out (report_names made.report) result before after →
         IsLinkRun contents forced o out (map string_bytes files) old new result before after
     stores_link mid new inputs made what h link asked reports = inr (inr (inr (record {
       linked = made;

@@ -15,7 +15,7 @@ use Rattle.link_session.specs.Image.{image}
 use Rattle.link_session.specs.Edits.{without_last, last_of}
 use Rattle.link_out.specs.declared.linked.LinkFault.{LinkFault}
 use Rattle.tool_options.specs.Choices.{Choices}
-use Rattle.link_out.specs.function.Reports.{Findings, line, report_text, status_of, undefined_names}
+use Rattle.link_out.specs.function.Reports.{ReportNames, line, report_text, status_of, undefined_names}
 use Rattle.link_out.specs.function.Link.{Outcome, link}
 use Rattle.symtools.specs.SymbolLines.{symbol_line}
 use Rattle.v7tools.specs.Inputs.{Cause, cannot_open, bad_file, with_input}
@@ -87,11 +87,11 @@ step forced o kept linking = link_step kept (link forced (objects kept) o)
 step forced o kept anything_else = record { verdict = refused; answer = line (codes "bad command"); kept = kept }
 
 -- the answer of a link, once it is known what became of its file
-abbrev pub link_answer_text : Findings → List ℕ → Stored → List ℕ
+abbrev pub link_answer_text : ReportNames → List ℕ → Stored → List ℕ
 link_answer_text f path Kept = report_text f ++ line (codes "linked " ++ path ++ codes " " ++ decimal (status_of f))
 link_answer_text f path NotCreated = line (at_file path (codes "cannot create"))
 link_answer_text f path Failed = line (at_file path (codes "write error"))
 
-abbrev pub link_status : Findings → Stored → ℕ
+abbrev pub link_status : ReportNames → Stored → ℕ
 link_status f Kept = status_of f
 link_status f _ = 1

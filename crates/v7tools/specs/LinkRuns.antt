@@ -6,8 +6,8 @@ use Rattle.std.specs.Prelude.{◌≡◌, ◌⊎◌, ℕ, List, [], ◌∷◌, �
 use Rattle.aout_core.specs.Wires.{Latched, Writes}
 use Rattle.link_out.specs.declared.linked.Linked.{Linked}
 use Rattle.tool_options.specs.Choices.{Choices}
-use Rattle.link_out.specs.Outcomes.{findings_of}
-use Rattle.link_out.specs.function.Reports.{Findings, report_text, status_of}
+use Rattle.link_out.specs.Outcomes.{report_names}
+use Rattle.link_out.specs.function.Reports.{ReportNames, report_text, status_of}
 use Rattle.v7tools.specs.Events.{History, Extends, Opened, opened, opens, paths_of, stored}
 use Rattle.v7tools.specs.LinkAnswers.{Input, IsLinkOf}
 use Rattle.v7tools.specs.declared.fault.CliFault.{CliFault}
@@ -32,13 +32,13 @@ pub record IsLinkOfFiles (forced : List (List ℕ)) (o : Choices) (files : List 
   pub link : IsLinkOf forced o (inputs_opened found) answer
 
 -- the report went out, or on a fault a prefix of it
-pub record Reports {W : Type 0} (contents : W → Option (List ℕ)) (f : Findings) (result : Result ℕ CliFault) (before after : Latched W) : Type 0 where
+pub record Reports {W : Type 0} (contents : W → Option (List ℕ)) (f : ReportNames) (result : Result ℕ CliFault) (before after : Latched W) : Type 0 where
   pub status : IfOk result (λ status. status ≡ status_of f)
   pub write_failed : IfErr result (λ fault. fault ≡ faults.WriteFailed)
   pub writes : Writes contents result before after (report_text f)
 
 -- the report goes out only if the file is stored
-abbrev pub ReportsIf : {W : Type 0} → (W → Option (List ℕ)) → Stored → String Global → Findings → Result ℕ CliFault → Latched W → Latched W → Type 0
+abbrev pub ReportsIf : {W : Type 0} → (W → Option (List ℕ)) → Stored → String Global → ReportNames → Result ℕ CliFault → Latched W → Latched W → Type 0
 ReportsIf contents Kept out f result before after = Reports contents f result before after
 ReportsIf contents NotCreated out f result before after = (result ≡ Err (faults.CannotCreate out)) × (after ≡ before)
 ReportsIf contents Failed out f result before after = (result ≡ Err faults.WriteFailed) × (after ≡ before)
@@ -69,7 +69,7 @@ pub record StoresLink {W : Type 0} (contents : W → Option (List ℕ)) (forced 
   pub found : List Opened
   pub answer : IsLinkOfFiles forced o files found (Ok linked)
   pub asked : Extends old new (opens found ++ stored (string_bytes out) linked.file what ∷ [])
-  pub reports : ReportsIf contents what out (findings_of linked.report) result before after
+  pub reports : ReportsIf contents what out (report_names linked.report) result before after
 
 -- no memory before anything was opened, a file that can't be opened, no link, or a link
 abbrev pub IsLinkRun : {W : Type 0} → (W → Option (List ℕ)) → List (List ℕ) → Choices → String Global → List (List ℕ) → History → History → Result ℕ CliFault → Latched W → Latched W → Type 0

@@ -13,7 +13,7 @@ use Rattle.link_out.specs.Layouts.{magic_of}
 use Rattle.link_out.specs.function.Plans.{Plan, plan, commons_laid}
 use Rattle.link_out.specs.function.Words.{final_words}
 use Rattle.link_out.specs.function.Tables.{table, final_relocs, has_far_word}
-use Rattle.link_out.specs.function.Reports.{findings, entry_word}
+use Rattle.link_out.specs.function.Reports.{report_of, entry_word}
 pub use Rattle.link_out.specs.Results.{Outcome}
 
 abbrev pub linked_header : Plan → List Contents → Header
@@ -43,7 +43,7 @@ link_by p os =
     if nat_lt 65535 p.at.bss_end then Err DoesNotFit
     else (if nat_lt 5461 (length (table p os)) then Err TooManySymbols
     else (if p.choices.relocatable && has_far_word p os then Err SymbolNumber
-    else Ok (record { file = linked_file p os; report = findings p })))
+    else Ok (record { file = linked_file p os; report = report_of p })))
 
 abbrev pub link : List (List ℕ) → List Contents → Choices → Result Outcome LinkFault
 link forced os o = link_by (plan forced os o) os

@@ -9,7 +9,7 @@ use Rattle.link_session.specs.States.{state, multiple_names}
 use Rattle.link_out.specs.function.Plans.{Plan}
 use Rattle.link_out.specs.function.Finals.{final, type_of}
 pub use Rattle.link_out.specs.ReservedNames.{reserved_names}
-pub use Rattle.link_out.specs.Results.{Findings}
+pub use Rattle.link_out.specs.Results.{ReportNames}
 
 -- neither defined nor a common
 abbrev pub is_undefined : State → Bool
@@ -39,8 +39,8 @@ abbrev pub entry_found_bad : Plan → Option (List ℕ) → Option (List ℕ)
 entry_found_bad p None = None
 entry_found_bad p (Some name) = if is_in_text p name then None else Some name
 
-abbrev pub findings : Plan → Findings
-findings p = record {
+abbrev pub report_of : Plan → ReportNames
+report_of p = record {
   multiples = multiple_names p.mentions;
   reserved = reserved_taken p.mentions;
   entry_bad = entry_found_bad p p.choices.entry;
@@ -59,11 +59,11 @@ undefined_lines [] = []
 undefined_lines (n ∷ ns) = line (codes "Undefined:") ++ flat_map line (n ∷ ns)
 
 -- the lines in their order
-abbrev pub report_text : Findings → List ℕ
+abbrev pub report_text : ReportNames → List ℕ
 report_text f =
     flat_map (λ n. line (n ++ codes ": Multiply defined")) (f.multiples ++ f.reserved)
     ++ (entry_lines f.entry_bad ++ undefined_lines f.undefined)
 
 -- 0 without a line, else 1
-abbrev pub status_of : Findings → ℕ
+abbrev pub status_of : ReportNames → ℕ
 status_of f = if eqb (length (report_text f)) 0 then 0 else 1

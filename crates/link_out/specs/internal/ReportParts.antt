@@ -3,11 +3,11 @@ use Rattle.std.specs.Prelude.{ℕ, Bool, not, ◌&&◌, eqb, List, ◌++◌, fil
 use Rattle.std.specs.List.{flat_map}
 use Rattle.link_session.specs.Mentions.{Mention}
 use Rattle.link_session.specs.States.{state}
-use Rattle.link_out.specs.Results.{Findings}
+use Rattle.link_out.specs.Results.{ReportNames}
 use Rattle.link_out.specs.function.Reports.{line, is_undefined}
 
 -- no line
-abbrev pub is_silent : Findings → Bool
+abbrev pub is_silent : ReportNames → Bool
 is_silent f = eqb (length f.multiples) 0 && (eqb (length f.reserved) 0 && (is_none f.entry_bad && eqb (length f.undefined) 0))
 
 -- the lines of names that are multiply defined

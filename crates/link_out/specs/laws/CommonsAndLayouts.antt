@@ -17,7 +17,8 @@ use Rattle.tool_options.specs.declared.options.Layout.{Layout}
 use Rattle.tool_options.specs.Choices.{Choices, lays_commons, option_fault}
 use Rattle.link_out.specs.function.Link.{Outcome, link}
 use Rattle.link_out.specs.relation.NameStates.{IsWanted}
-use Rattle.link_out.specs.relation.Relocated.{data_base_in, base_in, entry_of, IsEntry}
+use Rattle.aout_core.specs.Addresses.{data_start_in}
+use Rattle.link_out.specs.relation.Relocated.{base_in, entry_of, IsEntry}
 use Rattle.aout_core.specs.declared.header.Header.{Header}
 
 -- a name that no object defines, and that they want at this size, which is not 0
@@ -30,7 +31,7 @@ pub record HasRoom (file : Contents) (os : List Contents) (name : List ℕ) (siz
   pub row : Symbol
   pub found : entry_of file.symbols name ≡ Some row
   pub type_bits : row.type_bits ≡ 0o44
-  pub after : data_base_in file.header + file.header.data_size ≤ row.value
+  pub after : data_start_in file.header + file.header.data_size ≤ row.value
   pub before : row.value + size ≤ base_in file.header (total BssSeg os) BssSeg
 
 -- where commons are laid out, each has room

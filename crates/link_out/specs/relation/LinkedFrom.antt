@@ -16,7 +16,8 @@ use Rattle.link_out.specs.Layouts.{magic_of}
 use Rattle.link_out.specs.KeptSymbols.{rows_kept}
 use Rattle.link_out.specs.Results.{Outcome}
 use Rattle.link_out.specs.function.Link.{link}
-use Rattle.link_out.specs.relation.Relocated.{data_base_in, base_in, HoldsObjects, IsEntry}
+use Rattle.aout_core.specs.Addresses.{data_start_in}
+use Rattle.link_out.specs.relation.Relocated.{base_in, HoldsObjects, IsEntry}
 pub use Rattle.link_out.specs.relation.LinkedTable.{shown, undefined_row, row_for, room_for, AreRows, moved_value_in, moved_local_in, moved_locals_in}
 pub use Rattle.link_out.specs.relation.LinkedWords.{AreRelocated, row_bits, IsNamedBy, AreBits, IsKept, AreKept}
 pub use Rattle.link_out.specs.relation.Reported.{ArePicked, IsOther, IsReported}
@@ -27,7 +28,7 @@ pub record HasHeader (o : Choices) (file : Contents) : Type 0 where
   pub symbol_size : file.header.symbol_size ≡ 12 * length file.symbols
   pub unused : file.header.unused ≡ 0
   pub flag : file.header.flag ≡ cond o.relocatable 0 1
-  pub short : data_base_in file.header + file.header.data_size + file.header.bss_size ≤ 65535
+  pub short : data_start_in file.header + file.header.data_size + file.header.bss_size ≤ 65535
   pub few : length file.symbols ≤ 5461
 
 -- the file and the report are what linking these objects gives; the rows are those of the externals, which the table has
@@ -37,7 +38,7 @@ pub record IsLinkedFrom (forced : List (List ℕ)) (os : List Contents) (o : Cho
   pub holds : HoldsObjects x.file os
   pub header : HasHeader o x.file
   pub names : map (λ s. s.name) rows ≡ externals forced os
-  pub are_rows : AreRows x.file.header (total BssSeg os) o (mentions forced os) (data_base_in x.file.header + x.file.header.data_size) rows (base_in x.file.header (total BssSeg os) BssSeg)
+  pub are_rows : AreRows x.file.header (total BssSeg os) o (mentions forced os) (data_start_in x.file.header + x.file.header.data_size) rows (base_in x.file.header (total BssSeg os) BssSeg)
   pub table : x.file.symbols ≡ rows_kept o.keep (moved_locals_in x.file.header os o ++ rows)
   pub text : AreRelocated x.file rows os TextSeg
   pub «data» : AreRelocated x.file rows os DataSeg

@@ -20,7 +20,8 @@ use Rattle.tool_options.specs.Choices.{Choices, lays_commons}
 use Rattle.link_out.specs.relation.NameStates.{HasState}
 use Rattle.link_out.specs.KeptSymbols.{is_kept_local}
 use Rattle.link_out.specs.ReservedNames.{etext, edata, end_name}
-use Rattle.link_out.specs.relation.Relocated.{data_base_in, base_in, move_in, external_type}
+use Rattle.aout_core.specs.Addresses.{data_start_in}
+use Rattle.link_out.specs.relation.Relocated.{base_in, move_in, external_type}
 
 abbrev pub shown : List ℕ → ℕ → ℕ → Symbol
 shown name type_bits value = record { name = name; type_bits = type_bits; value = value }
@@ -30,8 +31,8 @@ abbrev pub undefined_row : Header → Choices → List ℕ → Symbol
 undefined_row h o name =
     if o.relocatable then shown name 0o40 0
     else (if bytes_eq name etext then shown name 0o42 h.text_size
-    else (if bytes_eq name edata then shown name 0o43 (data_base_in h + h.data_size)
-    else (if bytes_eq name end_name then shown name 0o44 (data_base_in h + h.data_size + h.bss_size)
+    else (if bytes_eq name edata then shown name 0o43 (data_start_in h + h.data_size)
+    else (if bytes_eq name end_name then shown name 0o44 (data_start_in h + h.data_size + h.bss_size)
     else shown name 0o40 0)))
 
 -- the row of a name in this state, beside so many bytes of the objects' bss, where a common has this address

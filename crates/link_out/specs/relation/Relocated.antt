@@ -3,7 +3,7 @@
 -- The header of a linked file determines where its segments begin, and its symbols where each name is. A word that refers to a segment
 -- of its object is moved as far as that segment was. A word that refers to a name has the address of the name added. A word
 -- relative to the pc is less by its own segment's move. Nothing else is needed to say what linking does to words.
-use Rattle.std.specs.Prelude.{◌≡◌, ℕ, ◌+◌, ◌-◌, ◌*◌, ◌/◌, ◌≤◌, ◌⊎◌, false, cond, ◌&&◌, eqb, if◌then◌else◌, List, [], ◌∷◌, length, Option, Some, None, slice_get, bytes_eq}
+use Rattle.std.specs.Prelude.{◌≡◌, ℕ, ◌+◌, ◌-◌, ◌*◌, ◌/◌, ◌≤◌, ◌⊎◌, false, cond, ◌&&◌, eqb, List, [], ◌∷◌, length, Option, Some, None, slice_get, bytes_eq}
 use Rattle.aout_core.specs.declared.header.Header.{Header}
 use Rattle.aout_core.specs.declared.symbol.Symbol.{Symbol}
 use Rattle.aout_core.specs.declared.symbol.Segment.{Segment}
@@ -12,22 +12,16 @@ use Rattle.aout_core.specs.declared.reloc.Reloc.{Reloc}
 use Rattle.aout_core.specs.declared.reloc.Kind.{Kind}
 use Rattle.aout_core.specs.declared.reloc.Kind.TheVariants as kinds
 use Rattle.aout_core.specs.Contents.{Contents}
+use Rattle.aout_core.specs.Addresses.{data_start_in}
 use Rattle.aout_core.specs.Words.{plus, minus}
 use Rattle.aout_core.specs.WellFormed.{is_external, masked_type, kind_of, is_pc_relative, symbol_number}
 use Rattle.link_session.specs.Starts.{total, own}
 use Rattle.link_session.specs.Cells.{segment_words}
 
--- where data begins in core, as the magic says
-abbrev pub data_base_in : Header → ℕ
-data_base_in h =
-    if eqb h.magic 0o407 then h.text_size
-    else (if eqb h.magic 0o410 then (h.text_size + 0o17777) / 0o20000 * 0o20000
-    else 0)
-
 -- where a segment begins in core, by the header and the objects' bytes of bss
 abbrev pub base_in : Header → ℕ → Segment → ℕ
-base_in h bss DataSeg = data_base_in h
-base_in h bss BssSeg = data_base_in h + h.data_size + (h.bss_size - bss)
+base_in h bss DataSeg = data_start_in h
+base_in h bss BssSeg = data_start_in h + h.data_size + (h.bss_size - bss)
 base_in h bss _ = 0
 
 -- how far a segment of an object is moved, that comes after the same segment of the objects before it

@@ -4,15 +4,15 @@ use Rattle.std.specs.List.{AllByRecursion}
 use Rattle.std.proofs.lemmas.Bool.{ltb-false}
 use Rattle.std.specs.Prelude.{◌*◌, ◌&&◌, eqb, nat_lt, if◌then◌else◌, length}
 use Rattle.aout_core.specs.Contents.{Contents}
-use Rattle.listings.specs.declared.part.Part.{Part}
-use Rattle.listings.specs.declared.part.Part.TheVariants as parts
+use Rattle.aout_core.specs.declared.part.Part.{Part}
+use Rattle.aout_core.specs.declared.part.Part.TheVariants as parts
 use Rattle.listings.specs.Laws.{IsLine, IsLabel, AreRemarks}
 use Rattle.instructions.specs.Lines.{line_length}
 use Rattle.instructions.proofs.LineLemmas.{length_from}
 use Rattle.disassemblies.specs.Lines.{line_in}
 use Rattle.disassemblies.specs.Labels.{label_lines}
 use Rattle.disassemblies.specs.Starts.{is_start}
-use Rattle.disassemblies.proofs.SilentLabels.{are_labels}
+use Rattle.v7_explain.specs.internal.SilentLabels.{are_labels}
 use Rattle.symtools.specs.SymbolLines.{letter}
 use Rattle.v7_explain.specs.Said.{printed_byte, printed, word_remark, labels_before, explained}
 

@@ -1,7 +1,7 @@
 //! The command ld, over any `Office`.
 ghost use Rattle.std.specs.Prelude.{◌≤◌, map, string_bytes, IfOk};
 ghost use Rattle.aout_core.specs.Wires.{IsPassedOn};
-ghost use Rattle.link_out.specs.Outcomes.{findings_of};
+ghost use Rattle.link_out.specs.Outcomes.{report_names};
 ghost use Rattle.v7tools.specs.LinkRuns.{IsLinkRun, Reports, ReportsIf};
 ghost use Rattle.v7tools.specs.internal.Openings.{IsOpening};
 
@@ -34,7 +34,7 @@ fn open_all<O: Office>(
 /// Writes a report and flushes it, and returns its status.
 fn put_report<W: BufferedWrite>(report: &Report, output: &mut Wire<W>) -> Result<u8, CliFault>
     ensures small { IfOk result (λ status. status ≤ 1) }
-    ensures run { Reports W.contents (findings_of report.now) result output.old output.new }
+    ensures run { Reports W.contents (report_names report.now) result output.old output.new }
     ensures passed { IsPassedOn W.waiting output.new }
 {
     report.write(output)?;
@@ -50,7 +50,7 @@ fn report_stored<W: BufferedWrite>(
     output: &mut Wire<W>,
 ) -> Result<u8, CliFault>
     ensures small { IfOk result (λ status. status ≤ 1) }
-    ensures run { ReportsIf W.contents stored out (findings_of report.now) result output.old output.new }
+    ensures run { ReportsIf W.contents stored out (report_names report.now) result output.old output.new }
     ensures passed { IsPassedOn W.waiting output.old → IsPassedOn W.waiting output.new }
 {
     match stored {

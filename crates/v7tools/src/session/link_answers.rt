@@ -1,7 +1,7 @@
 //! The answer to a link.
 ghost use Rattle.std.specs.Prelude.{◌≡◌, ◌++◌, codes, decimal, IfErr, IfOk};
 ghost use Rattle.aout_core.specs.Wires.{Writes};
-ghost use Rattle.link_out.specs.Outcomes.{findings_of};
+ghost use Rattle.link_out.specs.Outcomes.{report_names};
 ghost use Rattle.link_out.specs.function.Reports.{line};
 ghost use Rattle.v7tools.specs.declared.fault.CliFault.TheVariants.{WriteFailed};
 ghost use Rattle.v7tools.specs.Answers.{link_answer_text, link_status};
@@ -50,7 +50,7 @@ fn put_link_answer<W: Write>(
     stored: Stored,
     answers: &mut Wire<W>,
 ) -> Result<(), DeviceFault>
-    ensures { Writes W.contents result answers.old answers.new (link_answer_text (findings_of linked.now.report) path.now stored) }
+    ensures { Writes W.contents result answers.old answers.new (link_answer_text (report_names linked.now.report) path.now stored) }
 {
     match stored {
         Stored::Kept => {
@@ -73,9 +73,9 @@ pub fn link_answer<W: Write>(
     stored: Stored,
     answers: &mut Wire<W>,
 ) -> Result<u8, CliFault>
-    ensures written { Writes W.contents result answers.old answers.new (link_answer_text (findings_of linked.now.report) path.now stored) }
+    ensures written { Writes W.contents result answers.old answers.new (link_answer_text (report_names linked.now.report) path.now stored) }
     ensures write_failed { IfErr result (λ fault. fault ≡ WriteFailed) }
-    ensures status { IfOk result (λ status. status ≡ link_status (findings_of linked.now.report) stored) }
+    ensures status { IfOk result (λ status. status ≡ link_status (report_names linked.now.report) stored) }
 {
     put_link_answer(linked, path, stored, answers)?;
     Ok(match stored {

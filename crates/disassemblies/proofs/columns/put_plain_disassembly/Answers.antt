@@ -1,5 +1,4 @@
-use Rattle.std.proofs.Common.{◌-◌, ◌<◌, ◌≤◌, ◌++◌, length, take, drop, rules}
-use Rattle.std.specs.Prelude.{string_bytes}
+use Rattle.std.proofs.Common.{◌-◌, ◌<◌, ◌≤◌, ◌++◌, length, take, drop, ap, arith, rules}
 use Rattle.disassemblies.specs.Columns.{plain_disassembly}
 use Rattle.disassemblies.proofs.PlainLemmas.{first_words, plain_more}
 use Rattle.disassemblies.proofs.columns.put_plain_disassembly.Goals as goal
@@ -14,7 +13,13 @@ loop-rest-preserved c =
     let rest = c.loop-rest.rest.now in
     let some : 0 < length rest = search rules in
     let shorter : length (take (length rest - c.length-count.result) (drop c.length-count.result rest)) ≤ length c.args.words.now = search rules in (
-      plain_more (string_bytes c.args.text.now ++ plain_disassembly c.args.address c.args.words.now) (string_bytes c.loop-rest.text) (string_bytes c.put_plain_row.new.text) rest
-          c.loop-rest.next c.length-count.result c.decode-line.result some c.decode-line.ensures.line c.length-count.ensures c.in_ok-put_plain_row.ensures c.loop-rest.invariant.0,
+      λ whole.
+          let put = c.put_plain_row.ensures whole in
+          let so_far = c.loop-rest.invariant.0 put.0 in (
+            so_far.0,
+            plain_more (c.args.text.now.bytes ++ plain_disassembly c.args.address c.args.words.now) c.loop-rest.text.bytes c.put_plain_row.new.text.bytes rest
+                c.loop-rest.next c.length-count.result c.decode-line.result some c.decode-line.ensures.line c.length-count.ensures put.1 so_far.1,
+          ),
       shorter,
+      λ none. absurd (omega (arith, some, c.loop-rest.invariant.1, ap length none)),
     )

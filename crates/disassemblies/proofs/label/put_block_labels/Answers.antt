@@ -1,5 +1,5 @@
-use Rattle.std.specs.Prelude.{◌%◌, string_bytes}
-use Rattle.listings.specs.Listing.{text_of}
+use Rattle.std.specs.Prelude.{◌%◌}
+use Rattle.texts.specs.Lines.{text_of}
 use Rattle.disassemblies.specs.internal.Blocks.{block, bucket_of}
 use Rattle.disassemblies.specs.Labels.{label_within}
 use Rattle.disassemblies.proofs.BlockLemmas.{no_label_within}
@@ -9,8 +9,11 @@ use Rattle.disassemblies.proofs.label.put_block_labels.Goals as goal
 pub loop-symbol-init : goal.loop-symbol-init
 loop-symbol-init c =
     let chains = c.args.chains.now in
-    walk_begins (bucket_of chains.shift chains.count) (block chains.shift c.args.address % chains.count) (λ s. text_of (label_within c.args.address c.args.length s)) (λ s. no_label_within chains.shift chains.count c.args.address c.args.length s c.requires)
-    chains.symbols.now (string_bytes c.args.text.now) c.first-place.result c.first-place.ensures.value c.first-place.ensures.is_in
+    λ whole. (
+      whole,
+      walk_begins (bucket_of chains.shift chains.count) (block chains.shift c.args.address % chains.count) (λ s. text_of (label_within c.args.address c.args.length s)) (λ s. no_label_within chains.shift chains.count c.args.address c.args.length s c.requires)
+          chains.symbols.now c.args.text.now.bytes c.first-place.result c.first-place.ensures.value c.first-place.ensures.is_in,
+    )
 
 pub loop-symbol-smaller : goal.loop-symbol-smaller
 loop-symbol-smaller c =
@@ -21,6 +24,11 @@ loop-symbol-smaller c =
 pub loop-symbol-preserved : goal.loop-symbol-preserved
 loop-symbol-preserved c =
     let chains = c.args.chains.now in
-    walk_goes_on (bucket_of chains.shift chains.count) (block chains.shift c.args.address % chains.count) (λ s. text_of (label_within c.args.address c.args.length s)) (λ s. no_label_within chains.shift chains.count c.args.address c.args.length s c.requires)
-    chains.symbols.now (string_bytes c.args.text.now) c.loop-symbol.place c.after-place.result c.in-Some.symbol.now (string_bytes c.loop-symbol.text) (string_bytes c.put_label_within.new.text)
-    c.in-Some.ensures.lookup.3.0 c.in-Some.ensures.lookup.1 c.after-place.ensures c.in_ok-put_label_within.ensures c.loop-symbol.invariant
+    λ whole.
+    let put = c.put_label_within.ensures whole in
+    let so_far = c.loop-symbol.invariant put.0 in (
+      so_far.0,
+      walk_goes_on (bucket_of chains.shift chains.count) (block chains.shift c.args.address % chains.count) (λ s. text_of (label_within c.args.address c.args.length s)) (λ s. no_label_within chains.shift chains.count c.args.address c.args.length s c.requires)
+          chains.symbols.now c.args.text.now.bytes c.loop-symbol.place c.after-place.result c.in-Some.symbol.now c.loop-symbol.text.bytes c.put_label_within.new.text.bytes
+          c.in-Some.ensures.lookup.3.0 c.in-Some.ensures.lookup.1 c.after-place.ensures put.1 so_far.1,
+    )

@@ -1,13 +1,14 @@
 use Rattle.std.proofs.Common.{◌-◌, length}
-use Rattle.std.specs.Prelude.{◌%◌, string_bytes}
-use Rattle.listings.specs.Listing.{text_of}
+use Rattle.std.specs.Prelude.{◌≡◌, ◌%◌, false}
+use Rattle.texts.specs.Lines.{text_of}
 use Rattle.disassemblies.specs.internal.Blocks.{block, bucket_of, Walks}
 use Rattle.disassemblies.specs.Labels.{label_at}
 use Rattle.disassemblies.proofs.label.put_labels_at.Given as goal
 
 abbrev pub invariant-loop-symbol : goal.invariant-loop-symbol
 invariant-loop-symbol l =
-    Walks (bucket_of l.chains.shift l.chains.count) (block l.chains.shift l.address % l.chains.count) (λ s. text_of (label_at l.address s)) l.chains.symbols.now (string_bytes l.initial.text) l.place (string_bytes l.text)
+    l.text.is_cut ≡ false → (l.initial.text.is_cut ≡ false)
+    × Walks (bucket_of l.chains.shift l.chains.count) (block l.chains.shift l.address % l.chains.count) (λ s. text_of (label_at l.address s)) l.chains.symbols.now l.initial.text.bytes l.place l.text.bytes
 
 abbrev pub decreases-loop-symbol : goal.decreases-loop-symbol
 decreases-loop-symbol l = length l.chains.symbols.now - l.place

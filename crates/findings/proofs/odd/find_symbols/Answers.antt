@@ -2,7 +2,6 @@ use Rattle.std.proofs.Common.{◌++◌}
 use Rattle.std.specs.BTreeMap.{get}
 use Rattle.std.specs.Cmp.Lexicographic.{slice_cmp}
 use Rattle.std.specs.Ordering.{nat_cmp}
-use Rattle.findings.specs.Found.{all_found}
 use Rattle.findings.specs.Odd.{odd_symbols}
 use Rattle.findings.proofs.SymbolLemmas.{symbols_more, noted_more}
 use Rattle.findings.proofs.odd.find_symbols.Goals as goal
@@ -11,9 +10,14 @@ pub loop-number-preserved : goal.loop-number-preserved
 loop-number-preserved c =
     let symbols = c.symbols-symbols.result.now in
     let file = c.args.source.now.file.now in (
-      symbols_more file c.args.source.now.bytes.now symbols c.loop-number.number c.index-symbols-number.result (all_found c.loop-number.findings.items) (all_found c.find_symbol.new.findings.items)
-          (all_found c.args.findings.now.items ++ odd_symbols file c.args.source.now.bytes.now 0 symbols) c.loop-number-test.true c.index-symbols-number.is c.in_ok-find_symbol.ensures c.loop-number.invariant.0,
+      λ whole.
+          let put = c.find_symbol.ensures whole in
+          let so_far = c.loop-number.invariant.0 put.0 in (
+            so_far.0,
+            symbols_more file c.args.source.now.bytes.now symbols c.loop-number.number c.index-symbols-number.result c.loop-number.findings.found c.find_symbol.new.findings.found
+                (c.args.findings.now.found ++ odd_symbols file c.args.source.now.bytes.now 0 symbols) c.loop-number-test.true c.index-symbols-number.is put.1 so_far.1,
+          ),
       λ other. noted_more symbols c.loop-number.number c.index-symbols-number.result other (get (slice_cmp nat_cmp) c.loop-number.seen c.index-symbols-number.result.name)
           (get (slice_cmp nat_cmp) c.loop-number.seen other) (get (slice_cmp nat_cmp) c.first_alike.new.seen other) c.loop-number-test.true c.index-symbols-number.is
-          (c.in_ok-first.ensures.noted other) (c.loop-number.invariant.1 c.index-symbols-number.result.name) (c.loop-number.invariant.1 other),
+          (c.in-Ok.ensures.noted other) (c.loop-number.invariant.1 c.index-symbols-number.result.name) (c.loop-number.invariant.1 other),
     )

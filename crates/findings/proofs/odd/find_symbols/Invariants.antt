@@ -1,14 +1,14 @@
-use Rattle.std.proofs.Common.{◌≡◌, ℕ, List, ◌++◌, drop, take}
+use Rattle.std.proofs.Common.{◌≡◌, ℕ, List, ◌++◌, drop, take, false}
 use Rattle.std.specs.BTreeMap.{get}
 use Rattle.std.specs.Cmp.Lexicographic.{slice_cmp}
 use Rattle.std.specs.Ordering.{nat_cmp}
-use Rattle.findings.specs.Found.{all_found}
 use Rattle.findings.specs.Odd.{first_named, odd_symbols}
 use Rattle.findings.proofs.odd.find_symbols.Given as goal
 
 -- the findings so far, and those of the symbols that are left; and the names of the symbols so far are noted
 abbrev pub invariant-loop-number : goal.invariant-loop-number
 invariant-loop-number l =
-    (all_found l.findings.items ++ odd_symbols l.source.file.now l.source.bytes.now l.number (drop l.number l.symbols)
-    ≡ all_found l.initial.findings.items ++ odd_symbols l.source.file.now l.source.bytes.now 0 l.symbols)
+    (l.findings.is_cut ≡ false → (l.initial.findings.is_cut ≡ false)
+    × (l.findings.found ++ odd_symbols l.source.file.now l.source.bytes.now l.number (drop l.number l.symbols)
+    ≡ l.initial.findings.found ++ odd_symbols l.source.file.now l.source.bytes.now 0 l.symbols))
     × ((other : List ℕ) → get (slice_cmp nat_cmp) l.seen other ≡ first_named other (take l.number l.symbols))

@@ -1,6 +1,6 @@
 use Rattle.std.proofs.Common.{sym, subst, ap}
 use Rattle.aout_core.specs.Words.{plus}
-use Rattle.link_maps.specs.declared.references.Part.{Part}
+use Rattle.aout_core.specs.declared.part.Part.{Part}
 use Rattle.link_maps.specs.References.{segment_of_part}
 use Rattle.link_maps.specs.internal.Labels.{AreLabels}
 use Rattle.link_maps.proofs.LabelLemmas.{line_label}

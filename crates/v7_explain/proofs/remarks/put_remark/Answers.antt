@@ -1,9 +1,11 @@
 use Rattle.std.proofs.Common.{◌<◌, length, rules}
-use Rattle.std.proofs.lemmas.Result.{on_ok_weaker}
 use Rattle.v7_explain.proofs.RemarkLemmas.{remark_put}
 use Rattle.v7_explain.proofs.remarks.put_remark.Goals as goal
 
 pub returns : goal.returns
 returns c =
     let full : 0 < length c.args.remark.now = search rules in
-    on_ok_weaker c.put_printed.result (remark_put c.args.text.now.items c.extend_from_slice.new.self.items c.put_printed.new.text.items c.args.remark.now full c.in_ok-extend_from_slice.ensures.items) c.put_printed.ensures
+    λ whole.
+    let last = c.put_printed.ensures whole in
+    let first = c.put.ensures last.0 in
+    (first.0, remark_put c.args.text.now.bytes c.put.new.self.bytes c.put_printed.new.text.bytes c.args.remark.now full first.1 last.1)

@@ -1,0 +1,17 @@
+use Rattle.std.proofs.Common.{◌≡◌, ◌-◌, ◌*◌, ◌≤◌, ◌++◌, length, false}
+use Rattle.disassemblies.specs.Labels.{labels}
+use Rattle.disassemblies.specs.Starts.{lines_from}
+use Rattle.disassemblies.specs.Columns.{labelled_row, disassembly}
+use Rattle.disassemblies.proofs.columns.put_rows.Given as goal
+
+-- what has been appended, and the lines that are left, are the whole
+abbrev pub invariant-loop-place : goal.invariant-loop-place
+invariant-loop-place l =
+    (l.text.is_cut ≡ false → (l.initial.text.is_cut ≡ false)
+    × (l.text.bytes ++ lines_from l.file (λ place n. labelled_row l.file place n) (labels l.file.symbols (2 * length l.file.text_words) 0) (length l.file.text_words - l.place) l.place
+    ≡ l.initial.text.bytes ++ disassembly l.file))
+    × (l.place ≤ length l.file.text_words)
+    × (l.end ≡ length l.file.text_words)
+
+abbrev pub decreases-loop-place : goal.decreases-loop-place
+decreases-loop-place l = length l.file.text_words - l.place

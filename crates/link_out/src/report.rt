@@ -1,0 +1,109 @@
+//! What is reported of a link.
+ghost use Rattle.std.specs.Prelude.{◌≡◌, bytes_eq, position, Some, IfOk};
+ghost use Rattle.link_session.specs.Labelled.{objects};
+ghost use Rattle.link_session.specs.Mentions.{externals};
+ghost use Rattle.link_session.specs.Undo.{image_of};
+ghost use Rattle.link_out.specs.internal.FromCells as from_cells;
+ghost use Rattle.link_out.specs.internal.Entries.{text_address, text_address_at};
+ghost use Rattle.link_out.specs.function.Reports.{entry_word, entry_found_bad, report_of};
+ghost use Rattle.link_out.specs.internal.InOrder.{missing_among, plan_of};
+ghost use Rattle.link_out.specs.Outcomes.{report_names};
+
+use crate::finals::Final;
+use crate::linked::Report;
+use crate::reserved_names::{is_missing, reserved_taken};
+use aout_core::{Name, Segment};
+use link_session::Session;
+use std::alloc::{AllocError, Global};
+use tool_options::Options;
+
+/// The entry point of a program.
+#[derive(Clone, Copy)]
+pub(crate) struct EntryPoint {
+    /// The address of the name that is asked for, if that is in text, and else 0.
+    pub(crate) address: u16,
+    /// The name that is asked for, if it is not in text.
+    pub(crate) bad: Option<Name>,
+}
+
+/// The names that are undefined and not reserved, by first mention. An error: out of memory.
+fn missing(alloc: Global, session: &Session) -> Result<Vec<Name>, AllocError>
+    ensures { IfOk result (λ names. names.items ≡ missing_among (image_of session.now).externals) }
+{
+    session
+        .externals()
+        .filter(|(name, state)| is_missing(name, *state))
+        .map(|(name, _)| name)
+        .collect(alloc)
+}
+
+/// The undefined names that are reported: none if relocation is kept. An error: out of memory.
+fn undefined_names(
+    alloc: Global,
+    session: &Session,
+    options: &Options,
+) -> Result<Vec<Name>, AllocError>
+    ensures { IfOk result (λ names. names.items ≡ (report_of (plan_of session.now options.now)).undefined) }
+{
+    if options.is_relocatable() {
+        return Ok(Vec::new(alloc));
+    }
+    missing(alloc, session)
+}
+
+/// The address of a name that is bound to text.
+fn text_address(last: &Final) -> Option<u16>
+    ensures { result ≡ text_address (Some last.now) }
+{
+    match last.bound {
+        Some(Segment::TextSeg) => Some(last.address),
+        _ => None,
+    }
+}
+
+/// The address of a name that is an external and bound to text.
+fn address_in_text(session: &Session, finals: &[Final], name: &Name) -> Option<u16>
+    ensures { result ≡ text_address_at finals.now (position (bytes_eq name.now) (externals session.now.forced (objects session.now.entries))) }
+{
+    let index = session.find(name)?;
+    text_address(finals.get(index as usize)?)
+}
+
+/// The entry point of a link.
+pub(crate) fn entry_point(session: &Session, options: &Options, finals: &[Final]) -> EntryPoint
+    requires { finals.now ≡ from_cells.finals (plan_of session.now options.now) }
+    ensures address { result.address ≡ entry_word (plan_of session.now options.now) options.now.entry }
+    ensures bad { result.bad ≡ entry_found_bad (plan_of session.now options.now) options.now.entry }
+{
+    let Some(name) = options.entry() else {
+        return EntryPoint {
+            address: 0,
+            bad: None,
+        };
+    };
+    match address_in_text(session, finals, &name) {
+        Some(address) => EntryPoint { address, bad: None },
+        None => EntryPoint {
+            address: 0,
+            bad: Some(name),
+        },
+    }
+}
+
+/// The report of a link, with the name of an entry point that is not in text. An error: out of memory.
+pub(crate) fn report_of(
+    alloc: Global,
+    session: &Session,
+    options: &Options,
+    entry_bad: Option<Name>,
+) -> Result<Report, AllocError>
+    requires { entry_bad ≡ entry_found_bad (plan_of session.now options.now) options.now.entry }
+    ensures { IfOk result (λ report. report_names report ≡ report_of (plan_of session.now options.now)) }
+{
+    Ok(Report {
+        multiples: session.multiples().to_vec(alloc)?,
+        reserved: reserved_taken(alloc, session)?,
+        entry_bad,
+        undefined: undefined_names(alloc, session, options)?,
+    })
+}

@@ -1,9 +1,0 @@
-use Rattle.std.proofs.Common.{◌≡◌, ◌++◌, drop}
-use Rattle.link_session.specs.Undo.{image_of}
-use Rattle.reports.specs.StateJson.{external_json}
-use Rattle.reports.specs.Items.{each, each_from}
-use Rattle.reports.proofs.json.push_externals.Given as goal
-
--- what is there, with the items that are left, makes the whole
-abbrev pub invariant-loop-index : goal.invariant-loop-index
-invariant-loop-index l = l.initial.text.items ++ each (external_json) (image_of l.session).externals ≡ l.text.items ++ each_from (external_json) l.index (drop l.index (image_of l.session).externals)

@@ -1,0 +1,12 @@
+use Rattle.std.proofs.Common.{◌≡◌, ◌++◌, drop, false}
+use Rattle.link_session.specs.Sessions.{newest}
+use Rattle.link_session.specs.Undo.{image_of}
+use Rattle.reports.specs.StateJson.{listed_mark}
+use Rattle.reports.specs.Items.{each, each_from}
+use Rattle.reports.proofs.json.put_marks.Given as goal
+
+-- what is there, with the items that are left, makes the whole
+abbrev pub invariant-loop-index : goal.invariant-loop-index
+invariant-loop-index l =
+    l.text.is_cut ≡ false → (l.initial.text.is_cut ≡ false)
+    × (l.initial.text.bytes ++ each (listed_mark (image_of l.session).externals) (newest l.session.journal) ≡ l.text.bytes ++ each_from (listed_mark (image_of l.session).externals) l.index (drop l.index (newest l.session.journal)))

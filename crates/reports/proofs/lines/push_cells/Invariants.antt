@@ -1,9 +1,0 @@
-use Rattle.std.proofs.Common.{◌≡◌, ◌++◌, drop}
-use Rattle.link_session.specs.Undo.{image_of}
-use Rattle.reports.specs.StateLines.{cell_line}
-use Rattle.reports.specs.Items.{each, each_from}
-use Rattle.reports.proofs.lines.push_cells.Given as goal
-
--- what is there, with the items that are left, makes the whole
-abbrev pub invariant-loop-index : goal.invariant-loop-index
-invariant-loop-index l = l.initial.text.items ++ each (cell_line (image_of l.session).externals l.segment) l.cells ≡ l.text.items ++ each_from (cell_line (image_of l.session).externals l.segment) l.index (drop l.index l.cells)

@@ -1,0 +1,25 @@
+//! Texts that grow, and numbers and names in them.
+//!
+//! A `Text` remembers whether memory ran out for it, so a function that only appends has no error. `finish` gives the bytes, or
+//! the error for all of them.
+//!
+//! ```rust
+//! /// The line of a name: its value in six octal digits, a blank, and the name.
+//! fn name_line(alloc: Global, value: u16, name: &[u8]) -> Result<Vec<u8>, AllocError> {
+//!     let mut text = Text::new(alloc);
+//!     text.put_six_digits(u32::from(value));
+//!     text.put_byte(b' ');
+//!     text.put_printable_name(name);
+//!     text.put_byte(b'\n');
+//!     text.finish()
+//! }
+//! ```
+#![tactic(auto)]
+
+mod names;
+mod numbers;
+mod text;
+
+pub use names::is_printable;
+pub use numbers::{OctalBuffer, six_digits, three_digits};
+pub use text::Text;

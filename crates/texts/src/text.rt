@@ -1,0 +1,177 @@
+//! A text that grows, and remembers whether memory ran out for it.
+ghost use Rattle.std.specs.Prelude.{◌≡◌, ◌∷◌, [], true, false, decimal, IfOk, IsErr};
+ghost use Rattle.texts.specs.Numbers.{six_digits, three_digits, octal};
+ghost use Rattle.texts.specs.Names.{escaped, printable_byte, printable_bytes, printable_name};
+ghost use Rattle.texts.specs.Columns.{blanks, at_left, at_right};
+ghost use Rattle.texts.specs.Texts.{nothing_written, Puts};
+
+use crate::names::{escaped, is_printable};
+use crate::numbers::{OctalBuffer, six_digits, three_digits};
+use itoa::Buffer;
+use std::alloc::{AllocError, Global};
+use std::marker::Model;
+
+/// A text that grows. Once memory runs out for it the text is cut: it takes nothing more, and `finish` returns the error. So
+/// what is put needs no test of its own. (own choice)
+#[derive(Drop)]
+pub struct Text {
+    bytes: Vec<u8>,
+    is_cut: bool,
+}
+
+impl Model for Text {
+    ghost use Rattle.texts.specs.Texts.{Written};
+
+    ghost Value = { Written };
+
+    ghost view = { λ t. record { bytes = t.bytes.items; is_cut = t.is_cut } };
+}
+
+impl Text {
+    /// A text of no bytes.
+    pub fn new(alloc: Global) -> Text
+        ensures { result ≡ nothing_written }
+    {
+        Text {
+            bytes: Vec::new(alloc),
+            is_cut: false,
+        }
+    }
+
+    /// Where the text has its memory.
+    pub fn allocator(&self) -> Global {
+        *self.bytes.allocator()
+    }
+
+    /// Puts bytes at the end.
+    pub fn put_bytes(&mut self, bytes: &[u8])
+        ensures { Puts self.old self.new bytes.now }
+    {
+        if !self.is_cut && self.bytes.extend_from_slice(bytes).is_err() {
+            self.is_cut = true;
+        }
+    }
+
+    /// Puts characters at the end.
+    pub fn put(&mut self, characters: &str)
+        ensures { Puts self.old self.new characters.now }
+    {
+        self.put_bytes(characters.as_bytes());
+    }
+
+    /// Puts a byte at the end.
+    pub fn put_byte(&mut self, byte: u8)
+        ensures { Puts self.old self.new (byte ∷ []) }
+    {
+        if !self.is_cut && self.bytes.push(byte).is_err() {
+            self.is_cut = true;
+        }
+    }
+
+    /// Cuts the text: memory ran out for something that belongs into it.
+    pub fn cut(&mut self)
+        ensures { self.new.is_cut ≡ true }
+    {
+        self.is_cut = true;
+    }
+
+    /// Puts the last six octal digits of a number at the end.
+    pub fn put_six_digits(&mut self, number: u32)
+        ensures { Puts self.old self.new (six_digits number) }
+    {
+        self.put_bytes(&six_digits(number));
+    }
+
+    /// Puts the last three octal digits of a number at the end.
+    pub fn put_three_digits(&mut self, number: u32)
+        ensures { Puts self.old self.new (three_digits number) }
+    {
+        self.put_bytes(&three_digits(number));
+    }
+
+    /// Puts a number in octal at the end, with no zeros in front.
+    pub fn put_octal(&mut self, number: u64)
+        ensures { Puts self.old self.new (octal number) }
+    {
+        self.put_bytes(OctalBuffer::new().format(number));
+    }
+
+    /// Puts a number in decimal at the end.
+    pub fn put_decimal(&mut self, number: u64)
+        ensures { Puts self.old self.new (decimal number) }
+    {
+        self.put(Buffer::new().format(number));
+    }
+
+    /// Puts a byte at the end as a backslash and three octal digits.
+    pub fn put_escaped(&mut self, byte: u8)
+        ensures { Puts self.old self.new (escaped byte) }
+    {
+        self.put_bytes(&escaped(byte));
+    }
+
+    /// Puts a byte at the end as it prints.
+    pub fn put_printable_byte(&mut self, byte: u8)
+        ensures { Puts self.old self.new (printable_byte byte) }
+    {
+        if is_printable(byte) {
+            self.put_byte(byte);
+        } else {
+            self.put_escaped(byte);
+        }
+    }
+
+    /// Puts bytes at the end, each as it prints.
+    pub fn put_printable_bytes(&mut self, bytes: &[u8])
+        ensures { Puts self.old self.new (printable_bytes bytes.now) }
+    {
+        for byte in bytes {
+            self.put_printable_byte(*byte);
+        }
+    }
+
+    /// Puts a name at the end, each byte as it prints; an empty name as a NUL.
+    pub fn put_printable_name(&mut self, name: &[u8])
+        ensures { Puts self.old self.new (printable_name name.now) }
+    {
+        if name.is_empty() {
+            self.put_printable_byte(0);
+        } else {
+            self.put_printable_bytes(name);
+        }
+    }
+
+    /// Puts blanks at the end.
+    pub fn put_blanks(&mut self, count: usize)
+        ensures { Puts self.old self.new (blanks count) }
+    {
+        for _ in 0..count {
+            self.put_byte(b' ');
+        }
+    }
+
+    /// Puts bytes at the end, at the left of a column of this width.
+    pub fn put_at_left(&mut self, width: usize, bytes: &[u8])
+        ensures { Puts self.old self.new (at_left width bytes.now) }
+    {
+        self.put_bytes(bytes);
+        self.put_blanks(width.saturating_sub(bytes.len()));
+    }
+
+    /// Puts bytes at the end, at the right of a column of this width.
+    pub fn put_at_right(&mut self, width: usize, bytes: &[u8])
+        ensures { Puts self.old self.new (at_right width bytes.now) }
+    {
+        self.put_blanks(width.saturating_sub(bytes.len()));
+        self.put_bytes(bytes);
+    }
+
+    /// The bytes. An error, out of memory, if the text is cut.
+    pub fn finish(self) -> Result<Vec<u8>, AllocError>
+        ensures bytes { IfOk result (λ bytes. (self.is_cut ≡ false) × (bytes.items ≡ self.bytes)) }
+        ensures memory { IsErr result → self.is_cut ≡ true }
+    {
+        let Text { bytes, is_cut } = self;
+        if is_cut { Err(AllocError) } else { Ok(bytes) }
+    }
+}
