@@ -59,6 +59,7 @@ crates/v7_explain/out/v7_explain: crates.txt $(shell find $(EXPLAIN_CRATES) -nam
 # v7.h
 VERSION := $(shell sed -n 's/^.define V7_VERSION "\(.*\)"/\1/p' include/v7.h)
 SONAME := libv7.so.0
+SOFILE := $(SONAME).$(VERSION)
 LIBDIR ?= $(PREFIX)/lib
 INCLUDEDIR ?= $(PREFIX)/include
 OBJCOPY ?= objcopy
@@ -74,11 +75,12 @@ build/libv7.a: crates/v7_c/out/libv7_c.a
 	$(AR) rcsD build/libv7.a build/libv7.o
 	rm build/libv7.o
 
-build/$(SONAME): build/libv7.a packaging/libv7.map
-	$(CC) $(CFLAGS) $(LDFLAGS) -shared -o build/$(SONAME) -Wl,-soname,$(SONAME) -Wl,--version-script=packaging/libv7.map -Wl,-z,defs \
+build/$(SOFILE): build/libv7.a packaging/libv7.map
+	$(CC) $(CFLAGS) $(LDFLAGS) -shared -o build/$(SOFILE) -Wl,-soname,$(SONAME) -Wl,--version-script=packaging/libv7.map -Wl,-z,defs \
 		-Wl,--whole-archive build/libv7.a -Wl,--no-whole-archive
 
-build/libv7.so: build/$(SONAME)
+build/libv7.so: build/$(SOFILE)
+	ln -sf $(SOFILE) build/$(SONAME)
 	ln -sf $(SONAME) build/libv7.so
 
 LIBRARY_CRATES := $(addprefix crates/,aout_core texts link_session tool_options link_out symtools reports listings instructions disassemblies \
@@ -87,11 +89,14 @@ crates/v7_c/out/libv7_c.a: crates.txt $(shell find $(LIBRARY_CRATES) -name out -
 	python3 tests/prove.py v7_c $@
 	touch $@
 
-# the libraries, the header, what pkg-config reads, and the manual page; no program is needed
+# the libraries, the header, what pkg-config reads, the manual page, and the documents that the header cites; no program is needed
+LIBRARY_DOCUMENTS := docs/LIBRARY.md docs/LINK.md docs/FORMAT.md
 install-lib: lib
-	mkdir -p $(DESTDIR)$(LIBDIR)/pkgconfig $(DESTDIR)$(INCLUDEDIR) $(SHARE)/man/man3
-	cp build/libv7.a build/$(SONAME) $(DESTDIR)$(LIBDIR)
+	mkdir -p $(DESTDIR)$(LIBDIR)/pkgconfig $(DESTDIR)$(INCLUDEDIR) $(SHARE)/man/man3 $(SHARE)/doc/v7/docs
+	cp build/libv7.a build/$(SOFILE) $(DESTDIR)$(LIBDIR)
+	ln -sf $(SOFILE) $(DESTDIR)$(LIBDIR)/$(SONAME)
 	ln -sf $(SONAME) $(DESTDIR)$(LIBDIR)/libv7.so
+	cp $(LIBRARY_DOCUMENTS) $(SHARE)/doc/v7/docs
 	cp include/v7.h $(DESTDIR)$(INCLUDEDIR)
 	sed -e 's|@PREFIX@|$(PREFIX)|' -e 's|@LIBDIR@|$(LIBDIR)|' -e 's|@INCLUDEDIR@|$(INCLUDEDIR)|' -e 's|@VERSION@|$(VERSION)|' \
 		packaging/v7.pc.in >$(DESTDIR)$(LIBDIR)/pkgconfig/v7.pc

@@ -1,13 +1,17 @@
 /* libv7: the linker, nm, size, strip and the disassembler of v7, for C. v7(3) shows it in use; docs/LINK.md has the rules of a
- * link, and docs/FORMAT.md the format.
+ * link, and docs/FORMAT.md the format: `make install-lib` puts both below share/doc/v7, and the package for Debian below
+ * /usr/share/doc/libv7-dev. The header needs C99, or C++98 with <stdint.h>.
  *
  * Each call takes bytes and gives bytes, and keeps nothing for the next call. An object or a file is the bytes of an a.out
  * file; a list of objects is their bytes one after another, since the header of each says how long it is. v7_link_list and
  * v7_link_findings take the bytes of each object apart.
  *
- * Sizes are in bytes. A pointer may be null if its size is 0. What a call writes to, and *ANSWER, must not overlap each
- * other or what it reads. A call takes memory from malloc and gives it back before it returns. Calls share nothing, so threads
- * may make them at once.
+ * Sizes are in bytes. A call takes memory from malloc and gives it back before it returns. Calls share nothing, so threads may
+ * make them at once.
+ *
+ * Only these arguments can crash a program or spoil its memory. A pointer with a size over 0 is null, or not aligned for its type,
+ * or has less than its size. Buffers overlap each other, *ANSWER, or what the call reads. A pointer to a struct is null. A pointer of
+ * size 0 may be null.
  *
  * A call writes its result at the beginning of a buffer of the caller; after the result the buffer stays as it was. If a
  * buffer is too small the fault is V7_NO_ROOM, nothing is written, and *ANSWER has the sizes that are needed. So a call with
@@ -24,6 +28,10 @@
  */
 #ifndef V7_H
 #define V7_H
+
+#if !defined(__cplusplus) && (!defined(__STDC_VERSION__) || __STDC_VERSION__ < 199901L)
+#error "v7.h needs C99 or later"
+#endif
 
 #include <stddef.h>
 #include <stdint.h>
@@ -70,7 +78,13 @@ enum v7_fault {
     V7_NO_ROOM = 60            /* a buffer is too small */
 };
 
-/* What a fault means, in a few words. A number that is not a fault gives "unknown fault". */
+/* what a session replies to an edit, beside 31 to 34 for an object that would pass a limit */
+enum v7_reply {
+    V7_DONE = 0,
+    V7_NOTHING = 35            /* there is nothing to withdraw */
+};
+
+/* What a fault or a reply means, in a few words. Another number gives "unknown fault". */
 static inline const char *v7_strerror(uint32_t fault)
 {
     switch (fault) {
@@ -114,6 +128,8 @@ static inline const char *v7_strerror(uint32_t fault)
         return "bss full";
     case V7_NAMES_FULL:
         return "names full";
+    case V7_NOTHING:
+        return "nothing to withdraw";
     case V7_DOES_NOT_FIT:
         return "does not fit";
     case V7_TOO_MANY_SYMBOLS:
@@ -236,7 +252,6 @@ uint32_t v7_link_findings(uint32_t options, const unsigned char *entry, size_t e
  * V7_NO_EDIT, 11 to 14 (also if there is no further object), and 21 to 24, then 41 to 43. V7_NO_MEMORY comes as said above, and
  * V7_NO_ROOM last. */
 enum v7_edit { V7_ADD = 'a', V7_WITHDRAW = 'w' };
-enum v7_reply { V7_DONE = 0, V7_NOTHING = 35 };
 uint32_t v7_session(uint32_t options, const unsigned char *entry, size_t entry_size, const unsigned char *forced, size_t forced_size,
                     const unsigned char *edits, size_t edit_count, const unsigned char *objects, size_t objects_size,
                     unsigned char *replies, size_t replies_size, unsigned char *room, size_t room_size, unsigned char *report,

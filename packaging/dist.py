@@ -1,6 +1,6 @@
 #!/usr/bin/env python3
-"""Makes the packages of a release in dist: v7-VERSION-linux-x86_64.tar.gz, v7_VERSION_amd64.deb and SHA256SUMS. Both have a README
-of their own, packaging/README.md.
+"""Makes the packages of a release in dist: v7-VERSION-linux-x86_64.tar.gz, the packages for Debian (v7, libv7-0, libv7-dev and
+python3-v7), the wheel of Python, and SHA256SUMS. The tar and the package v7 have a README of their own, packaging/README.md.
 
 usage: packaging/dist.py           of what tests/prove.py has proved, or proves now
        packaging/dist.py --kept    of what is in build/proved and crates/v7_c/out, which it does not check: for trials
@@ -19,6 +19,7 @@ import sys
 import tarfile
 import tempfile
 from email.utils import formatdate
+from typing import NamedTuple
 
 TOP = os.path.abspath(os.path.join(os.path.dirname(os.path.abspath(__file__)), ".."))
 KEPT = "build/proved"
@@ -28,6 +29,9 @@ PROGRAMS = {"v7": "v7", "v7_from_gnu": "v7-from-gnu", "v7_object": "v7-object", 
 PAGES = {"lesson.html": ("examples", ["main.o", "twice.o", "k.o", "l.o", "double.o"]),
          "program.html": ("examples/total", ["total.o", "say.o", "console.o", "low.o", "limit.o"])}
 DOCUMENTS = ["CHANGES.md", "CONTRIBUTING.md", "docs", "examples"]
+# what libv7-dev has of the documents: what v7.h cites, and what shows how to call the library
+LIBRARY_DOCUMENTS = ["docs/LIBRARY.md", "docs/LINK.md", "docs/FORMAT.md"]
+LIBDIR = "usr/lib/x86_64-linux-gnu"
 TRIAL = "This is a trial: nothing was checked when these packages were made. Do not publish them.\n"
 
 
@@ -118,12 +122,16 @@ def libraries(place):
     """The libraries and what comes with them, installed below place/lib as if it were the folder usr."""
     flags = ["PREFIX=/usr", "LIBDIR=/usr/lib", "INCLUDEDIR=/usr/include", f"DESTDIR={place}/library", "CFLAGS=", "LDFLAGS="]
     how = {"env": {key: text for key, text in os.environ.items() if key not in ("MAKEFLAGS", "MFLAGS", "MAKELEVEL")}}
-    for name in ("libv7.a", "libv7.so.0", "libv7.so"):
-        if os.path.lexists(f"build/{name}"):
-            os.remove(f"build/{name}")
+    for path in glob.glob("build/libv7.*"):
+        os.remove(path)
     run("make", "-s", *(["-o", "crates/v7_c/out/libv7_c.a"]), "install-lib", *flags, **how)
-    run("strip", "--strip-unneeded", f"{place}/library/usr/lib/libv7.so.0")
+    run("strip", "--strip-unneeded", shared(place))
     run("strip", "-g", "-D", f"{place}/library/usr/lib/libv7.a")
+
+
+def shared(place):
+    """The file of the shared library that is installed."""
+    return os.path.realpath(f"{place}/library/usr/lib/libv7.so.0")
 
 
 def page(place, folder, files):
@@ -153,7 +161,8 @@ def provenance(release, place):
     ours, kits = release.crates()
     built = sorted(f"bin/{name}" for name in PROGRAMS.values())
     sums = [f"{digest(f'{place}/{path}')}  {path}" for path in built]
-    sums += [f"{digest(f'{place}/library/usr/{path}')}  {path}" for path in ("include/v7.h", "lib/libv7.a", "lib/libv7.so.0")]
+    sums += [f"{digest(f'{place}/library/usr/{path}')}  {path}" for path in ("include/v7.h", "lib/libv7.a")]
+    sums.append(f"{digest(shared(place))}  lib/{os.path.basename(shared(place))}")
     verdicts = [f"    {name}: {read(f'{KEPT}/{name}.verdict').strip()}" for name in ours]
     parts = [
         f"Where these files of v7 {release.version} come from\n",
@@ -284,19 +293,14 @@ def squeeze(path):
     os.remove(path)
 
 
-CONTROL = """Package: v7
+CONTROL = """Package: {name}
 Version: {version}
-Architecture: amd64
+Architecture: {architecture}
 Maintainer: {author}
 Installed-Size: {size}
-Depends: libc6 (>= {libc})
-Section: devel
+{relations}Section: {section}
 Priority: optional
-Description: object tools of Seventh Edition Unix for the PDP-11
- This package has a linker (ld), nm, size and strip for object files of the
- PDP-11, and a link session that can undo each addition exactly. A prover has
- checked the linker and the undo for every input. libv7 gives them to C and
- other languages.
+Description: {text}
 """
 CHANGELOG = """v7 ({version}) unstable; urgency=medium
 
@@ -304,6 +308,45 @@ CHANGELOG = """v7 ({version}) unstable; urgency=medium
 
  -- {author}  {date}
 """
+WHOLE = """ A prover has checked, for every input, that link and undo do what their
+ contracts say."""
+
+
+class Package(NamedTuple):
+    """A package for Debian: its fields, and which of all files below the root it takes."""
+
+    name: str
+    architecture: str
+    section: str
+    relations: str
+    text: str
+    files: list
+
+
+# a package takes what those before it have left
+PACKAGES = [
+    Package("libv7-0", "amd64", "libs", "Depends: libc6 (>= {libc})\nMulti-Arch: same\n",
+            "linker of Seventh Edition Unix for the PDP-11, library\n"
+            " The shared library links, lists, disassembles and strips object files of\n"
+            " the PDP-11, which come as bytes.\n" + WHOLE,
+            [f"{LIBDIR}/libv7.so.0*", "usr/share/doc/libv7-0"]),
+    Package("libv7-dev", "amd64", "libdevel", "Depends: libv7-0 (= {version})\nSuggests: v7\nMulti-Arch: same\n",
+            "linker of Seventh Edition Unix for the PDP-11, to develop with\n"
+            " This package has what programs in C and other languages need to call the\n"
+            " library: the header, the static library, the manual and examples.",
+            [f"{LIBDIR}/libv7.a", f"{LIBDIR}/libv7.so", f"{LIBDIR}/pkgconfig", "usr/include", "usr/share/man/man3",
+             "usr/share/doc/libv7-dev"]),
+    Package("python3-v7", "all", "python", "Depends: python3 (>= 3.8), libv7-0 (>= {version})\n",
+            "linker of Seventh Edition Unix for the PDP-11, Python module\n"
+            " The module links, lists, disassembles and strips object files of the\n"
+            " PDP-11, which come as bytes, by the library libv7.",
+            ["usr/lib/python3"]),
+    Package("v7", "amd64", "devel", "Suggests: libv7-dev, python3-v7\n",
+            "object tools of Seventh Edition Unix for the PDP-11\n"
+            " This package has a linker (ld), nm, size and strip for object files of the\n"
+            " PDP-11, and a link session that can undo each addition exactly.\n" + WHOLE,
+            ["usr"]),
+]
 
 
 def newest_libc(path):
@@ -312,30 +355,89 @@ def newest_libc(path):
     return max(found, key=lambda text: [*map(int, text.split("."))])
 
 
-def package(release, root, file):
-    """The package for Debian of the files below root."""
-    doc = f"{root}/usr/share/doc/v7"
-    for path in glob.glob(f"{root}/usr/share/man/*/*"):
-        squeeze(path)
+def library_files(root):
+    """What the packages for Debian have beside the files of the tar: documents of the library, and the module of Python."""
+    doc = f"{root}/usr/share/doc"
+    shutil.copytree(f"{doc}/v7/licences", f"{doc}/libv7-0/licences")
+    to = f"{doc}/libv7-dev"
+    for path in LIBRARY_DOCUMENTS:
+        write(f"{to}/{path}", read(path, "rb"))
+    for folder in ("c", "cpp", "rust"):
+        shutil.copytree(f"examples/{folder}", f"{to}/examples/{folder}")
+    for path in glob.glob("examples/*.o"):
+        write(f"{to}/{path}", read(path, "rb"))
+    module = f"{root}/usr/lib/python3/dist-packages/v7"
+    write(f"{module}/__init__.py", read("examples/python/v7.py", "rb"))
+    write(f"{module}/py.typed", "")
+
+
+def take(package, root, to):
+    """Moves the files of a package from the root of all to one of its own."""
+    for pattern in package.files:
+        found = glob.glob(f"{root}/{pattern}")
+        if not found:
+            sys.exit(f"{package.name}: there is no {pattern}")
+        for path in found:
+            place = f"{to}/{os.path.relpath(path, root)}"
+            os.makedirs(os.path.dirname(place), exist_ok=True)
+            os.rename(path, place)
+
+
+def add_notices(release, package, root, notice):
+    """The history and the terms of a package, and what lintian is to let pass."""
+    doc = f"{root}/usr/share/doc/{package.name}"
     write(f"{doc}/changelog", CHANGELOG.format(version=release.version, author=release.author, date=formatdate(release.date)))
     squeeze(f"{doc}/changelog")
-    notice = read(f"{doc}/NOTICE")
+    owner = "v7" if package.name == "v7" else "libv7-0"
+    notice = notice.replace(" licences/", f" /usr/share/doc/{owner}/licences/")
+    if package.architecture == "all":
+        notice = "\n".join(notice.split("\n")[:3])
     write(f"{doc}/copyright", f"{notice}\nOn Debian, /usr/share/common-licenses has the texts of LGPL-2.1 and GPL-3.\n")
-    os.remove(f"{doc}/NOTICE")
-    write(f"{root}/usr/share/lintian/overrides/v7", "".join(
-        f"v7: statically-linked-binary [usr/bin/{name}]\n" for name in sorted(PROGRAMS.values())))
-    settle(root, release.date)
+    # the owner has chosen neither a licence nor a notice
+    passed = ["copyright-without-copyright-notice"]
+    if package.name == "v7":
+        passed += [f"statically-linked-binary [usr/bin/{name}]" for name in sorted(PROGRAMS.values())]
+    write(f"{root}/usr/share/lintian/overrides/{package.name}", "".join(f"{package.name}: {tag}\n" for tag in passed))
+
+
+def control(release, package, root, libc):
+    """The files by which dpkg installs a package."""
     files = sorted(path for path in glob.glob(f"{root}/**", recursive=True) if os.path.isfile(path) and not os.path.islink(path))
-    size = sum((os.path.getsize(path) + 1023) // 1024 for path in files)
-    libc = newest_libc(glob.glob(f"{root}/usr/lib/*/libv7.so.0")[0])
     sums = "".join(f"{hashlib.md5(read(path, 'rb')).hexdigest()}  {os.path.relpath(path, root)}\n" for path in files)
-    write(f"{root}/DEBIAN/control", CONTROL.format(version=release.version, author=release.author, size=size, libc=libc))
+    fields = {"version": release.version, "author": release.author, "libc": libc,
+              "size": sum((os.path.getsize(path) + 1023) // 1024 for path in files)}
+    relations = package.relations.format(**fields)
+    write(f"{root}/DEBIAN/control", CONTROL.format(**{**package._asdict(), **fields, "relations": relations}))
     write(f"{root}/DEBIAN/md5sums", sums)
-    write(f"{root}/DEBIAN/shlibs", f"libv7 0 v7 (>= {release.version})\n")
-    write(f"{root}/DEBIAN/triggers", "activate-noawait ldconfig\n")
-    settle(root, release.date)
+    if package.section == "libs":
+        write(f"{root}/DEBIAN/shlibs", f"libv7 0 {package.name} (>= {release.version})\n")
+        write(f"{root}/DEBIAN/triggers", "activate-noawait ldconfig\n")
+
+
+def debian_packages(release, place, root):
+    """The packages for Debian of the files below root, in dist. Their names."""
+    library_files(root)
+    for path in glob.glob(f"{root}/usr/share/man/*/*"):
+        squeeze(path)
+    libc = newest_libc(shared(place))
+    notice = read(f"{root}/usr/share/doc/v7/NOTICE")
+    os.remove(f"{root}/usr/share/doc/v7/NOTICE")
     how = {"env": {**os.environ, "SOURCE_DATE_EPOCH": str(release.date)}, "stdout": subprocess.DEVNULL}
-    run("dpkg-deb", "--root-owner-group", "--threads-max=1", "-Zxz", "--build", root, file, **how)
+    names = []
+    for package in PACKAGES:
+        to = f"{place}/packages/{package.name}"
+        take(package, root, to)
+        add_notices(release, package, to, notice)
+        control(release, package, to, libc)
+        settle(to, release.date)
+        names.append(f"{package.name}_{release.version}_{package.architecture}.deb")
+        run("dpkg-deb", "--root-owner-group", "--threads-max=1", "-Zxz", "--build", to, f"dist/{names[-1]}", **how)
+    return names
+
+
+def wheel(place):
+    """The wheel of Python, in dist. Its name."""
+    return asked(sys.executable, "packaging/python/backend.py", "dist", shared(place))
 
 
 def main(words):
@@ -354,13 +456,12 @@ def main(words):
         tree(release, place, top, "", "/lib")
         write(f"{top}/README.md", re.sub(r"\]\(", "](share/doc/v7/", read(f"{top}/share/doc/v7/README.md")))
         config(f"{place}/tar/{release.name}/lib/pkgconfig/v7.pc", "${pcfiledir}/../..", "${prefix}/lib")
-        names = [f"{release.name}.tar.gz", f"v7_{release.version}_amd64.deb"]
+        names = [f"{release.name}.tar.gz"]
         pack(release, f"{place}/tar", f"dist/{names[0]}")
         shutil.rmtree(f"{place}/licences")
-        libdir = "/usr/lib/x86_64-linux-gnu"
-        tree(release, place, f"{place}/deb", "/usr", libdir)
-        config(f"{place}/deb{libdir}/pkgconfig/v7.pc", "/usr", libdir)
-        package(release, f"{place}/deb", f"dist/{names[1]}")
+        tree(release, place, f"{place}/deb", "/usr", f"/{LIBDIR}")
+        config(f"{place}/deb/{LIBDIR}/pkgconfig/v7.pc", "/usr", f"/{LIBDIR}")
+        names += [*debian_packages(release, place, f"{place}/deb"), wheel(place)]
     write("dist/SHA256SUMS", "".join(f"{digest(f'dist/{name}')}  {name}\n" for name in names))
     print(read("dist/SHA256SUMS"), end="")
 

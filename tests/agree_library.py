@@ -98,24 +98,21 @@ def link_case(number):
 
 
 def model_edit(states, edit):
-    """The reply of the model to an edit, or the text of what is wrong with its object."""
+    """The reply of the model to an edit, or why its object is not added."""
     if edit is None:
         if len(states) > 1:
             states.pop()
-            return 0
+            return v7.Session.DONE
         return v7.Session.NOTHING
     try:
-        file = model.read_object(edit)
+        states.append(model.Merged([*states[-1].objects, model.read_object(edit)], states[-1].forced))
+        return v7.Session.DONE
     except model.Refused as refused:
         return str(refused)
-    try:
-        states.append(model.Merged([*states[-1].objects, file], states[-1].forced))
-        return 0
-    except model.Refused as refused:
-        return next(fault for fault, said in v7.FAULTS.items() if said == str(refused))
 
 
 def library_edit(session, edit):
+    """The reply of the library to an edit, or the fault of its object."""
     try:
         session.withdraw() if edit is None else session.add(edit)
     except v7.Fault as fault:
@@ -135,7 +132,7 @@ def session_case(number):
     theirs = [model_edit(states, edit) for edit in edits]
     shown = [external["name"] for external in session.state()["externals"]]
     known = [text(name) for name in states[-1].externals]
-    status = int(any(isinstance(reply, int) and reply for reply in theirs))
+    status = int(v7.Session.NOTHING in theirs)
     try:
         given = linked(states[-1], arguments)
         expected = max(given[0], status), *given[1:]

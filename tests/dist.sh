@@ -14,9 +14,9 @@
 # To run the packages, a folder with Debian's base is made by debootstrap, from the mirror of this machine; with a C compiler and
 # pkg-config, and without the kit, make and Python. Once the package for Debian is installed there, and once the tar is unpacked.
 # Both times the README of the release, the examples of the manual pages, the tutorial, the page for restorers, the cases, and the C
-# example with both libraries are run there; before that, the commands of README. What drives the cases, tests/cases.py, runs outside.
-# It skips those that watch a program, since the programs of a package are linked statically. Wanted: root, Debian's debootstrap and
-# lintian.
+# example with both libraries are run there; before that, the commands of README, and the C example with libv7-0 and libv7-dev
+# alone. What drives the cases, tests/cases.py, runs outside. It skips those that watch a program, since the programs of a package are
+# linked statically. The module of python3-v7 and the wheel run outside too. Wanted: root, Debian's debootstrap and lintian.
 set -u
 cd "$(dirname "$0")/.."
 top=$PWD
@@ -208,6 +208,38 @@ library() {
     echo "the C example was compiled and run with both libraries"
 }
 
+# the C example with libv7-0 and libv7-dev alone, and the documents that the header cites
+library_alone() {
+    inside dpkg -i "/tmp/libv7-0_${version}_amd64.deb" "/tmp/libv7-dev_${version}_amd64.deb" >"$work/dpkg.txt" 2>&1 ||
+        { cat "$work/dpkg.txt"; fail "dpkg does not install the library"; }
+    inside sh -euc 'cd /tmp && rm -rf alone && mkdir alone && cd alone && doc=/usr/share/doc/libv7-dev && cp $doc/examples/*.o . &&
+        cc -o link $doc/examples/c/link.c $(pkg-config --cflags --libs v7) && ./link program main.o twice.o count.o >/dev/null &&
+        for page in $(grep -o "docs/[A-Z]*\.md" /usr/include/v7.h); do test -s $doc/$page; done && ! command -v v7' ||
+        fail "libv7-dev alone does not do"
+    cmp "$debian/tmp/alone/program" "$debian/tmp/readme/program" || fail "another program with libv7-dev alone"
+    echo "the C example was compiled and run with libv7-0 and libv7-dev alone"
+}
+
+# the module of Python in its package and in the wheel, outside of the folder
+python() {
+    for deb in "$dist"/python3-v7_*.deb "$dist"/libv7-0_*.deb; do
+        dpkg-deb -x "$deb" "$work/python"
+    done
+    PYTHONPATH=$work/python/usr/lib/python3/dist-packages LD_LIBRARY_PATH=$work/python/usr/lib/x86_64-linux-gnu \
+        python3 examples/python/session.py >"$work/session.txt" || fail "python3-v7 does not do"
+    python3 tests/wheel.py "$dist"/*.whl || fail "the wheel is not right"
+    python3 -m venv "$work/fresh" && "$work/fresh/bin/pip" install -q --no-index --disable-pip-version-check "$dist"/*.whl &&
+        mkdir "$work/session" && cp examples/python/session.py "$work/session" &&
+        "$work/fresh/bin/python" "$work/session/session.py" | cmp - "$work/session.txt" || fail "the wheel does not do"
+    echo "Python: a session with python3-v7, and with the wheel in a fresh environment"
+}
+
+# lintian finds nothing in a package
+clean() {
+    lintian --fail-on error,warning --tag-display-limit 0 "$1" >"$work/lintian.txt" 2>&1 || { cat "$work/lintian.txt"; fail "lintian: $1"; }
+    echo "lintian: nothing in $(basename "$1")"
+}
+
 # all of these with what is installed
 try_all() {
     echo "--- $1"
@@ -223,20 +255,19 @@ run_packages() {
     dist=$(cd "$1" && pwd)
     [ "$(id -u)" -eq 0 ] || stop "root is needed to change the root folder"
     (cd "$dist" && sha256sum -c --quiet SHA256SUMS) || fail "SHA256SUMS is wrong"
-    if command -v lintian >/dev/null; then
-        lintian --fail-on error --tag-display-limit 0 "$dist/v7_${version}_amd64.deb" >"$work/lintian.txt" 2>&1
-        grep '^E:' "$work/lintian.txt" | grep -v licen && fail "lintian reports errors"
-        echo "lintian: $(grep -c '^E:' "$work/lintian.txt") errors, $(grep -c '^W:' "$work/lintian.txt") warnings"
-    else
-        fail "lintian is not there"
-    fi
+    command -v lintian >/dev/null || fail "lintian is not there"
+    for deb in "$dist"/*.deb; do
+        clean "$deb"
+    done
+    python
     make_debian
     programs=/usr/local/bin share=/usr/share config= libraries=
     readme
-    cp "$dist/v7_${version}_amd64.deb" "$debian/tmp/v7.deb"
-    inside dpkg -i /tmp/v7.deb >"$work/dpkg.txt" 2>&1 || { cat "$work/dpkg.txt"; fail "dpkg does not install the package"; }
-    try_all "the package for Debian"
-    inside dpkg -r v7 >"$work/dpkg.txt" 2>&1 || { cat "$work/dpkg.txt"; fail "dpkg does not remove the package"; }
+    cp "$dist"/*_amd64.deb "$debian/tmp"
+    library_alone
+    inside dpkg -i "/tmp/v7_${version}_amd64.deb" >"$work/dpkg.txt" 2>&1 || { cat "$work/dpkg.txt"; fail "dpkg does not install the package"; }
+    try_all "the packages for Debian"
+    inside dpkg -r v7 libv7-dev libv7-0 >"$work/dpkg.txt" 2>&1 || { cat "$work/dpkg.txt"; fail "dpkg does not remove the packages"; }
     tar xzf "$dist/$name.tar.gz" -C "$debian/opt"
     programs=/opt/$name/bin share=/opt/$name/share config=/opt/$name/lib/pkgconfig libraries=/opt/$name/lib
     try_all "the tar"

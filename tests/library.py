@@ -1,5 +1,5 @@
 """The Python module of libv7: its docstrings come out as shown, its texts of faults are those of v7.h, its numbers are refused where
-they do not fit, a cut object is blamed itself, and a session keeps nothing of what was withdrawn. Instructions are those of v7-explain(1):
+they do not fit, a cut object is blamed itself, and a session keeps nothing of what was withdrawn or refused. Instructions are those of v7-explain(1):
 examples worked out by hand, and random files and words by the decoder of tests/disassembly.py.
 
 usage: python3 tests/library.py V7.H       with the module v7 and the folder tests on the path
@@ -26,19 +26,21 @@ def refused(call, *words):
     return False
 
 
+def read(path):
+    with open(path, encoding="utf-8") as file:
+        return file.read()
+
+
 def texts_of(header):
     """The text of each fault, by its number, as v7.h has them."""
-    with open(header, encoding="utf-8") as file:
-        text = file.read()
+    text = read(header)
     numbers = dict(re.findall(r"^    (V7_\w+) = (\d+)", text, re.M))
     return {int(numbers[name]): said for name, said in re.findall(r'case (V7_\w+):\n\s*return "(.*)";', text)}
 
 
 def constants_of(header):
     """The constants of options, kinds and segments in v7.h, by the names that they have in Python."""
-    with open(header, encoding="utf-8") as file:
-        text = file.read()
-    enums = re.findall(r"^enum v7_(?:link_option|nm_option|part|relocation|segment) \{(.*?)\};", text, re.M | re.S)
+    enums = re.findall(r"^enum v7_(?:link_option|nm_option|part|relocation|segment) \{(.*?)\};", read(header), re.M | re.S)
     return {name: int(number) for part in enums for name, number in re.findall(r"V7_(\w+) = (\d+)", part)}
 
 
@@ -98,25 +100,43 @@ def parts():
             yield (fault.fault, fault.word) == (6, number)
 
 
+def refused_at(session, data):
+    """The fault of an addition and the number of its object; None if it is made."""
+    try:
+        session.add(data)
+    except v7.Fault as fault:
+        return fault.fault, fault.place
+    return None
+
+
 def replies():
-    """The replies of sessions with additions that are not made, and what they keep."""
+    """What sessions say of additions that are not made and of withdrawals, and what they keep."""
     one, full = v7.make(text=[(7, v7.NUMBER)]), v7.make(text=[(0, v7.NUMBER)] * 32767)
-    session = v7.Session([one, full])
+    session = v7.Session([one])
+    yield [refused_at(session, data) for data in (full, one[:-2], one[:9], v7.strip(one))] == [(31, 1), (14, 1), (11, 1), (22, 1)]
+    yield session.replies == [0] and session.link() == v7.link([one])
     session.withdraw()
-    yield session.replies == [0, 31, 0]
     session.withdraw()
-    yield session.replies == [0, 31, 0, 35]
-    session.add(full)
-    session.add(one)
+    yield session.replies == [0, 0, 35]
     yield session.link().status == 1
-    yield session.replies == [0, 31, 0, 35, 0, 31]
+    yield refused_at(session, full + b"more") is None and refused_at(session, one) == (31, 1)
     yield session.state()["objects"] == 1
+    yield blamed_in([one, one[:-2], one]) == (14, 1)
     session = v7.Session()
     for _ in range(100):
         session.add(one)
         session.withdraw()
     yield session._kept == [] and session.replies == [0] * 200
     yield session.link() == v7.link([])
+
+
+def blamed_in(objects):
+    """The fault of a session of these objects, and the number of the object."""
+    try:
+        v7.Session(objects)
+    except v7.Fault as fault:
+        return fault.fault, fault.place
+    return None
 
 
 # words at an address, and the texts of their lines
@@ -198,7 +218,7 @@ def main(header):
     checks = {
         "the texts of faults": [v7.FAULTS == {number: text for number, text in texts.items() if number}],
         "the constants": [getattr(v7, name) == number for name, number in constants_of(header).items()],
-        "the version": [f'#define V7_VERSION "{v7.version()}"' in open(header, encoding="utf-8").read().split("\n")],
+        "the version": [f'#define V7_VERSION "{version}"' in read(header).split("\n") for version in (v7.version(), v7.__version__)],
         "numbers": [*numbers()],
         "blame": [*blames()],
         "parts": [*parts()],

@@ -45,6 +45,11 @@ sed -n 's/^uint32_t \(v7_[a-z_]*\)(.*/\1/p' installed/include/v7.h | sort >decla
 nm -D --defined-only "$library" | awk '{ print $NF }' | sort | diff declared - || fail "libv7.so.0 shows something else than v7.h declares"
 nm -g --defined-only "$archive" | awk 'NF == 3 { print $3 }' | sort | diff declared - || fail "libv7.a shows something else than v7.h declares"
 readelf -d "$library" | grep -q 'Library soname: \[libv7.so.0\]' || fail "the soname of libv7.so.0 is another"
+[ "$(readlink "$library")" = "libv7.so.0.$version" ] && [ "$(readlink installed/lib/libv7.so)" = libv7.so.0 ] ||
+    fail "libv7.so and libv7.so.0 are not links to libv7.so.0.$version"
+for page in $(grep -o 'docs/[A-Z]*\.md' installed/include/v7.h); do
+    [ -s "installed/share/doc/v7/$page" ] || fail "v7.h cites $page, which is not installed"
+done
 echo "$(wc -l <declared) calls shown by both libraries"
 
 # the header alone, as C and as C++; each number of a fault has a text of its own; and the version is that of v7.pc
@@ -55,7 +60,7 @@ cat >header.c <<'END'
 
 int main(void)
 {
-    static const unsigned faults[] = {0, 1, 2, 3, 4, 5, 6, 7, 11, 12, 13, 14, 21, 22, 23, 24, 31, 32, 33, 34, 41, 42, 43, 50, 60, 61};
+    static const unsigned faults[] = {0, 1, 2, 3, 4, 5, 6, 7, 11, 12, 13, 14, 21, 22, 23, 24, 31, 32, 33, 34, 35, 41, 42, 43, 50, 60, 61};
     unsigned i, j;
 
     if (V7_REFERS_TO(0) != 010 || V7_REFERS_TO(4095) != 0177770 || V7_REFERS_TO(1) + V7_FROM_PC != 031)
@@ -65,6 +70,8 @@ int main(void)
             if (strcmp(v7_strerror(faults[i]), v7_strerror(faults[j])) == 0)
                 return 2;
     puts(V7_VERSION);
+    if (strcmp(v7_strerror(V7_NOTHING), "nothing to withdraw") != 0)
+        return 3;
     return strcmp(v7_strerror(8), "unknown fault") != 0 || strcmp(v7_strerror(61), "unknown fault") != 0;
 }
 END
@@ -77,6 +84,7 @@ header() {
 }
 header $CC -std=c99 header.c
 header $CC -std=c11 header.c
+$CC -std=c89 $compiles -fsyntax-only header.c 2>&1 | grep -q 'v7.h needs C99' || fail "v7.h does not say that it needs C99"
 if command -v $CXX >/dev/null; then
     header $CXX -std=c++98 header.cpp
     header $CXX -std=c++17 header.cpp
@@ -216,6 +224,11 @@ if command -v python3 >/dev/null; then
     session Python python3 "$top/examples/python/session.py"
     PYTHONPATH=$top/examples/python:$top/tests python3 "$top/tests/library.py" "$top/include/v7.h" || fail "Python: a check fails"
     PYTHONPATH=$top/examples/python:$top/tests python3 "$top/tests/agree_library.py" ${CASES:-500 100} || fail "the model differs"
+    if command -v mypy >/dev/null; then
+        mypy --strict --cache-dir="$room/mypy" "$top/examples/python/v7.py" || fail "Python: mypy does not take the type hints"
+    else
+        echo "skipped: mypy is not there"
+    fi
     mkdir heavy
     PYTHONPATH=$top/examples/python python3 "$top/tests/heavy_library.py" "$top/build/v7" heavy || fail "the large benchmark"
     unset LIBV7
@@ -224,6 +237,7 @@ if command -v python3 >/dev/null; then
         (cd "$top" && python3 packaging/python/backend.py "$room" >/dev/null) || fail "Python: no wheel is made"
         mkdir wheel
         cp "$top"/examples/python/session.py "$top"/examples/python/link.py wheel
+        python3 "$top/tests/wheel.py" v7-*.whl || fail "Python: the wheel is not as an index wants it"
         fresh/bin/pip install -q --no-index --disable-pip-version-check v7-*.whl || fail "Python: the wheel is not installed"
         links "Python, from the wheel" "env -u LD_LIBRARY_PATH fresh/bin/python wheel/link.py"
         session "Python, from the wheel" env -u LD_LIBRARY_PATH fresh/bin/python wheel/session.py

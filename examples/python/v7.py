@@ -32,8 +32,11 @@ import os
 from typing import Any, Dict, Iterable, List, NamedTuple, Optional, Sequence, Tuple
 
 _BESIDE = os.path.join(os.path.dirname(os.path.abspath(__file__)), "libv7.so.0")
+__version__ = "0.4.0"
+
 _LIBRARY = ctypes.CDLL(os.environ.get("LIBV7") or (_BESIDE if os.path.exists(_BESIDE) else "libv7.so.0"))
 _NO_ROOM = 60
+_NOWHERE = (None, ctypes.c_size_t(0))
 
 # options of a link
 RELOCATABLE, STRIP, EXTERNALS, NOT_L, PURE, SPLIT, FORCE_COMMONS = (1 << bit for bit in range(7))
@@ -127,6 +130,7 @@ FAULTS: Dict[int, str] = {
     32: "data full",
     33: "bss full",
     34: "names full",
+    35: "nothing to withdraw",
     41: "does not fit",
     42: "too many symbols",
     43: "symbol number too large",
@@ -230,7 +234,7 @@ def _given(name: str, *words: Any, guess: int = 0) -> bytes:
         guess = answer.size
     if answer.fault:
         raise Fault(answer)
-    return room.raw[: answer.size]
+    return bytes(room.raw[: answer.size])
 
 
 def version() -> str:
@@ -252,7 +256,7 @@ def check(data: bytes) -> int:
     answer = _Answer()
     if _LIBRARY.v7_check(*_slice(data), ctypes.byref(answer)):
         raise Fault(answer)
-    return answer.size
+    return int(answer.size)
 
 
 def strip(data: bytes) -> bytes:
@@ -447,10 +451,16 @@ class Session:
     """Objects that are added and withdrawn, and linked as they are at any time.
 
     The library keeps nothing: what is kept here is the objects that were added and not withdrawn, and each call adds them anew. So a
-    session takes the memory of what is in it, and not of its history.
+    session takes the memory of what is in it, and not of its history. An object that is not accepted is raised as a `Fault`, whose
+    `place` is the number that it would have had, and the session stays as it was.
 
     >>> session = Session([make(text=[(7, NUMBER)])])
     >>> session.add(make(text=[(8, NUMBER)]))
+    >>> try:
+    ...     session.add(make(text=[(0, NUMBER)] * 32767))
+    ... except Fault as fault:
+    ...     print(fault)
+    text full, object 2
     >>> for _ in range(3):
     ...     session.withdraw()
     >>> session.replies == [Session.DONE] * 4 + [Session.NOTHING]
@@ -463,37 +473,29 @@ class Session:
     def __init__(self, objects: Iterable[bytes] = (), entry: str = "", forced: Iterable[str] = ()) -> None:
         self.entry, self.forced = entry, tuple(forced)
         self._kept: List[bytes] = []
-        # of how many additions the library has said whether they were made; and what it said of all edits up to there
-        self._known = 0
         self._replies: List[int] = []
         # the size of the last state that was shown
         self._size = 0
-        for data in objects:
-            self.add(data)
+        self._accept([*objects])
 
     def add(self, data: bytes) -> None:
-        """Adds an object after those that are there. An object that would pass a limit is not added; `replies` says so."""
-        self._kept.append(bytes(data[: check(data)]))
+        """Adds an object after those that are there."""
+        self._accept([data])
 
     def withdraw(self) -> None:
-        """Withdraws the object that was added last."""
-        self._settle()
+        """Withdraws the object that was added last. If there is none, `replies` says so."""
         self._replies.append(self.DONE if self._kept else self.NOTHING)
         del self._kept[-1:]
-        self._known = len(self._kept)
 
     @property
     def replies(self) -> List[int]:
-        """A number for each addition and withdrawal: DONE, NOTHING, or that of the limit which the object would pass."""
-        self._settle()
+        """A number for each addition and withdrawal: DONE or NOTHING. An addition that raises a fault has none."""
         return list(self._replies)
 
     def link(self, options: int = 0) -> Program:
-        """The link of what is there. The status is 1 also if an addition or a withdrawal was not made."""
-        room = _room(len(self._kept))
-        words = [*_wanted(options, self.entry, self.forced), *self._edits()]
-        program = _program(_LIBRARY.v7_session, [*words, room, ctypes.c_size_t(len(self._kept))])
-        self._learn(room)
+        """The link of what is there. The status is 1 also if there was nothing to withdraw."""
+        words = [*_wanted(options, self.entry, self.forced), *self._edits(), *self._room()]
+        program = _program(_LIBRARY.v7_session, words)
         return program._replace(status=max(program.status, int(any(self._replies))))
 
     def text(self) -> str:
@@ -502,27 +504,29 @@ class Session:
 
     def state(self) -> Dict[str, Any]:
         """The same as a dict: of `objects`, `text`, `data`, `bss`, `externals`, `multiples` and `marks`, as v7(3) has them."""
-        return json.loads(self._shown(self._JSON))
+        found: Dict[str, Any] = json.loads(self._shown(self._JSON))
+        return found
+
+    def _accept(self, objects: List[bytes]) -> None:
+        """Keeps these objects after those that are there, if all are accepted."""
+        answer = _Answer()
+        words = [*_wanted(0, "", self.forced), *_apart([*self._kept, *objects])]
+        # a link of them says so; its own faults, and that there is no room for it, are not those of an object
+        _LIBRARY.v7_link_list(*words, *_NOWHERE, *_NOWHERE, ctypes.byref(answer))
+        if answer.fault not in (0, 41, 42, 43, _NO_ROOM):
+            raise Fault(answer)
+        self._kept += [bytes(data[: check(data)]) for data in objects]
+        self._replies += [self.DONE] * len(objects)
 
     def _edits(self) -> List[Any]:
         return [*_slice(b"a" * len(self._kept)), *_slice(b"".join(self._kept))]
 
+    def _room(self) -> List[Any]:
+        """A room for the replies to the additions, which are all made."""
+        return [_room(len(self._kept)), ctypes.c_size_t(len(self._kept))]
+
     def _shown(self, form: int) -> str:
-        room = _room(len(self._kept))
-        words = [ctypes.c_uint32(form), *_forced(self.forced), *self._edits()]
-        state = _given("v7_state", *words, room, ctypes.c_size_t(len(self._kept)), guess=self._size)
+        words = [ctypes.c_uint32(form), *_forced(self.forced), *self._edits(), *self._room()]
+        state = _given("v7_state", *words, guess=self._size)
         self._size = len(state)
-        self._learn(room)
         return state.decode("latin-1")
-
-    def _settle(self) -> None:
-        """Asks for what is not known of the last additions."""
-        if self._known < len(self._kept):
-            self._shown(self._LINES)
-
-    def _learn(self, room: Any) -> None:
-        """Takes the replies to the additions, and lets go of what was not added."""
-        replies = room.raw[: len(self._kept)]
-        self._replies += replies[self._known :]
-        self._kept = [data for data, reply in zip(self._kept, replies) if reply == self.DONE]
-        self._known = len(self._kept)
