@@ -152,6 +152,7 @@ gate:
 	python3 tests/limits.py
 	python3 tests/calling.py
 	python3 tests/links.py
+	python3 tests/shape.py
 	python3 tests/gate_times.py rt ci
 
 # one claim proved again, and a broken line refused: docs/TRUST.md
