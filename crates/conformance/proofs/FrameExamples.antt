@@ -17,7 +17,7 @@ use Rattle.link_out.specs.declared.linked.LinkFault.{LinkFault}
 use Rattle.link_out.specs.declared.linked.LinkFault.TheVariants.{SymbolNumber}
 use Rattle.tool_options.specs.declared.options.Keep.TheVariants.{NotL, Nothing}
 use Rattle.tool_options.specs.Choices.{Choices}
-use Rattle.link_out.specs.Results.{Findings, Outcome}
+use Rattle.link_out.specs.Results.{ReportNames, Outcome}
 use Rattle.link_out.specs.relation.Refusals.{kept_locals}
 use Rattle.link_out.specs.function.Link.{link}
 use Rattle.laws.specs.Frame.{TakesPlace, AreReplaced, DifferInObject, FrameHolds, IsBeside, IsOutside, FrameOfBytes, TakesPlaceRevalued, AreRevaluedLinks, Follows, WordStays, DifferByValues, FrameOfValues}
@@ -253,7 +253,7 @@ multiples_follow : ValuesGive (λ o. o.keep ≢ Nothing) (λ before k l after o 
 multiples_follow law =
     let x = link_of (fixed_at 4 ∷ fixed_at 4 ∷ []) plain in
     let y = link_of (fixed_at 6 ∷ fixed_at 4 ∷ []) plain in
-    counts (λ (f : Findings). length f.multiples) x.report y.report refl
+    counts (λ (f : ReportNames). length f.multiples) x.report y.report refl
     (law [] [] (fixed_at 4) (fixed_at 6) (fixed_at 4 ∷ []) plain x y
     (record {
       objects = (fixed_good 4, (fixed_good 4, tt));

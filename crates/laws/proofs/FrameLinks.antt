@@ -23,7 +23,7 @@ use Rattle.link_out.specs.function.Plans.{Plan, plan, commons_laid}
 use Rattle.link_out.specs.function.Finals.{final}
 use Rattle.link_out.specs.function.Words.{final_word, final_words}
 use Rattle.link_out.specs.function.Tables.{is_kept_local, rows_kept, local_rows, external_rows, table, name_bits, referent_bits, has_far_word}
-use Rattle.link_out.specs.function.Reports.{findings, entry_word}
+use Rattle.link_out.specs.function.Reports.{report_of, entry_word}
 use Rattle.link_out.specs.function.Link.{Outcome, linked_header, linked_file, link}
 use Rattle.link_out.proofs.NeighbourMentions.{mentions_in_same}
 use Rattle.link_out.proofs.OutcomeLemmas.{made}
@@ -84,7 +84,7 @@ module _ (forced : List (List ℕ)) (before : List Contents) (k l : Contents) (a
   -- refusals
 
   abbrev link_at : ℕ → ℕ → Result Outcome LinkFault
-  link_at end count = cond (nat_lt 65535 end) (Err DoesNotFit) (cond (nat_lt 5461 count) (Err TooManySymbols) (cond (o.relocatable && has_far_word q ps) (Err SymbolNumber) (Ok (record { file = linked_file q ps; report = findings q }))))
+  link_at end count = cond (nat_lt 65535 end) (Err DoesNotFit) (cond (nat_lt 5461 count) (Err TooManySymbols) (cond (o.relocatable && has_far_word q ps) (Err SymbolNumber) (Ok (record { file = linked_file q ps; report = report_of q }))))
 
   other_link : link_at p.at.bss_end (length (table p os)) ≡ link forced ps o
   other_link = λ i. link_at (same_plan i).at.bss_end (table_counted i)
@@ -93,7 +93,7 @@ module _ (forced : List (List ℕ)) (before : List Contents) (k l : Contents) (a
   linked_alike plain =
       subst (λ (r : Result Outcome LinkFault). AreAlike (link forced os o) r) other_link
       (by_tests (nat_lt 65535 p.at.bss_end) (nat_lt 5461 (length (table p os))) (o.relocatable && has_far_word p os) (o.relocatable && has_far_word q ps)
-      (record { file = linked_file p os; report = findings p }) (record { file = linked_file q ps; report = findings q }) (λ i. plain i && has_far_word p os) (λ i. plain i && has_far_word q ps))
+      (record { file = linked_file p os; report = report_of p }) (record { file = linked_file q ps; report = report_of q }) (λ i. plain i && has_far_word p os) (λ i. plain i && has_far_word q ps))
     where
       by_tests : (t u v w : Bool) (x y : Outcome) → v ≡ false → w ≡ false →
           AreAlike (cond t (Err DoesNotFit) (cond u (Err TooManySymbols) (cond v (Err SymbolNumber) (Ok x)))) (cond t (Err DoesNotFit) (cond u (Err TooManySymbols) (cond w (Err SymbolNumber) (Ok y))))
@@ -107,7 +107,7 @@ module _ (forced : List (List ℕ)) (before : List Contents) (k l : Contents) (a
   refused_alike fault others h =
       sym other_link
       ∙ by_tests (nat_lt 65535 p.at.bss_end) (nat_lt 5461 (length (table p os))) (o.relocatable && has_far_word p os) (o.relocatable && has_far_word q ps)
-      (record { file = linked_file p os; report = findings p }) (record { file = linked_file q ps; report = findings q }) h
+      (record { file = linked_file p os; report = report_of p }) (record { file = linked_file q ps; report = report_of q }) h
     where
       by_tests : (t u v w : Bool) (x y : Outcome) →
           (let a : Result Outcome LinkFault = cond t (Err DoesNotFit) (cond u (Err TooManySymbols) (cond v (Err SymbolNumber) (Ok x))) in a) ≡ Err fault →
@@ -144,10 +144,10 @@ module _ (forced : List (List ℕ)) (before : List Contents) (k l : Contents) (a
       flag = cond o.relocatable 0 1;
     }
 
-    made_so : DifferInObject o before k (record { file = linked_file p os; report = findings p }) (record { file = linked_file q ps; report = findings q })
+    made_so : DifferInObject o before k (record { file = linked_file p os; report = report_of p }) (record { file = linked_file q ps; report = report_of q })
     made_so = record {
       header = same_header;
-      report = ap findings same_plan;
+      report = ap report_of same_plan;
       text = words_differ TextSeg tt;
       «data» = words_differ DataSeg tt;
       text_reloc = kept_relocs_differ forced before k l after o takes.sizes takes.locals good object q bits_same TextSeg tt;
@@ -159,6 +159,6 @@ module _ (forced : List (List ℕ)) (before : List Contents) (k l : Contents) (a
 pub frame_holds : (forced : List (List ℕ)) (before : List Contents) (k l : Contents) (after : List Contents) (o : Choices) (x y : Outcome) → AreReplaced forced before k l after o x y → DifferInObject o before k x y
 frame_holds forced before k l after o x y h =
     subst (λ (z : Outcome). DifferInObject o before k x z) (made (plan forced (before ++ l ∷ after) o) (before ++ l ∷ after) y h.other).outcome
-    (subst (λ (z : Outcome). DifferInObject o before k z (record { file = linked_file (plan forced (before ++ l ∷ after) o) (before ++ l ∷ after); report = findings (plan forced (before ++ l ∷ after) o) }))
+    (subst (λ (z : Outcome). DifferInObject o before k z (record { file = linked_file (plan forced (before ++ l ∷ after) o) (before ++ l ∷ after); report = report_of (plan forced (before ++ l ∷ after) o) }))
     (made (plan forced (before ++ k ∷ after) o) (before ++ k ∷ after) x h.one).outcome
     (made_so forced before k l after o h.takes h.objects h.object))

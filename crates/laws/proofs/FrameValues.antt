@@ -27,7 +27,7 @@ use Rattle.link_out.specs.relation.Relocated.{entry_of}
 use Rattle.link_out.specs.function.Plans.{Plan, plan, common_size, room_of, common_offset, commons_laid}
 use Rattle.link_out.specs.function.Finals.{Final, final, final_at, type_of}
 use Rattle.link_out.specs.function.Tables.{local_rows, external_row, external_rows, table, name_bits, referent_bits}
-use Rattle.link_out.specs.function.Reports.{findings, entry_word, entry_found_bad, is_undefined, undefined_names}
+use Rattle.link_out.specs.function.Reports.{report_of, entry_word, entry_found_bad, is_undefined, undefined_names}
 use Rattle.link_out.specs.function.Link.{linked_header}
 use Rattle.link_out.proofs.NeighbourMentions.{blocks, mentions_in_same}
 use Rattle.link_out.proofs.ExternalLemmas.{entry_in_table}
@@ -167,7 +167,7 @@ module _ (forced : List (List ℕ)) (before : List Contents) (k l : Contents) (a
 
   -- the report
 
-  pub same_report : (record (findings p) { multiples = multiple_names ns }) ≡ findings q
+  pub same_report : (record (report_of p) { multiples = multiple_names ns }) ≡ report_of q
   same_report = λ i. record {
     multiples = multiple_names ns;
     reserved = filter (λ n. not (near_undefined (state ms n) (state ns n) (near n) i)) reserved_names;

@@ -19,7 +19,7 @@ use Rattle.tool_options.specs.declared.options.Keep.TheVariants.{Nothing}
 use Rattle.tool_options.specs.Choices.{Choices}
 use Rattle.link_out.specs.relation.Relocated.{base_in, move_in, entry_of, address_in, IsAdded, IsRelocated}
 use Rattle.link_out.specs.function.Plans.{plan}
-use Rattle.link_out.specs.function.Reports.{findings}
+use Rattle.link_out.specs.function.Reports.{report_of}
 use Rattle.link_out.specs.function.Link.{Outcome, linked_file, link}
 use Rattle.link_out.proofs.NeighbourMentions.{AreAsLong, as_long_self}
 use Rattle.link_out.proofs.OutcomeLemmas.{made}
@@ -120,10 +120,10 @@ module _ (forced : List (List ℕ)) (before : List Contents) (k l : Contents) (a
   ps = before ++ l ∷ after
 
   abbrev one_made : Outcome
-  one_made = record { file = linked_file (plan forced os o) os; report = findings (plan forced os o) }
+  one_made = record { file = linked_file (plan forced os o) os; report = report_of (plan forced os o) }
 
   abbrev other_made : Outcome
-  other_made = record { file = linked_file (plan forced ps o) ps; report = findings (plan forced ps o) }
+  other_made = record { file = linked_file (plan forced ps o) ps; report = report_of (plan forced ps o) }
 
   one_linked : link forced os o ≡ Ok one_made
   one_linked = h.one ∙ (λ i. Ok (sym (made (plan forced os o) os x h.one).outcome i))
