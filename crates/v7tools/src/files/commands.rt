@@ -9,9 +9,9 @@ ghost use Rattle.v7tools.specs.internal.Openings.{IsLoading};
 
 use crate::fault::CliFault;
 use crate::files::loading::load;
-use surroundings::{Office, Stored};
 use aout_core::{BufferedWrite, File, Wire, strip_file};
 use std::alloc::Global;
+use surroundings::{Office, Stored};
 use symtools::{NmOptions, nm, size};
 
 /// Opens and reads the file at a path.

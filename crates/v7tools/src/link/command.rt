@@ -7,11 +7,11 @@ ghost use Rattle.v7tools.specs.internal.Openings.{IsOpening};
 
 use crate::fault::CliFault;
 use crate::link::linking::ld;
-use surroundings::{Office, Stored};
 use aout_core::{BufferedWrite, Wire};
 use link_out::{Linked, Options, Report};
 use link_session::Forced;
 use std::alloc::Global;
+use surroundings::{Office, Stored};
 
 /// Opens the files in order, all before any is read.
 fn open_all<O: Office>(

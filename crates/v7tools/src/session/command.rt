@@ -9,7 +9,6 @@ ghost use Rattle.v7tools.specs.SessionRuns.{IsSessionRun};
 ghost use Rattle.v7tools.specs.internal.SessionParts.{AnswersLine, IsNoLink, IsOpenedAt, TakesPlainStep};
 
 use crate::fault::CliFault;
-use surroundings::Office;
 use crate::session::commands::{Command, Step};
 use crate::session::link_answers::link_answer;
 use crate::session::script::Script;
@@ -20,6 +19,7 @@ use link_out::Options;
 use link_session::{Forced, Session};
 use std::alloc::Global;
 use std::io::{Read, Write};
+use surroundings::Office;
 
 /// What stays the same through a session: where its memory comes from, and the options of its links.
 #[derive(Clone, Copy)]

@@ -9,11 +9,11 @@ ghost use Rattle.v7tools.specs.FaultTexts.{at_file};
 
 use crate::fault::CliFault;
 use crate::fault::texts::says_of;
-use surroundings::Stored;
 use aout_core::{DeviceFault, Wire};
 use itoa::Buffer;
 use link_out::Linked;
 use std::io::Write;
+use surroundings::Stored;
 
 /// Writes a path, what is said of it, and a newline.
 fn put_path_line<W: Write>(path: &str, text: &str, answers: &mut Wire<W>) -> Result<(), DeviceFault>
