@@ -464,7 +464,7 @@ def stages(tools, default, files, compiled, many):
     for path, given, what in pages:
         stage(tools, page, path, given, LAYOUTS, same, what)
     page.load(compiled)
-    click_times(page, first(len(many)), same)
+    click_times(page, first(len(many)))
     page.quit()
     if not firefox():
         print("not measured in Firefox, as it is not installed: Debian's package is firefox-esr")
@@ -475,7 +475,7 @@ def stages(tools, default, files, compiled, many):
             for path, given, what in pages:
                 stage(tools, page, path, given, LAYOUTS, same, what, sizes)
             page.load(compiled)
-            click_times(page, first(len(many)), same)
+            click_times(page, first(len(many)))
         finally:
             page.quit()
 

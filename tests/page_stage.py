@@ -7,8 +7,6 @@ from page_browser import Keys
 
 # widths, heights and scales of a window; a zoom of 200 % at 1280 is a window of 640 pixels, each of two dots
 SIZES = [(1920, 1080, 1), (1366, 768, 1), (1024, 768, 1), (390, 844, 1), (640, 360, 2)]
-# how many milliseconds a click may take: the aim is 100, and docs/internals/COSTS.md says what misses it
-CLICK = 150
 
 
 def first(count):
@@ -299,9 +297,9 @@ def search(tools, page, same, files):
 CLICKED = {"Withdraw": "#withdraw", "a word": ".word.bound", "a name": ".name.changed", "a fold": ".fold", "Addresses": "#addresses"}
 
 
-def response(page, state, same):
-    """How long a click takes with all objects, with the two frames after it: the middle of five, in milliseconds of the processor in
-    Chromium, and by the clock in Firefox, which does not say more."""
+def response(page, state):
+    """Prints how long a click takes with all objects, with the two frames after it: the middle of five, in milliseconds of the processor
+    in Chromium, and by the clock in Firefox, which does not say more. The aim is 100; docs/internals/COSTS.md says what misses it."""
     page.size(1366, 768)
     times = {}
     for what, selector in CLICKED.items():
@@ -316,8 +314,6 @@ def response(page, state, same):
         times[what] = sorted(taken)[2]
     said = ", ".join(f"{what} {time:.0f}" for what, time in times.items())
     print(f"{page.name}: milliseconds for a click with all objects: {said}", flush=True)
-    if page.counts_processor:
-        same(f"clicks that take more than {CLICK} ms", [what for what, time in times.items() if time > CLICK], [])
 
 
 # all names, and so many of the words that refer to something
