@@ -6,9 +6,11 @@ ghost use Rattle.v7tools.specs.declared.fault.CliFault.TheVariants.{Memory, Writ
 ghost use Rattle.v7tools.specs.FaultTexts.{cli_text, fault_line, fault_of_addition, fault_of_link, fault_of_tool};
 ghost use Rattle.v7tools.specs.internal.FaultParts.{text_of};
 
-pub(crate) mod texts;
+pub(crate) mod wording;
 
-use crate::fault::texts::{FaultText, add_text, link_text, object_text, read_text, says, says_of};
+use crate::fault::wording::{
+    FaultText, add_text, link_text, object_text, read_text, says, says_of,
+};
 use aout_core::{DeviceFault, ObjectFault, ReadFault, Wire};
 use command_words::WordsFault;
 use link_out::LinkFault;

@@ -1,7 +1,7 @@
 -- The text of a fault, by its parts.
 use Rattle.std.specs.Prelude.{ℕ, List, [], ◌++◌, codes, decimal, Option, Some, None}
 use Rattle.std.specs.Borrow.{Bor}
-use Rattle.v7tools.specs.declared.fault.texts.FaultText.{FaultText}
+use Rattle.v7tools.specs.declared.fault.wording.FaultText.{FaultText}
 
 -- a path and `: `, if there is a path
 abbrev pub path_text : Option (Bor (List ℕ)) → List ℕ

@@ -8,7 +8,7 @@ ghost use Rattle.v7tools.specs.Answers.{link_answer_text, link_status};
 ghost use Rattle.v7tools.specs.FaultTexts.{at_file};
 
 use crate::fault::CliFault;
-use crate::fault::texts::says_of;
+use crate::fault::wording::says_of;
 use aout_core::{DeviceFault, Wire};
 use itoa::Buffer;
 use link_out::Linked;

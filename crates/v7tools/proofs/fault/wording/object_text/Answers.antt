@@ -1,4 +1,4 @@
-use Rattle.v7tools.proofs.fault.texts.object_text.Goals as goal
+use Rattle.v7tools.proofs.fault.wording.object_text.Goals as goal
 
 pub returns-in-NotAnObject : goal.returns-in-NotAnObject
 returns-in-NotAnObject c = rw c.in-NotAnObject.is c.says_of.ensures

@@ -2,7 +2,7 @@ use Rattle.std.proofs.Common.{◌++◌, append_assoc, subst, sym}
 use Rattle.aout_core.specs.Wires.{Writes}
 use Rattle.aout_core.proofs.PutsLemmas.{writes_both, writes_no_more}
 use Rattle.v7tools.specs.internal.FaultParts.{path_text, index_text}
-use Rattle.v7tools.proofs.fault.texts.FaultText.write.Goals as goal
+use Rattle.v7tools.proofs.fault.wording.FaultText.write.Goals as goal
 
 pub returns-in_err-put_path : goal.returns-in_err-put_path
 returns-in_err-put_path g c =
