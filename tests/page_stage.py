@@ -279,7 +279,10 @@ def search(tools, page, same, files):
     wanted = [["text", int(line.split()[1], 8)] for line in lines if "jsr pc," in line]
     page.run("document.activeElement.blur()")
     page.type("/", "j", "s", "r", " ", "p", "c", ",")
-    page.wait("return /of/.test(document.getElementById('found').textContent)")
+    page.wait("return document.getElementById('find').value === 'jsr pc,' && /of/.test(document.getElementById('found').textContent)")
+    # the search begins 150 milliseconds after the last key
+    time.sleep(0.5)
+    page.settle()
     same("what /jsr pc, finds", (page.run("return document.getElementById('found').textContent"), len(wanted) > 0), (f"1 of {len(wanted)}", True))
     page.type(Keys.ENTER)
     page.settle()
