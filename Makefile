@@ -33,7 +33,7 @@ build/v7-from-gnu: crates/v7_from_gnu/out/v7_from_gnu
 	mkdir -p build
 	cp crates/v7_from_gnu/out/v7_from_gnu build/v7-from-gnu
 
-crates/v7_from_gnu/out/v7_from_gnu: crates.txt $(shell find crates/aout_core crates/gnu_objects crates/v7_from_gnu -name out -prune -o -type f -print)
+crates/v7_from_gnu/out/v7_from_gnu: crates.txt $(shell find crates/aout_core crates/texts crates/surroundings crates/gnu_objects crates/v7_from_gnu -name out -prune -o -type f -print)
 	python3 tests/prove.py v7_from_gnu $@
 	touch $@
 
@@ -41,7 +41,7 @@ build/v7-object: crates/v7_object/out/v7_object
 	mkdir -p build
 	cp crates/v7_object/out/v7_object build/v7-object
 
-crates/v7_object/out/v7_object: crates.txt $(shell find crates/aout_core crates/texts crates/listings crates/v7_object -name out -prune -o -type f -print)
+crates/v7_object/out/v7_object: crates.txt $(shell find crates/aout_core crates/texts crates/surroundings crates/listings crates/v7_object -name out -prune -o -type f -print)
 	python3 tests/prove.py v7_object $@
 	touch $@
 
@@ -49,7 +49,7 @@ build/v7-explain: crates/v7_explain/out/v7_explain
 	mkdir -p build
 	cp crates/v7_explain/out/v7_explain build/v7-explain
 
-EXPLAIN_CRATES := $(addprefix crates/,aout_core texts link_session tool_options link_out symtools command_words gnu_objects listings instructions disassemblies findings link_maps v7_explain)
+EXPLAIN_CRATES := $(addprefix crates/,aout_core texts link_session tool_options link_out symtools command_words gnu_objects listings instructions disassemblies findings suspicions link_maps v7_explain)
 crates/v7_explain/out/v7_explain: crates.txt $(shell find $(EXPLAIN_CRATES) -name out -prune -o -type f -print)
 	python3 tests/prove.py v7_explain $@
 	touch $@
@@ -84,7 +84,7 @@ build/libv7.so: build/$(SOFILE)
 	ln -sf $(SONAME) build/libv7.so
 
 LIBRARY_CRATES := $(addprefix crates/,aout_core texts link_session tool_options link_out symtools reports listings instructions disassemblies \
-	library_calls v7_c)
+	link_maps library_calls v7_c)
 crates/v7_c/out/libv7_c.a: crates.txt $(shell find $(LIBRARY_CRATES) -name out -prune -o -type f -print)
 	python3 tests/prove.py v7_c $@
 	touch $@
@@ -108,7 +108,7 @@ wheel: lib
 
 # installs the library into a folder, calls it there with an input for each fault of each call, and compares what the examples in
 # C, C++, Python and Rust link with what v7 links
-check-lib: lib build/v7
+check-lib: lib build/v7 build/v7-explain
 	CC='$(CC)' CXX='$(CXX)' sh tests/library.sh
 
 # the release: packages of what was proved and built, in dist. check-dist makes them twice, in two folders, compares them, and runs
@@ -150,6 +150,7 @@ gate:
 	python3 tests/quotes.py
 	python3 tests/layers.py
 	python3 tests/limits.py
+	python3 tests/header.py
 	python3 tests/calling.py
 	python3 tests/links.py
 	python3 tests/shape.py
@@ -241,14 +242,17 @@ check-streams: build/v7
 	python3 tests/terminal.py build/v7
 
 # listings of the examples and of 1,000 made objects are turned back, and so are those of other files; 2,000 damaged listings
-# are tried, notes compared with computed ones, and maps with what v7 says of the links; DAMAGED files are tried besides
+# are tried, notes compared with computed ones, and maps with what v7 says of the links; DAMAGED files are tried besides. Each program
+# gets the largest input of each kind
 DAMAGED ?= 0
-check-explain: build/v7 build/v7-explain build/v7-object
+check-explain: build/v7 build/v7-explain build/v7-object build/v7-from-gnu build/v7-lesson
 	python3 tests/explain.py build/v7-explain build/v7-object build/v7 $(DAMAGED)
 	python3 tests/listings.py build/v7-explain build/v7-object
 	python3 tests/notes.py build/v7-explain
 	python3 tests/map.py build/v7 build/v7-explain
 	python3 tests/disassembly.py build/v7-explain
+	python3 tests/mistakes.py build/v7-explain
+	python3 tests/largest.py build
 
 # plays the cases, docs/CASES.md, with the programs: each must come out as written, and each bad case must be refused as bad.errors
 # has it. Samples that are in examples too must be the same there

@@ -3,15 +3,15 @@
  * /usr/share/doc/libv7-dev. The header needs C99, or C++98 with <stdint.h>.
  *
  * Each call takes bytes and gives bytes, and keeps nothing for the next call. An object or a file is the bytes of an a.out
- * file; a list of objects is their bytes one after another, since the header of each says how long it is. v7_link_list and
+ * file; a list of objects is their bytes one after another, since the header of each says how long it is. v7_run, v7_link_list and
  * v7_link_findings take the bytes of each object apart.
  *
  * Sizes are in bytes. A call takes memory from malloc and gives it back before it returns. Calls share nothing, so threads may
  * make them at once.
  *
  * Only these arguments can crash a program or spoil its memory. A pointer with a size over 0 is null, or not aligned for its type,
- * or has less than its size. Buffers overlap each other, *ANSWER, or what the call reads. A pointer to a struct is null. A pointer of
- * size 0 may be null.
+ * or has less than its size. Buffers overlap each other, *ANSWER, or what the call reads. A struct whose size is passed is smaller than
+ * that. A pointer to a struct is null. A pointer of size 0 may be null.
  *
  * A call writes its result at the beginning of a buffer of the caller; after the result the buffer stays as it was. If a
  * buffer is too small the fault is V7_NO_ROOM, nothing is written, and *ANSWER has the sizes that are needed. So a call with
@@ -187,8 +187,9 @@ uint32_t v7_nm(uint32_t options, const unsigned char *bytes, size_t size, unsign
 uint32_t v7_size(const unsigned char *bytes, size_t size, unsigned char *room, size_t room_size, struct v7_answer *answer);
 
 /* Writes the text of the file that BYTES begin with as instructions, with names and labels, as `v7-explain -d` prints it without
- * notes; v7-explain(1) describes the notation. A line is the address, two blanks, one to three words in 20 columns, two blanks, the
- * instruction, and a newline; labels have lines of their own. All numbers are octal. Faults: 11 to 14, V7_NO_MEMORY, V7_NO_ROOM. */
+ * notes; v7-explain(1) describes the notation. What follows `sys` is shown like other words, not as arguments. A line is the address,
+ * two blanks, one to three words in 20 columns, two blanks, the instruction, and a newline; labels have lines of their own. All
+ * numbers are octal. Faults: 11 to 14, V7_NO_MEMORY, V7_NO_ROOM. */
 uint32_t v7_disassemble(const unsigned char *bytes, size_t size, unsigned char *room, size_t room_size, struct v7_answer *answer);
 
 /* Writes WORDS as instructions in the same columns, without names and labels. The first word is at ADDRESS, and the address after
@@ -256,6 +257,148 @@ uint32_t v7_session(uint32_t options, const unsigned char *entry, size_t entry_s
                     const unsigned char *edits, size_t edit_count, const unsigned char *objects, size_t objects_size,
                     unsigned char *replies, size_t replies_size, unsigned char *room, size_t room_size, unsigned char *report,
                     size_t report_size, struct v7_answer *answer);
+
+/* One call for a link and for a session, with the bytes of each object apart, so that an object that is cut short is refused itself.
+ * A struct of each begins with its size: set it to `sizeof`. A later library may know longer structs, and this one knows shorter
+ * ones: a link whose report is wanted as lines alone does without the fields after `objects` and after `report`, and does not touch
+ * them. So set all fields that the size has; what is 0 asks for nothing. The sizes of buffers are counted in what they hold. */
+enum v7_mode {
+    V7_LINK = 0,   /* link all objects, as v7_link_list does: `edits` are not read, and there are no replies */
+    V7_SESSION = 1 /* add and withdraw by the edits, and link what is left, as v7_session does: V7_ADD adds the next of the objects */
+};
+enum v7_want {
+    V7_REPORT = 1,  /* the report as lines */
+    V7_FINDINGS = 2 /* the report as a list */
+};
+struct v7_request {
+    size_t size;
+    uint32_t mode;    /* of enum v7_mode */
+    uint32_t options; /* bits of enum v7_link_option */
+    uint32_t wants;   /* bits of enum v7_want: buffers for what is not wanted are left alone, and its size is 0 */
+    struct v7_slice entry;
+    struct v7_slice forced;
+    const struct v7_slice *objects;
+    size_t object_count;
+    struct v7_slice edits;
+};
+struct v7_result {
+    size_t size;
+    uint32_t fault; /* these three as in struct v7_answer; of a session, `place` is the number of the edit for 7 to 24 */
+    uint32_t word;
+    size_t place;
+    size_t file_size; /* what there is for each buffer, also with V7_NO_ROOM; with another fault 0 */
+    size_t report_size;
+    unsigned char *file;
+    size_t file_room;
+    unsigned char *report;
+    size_t report_room;
+    size_t finding_count;
+    size_t reply_count;
+    struct v7_finding *findings;
+    size_t finding_room;
+    unsigned char *replies;
+    size_t reply_room;
+};
+
+/* Does what REQUEST asks for. File, replies and what is wanted of the report are all written, or none is. The status and the faults
+ * are those of v7_link_list and v7_session. V7_NO_OPTION also stands for a mode or a want that this library does not know, and for
+ * a struct that is too short for them. */
+uint32_t v7_run(const struct v7_request *request, struct v7_result *result);
+
+/* The map of a link, as v7-explain -m shows it; docs/OBJECTS.md explains one. Objects, names and uses are numbered from 0. */
+struct v7_map_head {
+    uint64_t text_end; /* where the segments lie; commons are before bss. All are 0 if an object is refused */
+    uint64_t data_start;
+    uint64_t data_end;
+    uint64_t bss_start;
+    uint64_t bss_end;
+    size_t place;          /* the number of the object that is refused */
+    uint32_t fault;        /* 0 if the link is made; else 31 to 34 for an object, or 41 to 43 */
+    uint32_t state;        /* 1: there is something to report; 2: the entry point is not in text */
+    uint16_t magic;        /* of a link that is made */
+    uint16_t entry_point;
+    unsigned char entry_name[8]; /* the name of an entry point that is not in text, filled up with NULs */
+};
+struct v7_map_object {
+    uint64_t text; /* where its segments begin; if an object is refused, counted from 0 in each segment */
+    uint64_t data;
+    uint64_t bss;
+    size_t symbols;
+    uint16_t text_size;
+    uint16_t data_size;
+    uint16_t bss_size;
+};
+enum v7_map_name_state {
+    V7_NAME_IS_PLACED = 1,   /* type and value are those of the link */
+    V7_NAME_IS_UNDEFINED = 2,
+    V7_NAME_IS_MULTIPLE = 4  /* it is multiply defined */
+};
+struct v7_map_name { /* in the order of the names */
+    unsigned char name[8];
+    size_t definer;      /* the object that defines it first, or SIZE_MAX */
+    size_t next_definer; /* the object that defines it next, likewise */
+    size_t user;         /* the first object with a symbol of the name that does not define it, likewise */
+    uint32_t state; /* bits of enum v7_map_name_state */
+    uint16_t type;  /* as in struct v7_symbol */
+    uint16_t value;
+};
+enum v7_map_use_kind {
+    V7_DEFINES = 1,      /* a symbol that defines the name */
+    V7_MAKES_COMMON = 2, /* one that makes it a common, with its size as `offset` */
+    V7_WANTS = 3,        /* another symbol */
+    V7_FORCES = 4,       /* a forced name */
+    V7_TEXT_WORD = 5,    /* a word of text, or of data, that refers to the name */
+    V7_DATA_WORD = 6
+};
+struct v7_map_use { /* those of a name one after another, in the order of the objects; words follow their symbol */
+    uint64_t address; /* of a word, in the program */
+    size_t object;    /* SIZE_MAX for a forced name */
+    size_t name;
+    unsigned char label[8]; /* the label before the line of a word */
+    uint32_t kind;          /* of enum v7_map_use_kind */
+    uint16_t offset;        /* of a word, in its part; else the value of the symbol */
+    uint16_t line;          /* where the line begins that has the word, in its part: an instruction or a word of text, or a word of data */
+    uint16_t beyond;        /* how many bytes after the label that is */
+    uint16_t is_labelled;   /* whether there is a label */
+};
+enum v7_map_limit_kind {
+    V7_LIMIT_TEXT = 1,
+    V7_LIMIT_DATA = 2,
+    V7_LIMIT_BSS = 3,
+    V7_LIMIT_END = 4,     /* the end of bss; this one and those after it only if no object is refused */
+    V7_LIMIT_SYMBOLS = 5, /* the symbols of the file; this one and the next one only if the link is made */
+    V7_LIMIT_NUMBER = 6,  /* with V7_RELOCATABLE, the largest symbol number of a relocation word */
+    V7_LIMIT_NAMES = 7    /* the external names */
+};
+struct v7_map_limit {
+    uint64_t used; /* by all objects, also if it is over the limit */
+    uint64_t most;
+    uint32_t kind; /* of enum v7_map_limit_kind */
+};
+struct v7_map {
+    size_t size;
+    uint32_t fault; /* these three as in struct v7_answer */
+    uint32_t word;
+    size_t place;
+    struct v7_map_head head;
+    size_t object_count; /* how many there are for each buffer, also with V7_NO_ROOM; with another fault 0 */
+    size_t name_count;
+    size_t use_count;
+    size_t limit_count;
+    struct v7_map_object *objects;
+    size_t object_room;
+    struct v7_map_name *names;
+    size_t name_room;
+    struct v7_map_use *uses;
+    size_t use_room;
+    struct v7_map_limit *limits;
+    size_t limit_room;
+};
+
+/* Gives the map of the link that REQUEST asks for; its mode is V7_LINK, and what it wants is not looked at. All objects are read first.
+ * Then a link that is refused has a map too, and the status is 1. Faults: those of v7_link_list but for 31 to 43, which are in the
+ * map. V7_NO_OPTION also stands for another mode, and for a struct that is too short. */
+uint32_t v7_map(const struct v7_request *request, struct v7_map *map);
 
 /* Runs EDITS as v7_session does, and writes what the session then shows, without a link. ROOM gets it as lines, each with its
  * newline, or as one JSON object. It has the words of the merged text and data, each with its offset in bytes, its value and

@@ -163,11 +163,20 @@ function showAll() {
     showMarks();
     showLink(state);
     showMaps(state);
-    showChosen(true, firstChanged);
-    bring(byId("names").querySelector(".changed, .put-back, .new"));
+    // what asks for the layout comes together, so that the browser makes it once
+    showChosen(true, () => {
+        keepFocus(focus);
+        bring(byId("names").querySelector(".changed, .put-back, .new"));
+        showNext();
+        return firstChanged();
+    });
     say([stepText(), byId("note").textContent, guideText()]);
-    const isLost = document.activeElement === document.body || !isLaidOut(document.activeElement);
-    if (isLost && focus && focus !== document.body) byId("image").focus({ preventScroll: true });
+}
+
+// the focus goes to the image, if what had it is not there any more
+function keepFocus(focus) {
+    if (!focus || focus === document.body) return;
+    if (document.activeElement === document.body || !isLaidOut(document.activeElement)) byId("image").focus({ preventScroll: true });
 }
 
 // says something to a reader of the screen, in one place

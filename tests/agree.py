@@ -499,9 +499,9 @@ def texts_of(tool, result):
             yield line.rpartition(': ')[2]
 
 
-def compare(v7, root, kind, number):
+def compare(v7, case, root=None):
     """The statuses and texts of the case; and what differs: lines, command, files before."""
-    case, statuses, texts = case_of(kind, number), Counter(), set()
+    statuses, texts = Counter(), set()
     with tempfile.TemporaryDirectory(dir=root) as parent:
         folders = [Path(parent, 'v7'), Path(parent, 'model')]
         for folder in folders:
@@ -522,7 +522,8 @@ def compare(v7, root, kind, number):
 
 
 def work(job):
-    return job[2:], compare(*job)
+    v7, root, kind, number = job
+    return (kind, number), compare(v7, case_of(kind, number), root)
 
 
 def show(v7, kind, number, difference):

@@ -1,14 +1,16 @@
 """Compares libv7 with the second linker, tests/model.py, on random links and sessions, always the same; in half of them objects are
-damaged. Of a link the status, every byte of the file and the report are compared, or the fault, its object and its word. Of a session
-the same, and the replies to its edits and the names that it shows.
+damaged. Of a link the status, every byte of the file and the report are compared, in both forms, or the fault, its object and its
+word. Of a session the same, and the replies to its edits and the names that it shows. Maps of links, some of them over a limit, are
+compared with tests/map_model.py, record by record.
 
-usage: python3 tests/agree_library.py LINKS SESSIONS      with the module v7 on the path
+usage: python3 tests/agree_library.py LINKS SESSIONS MAPS      with the module v7 on the path
 """
 import random
 import sys
 from collections import Counter
 
 import agree
+import map_model
 import model
 import v7
 
@@ -97,6 +99,21 @@ def link_case(number):
     return [by_model(objects, arguments)] * 2, [by_library(objects, arguments, is_found) for is_found in (False, True)]
 
 
+def map_case(number):
+    """What model and library give for the map of a link."""
+    rng = random.Random(f"link {number}")
+    names = rng.sample(agree.NAMES, rng.choice([2, 3, 5, 8]))
+    arguments = arguments_of(rng, names)
+    objects = objects_of(rng, names, number % 2 == 1)
+    # one of these does not fit, and two of them pass the limit of bss
+    objects += [v7.make(text=[(0, v7.NUMBER)] * 13000, bss=40000)] * max(0, number % 5 - 2)
+    try:
+        came = v7.link_map(objects, options_of(arguments), **asked_of(arguments))
+    except v7.Fault as fault:
+        came = fault_of(fault)
+    return [map_model.map_of(objects, arguments)], [came]
+
+
 def model_edit(states, edit):
     """The reply of the model to an edit, or why its object is not added."""
     if edit is None:
@@ -120,6 +137,17 @@ def library_edit(session, edit):
     return session.replies[-1]
 
 
+def by_session(session, options, is_found):
+    """What the library gives for a session, with the report's lines or with its names."""
+    try:
+        if not is_found:
+            return tuple(session.link(options))
+        found = session.link_findings(options)
+        return found.status, found.file, report_of(found.findings)
+    except v7.Fault as fault:
+        return fault_of(fault)
+
+
 def session_case(number):
     """What model and library give for a session: the replies, the externals, and the link."""
     rng = random.Random(f"session {number}")
@@ -138,21 +166,19 @@ def session_case(number):
         expected = max(given[0], status), *given[1:]
     except model.Refused as refused:
         expected = str(refused), 0
-    try:
-        came = tuple(session.link(options_of(arguments)))
-    except v7.Fault as fault:
-        came = fault_of(fault)
-    return (theirs, known, expected), (ours, shown, came)
+    came = [by_session(session, options_of(arguments), is_found) for is_found in (False, True)]
+    return (theirs, known, [expected] * 2), (ours, shown, came)
 
 
 def kind_of(outcome):
     """What to count: the status of a link, or that it was refused."""
     last = outcome[-1]
+    last = last[0] if isinstance(last, list) else last
     return "refused" if isinstance(last[0], str) else f"status {last[0]}"
 
 
-def main(links, sessions):
-    for name, case, count in (("links", link_case, int(links)), ("sessions", session_case, int(sessions))):
+def main(links, sessions, maps):
+    for name, case, count in (("links", link_case, int(links)), ("sessions", session_case, int(sessions)), ("maps", map_case, int(maps))):
         kinds = Counter()
         for number in range(count):
             expected, came = case(number)

@@ -234,19 +234,18 @@ class Reader:
         return self.parts[-1].steps[-1]
 
     def take(self, line, text):
-        if text[0] == "|":
-            self.take_block(line, text)
-            return
-        self.owner = None
-        if text == "--":
-            self.end_part(line)
-            self.parts.append(Part())
-        elif text.startswith("$ "):
-            self.take_command(line, text[2:])
-        elif text[0] in "<>!":
-            self.take_text(line, text)
-        else:
-            self.take_word(line, text)
+        word = text[0] if text[0] in "<>!|" else text.partition(" ")[0]
+        if word != "|":
+            self.owner = None
+        if word not in TAKEN_BY:
+            raise Mistake(line, f"unknown line: {text}")
+        TAKEN_BY[word](self, line, text)
+
+    def take_end(self, line, text):
+        if text != "--":
+            raise Mistake(line, f"unknown line: {text}")
+        self.end_part(line)
+        self.parts.append(Part())
 
     def take_block(self, line, text):
         if self.owner is None:
@@ -254,9 +253,9 @@ class Reader:
         self.owner.block.extend((line, one) for one in texts_of(line, text))
 
     def take_command(self, line, text):
-        words = words_of(line, text)
-        if words[0] not in PROGRAMS:
-            raise Mistake(line, f"not one of the programs: {text}")
+        words = words_of(line, text[2:])
+        if not words or words[0] not in PROGRAMS:
+            raise Mistake(line, f"not one of the programs: {text[2:]}")
         self.end_step()
         self.parts[-1].steps.append(Step(line, words))
 
@@ -265,19 +264,18 @@ class Reader:
         texts = {"<": step.given, ">": step.output, "!": step.error}[text[0]]
         texts.extend((line, encoded(line, one)) for one in texts_of(line, text))
 
-    def take_word(self, line, text):
+    def take_form(self, line, text):
         word, _, rest = text.partition(" ")
-        if word == "object*":
-            self.take_objects(line, rest)
-        elif word == "asked":
-            self.step(line, text).asked = line, requests_of(line, rest)
-        elif word in FORMS:
-            self.take_item(item_of(line, word, rest))
-        else:
-            raise Mistake(line, f"unknown line: {text}")
+        self.take_item(item_of(line, word, rest))
 
-    def take_objects(self, line, rest):
-        found = re.fullmatch("([0-9]+) ([^ ]+)", rest)
+    def take_asked(self, line, text):
+        step = self.step(line, text)
+        if step.asked:
+            raise Mistake(line, "a second asked")
+        step.asked = line, requests_of(line, text.partition(" ")[2])
+
+    def take_objects(self, line, text):
+        found = re.fullmatch("object[*] ([0-9]+) ([^ ]+)", text)
         if not found:
             raise Mistake(line, "wanted object* N FILE")
         self.take_item(Item(line, "object", (found[2], int(found[1]))))
@@ -315,6 +313,14 @@ class Reader:
         part = self.parts[-1]
         if not part.steps and all(plan.word != "state" for plan in part.plans):
             raise Mistake(line, "no command")
+
+
+# what takes a line within a case, by the word or the mark at its front
+TAKEN_BY = {"--": Reader.take_end, "$": Reader.take_command, "<": Reader.take_text, ">": Reader.take_text, "!": Reader.take_text,
+            "|": Reader.take_block, "object*": Reader.take_objects, "asked": Reader.take_asked,
+            **dict.fromkeys(FORMS, Reader.take_form)}
+# all words and marks at the front of a line
+WORDS = ("#", "case", *TAKEN_BY)
 
 
 def check_line(line, text):

@@ -4,7 +4,7 @@
 usage: tests/cases.py [FILE ..]      plays these files, or all of tests/cases
        tests/cases.py -e FILE ..     prints only the first error of each bad case
        tests/cases.py -s             compares the samples with the files of examples/
-       tests/cases.py -b             plays bad.cases: each error must be the one that bad.errors has
+       tests/cases.py -b             plays bad.cases and bad.words: each error must be the one that bad.errors, or the table, has
        tests/cases.py -p             plays all with the programs of a package: skips parts that watch a program, and states
 
 The programs are in build/, or in the folder V7_BUILD. A command has 60 seconds, or V7_SECONDS.
@@ -21,6 +21,7 @@ import subprocess
 import sys
 import tempfile
 
+import bad_words
 from case_files import SAMPLES, contents, make, sample, sample_path
 from case_format import Mistake, cases_in, encoded, read_case
 from watching import NotWatched, Watch
@@ -370,7 +371,9 @@ def check_bad():
             print(f"{' '.join(words)}: status {ended} in place of {status}")
         is_good = is_good and ended == status and came == expected
     print(f"{len(re.findall('^[^ ]', expected, re.M))} errors of bad cases compared")
-    return is_good
+    count, faults = bad_words.check(played)
+    print("".join(f"{fault}\n" for fault in faults) + f"{count} bad cases of words compared")
+    return is_good and not faults
 
 
 def main(words):

@@ -8,6 +8,7 @@ files are compared, objects and linked ones, with names, labels and relocated wo
 instructions and the rules of names are written here anew. If GNU's assembler for the PDP-11 is installed, it assembles the text back to the same words, the floating
 instructions aside.
 """
+import functools
 import os
 import random
 import shutil
@@ -43,6 +44,16 @@ FA  171000 mulf 171400 modf 172000 addf 172400 movf 173000 subf 173400 cmpf 1744
 AF  174000 movf 176000 movfo
 AD  175000 movei 175400 movfi
 DA  176400 movie 177000 movif
+"""
+# how many words follow, then numbers and names of system calls
+CALLS = """
+0  1 exit 2 fork 6 close 7 wait 15 time 24 getpid 27 setuid 30 getuid 31 stime 33 alarm 35 pause 42 nice
+0  44 sync 51 dup 52 pipe 56 setgid 57 getgid
+1  0 indir 12 unlink 14 chdir 21 break 26 umount 34 fstat 37 stty 40 gtty 43 ftime 45 kill 53 times 63 acct
+1  65 lock 74 umask 75 chroot
+2  3 read 4 write 5 open 10 creat 11 link 13 exec 17 chmod 22 stat 36 utime 41 access 60 signal
+3  16 mknod 20 chown 23 lseek 25 mount 32 ptrace 64 phys 66 ioctl 73 exece
+4  54 profil 70 mpx
 """
 # how many bits each letter has
 BITS = {"S": 6, "D": 6, "F": 6, "R": 3, "L": 3, "A": 2, "B": 8, "O": 6, "X": 8, "M": 6, "P": 3}
@@ -86,6 +97,15 @@ def has_word(letter, value):
     return mode >= 6 or (mode in (2, 3) and register == 7)
 
 
+def calls():
+    """For each first word of a system call its name, and how many words are its arguments."""
+    lines = [line.split() for line in CALLS.split("\n") if line]
+    return {0o104400 + int(number, 8): (name, int(count)) for count, *pairs in lines for number, name in zip(pairs[::2], pairs[1::2])}
+
+
+SYS = calls()
+
+
 def octal(number):
     return "%o" % number
 
@@ -95,7 +115,10 @@ def signed(number):
 
 
 class File:
-    """A file of text words, with relocation words or without, and symbols as (name, type word, value)."""
+    """A file of text words, with relocation words or without, and symbols as (name, type word, value). Without `knows_calls` it is shown
+    as libv7 does, which knows no arguments of system calls."""
+
+    knows_calls = True
 
     def __init__(self, words, relocation=None, symbols=(), magic=0o407, data=(), data_relocation=(), bss=0):
         self.words, self.relocation, self.symbols, self.magic = words, relocation, symbols, magic
@@ -214,6 +237,8 @@ class File:
         """The length and the text of the line at a place."""
         if self.is_relocated(place) or self.words[place] not in FOUND:
             return 1, self.plain(place)
+        if self.knows_calls and self.words[place] in SYS:
+            return self.call(place, *SYS[self.words[place]])
         name, fields = FOUND[self.words[place]]
         length = 1 + sum(has_word(*field) for field in fields)
         if place + length > len(self.words):
@@ -227,19 +252,33 @@ class File:
             next_place += has_word(letter, value)
         return length, name + (" " if texts else "") + ",".join(texts)
 
+    @functools.cached_property
+    def of_text(self):
+        """Each symbol of text, as it is shown, with its value."""
+        return [(shown(name), value) for name, kind, value in self.symbols if kind & 0o37 == 2]
+
+    def call(self, place, name, count):
+        """The length and the text of a system call at a place. An argument is named as an immediate number is."""
+        end = place + 1 + count
+        if end > len(self.words):
+            return 1, self.plain(place)
+        named = [(self.reference("sys", 2, 7, self.words[at], 0, at), self.words[at]) for at in range(place + 1, end)]
+        return 1 + count, "; ".join(["sys " + name] + [text or "%06o" % word for text, word in named])
+
     def labels(self, address, length):
-        of_text = [(shown(name), value) for name, kind, value in self.symbols if kind & 0o37 == 2]
-        return [name + ":" for name, value in of_text if value == address] + [
-            "%s = .+%o" % (name, value - address) for name, value in of_text if address < value < address + 2 * length
+        return [name + ":" for name, value in self.of_text if value == address] + [
+            "%s = .+%o" % (name, value - address) for name, value in self.of_text if address < value < address + 2 * length
         ]
 
     def disassembly(self):
         place, lines = 0, []
         while place < len(self.words):
             length, text = self.line(place)
-            words = " ".join("%06o" % word for word in self.words[place : place + length])
+            words = ["%06o" % word for word in self.words[place : place + length]]
             lines += self.labels(2 * place, length)
-            lines.append("%06o  %-20s  %s" % (2 * place, words, text))
+            lines.append("%06o  %-20s  %s" % (2 * place, " ".join(words[:3]), text))
+            if length > 3:
+                lines.append("%06o  %s" % (2 * place + 6, " ".join(words[3:])))
             place += length
         return lines + self.labels(2 * place, 0)
 
@@ -339,7 +378,7 @@ def compare_lines(lines, wanted, what):
 
 
 def each_first_word(folder):
-    """All first words with each of four pairs. Two words `nop` end what the pair begins. Returns the texts' words."""
+    """All first words with each of four pairs. Two words `nop` end what the pair begins, or are arguments. Returns the texts' words."""
     texts, words, firsts = [], [], 0
     for pair in FOUR_PAIRS:
         for first in range(0o200000):
@@ -370,7 +409,7 @@ def random_file(dice):
     """A file of a few words of text, whose symbols and operands often meet."""
     magic, relocated = dice.choice([(0o407, 1), (0o407, 1), (0o407, 0), (0o410, 0), (0o411, 0), (0o405, 0)])
     count, data, bss = dice.randrange(1, 40), [0] * dice.randrange(9), 2 * dice.randrange(9)
-    frequent = [0o016700, 0o012700, 0o004767, 0o000137, 0o000167, 0o013737, 0o017777, 0o016160, 0o000401, 0o077002, 0o172467, 0o005067, 0o067077]
+    frequent = [0o016700, 0o012700, 0o004767, 0o000137, 0o000167, 0o013737, 0o017777, 0o016160, 0o000401, 0o077002, 0o172467, 0o005067, 0o067077, 0o104400, 0o104404, 0o104423, 0o104454, 0o104455]
     near = lambda: dice.choice([dice.randrange(0, 2 * count + 40), -dice.randrange(0, 2 * count + 8) & 0o177777, dice.randrange(65536)])
     words = [dice.choice([dice.choice(frequent), near(), near()]) for _ in range(count)]
     kinds = [2, 2, 0o42, 0o42, 3, 0o43, 4, 0o44, 1, 0o41, 0o40, 0o40, 0, 0o37, 0o24]
@@ -391,7 +430,7 @@ def assembled(text, assembler, folder):
     while place < len(text):
         length, line = file.line(place)
         name = line.split(" ")[0]
-        if name[0] in "01" or text[place] >= 0o170000:
+        if name[0] in "01" or text[place] >= 0o170000 or text[place] in SYS:
             lines += [".word 0%o" % word for word in text[place : place + length]]
         else:
             lines.append(for_gnu(line, 2 * place))

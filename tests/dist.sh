@@ -216,7 +216,7 @@ library_alone() {
         cc -o link $doc/examples/c/link.c $(pkg-config --cflags --libs v7) && ./link program main.o twice.o count.o >/dev/null &&
         for page in $(grep -o "docs/[A-Z]*\.md" /usr/include/v7.h); do test -s $doc/$page; done && ! command -v v7' ||
         fail "libv7-dev alone does not do"
-    cmp "$debian/tmp/alone/program" "$debian/tmp/readme/program" || fail "another program with libv7-dev alone"
+    cmp "$debian/tmp/alone/program" "$debian/tmp/readme/$name/share/doc/v7/examples/program" || fail "another program with libv7-dev alone"
     echo "the C example was compiled and run with libv7-0 and libv7-dev alone"
 }
 

@@ -179,6 +179,7 @@ def alone(words, address):
     """The lines of words at an even address by the other decoder: of a text in which so many bytes precede them."""
     place = address // 2
     file, lines = disassembly.File([disassembly.NOP] * place + words, magic=0o405), []
+    file.knows_calls = False
     while place < len(file.words):
         length, text = file.line(place)
         lines.append(row(2 * place, " ".join("%06o" % word for word in file.words[place : place + length]), text))
@@ -198,6 +199,7 @@ def instructions():
         yield v7.disassemble_words(words, address) == alone(words, address)
     for _ in range(300):
         file = disassembly.random_file(dice)
+        file.knows_calls = False
         yield v7.disassemble(file.encoded() + b"more").split("\n") == [*file.disassembly(), ""]
 
 

@@ -7,8 +7,8 @@
 # is installed into a fresh environment.
 # What is missing of the compilers, Python and these two is skipped, and named.
 #
-# usage: CC=cc CXX=c++ CALLS=20000 CASES='500 100' tests/library.sh        with so many random calls, and links and sessions for the
-#                                                                          comparison with tests/model.py
+# usage: CC=cc CXX=c++ CALLS=20000 CASES='500 100 500' tests/library.sh        with so many random calls, and links, sessions and maps for
+#                                                                              the comparison with tests/model.py
 set -u
 cd "$(dirname "$0")/.."
 top=$PWD
@@ -155,6 +155,9 @@ faulty C ./faults
 $CC -std=c99 -O2 -Wall -Wextra -Werror -o random_calls $compiles "$top/tests/random_calls.c" \
     -Wl,--wrap=malloc -Wl,--wrap=realloc -Wl,--wrap=free "$archive" || exit 1
 ./random_calls "${CALLS:-20000}" || fail "a random call differs"
+# the one call beside the others
+$CC -std=c99 -O2 -Wall -Wextra -Werror -o runs $compiles "$top/tests/runs.c" "$archive" || exit 1
+./runs "${RUNS:-20000}" main.o twice.o count.o a.o b.o c.o k.o l.o || fail "v7_run differs from the other calls"
 $CC -std=c99 -O2 -Wall -Wextra -Werror -pthread -o stack $compiles "$top/tests/stack.c" "$archive" || exit 1
 ./stack >stack.txt && echo "32,768 bytes of stack: $(cat stack.txt)" || fail "a call needs more than 32,768 bytes of stack: $(cat stack.txt)"
 # the program of v7(3) lists what v7 nm lists, and refuses what is not a file
@@ -167,6 +170,23 @@ echo "the program of v7(3) lists what v7 nm lists"
 $CC -O2 -Wall -o by_c $compiles "$top/examples/c/link.c" "$archive" || exit 1
 $CC -O2 -Wall -o ran_by_c $compiles "$top/examples/c/session.c" "$archive" || exit 1
 links C ./by_c
+# the toy assembler: both definitions of a name and the use of an undefined one have a line, or without a source an address
+$CC -std=c99 -O2 -Wall -Wextra -Werror -o toy $compiles "$top/examples/c/toy.c" "$archive" || exit 1
+cp "$top"/examples/c/toy_*.txt .
+printf '_twice:\n    return\n' >toy_again.txt
+./toy ours toy_main.txt toy_twice.txt >toy.txt 2>&1 && ./toy theirs toy_main.txt twice.o >>toy.txt 2>&1
+./toy ours toy_main.txt toy_twice.txt toy_again.txt twice.o >>toy.txt 2>&1
+./toy ours toy_main.txt main.o >>toy.txt 2>&1
+cat >toy.wanted <<'END'
+toy_twice.txt:2: _twice is defined here
+toy_again.txt:1: _twice is defined here again
+twice.o at 000000: _twice is defined here again
+END
+head -3 toy.txt | cmp -s - toy.wanted && grep -q '^toy_main\.txt:3: _twice is not defined$' toy.txt && grep -q '^main\.o at 0000.*: _twice is not defined$' toy.txt ||
+    { cat toy.txt; fail "the toy assembler shows other places"; }
+# the map from records is that of v7-explain, made or refused
+$CC -std=c99 -O2 -Wall -Wextra -Werror -o map_by_c $compiles "$top/examples/c/map.c" "$archive" || exit 1
+python3 "$top/tests/map.py" "$top/build/v7" "$top/build/v7-explain" ./map_by_c "${MAPS:-1000}" || fail "the map from records differs"
 # it names what it cannot read or write
 ./by_c out missing.o 2>&1 | grep -q '^missing\.o: ' || fail "the example in C says nothing of a file that is not there"
 ./by_c missing/out main.o 2>&1 | grep -q '^missing/out: ' || fail "the example in C says nothing of a file that it cannot write"
@@ -223,7 +243,22 @@ if command -v python3 >/dev/null; then
     links Python "python3 $top/examples/python/link.py"
     session Python python3 "$top/examples/python/session.py"
     PYTHONPATH=$top/examples/python:$top/tests python3 "$top/tests/library.py" "$top/include/v7.h" || fail "Python: a check fails"
-    PYTHONPATH=$top/examples/python:$top/tests python3 "$top/tests/agree_library.py" ${CASES:-500 100} || fail "the model differs"
+    PYTHONPATH=$top/examples/python:$top/tests python3 "$top/tests/agree_library.py" ${CASES:-500 100 500} || fail "the model differs"
+    PYTHONPATH=$top/examples/python:$top/tests python3 "$top/tests/largest_library.py" || fail "the largest inputs"
+    # a library with a fault in one field of all records of a map
+    ${OBJCOPY:-objcopy} --redefine-sym v7_map=real_v7_map "$archive" planted.a
+    $CC -std=c99 -O2 -Wall -Wextra -Werror -shared -fPIC -o planted.so $compiles "$top/tests/planted_map.c" -Wl,--whole-archive planted.a -Wl,--no-whole-archive ||
+        exit 1
+    plants=$(grep -o 'FIELD([a-z]*, [a-z_]*)' "$top/tests/planted_map.c" | sed -n '/record, name/d; s/FIELD(\(.*\), \(.*\))/\1.\2/p')
+    # whether the model differs from it
+    differs() {
+        ! LIBV7=./planted.so PLANT=$1 PYTHONPATH=$top/examples/python:$top/tests python3 "$top/tests/agree_library.py" 0 0 60 >planted.txt 2>&1
+    }
+    ! differs nothing || { cat planted.txt; fail "the model differs from the library without a fault in its maps"; }
+    for plant in $plants; do
+        differs "$plant" || fail "a fault in $plant of a map is not found"
+    done
+    echo "a fault in each of $(echo "$plants" | wc -l) fields of the records of a map is found"
     if command -v mypy >/dev/null; then
         mypy --strict --cache-dir="$room/mypy" "$top/examples/python/v7.py" || fail "Python: mypy does not take the type hints"
     else
@@ -258,5 +293,14 @@ if command -v rustc >/dev/null; then
     session Rust ./ran_by_rust
 else
     echo "skipped: rustc is not there"
+fi
+# the crate of Rust, in a copy, without any other crate
+if command -v cargo >/dev/null; then
+    grep -q "^version = \"$version\"" "$top/packaging/rust/Cargo.toml" || fail "the crate v7-sys has another version"
+    cp -r "$top/packaging/rust" v7-sys
+    LIBV7_DIR=$room/installed/lib cargo build -q --offline --release --example link --manifest-path v7-sys/Cargo.toml || exit 1
+    links "Rust by v7-sys" v7-sys/target/release/examples/link
+else
+    echo "skipped: cargo is not there"
 fi
 exit $failed

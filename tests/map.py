@@ -1,7 +1,9 @@
 #!/usr/bin/env python3
 """Compares the map of `v7-explain -m` with what `v7 ld`, `v7 nm` and `v7 size` say of the same objects.
 
-usage: tests/map.py V7 V7-EXPLAIN
+usage: tests/map.py V7 V7-EXPLAIN [MAP [LINKS]]
+
+MAP is another program that prints maps, examples/c/map.c: of each link it must print the same. LINKS are so many in place of 200.
 
 The links are those of a few lists of objects in examples/, and 200 that are made, the same in each run: objects of some
 words, with names that are defined, wanted as commons and referred to. Who defines a name, who wants it, and which words
@@ -18,7 +20,6 @@ import tempfile
 
 import disassembly
 
-V7, EXPLAIN = (os.path.abspath(path) for path in sys.argv[1:3])
 EXAMPLES = os.path.join(os.path.dirname(os.path.abspath(__file__)), "..", "examples")
 OPTIONS = [[], ["-n"], ["-i"], ["-r"], ["-r", "-d"], ["-x"], ["-X"], ["-s"], ["-u", "_forced"], ["-e", "_a"], ["-d"]]
 NAMES = ["_a", "_b", "_c", "_main", "_long_na", "x", "_forced", "_end", "_etext", "Lx"]
@@ -30,6 +31,15 @@ def run(*words):
     """Status, standard output and standard error of a command."""
     done = subprocess.run(words, capture_output=True, check=False)
     return done.returncode, done.stdout.decode("latin-1"), done.stderr.decode("latin-1")
+
+
+def explain(*words):
+    """The same of the map of a link, which another program has to print too."""
+    came = run(EXPLAIN, "-m", *words)
+    for program in MAP:
+        if came[2] == "":
+            check(f"{' '.join(words)}: by records", run(program, *words), came)
+    return came
 
 
 class RandomObject:
@@ -215,7 +225,7 @@ def limits_of(options, paths, linked, end):
 
 def check_map(what, options, paths):
     """The map of a link that is made agrees with the link. Returns its externals."""
-    status, text, errors = run(EXPLAIN, "-m", *options, *paths)
+    status, text, errors = explain(*options, *paths)
     check(f"{what}: standard error", errors, "")
     linked, report, _ = run(V7, "ld", *options, "-o", "out", *paths)
     check(f"{what}: status", status, linked)
@@ -306,7 +316,7 @@ def check_random_refused(number):
     what = f"refused link {number} {' '.join(options)}"
     status, _, errors = run(V7, "ld", *options, "-o", "out", *paths)
     check(f"{what}: ld", (status, fault in errors), (2, True))
-    status, text, errors = run(EXPLAIN, "-m", *options, *paths)
+    status, text, errors = explain(*options, *paths)
     check(f"{what}: status", (status, errors), (1, ""))
     found = parts(text)
     check(f"{what}: fault", found[""][0].split(" at")[0], f"Link of {len(paths)} objects: refused, {fault}")
@@ -326,7 +336,7 @@ def check_refused(what, objects, fault, lines):
     for path, given in zip(paths, objects):
         given.write(path)
     check(f"{what}: fault", fault in run(V7, "ld", "-o", "out", *paths)[2], True)
-    status, text, _ = run(EXPLAIN, "-m", *paths)
+    status, text, _ = explain(*paths)
     check(f"{what}: status", status, 1)
     for line in [fault] + lines:
         check(f"{what}: {line}", line in text, True)
@@ -345,7 +355,7 @@ def largest_of(objects):
 
 def check_sizes(what, objects):
     """The limits of objects whose link is refused, and the largest of them."""
-    found = parts(run(EXPLAIN, "-m", *[f"{place}.o" for place in range(len(objects))])[1])
+    found = parts(explain(*[f"{place}.o" for place in range(len(objects))])[1])
     sizes = [File(struct.pack("<8H", 0o407, 2 * o.text, 2 * o.data, 2 * o.bss, 0, 0, 0, 1) + bytes(2 * (o.text + o.data)))
              for o in objects]
     check(f"{what}: limits", found["Limits"][:3], sum_limits(sizes))
@@ -401,10 +411,17 @@ def all_refused():
     return 9
 
 
-with tempfile.TemporaryDirectory() as folder:
-    os.chdir(folder)
+def main():
     examples = check_examples()
-    words = sum(check_random(link) for link in range(200))
+    words = sum(check_random(link) for link in range(LINKS))
     words += sum(check_random_refused(link) for link in range(51))
     refused = 51 + all_refused()
-    print(f"{examples} maps of examples, 200 of made links and {refused} of refused ones agree with ld, nm and size; {words} words are placed")
+    print(f"{examples} maps of examples, {LINKS} of made links and {refused} of refused ones agree with ld, nm and size; {words} words are placed")
+
+
+if __name__ == "__main__":
+    V7, EXPLAIN, *MAP = (os.path.abspath(path) for path in sys.argv[1:4])
+    LINKS = int(sys.argv[4]) if len(sys.argv) > 4 else 200
+    with tempfile.TemporaryDirectory() as folder:
+        os.chdir(folder)
+        main()

@@ -15,8 +15,8 @@ import sys
 import tempfile
 
 from disassembly import File as Text
+from suspicions import suspicions
 
-EXPLAIN = os.path.abspath(sys.argv[1])
 PROGRAMS = {0o405: "an overlay", 0o407: "a program", 0o410: "a program, pure text", 0o411: "a program, separate text and data"}
 SEGMENTS = {2: "text", 3: "data", 4: "bss"}
 # types of symbols, without the external bit
@@ -91,10 +91,14 @@ def cut_off(file):
             return
 
 
-def bad_words(file):
-    symbols = file.symbols()
+def text_of(file):
+    """The text of an object, with its relocation words and its symbols."""
     relocated = [(word, reloc) for at, word, reloc in file.words() if at < file.text]
-    text = Text([word for word, _ in relocated], [reloc for _, reloc in relocated], [field[1:] for field in symbols])
+    return Text([word for word, _ in relocated], [reloc for _, reloc in relocated], [field[1:] for field in file.symbols()])
+
+
+def bad_words(file):
+    symbols, text = file.symbols(), text_of(file)
     for at, _, reloc in file.words():
         number = reloc >> 4
         if reloc & 0o16 > 0o10:
@@ -163,15 +167,15 @@ def odd_words(file):
                                                 f"{segment} lies from {begin:06o} to {end:06o}")
 
 
-def odd_symbol(file, number, symbols):
-    name, field, kind, value = symbols[number]
+def odd_symbol(file, number, symbol, first):
+    """What is odd of a symbol, if the first one of its name has this number."""
+    name, field, kind, value = symbol
     if not name:
         yield 0, "has an empty name"
     elif not all(32 < c < 127 for c in name):
         yield 0, "has bytes in its name that do not print"
     if field.rstrip(b"\0") != name:
         yield 0, "has bytes after the NUL of its name, which are ignored"
-    first = [other[0] for other in symbols].index(name)
     if first < number:
         yield 0, f"has the name of symbol {first}; names are equal in eight bytes"
     if kind > 0o77:
@@ -196,10 +200,12 @@ def notes_of(data):
     notes += [f"wrong: byte 0{at:o} ({at}): {text}" for at, text in found]
     if file:
         odd = [*odd_header(file), *odd_words(file)]
-        symbols = file.symbols()
-        for number, symbol in enumerate(symbols):
+        firsts = {}
+        for number, symbol in enumerate(file.symbols()):
             at, title = file.symbols_at + 12 * number, f"symbol {number} {shown(symbol[0])}"
-            odd += [(at + place, f"{title} {text}") for place, text in odd_symbol(file, number, symbols)]
+            found = odd_symbol(file, number, symbol, firsts.setdefault(symbol[0], number))
+            odd += [(at + place, f"{title} {text}") for place, text in found]
+        odd += [(file.relocation_at + 2 * place, text) for place, text in suspicions(text_of(file))]
         notes += [f"odd: byte 0{at:o} ({at}): {text}" for at, text in odd]
     return sorted(notes), refused
 
@@ -295,6 +301,8 @@ def main():
     print(f"{count} notes of {len(datas)} files compared")
 
 
-with tempfile.TemporaryDirectory() as folder:
-    os.chdir(folder)
-    main()
+if __name__ == "__main__":
+    EXPLAIN = os.path.abspath(sys.argv[1])
+    with tempfile.TemporaryDirectory() as folder:
+        os.chdir(folder)
+        main()

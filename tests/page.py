@@ -24,7 +24,7 @@ from page_layout import look_everywhere, look_in_firefox
 from page_lessons import bad_questions, lesson_answers, remarks, states_in
 from page_objects import FILES as COMPILED, PLACE, object_like_c, object_of_compiled
 from page_planted import plant_all
-from page_stage import SIZES, first, response as click_times, stage
+from page_stage import SIZES, UNFOLD, first, response as click_times, stage
 from page_use import use_all
 
 LAYOUTS = {"plain": [], "-n": ["-n"], "-i": ["-i"], "-r": ["-r"]}
@@ -47,18 +47,6 @@ return {
     done: all(".undone .was", text), undone: all(".undone .sum", text),
     table: one("table"), report: one("report"), step: one("status"), refused: document.querySelector("#note.refused") ? one("note") : "", note: one("note"),
     hash: location.hash, focus: document.activeElement.id };
-"""
-
-# opens all folds, by pieces, as clicks on them do
-UNFOLD = """
-for (let count = 0; count < 50 && document.querySelector(".fold"); count++) {
-    for (const fold of document.querySelectorAll(".fold")) {
-        const [, object, part, start, end] = fold.dataset.key.split(" ");
-        unfold(Number(object), part, Number(start), Number(end));
-    }
-    showChosen(true);
-}
-return document.querySelectorAll(".fold").length;
 """
 
 faults = []

@@ -8,7 +8,7 @@ import tempfile
 import page_pictures
 from page_layout import look
 from page_lessons import lesson_answers
-from page_stage import VIEW, choices, compare_ends, first, moved
+from page_stage import VIEW, choices, compare_ends, compare_given, first, moved
 from page_use import old_browser
 
 # scripts that plant a fault into the page that is shown, and the measure that has to find it
@@ -21,6 +21,7 @@ STAGE = {
     "a reference left out": ("choice", "chosenReferences = ((real) => (state) => real(state).slice(1))(chosenReferences);"),
     "an arrow left out": ("choice", "bundles = ((real) => (state, all) => real(state, all.filter((one) => one.id !== all[0].id)))(bundles);"),
     "a row moved by 2 pixels": ("moved", "document.getElementById('withdraw').addEventListener('click', () => { document.getElementById('image').style.paddingTop = '2px'; });"),
+    "the number of the object dropped": ("given", "targetParts = ((real) => (state, word) => real(state, word).filter((part) => part[1] !== 'given-word'))(targetParts);"),
     "a button moved by 2 pixels": ("moved", "document.getElementById('withdraw').addEventListener('click', () => { document.getElementById('withdraw').style.marginLeft = '2px'; });"),
 }
 LAYOUT = {
@@ -58,6 +59,8 @@ def on_stage(tools, page, files, layouts, kind, script):
         compare_ends(tools, page, files, layouts, found.same, 5)
     elif kind == "view":
         found.same("in view", [name for name, is_seen in page.run(VIEW).items() if name != "count" and not is_seen], [])
+    elif kind == "given":
+        compare_given(page, files, found.same)
     elif kind == "choice":
         choices(page, found.same, "a choice", ["name _next", "name _say", "text-0"], tools.uses(files))
     else:

@@ -1,6 +1,8 @@
 """Measures the stage of the page: where arrows end, what a step moves, what is in view, what a choice and the search find, in
 Chromium and in Firefox."""
+import os
 import re
+import struct
 import time
 
 from page_browser import Keys
@@ -113,6 +115,50 @@ def compare_ends(tools, page, files, layouts, same, step=1):
         counts = [counts[0] + len(places), counts[1] + len(drawn)]
     page.type("a")
     return counts
+
+
+# opens all folds, by pieces, as clicks on them do
+UNFOLD = """
+for (let count = 0; count < 50 && document.querySelector(".fold"); count++) {
+    for (const fold of document.querySelectorAll(".fold")) {
+        const [, object, part, start, end] = fold.dataset.key.split(" ");
+        unfold(Number(object), part, Number(start), Number(end));
+    }
+    showChosen(true);
+}
+return document.querySelectorAll(".fold").length;
+"""
+GIVEN = """
+const text = (row, name) => row.querySelector(`.${name}`)?.textContent ?? "";
+return [...document.querySelectorAll("#image .word:not(.spot)")].map((row) => [row.id, text(row, "value"), text(row, "given-word")]);
+"""
+
+
+def words_of_files(files):
+    """For each word of the merged image the name of its object, the word there, and whether it refers to a segment there."""
+    found, fronts = {}, {"text": 0, "data": 0}
+    for path in files:
+        with open(path, "rb") as file:
+            data = file.read()
+        sizes = dict(zip(("text", "data"), struct.unpack_from("<2H", data, 2)))
+        starts = {"text": 16, "data": 16 + sizes["text"]}
+        for part, size in sizes.items():
+            words, relocs = (struct.unpack_from(f"<{size // 2}H", data, starts[part] + more) for more in (0, sum(sizes.values())))
+            for index, (word, reloc) in enumerate(zip(words, relocs)):
+                found[f"{part}-{fronts[part] + 2 * index}"] = os.path.basename(path), word, reloc & 0o16 in (2, 4, 6)
+            fronts[part] += size
+    return found
+
+
+def compare_given(page, files, same):
+    """A word that refers to a segment has the number that it has in its object too, if that is another one."""
+    page.run(UNFOLD)
+    of_files, shown = words_of_files(files), page.run(GIVEN)
+    for word, value, said in shown:
+        name, given, is_segment = of_files[word]
+        wanted = f", in {name} {given:06o}" if is_segment and int(value, 8) != given else ""
+        same(f"{len(files)} objects: what {word} is in its object", said, wanted)
+    return len(shown)
 
 
 # ---- what a step moves
@@ -331,7 +377,8 @@ def stage(tools, page, path, files, layouts, same, what, sizes=SIZES):
     began = time.monotonic()
     page.load(path)
     page.size(1366, 768)
-    counts = {"places of words": 0, "ends of arrows": 0, "arrows of choices": 0}
+    page.open("#" + first(len(files)))
+    counts = {"words of objects": compare_given(page, files, same), "places of words": 0, "ends of arrows": 0, "arrows of choices": 0}
     for number in {2, 5, len(files)}:
         page.open("#" + first(number))
         places, ends = compare_ends(tools, page, files[:number], layouts, same, 5 if number > 5 or not page.counts_processor else 1)

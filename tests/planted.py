@@ -7,8 +7,9 @@ usage: tests/planted.py [BUG ..]    tries the bugs of all rows, or these; an err
        tests/planted.py -c          looks only whether each edit fits the code, and the table the edits and the cases
 
 A bug CRATE/NAME is an edit of the crate that the prover refuses, in its must-fail/ or wrong-bodies/. Any other is an edit of
-tests/planted/. It is made in a copy of the sources, and programs are compiled there with no proof: those that use its crate, one
-after another, as long as a case that the row names does not fail. The other programs are those without a bug.
+tests/planted/. The rows of tests/largest.py count as cases. The bug is made in a copy of the sources, and programs are compiled
+there with no proof: those that use its crate, one after another, as long as a case that the row names does not fail. The other
+programs are those without a bug.
 """
 import glob
 import os
@@ -19,12 +20,15 @@ import sys
 import tempfile
 from concurrent.futures import ThreadPoolExecutor
 
+import largest
 from compiling import CRATES, NotCompiled, compile_program, uses_of
 
 TOP = os.path.normpath(os.path.join(os.path.dirname(os.path.abspath(__file__)), ".."))
 CASES = os.path.join(TOP, "tests", "cases")
 PAGE = "docs/internals/PLANTED.md"
 ROW = re.compile(r"^\| `([\w/]+)` \| .* \| (.*) \|$")
+# the rows of tests/largest.py, each with the program that it runs as a case has it
+LARGEST = {f"largest.py: {name}, {kind}": f"$ {name}\n" for name, _, kinds in largest.TABLE for kind in kinds}
 # for a command of a case, on a machine with other work too
 SECONDS = "300"
 # a compilation takes a processor and a gigabyte
@@ -39,7 +43,7 @@ def rows():
     """The bugs of the table, each with the cases that have to fail."""
     with open(os.path.join(TOP, PAGE), encoding="utf-8") as page:
         found = [ROW.match(line.strip()) for line in page]
-    return [(row[1], re.findall(r"`(\w+)`", row[2])) for row in found if row]
+    return [(row[1], re.findall(r"`([^`]+)`", row[2])) for row in found if row]
 
 
 def edit_of(bug):
@@ -87,6 +91,11 @@ def cases_of(paths):
     return texts
 
 
+def there_are():
+    """The text of each case, and what each row of largest.py runs."""
+    return {**cases_of(glob.glob(os.path.join(CASES, "*.case"))), **LARGEST}
+
+
 def programs_of(text):
     """The programs that a case runs. A state is shown by `library_uses`."""
     found = set(re.findall(r"^\$ (\S+)", text, re.M))
@@ -94,7 +103,25 @@ def programs_of(text):
 
 
 def failed(folder, texts):
-    """Those of these cases that fail with the programs of a folder."""
+    """Those of these cases, and of these rows of largest.py, that fail with the programs of a folder."""
+    rows_failed = [name for name in texts if name in LARGEST and row_fails(folder, name)]
+    return rows_failed + cases_that_fail(folder, {name: text for name, text in texts.items() if name not in LARGEST})
+
+
+def row_fails(folder, name):
+    """Whether a row of largest.py fails."""
+    script, row = name.split(": ")
+    words = [sys.executable, os.path.join(TOP, "tests", script), folder, row]
+    ran = subprocess.run(words, stdout=subprocess.PIPE, stderr=subprocess.STDOUT, check=False)
+    said = ran.stdout.decode("utf-8", "replace")
+    if not re.search(r"^programs: [01] of 1 answers .*\n\Z", said, re.M):
+        raise Fault(said)
+    return ran.returncode != 0
+
+
+def cases_that_fail(folder, texts):
+    if not texts:
+        return []
     with tempfile.NamedTemporaryFile("w", suffix=".case", encoding="ascii") as file:
         file.writelines(texts.values())
         file.flush()
@@ -149,7 +176,7 @@ def programs(folder, names):
 def check_table():
     """Whether each edit fits the code, each edit of tests/planted has a row, and each case of a row is there."""
     table, faults = rows(), []
-    there = cases_of(glob.glob(os.path.join(CASES, "*.case")))
+    there = there_are()
     edits = {os.path.basename(path)[:-5] for path in glob.glob(os.path.join(TOP, "tests", "planted", "*.edit"))}
     faults += [f"{bug}: no row" for bug in sorted(edits - {bug for bug, _ in table})]
     for bug, expected in table:
@@ -187,7 +214,7 @@ def try_row(bug, names, there, good):
 
 def try_rows(table):
     """Plants the bugs, after the cases are played without one: whether all wanted cases fail, and without a bug none."""
-    there = cases_of(glob.glob(os.path.join(CASES, "*.case")))
+    there = there_are()
     wanted = {name: there[name] for _, names in table for name in names}
     faults = 0
     with tempfile.TemporaryDirectory() as top, ThreadPoolExecutor(SIDE_BY_SIDE) as pool:

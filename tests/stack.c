@@ -26,6 +26,17 @@ static void called(uint32_t status, const struct v7_answer *answer)
         exit(3);
 }
 
+/* the call by request and result */
+static void run(uint32_t mode, uint32_t options)
+{
+    struct v7_request request = {sizeof request, mode, options, V7_REPORT | V7_FINDINGS, {0, 0}, {0, 0}, slices, count, {edits, count}};
+    struct v7_result result = {sizeof result, 0, 0, 0, 0, 0, room, ROOM, more, ROOM, 0, 0, findings, SYMBOLS, replies, COUNT};
+    uint32_t status = v7_run(&request, &result);
+    struct v7_answer answer = {result.fault, result.word, result.place, 0, 0};
+
+    called(status, &answer);
+}
+
 static void *call_all(void *unused)
 {
     struct v7_answer answer;
@@ -44,6 +55,8 @@ static void *call_all(void *unused)
         called(v7_link_list(option, none, 0, none, 0, slices, count, room, ROOM, more, ROOM, &answer), &answer);
         called(v7_link_findings(option, none, 0, none, 0, slices, count, room, ROOM, findings, SYMBOLS, &answer), &answer);
         called(v7_session(option, none, 0, none, 0, edits, count, objects, objects_size, replies, COUNT, room, ROOM, more, ROOM, &answer), &answer);
+        run(V7_LINK, option);
+        run(V7_SESSION, option);
     }
     called(v7_state(V7_LINES, none, 0, edits, count, objects, objects_size, replies, COUNT, room, ROOM, &answer), &answer);
     called(v7_state(V7_JSON, none, 0, edits, count, objects, objects_size, replies, COUNT, room, ROOM, &answer), &answer);
@@ -102,5 +115,5 @@ int main(void)
     edits[COUNT - 1] = V7_WITHDRAW;
     call_in_thread();
     printf("%u calls, %u with a result\n", calls, results);
-    return calls != 86 || results < 74;
+    return calls != 118 || results < 104;
 }

@@ -221,9 +221,13 @@ def check_lesson():
         version = re.search(r'^#define V7_VERSION "(.*)"', header.read(), re.M)[1]
     expect("--help", run(LESSON, "--help"), (0, synopsis, ""))
     expect("--version", run(LESSON, "--version"), (0, f"v7-lesson {version}\n", ""))
-    for words in [], ["-n"], ["-z", "k.o"], ["-n", "x", "k.o"], [b"\xe9.o"], ["-n", "1", "--help", b"\xe9.o"]:
-        expect(f"{words}", run(LESSON, *words), (2, "", usage))
-    return 8
+    refused = ([], ["-n"], ["-n", "1"], ["-z", "k.o"], ["-n", "x", "k.o"], ["-p"], ["-p", "page"], ["-p", "page", "-q"],
+               ["-p", "page", "-q", "lessons.txt"], [b"\xe9.o"], ["-n", "1", "--help", b"\xe9.o"])
+    for arguments in refused:
+        expect(f"{arguments}", run(LESSON, *arguments), (2, "", usage))
+    later = os.path.join(EXAMPLES, "k.o"), "-n"
+    expect("an option after a file", run(LESSON, *later)[2], "v7-lesson: -n: cannot open\n")
+    return 3 + len(refused)
 
 
 with tempfile.TemporaryDirectory() as room:

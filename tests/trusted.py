@@ -20,14 +20,14 @@ import sys
 INTERNAL = ["internal"]
 
 # definitions name no constants of the code, but for the ids by which `command_words` knows its options, and the rows of
-# `instructions`, in the law that compares them with the definition's table
-IDS = [("command_words", "words"), ("command_words", "link_words"), ("instructions", "table")]
+# `instructions`, in the laws that compare them with the definitions' tables
+IDS = [("command_words", "words"), ("command_words", "link_words"), ("instructions", "table"), ("instructions", "call_table")]
 
 os.chdir(os.path.join(os.path.dirname(os.path.abspath(__file__)), ".."))
 LIBRARIES = [
-    "aout_core", "texts", "surroundings", "link_session", "tool_options", "link_out", "symtools", "reports", "link_maps",
-    "command_words", "v7tools", "laws", "gnu_objects", "listings", "instructions", "disassemblies", "findings", "library_calls", "v7_c",
-    "v7_from_gnu", "v7_object",
+    "aout_core", "texts", "surroundings", "link_session", "tool_options", "link_out", "link_laws", "symtools", "reports", "link_maps",
+    "command_words", "v7tools", "laws", "gnu_objects", "listings", "instructions", "disassemblies", "findings", "suspicions",
+    "library_calls", "v7_c", "v7_from_gnu", "v7_object",
 ]
 IMPORT = re.compile(
     r"^ *(?:pub )?(?:ghost )?use Rattle\.(\w+)\.(specs|proofs)\.([\w.]+?)(?:\.\{([^}]*)\}|(?: as (\w+))?);?$"

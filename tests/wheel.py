@@ -56,19 +56,17 @@ def summed(files, record):
     rows = {path: (sums, size) for path, sums, size in csv.reader(io.StringIO(files[record].decode()))}
     if set(rows) != set(files) or rows.pop(record) != ("", ""):
         yield "RECORD has other files"
-    for path, (sums, size) in rows.items():
+    for path in sorted(rows.keys() & files.keys()):
         digest = base64.urlsafe_b64encode(hashlib.sha256(files[path]).digest()).rstrip(b"=").decode()
-        if (sums, size) != (f"sha256={digest}", str(len(files[path]))):
+        if rows[path] != (f"sha256={digest}", str(len(files[path]))):
             yield f"RECORD has another sum for {path}"
 
 
-def faults(path):
-    """What is wrong with a wheel."""
+def faults(path, files):
+    """What is wrong with a wheel of this name and these files."""
     named = NAMED.match(os.path.basename(path))
     if not named:
         return ["the name of the file is not that of a wheel"]
-    with zipfile.ZipFile(path) as packed:
-        files = {item.filename: packed.read(item) for item in packed.infolist()}
     stem = f"{named['name']}-{named['version']}.dist-info"
     found = [*described(fields_of(files[f"{stem}/METADATA"].decode()), named["name"], named["version"])]
     found += [*tagged(fields_of(files[f"{stem}/WHEEL"].decode()), named["tags"]), *summed(files, f"{stem}/RECORD")]
@@ -80,9 +78,27 @@ def faults(path):
     return found
 
 
+def other_wheels(files):
+    """Wheels that are wrong: each file of RECORD with a byte more, without a file, with one more, and with another size in RECORD."""
+    record = next(name for name in files if name.endswith("/RECORD"))
+    for name in files.keys() - {record}:
+        yield f"{name} has a byte more", {**files, name: files[name] + b"\n"}
+    yield "v7/py.typed is not there", {name: data for name, data in files.items() if name != "v7/py.typed"}
+    yield "there is one more file", {**files, "v7/more.py": b""}
+    yield "RECORD has another size", {**files, record: files[record].replace(b",0\n", b",1\n")}
+
+
+def main(path):
+    with zipfile.ZipFile(path) as packed:
+        files = {item.filename: packed.read(item) for item in packed.infolist()}
+        closed = [item.filename for item in packed.infolist() if item.external_attr >> 16 != 0o100644]
+    wrong, planted = faults(path, files) + [f"not everybody can read {name}" for name in closed], [*other_wheels(files)]
+    wrong += [f"not noticed: {what}" for what, others in planted if not faults(path, others)]
+    print("\n".join(wrong) or f"{os.path.basename(path)}: as an index wants it; {len(planted)} wrong ones are found")
+    return 1 if wrong else 0
+
+
 if __name__ == "__main__":
     if len(sys.argv) != 2:
         sys.exit(__doc__)
-    WRONG = faults(sys.argv[1])
-    print("\n".join(WRONG) or f"{os.path.basename(sys.argv[1])}: as an index wants it")
-    sys.exit(1 if WRONG else 0)
+    sys.exit(main(sys.argv[1]))

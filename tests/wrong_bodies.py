@@ -409,14 +409,20 @@ class Below(prove.Proving):
             return super().run(crate)
 
 
+def without_comments(text):
+    """A text of code or of definitions without the lines that are comments: no contract is weaker for these."""
+    return "\n".join(line for line in text.split("\n") if not re.match(r"\s*(//|--)", line))
+
+
 def digest(crate):
-    """The digest of the code, the definitions and the edits of a crate."""
+    """The digest of the code and the definitions of a crate, without comments, and of its edits."""
     whole = hashlib.sha256()
     paths = [f"{at}/{file}" for part in ("src", "specs") for at, _, files in os.walk(f"crates/{crate}/{part}") for file in files]
     texts = [(os.path.relpath(path, f"crates/{crate}"), path) for path in paths]
     texts += [(f"edits/{os.path.basename(path)}", path) for path in edits.edits_of(crate)]
     for name, path in sorted(texts):
-        whole.update(f"{name}\n{edits.read(path)}\n".encode())
+        text = edits.read(path)
+        whole.update(f"{name}\n{text if name.startswith('edits/') else without_comments(text)}\n".encode())
     return whole.hexdigest()
 
 

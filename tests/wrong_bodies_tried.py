@@ -143,6 +143,11 @@ def faults_of_digests():
         if shown_as_changed(f"tried {digest}\n") != ["tried"]:
             yield f"a change of {path} has to be seen"
         digest = wrong_bodies.digest("tried")
+    for path, comment in (("src/lib.rt", "    // a comment"), ("specs/Sums.antt", "-- a comment")):
+        with open(f"crates/tried/{path}", "a", encoding="utf-8") as file:
+            file.write(f"{comment}\n")
+        if shown_as_changed(f"tried {digest}\n"):
+            yield f"a comment of {path} is not a change"
     os.remove(wrong_bodies.SEEN)
     try:
         wrong_bodies.have_changed()

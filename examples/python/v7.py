@@ -29,14 +29,15 @@ from __future__ import annotations
 import ctypes
 import json
 import os
-from typing import Any, Dict, Iterable, List, NamedTuple, Optional, Sequence, Tuple
+from typing import Any, Dict, Iterable, List, NamedTuple, Optional, Sequence, Tuple, Union
 
 _BESIDE = os.path.join(os.path.dirname(os.path.abspath(__file__)), "libv7.so.0")
 __version__ = "0.4.0"
 
 _LIBRARY = ctypes.CDLL(os.environ.get("LIBV7") or (_BESIDE if os.path.exists(_BESIDE) else "libv7.so.0"))
 _NO_ROOM = 60
-_NOWHERE = (None, ctypes.c_size_t(0))
+_LINK, _SESSION = 0, 1
+_REPORT, _FINDINGS = 1, 2
 
 # options of a link
 RELOCATABLE, STRIP, EXTERNALS, NOT_L, PURE, SPLIT, FORCE_COMMONS = (1 << bit for bit in range(7))
@@ -54,6 +55,11 @@ FROM_PC = 1
 
 # the parts of an object: the word of a fault if one is too long
 TEXT_PART, DATA_PART, BSS_PART, SYMBOLS_PART = 1, 2, 3, 4
+
+# of a name in a map, and of its uses
+NAME_IS_PLACED, NAME_IS_UNDEFINED, NAME_IS_MULTIPLE = 1, 2, 4
+DEFINES, MAKES_COMMON, WANTS, FORCES, TEXT_WORD, DATA_WORD = range(1, 7)
+LIMIT_TEXT, LIMIT_DATA, LIMIT_BSS, LIMIT_END, LIMIT_SYMBOLS, LIMIT_NUMBER, LIMIT_NAMES = range(1, 8)
 
 Word = Tuple[int, int]
 Symbol = Tuple[str, int, int]
@@ -84,6 +90,72 @@ class Found(NamedTuple):
     status: int
     file: bytes
     findings: Findings
+
+
+class MapObject(NamedTuple):
+    """An object of a map: where its segments begin, how many symbols it has, and the sizes of the segments in bytes."""
+
+    text: int
+    data: int
+    bss: int
+    symbols: int
+    text_size: int
+    data_size: int
+    bss_size: int
+
+
+class MapName(NamedTuple):
+    """A name of a map: the numbers of the objects that define it first and next, and of the first with a symbol of it that does not
+    define it; the bits NAME_IS_PLACED, NAME_IS_UNDEFINED and NAME_IS_MULTIPLE; and its type word and value, which are those of the
+    link if it is placed."""
+
+    name: str
+    definer: Optional[int]
+    next_definer: Optional[int]
+    user: Optional[int]
+    state: int
+    type: int
+    value: int
+
+
+class MapUse(NamedTuple):
+    """A symbol of an object, or a word that refers to it: the numbers of the object and of the name, one of DEFINES to DATA_WORD, and of
+    a word its address and its place, the place of its line, and the label before that with the bytes beyond it. The place of a
+    symbol is its value. A forced name has no object."""
+
+    object: Optional[int]
+    name: int
+    kind: int
+    address: int
+    offset: int
+    line: int
+    label: Optional[str]
+    beyond: int
+
+
+class MapLimit(NamedTuple):
+    """How much is used of a limit: of text, data, bss, the end of bss, the symbols, the symbol number, or the external names."""
+
+    kind: int
+    used: int
+    most: int
+
+
+class Map(NamedTuple):
+    """The map of a link: 0, or why it is refused, and the number of the object that is; where text ends, and data and bss begin and
+    end; the magic, the entry point, and its name if it is not in text; and what `v7-explain -m` shows."""
+
+    status: int
+    fault: int
+    place: int
+    segments: Tuple[int, int, int, int, int]
+    magic: int
+    entry_point: int
+    entry_name: Optional[str]
+    objects: List[MapObject]
+    names: List[MapName]
+    uses: List[MapUse]
+    limits: List[MapLimit]
 
 
 class Parts(NamedTuple):
@@ -173,6 +245,105 @@ class _Answer(ctypes.Structure):
     ]
 
 
+class _Request(ctypes.Structure):
+    _fields_ = [
+        ("size", ctypes.c_size_t),
+        ("mode", ctypes.c_uint32),
+        ("options", ctypes.c_uint32),
+        ("wants", ctypes.c_uint32),
+        ("entry", _Slice),
+        ("forced", _Slice),
+        ("objects", ctypes.POINTER(_Slice)),
+        ("object_count", ctypes.c_size_t),
+        ("edits", _Slice),
+    ]
+
+
+class _Result(ctypes.Structure):
+    _fields_ = [
+        ("size", ctypes.c_size_t),
+        ("fault", ctypes.c_uint32),
+        ("word", ctypes.c_uint32),
+        ("place", ctypes.c_size_t),
+        ("file_size", ctypes.c_size_t),
+        ("report_size", ctypes.c_size_t),
+        ("file", ctypes.c_void_p),
+        ("file_room", ctypes.c_size_t),
+        ("report", ctypes.c_void_p),
+        ("report_room", ctypes.c_size_t),
+        ("finding_count", ctypes.c_size_t),
+        ("reply_count", ctypes.c_size_t),
+        ("findings", ctypes.POINTER(_Finding)),
+        ("finding_room", ctypes.c_size_t),
+        ("replies", ctypes.c_void_p),
+        ("reply_room", ctypes.c_size_t),
+    ]
+
+
+class _MapHead(ctypes.Structure):
+    _fields_ = [
+        *((name, ctypes.c_uint64) for name in ("text_end", "data_start", "data_end", "bss_start", "bss_end")),
+        ("place", ctypes.c_size_t),
+        ("fault", ctypes.c_uint32),
+        ("state", ctypes.c_uint32),
+        ("magic", ctypes.c_uint16),
+        ("entry_point", ctypes.c_uint16),
+        ("entry_name", ctypes.c_ubyte * 8),
+    ]
+
+
+class _MapObject(ctypes.Structure):
+    _fields_ = [
+        *((name, ctypes.c_uint64) for name in ("text", "data", "bss")),
+        ("symbols", ctypes.c_size_t),
+        *((name, ctypes.c_uint16) for name in ("text_size", "data_size", "bss_size")),
+    ]
+
+
+class _MapName(ctypes.Structure):
+    _fields_ = [
+        ("name", ctypes.c_ubyte * 8),
+        *((name, ctypes.c_size_t) for name in ("definer", "next_definer", "user")),
+        ("state", ctypes.c_uint32),
+        ("type", ctypes.c_uint16),
+        ("value", ctypes.c_uint16),
+    ]
+
+
+class _MapUse(ctypes.Structure):
+    _fields_ = [
+        ("address", ctypes.c_uint64),
+        ("object", ctypes.c_size_t),
+        ("name", ctypes.c_size_t),
+        ("label", ctypes.c_ubyte * 8),
+        ("kind", ctypes.c_uint32),
+        *((name, ctypes.c_uint16) for name in ("offset", "line", "beyond", "is_labelled")),
+    ]
+
+
+class _MapLimit(ctypes.Structure):
+    _fields_ = [("used", ctypes.c_uint64), ("most", ctypes.c_uint64), ("kind", ctypes.c_uint32)]
+
+
+class _Map(ctypes.Structure):
+    _fields_ = [
+        ("size", ctypes.c_size_t),
+        ("fault", ctypes.c_uint32),
+        ("word", ctypes.c_uint32),
+        ("place", ctypes.c_size_t),
+        ("head", _MapHead),
+        *((f"{name}_count", ctypes.c_size_t) for name in ("object", "name", "use", "limit")),
+        ("objects", ctypes.POINTER(_MapObject)),
+        ("object_room", ctypes.c_size_t),
+        ("names", ctypes.POINTER(_MapName)),
+        ("name_room", ctypes.c_size_t),
+        ("uses", ctypes.POINTER(_MapUse)),
+        ("use_room", ctypes.c_size_t),
+        ("limits", ctypes.POINTER(_MapLimit)),
+        ("limit_room", ctypes.c_size_t),
+    ]
+
+
 class Fault(Exception):
     """Why a call gives nothing: `fault` is its number, `place` that of the object or name, and `word` the index of the word, or the part
     of an object that is too long.
@@ -184,7 +355,7 @@ class Fault(Exception):
     11 short header, object 0
     """
 
-    def __init__(self, answer: _Answer) -> None:
+    def __init__(self, answer: Union[_Answer, _Result, _Map]) -> None:
         text = FAULTS.get(answer.fault, f"fault {answer.fault}")
         where = f" at word {answer.word}" if answer.fault in (23, 24) else f" in part {answer.word}" if answer.fault == 6 else ""
         super().__init__(f"{text}{where}, object {answer.place}" if 10 < answer.fault < 40 else text + where)
@@ -323,37 +494,96 @@ def _forced(names: Iterable[str]) -> List[Any]:
     return _slice(b"".join(map(_padded, names)))
 
 
-def _wanted(options: int, entry: str, forced: Iterable[str]) -> List[Any]:
-    return [_number("the options", options), *_slice(entry.encode("latin-1")), *_forced(forced)]
-
-
-def _linked(call: Any, words: Sequence[Any], kind: Any = ctypes.c_char) -> Tuple[int, bytes, Any]:
-    """Calls twice: for the sizes of the rooms for the file and for a report of this kind, and for these."""
-    answer, size, count = _Answer(), 0, 0
-    for _ in range(2):
-        file, report = _room(size), (kind * max(count, 1))()
-        status = call(*words, file, ctypes.c_size_t(size), report, ctypes.c_size_t(count), ctypes.byref(answer))
-        if answer.fault != _NO_ROOM:
-            break
-        size, count = answer.size, answer.report_size
-    if answer.fault:
-        raise Fault(answer)
-    return status, file.raw[:size], report[:count]
-
-
-def _program(call: Any, words: Sequence[Any]) -> Program:
-    status, file, report = _linked(call, words)
-    return Program(status, file, report.decode("latin-1"))
-
-
 def _array(kind: Any, items: Sequence[Any]) -> List[Any]:
     return [(kind * max(len(items), 1))(*items), ctypes.c_size_t(len(items))]
 
 
-def _apart(objects: Iterable[bytes]) -> List[Any]:
-    """The objects as slices."""
-    parts = [bytes(data) for data in objects]
-    return _array(_Slice, [_Slice(data, len(data)) for data in parts])
+class _Run:
+    """What a link or a session is asked for, and what it gives."""
+
+    def __init__(self, objects: Iterable[bytes], options: int, entry: str, forced: Iterable[str], wants: int, edits: Optional[bytes]) -> None:
+        # what the request points to lives as long as this
+        self._parts = [bytes(data) for data in objects]
+        self._slices = (_Slice * max(len(self._parts), 1))(*(_Slice(data, len(data)) for data in self._parts))
+        self._names = [entry.encode("latin-1"), b"".join(map(_padded, forced)), edits or b""]
+        named, names, letters = (_Slice(data, len(data)) for data in self._names)
+        mode = _LINK if edits is None else _SESSION
+        self._request = _Request(ctypes.sizeof(_Request), mode, _fitting("the options", options, 32), wants, named, names, self._slices, len(self._parts), letters)
+        self._result = _Result(size=ctypes.sizeof(_Result))
+        self.status, self.file, self.report = 2, b"", ""
+        self.findings: List[Any] = []
+
+    def call(self) -> int:
+        """Calls with the rooms that there are, and returns the number of the fault."""
+        self.status = _LIBRARY.v7_run(ctypes.byref(self._request), ctypes.byref(self._result))
+        return int(self._result.fault)
+
+    def fault(self) -> Fault:
+        return Fault(self._result)
+
+    def finish(self) -> _Run:
+        """Calls twice: for the sizes of the rooms, and for what goes into them. Raises a fault."""
+        result = self._result
+        if self.call() == _NO_ROOM:
+            file, report, replies = (_room(size) for size in (result.file_size, result.report_size, result.reply_count))
+            findings = (_Finding * max(result.finding_count, 1))()
+            result.file, result.file_room = ctypes.addressof(file), result.file_size
+            result.report, result.report_room = ctypes.addressof(report), result.report_size
+            result.findings, result.finding_room = findings, result.finding_count
+            result.replies, result.reply_room = ctypes.addressof(replies), result.reply_count
+            self.call()
+            self.file, self.report = bytes(file.raw[: result.file_size]), report.raw[: result.report_size].decode("latin-1")
+            self.findings = findings[: result.finding_count]
+        if result.fault:
+            raise self.fault()
+        return self
+
+    def map(self) -> Map:
+        """The map of the link, by two calls. Raises a fault."""
+        given = _Map(size=ctypes.sizeof(_Map))
+        status = _LIBRARY.v7_map(ctypes.byref(self._request), ctypes.byref(given))
+        if given.fault == _NO_ROOM:
+            given.objects, given.object_room = (_MapObject * max(given.object_count, 1))(), given.object_count
+            given.names, given.name_room = (_MapName * max(given.name_count, 1))(), given.name_count
+            given.uses, given.use_room = (_MapUse * max(given.use_count, 1))(), given.use_count
+            given.limits, given.limit_room = (_MapLimit * max(given.limit_count, 1))(), given.limit_count
+            status = _LIBRARY.v7_map(ctypes.byref(self._request), ctypes.byref(given))
+        if given.fault:
+            raise Fault(given)
+        return _map(status, given)
+
+    def program(self) -> Program:
+        return Program(self.status, self.file, self.report)
+
+    def found(self) -> Found:
+        kinds = [[_name(row.name) for row in self.findings if row.kind == kind] for kind in range(1, 5)]
+        multiples, reserved, entries, undefined = kinds
+        return Found(self.status, self.file, Findings(multiples, reserved, entries[0] if entries else None, undefined))
+
+
+def _name(padded: Any) -> str:
+    return bytes(padded).rstrip(b"\0").decode("latin-1")
+
+
+def _number_or_none(number: int) -> Optional[int]:
+    return None if number == ctypes.c_size_t(-1).value else number
+
+
+def _map(status: int, given: _Map) -> Map:
+    head = given.head
+    segments = (head.text_end, head.data_start, head.data_end, head.bss_start, head.bss_end)
+    objects = [MapObject(*(getattr(row, name) for name in MapObject._fields)) for row in given.objects[: given.object_count]]
+    names = [
+        MapName(_name(row.name), *map(_number_or_none, (row.definer, row.next_definer, row.user)), row.state, row.type, row.value)
+        for row in given.names[: given.name_count]
+    ]
+    uses = [
+        MapUse(_number_or_none(row.object), row.name, row.kind, row.address, row.offset, row.line, _name(row.label) if row.is_labelled else None, row.beyond)
+        for row in given.uses[: given.use_count]
+    ]
+    limits = [MapLimit(row.kind, row.used, row.most) for row in given.limits[: given.limit_count]]
+    entry = _name(head.entry_name) if head.state & 2 else None
+    return Map(status, head.fault, head.place, segments, head.magic, head.entry_point, entry, objects, names, uses, limits)
 
 
 def link(objects: Iterable[bytes], options: int = 0, entry: str = "", forced: Iterable[str] = ()) -> Program:
@@ -366,11 +596,7 @@ def link(objects: Iterable[bytes], options: int = 0, entry: str = "", forced: It
     ...     print(fault)
     truncated, object 1
     """
-    return _program(_LIBRARY.v7_link_list, [*_wanted(options, entry, forced), *_apart(objects)])
-
-
-def _name(row: Any) -> str:
-    return bytes(row.name).rstrip(b"\0").decode("latin-1")
+    return _Run(objects, options, entry, forced, _REPORT, None).finish().program()
 
 
 def link_findings(objects: Iterable[bytes], options: int = 0, entry: str = "", forced: Iterable[str] = ()) -> Found:
@@ -380,10 +606,20 @@ def link_findings(objects: Iterable[bytes], options: int = 0, entry: str = "", f
     >>> link_findings([refers], entry="_go").findings
     Findings(multiples=[], reserved=['_end'], entry='_go', undefined=['_f'])
     """
-    words = [*_wanted(options, entry, forced), *_apart(objects)]
-    status, file, rows = _linked(_LIBRARY.v7_link_findings, words, _Finding)
-    multiples, reserved, entries, undefined = ([_name(row) for row in rows if row.kind == kind] for kind in range(1, 5))
-    return Found(status, file, Findings(multiples, reserved, entries[0] if entries else None, undefined))
+    return _Run(objects, options, entry, forced, _FINDINGS, None).finish().found()
+
+
+def link_map(objects: Iterable[bytes], options: int = 0, entry: str = "", forced: Iterable[str] = ()) -> Map:
+    """The map of the link. A link that is refused for its sizes or its names has one too.
+
+    >>> refers = make(text=[(0, refers_to(0))], symbols=[("_f", UNDEFINED | EXTERNAL, 0)])
+    >>> found = link_map([make(bss=2), refers])
+    >>> found.names[0]
+    MapName(name='_f', definer=None, next_definer=None, user=1, state=3, type=32, value=0)
+    >>> [(use.object, use.kind, use.address) for use in found.uses]
+    [(1, 3, 0), (1, 5, 0)]
+    """
+    return _Run(objects, options, entry, forced, 0, None).map()
 
 
 def _word(pair: Word) -> _Word:
@@ -421,7 +657,7 @@ def _parts(call: Any, *words: Any) -> Parts:
         raise Fault(answer)
     text, data, rows = (list(room[0])[: room[1].value] for room in rooms)
     pairs = [[(word.value, word.reloc) for word in segment] for segment in (text, data)]
-    names = [(_name(row), row.type, row.value) for row in rows]
+    names = [(_name(row.name), row.type, row.value) for row in rows]
     return Parts(pairs[0], pairs[1], counts.bss, names)
 
 
@@ -494,9 +730,17 @@ class Session:
 
     def link(self, options: int = 0) -> Program:
         """The link of what is there. The status is 1 also if there was nothing to withdraw."""
-        words = [*_wanted(options, self.entry, self.forced), *self._edits(), *self._room()]
-        program = _program(_LIBRARY.v7_session, words)
-        return program._replace(status=max(program.status, int(any(self._replies))))
+        program = self._run(options, _REPORT).finish().program()
+        return program._replace(status=self._status(program.status))
+
+    def link_findings(self, options: int = 0) -> Found:
+        """The same with its report as `Findings`."""
+        found = self._run(options, _FINDINGS).finish().found()
+        return found._replace(status=self._status(found.status))
+
+    def map(self, options: int = 0) -> Map:
+        """The map of the link of what is there."""
+        return link_map(self._kept, options, self.entry, self.forced)
 
     def text(self) -> str:
         """What is there, as lines: the words, the names, and what the last addition overwrote."""
@@ -509,14 +753,18 @@ class Session:
 
     def _accept(self, objects: List[bytes]) -> None:
         """Keeps these objects after those that are there, if all are accepted."""
-        answer = _Answer()
-        words = [*_wanted(0, "", self.forced), *_apart([*self._kept, *objects])]
         # a link of them says so; its own faults, and that there is no room for it, are not those of an object
-        _LIBRARY.v7_link_list(*words, *_NOWHERE, *_NOWHERE, ctypes.byref(answer))
-        if answer.fault not in (0, 41, 42, 43, _NO_ROOM):
-            raise Fault(answer)
+        run = _Run([*self._kept, *objects], 0, "", self.forced, 0, None)
+        if run.call() not in (0, 41, 42, 43, _NO_ROOM):
+            raise run.fault()
         self._kept += [bytes(data[: check(data)]) for data in objects]
         self._replies += [self.DONE] * len(objects)
+
+    def _run(self, options: int, wants: int) -> _Run:
+        return _Run(self._kept, options, self.entry, self.forced, wants, b"a" * len(self._kept))
+
+    def _status(self, status: int) -> int:
+        return max(status, int(any(self._replies)))
 
     def _edits(self) -> List[Any]:
         return [*_slice(b"a" * len(self._kept)), *_slice(b"".join(self._kept))]

@@ -1,4 +1,5 @@
 pub mod WordsLemmas
+pub mod NoToolLemmas
 pub mod ToolLemmas
 mod WordExamples
 pub mod AskedLemmas

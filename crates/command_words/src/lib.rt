@@ -5,6 +5,7 @@
 mod block_reader;
 mod block_writer;
 mod fault;
+mod laws;
 mod line_reader;
 mod lines;
 mod link_words;
@@ -13,6 +14,7 @@ mod words;
 
 pub use block_writer::BlockWriter;
 pub use fault::WordsFault;
+pub use laws::no_tool_law;
 pub use line_reader::{LineReader, Stop};
 pub use lines::Line;
 pub use reasons::{Cause, Reason, Tool, first_reason};

@@ -15,15 +15,15 @@ use Rattle.link_session.specs.Starts.{total}
 use Rattle.link_session.specs.Mentions.{Mention}
 use Rattle.tool_options.specs.Choices.{Choices}
 use Rattle.link_out.specs.Layouts.{magic_of}
-use Rattle.link_out.specs.relation.NameStates.{IsWanted}
+use Rattle.link_laws.specs.relation.NameStates.{IsWanted}
 use Rattle.link_out.specs.ReservedNames.{etext, edata, end_name, reserved_names}
 use Rattle.link_out.specs.Results.{Outcome}
 use Rattle.link_out.specs.function.Link.{link}
 use Rattle.aout_core.specs.Addresses.{data_start_in}
-use Rattle.link_out.specs.relation.Relocated.{IsRelocated, IsEntry}
-use Rattle.link_out.specs.relation.LinkedWords.{AreRelocated, IsKept, AreKept}
-use Rattle.link_out.specs.relation.Reported.{ArePicked, IsOther}
-use Rattle.link_out.specs.relation.LinkedFrom.{IsLinkedFrom}
+use Rattle.link_laws.specs.relation.Relocated.{IsRelocated, IsEntry}
+use Rattle.link_laws.specs.relation.LinkedWords.{AreRelocated, IsKept, AreKept}
+use Rattle.link_laws.specs.relation.Reported.{ArePicked, IsOther}
+use Rattle.link_laws.specs.relation.LinkedFrom.{IsLinkedFrom}
 use Rattle.conformance.specs.Clauses.{Clause, text_size, data_size, bss, text_words, data_words, magic, symbol_size, unused, flag, short, few, names, are_rows, table, text, «data», text_relocs, data_relocs, text_kept, data_kept, entry, multiples, reserved, undefined, none, Says, ClausesAreAll}
 
 abbrev pub at_most : ℕ → ℕ → Bool

@@ -12,16 +12,16 @@ use Rattle.link_session.specs.declared.state.State.TheVariants.{Defined, Wanted}
 use Rattle.tool_options.specs.NameLists.{is_among}
 use Rattle.link_session.specs.Mentions.{Mention}
 use Rattle.link_out.specs.declared.linked.LinkFault.TheVariants.{DoesNotFit}
-use Rattle.link_out.specs.relation.NameStates.{IsFirst, IsWanted}
+use Rattle.link_laws.specs.relation.NameStates.{IsFirst, IsWanted}
 use Rattle.link_out.specs.ReservedNames.{etext, edata, end_name}
 use Rattle.link_out.specs.Results.{Outcome}
 use Rattle.link_out.specs.function.Link.{link}
-use Rattle.link_out.specs.relation.Relocated.{IsRelocated}
-use Rattle.link_out.specs.relation.LinkedWords.{AreRelocated}
-use Rattle.link_out.specs.relation.Reported.{IsReported}
-use Rattle.link_out.specs.relation.LinkedFrom.{IsLinkedFrom, LinkedExactly}
-use Rattle.link_out.specs.laws.WordsAndNames.{MultiplesDiffer}
-use Rattle.link_out.specs.relation.Refusals.{RefusedExactly}
+use Rattle.link_laws.specs.relation.Relocated.{IsRelocated}
+use Rattle.link_laws.specs.relation.LinkedWords.{AreRelocated}
+use Rattle.link_laws.specs.relation.Reported.{IsReported}
+use Rattle.link_laws.specs.relation.LinkedFrom.{IsLinkedFrom, LinkedExactly}
+use Rattle.link_laws.specs.WordsAndNames.{MultiplesDiffer}
+use Rattle.link_laws.specs.relation.Refusals.{RefusedExactly}
 use Rattle.conformance.specs.Samples.{sym as entry_of, header, sized, _f, L1, c_o, d_o, d2_o, plain}
 use Rattle.conformance.proofs.LinkExamples.{shown, table_of, CallForward, LargeCommonRefused}
 use Rattle.conformance.proofs.ClauseLemmas.{only_object, only_word, no_word, as_object, at_most_so, less_so, only_wanted}

@@ -18,7 +18,7 @@ use Rattle.link_out.specs.declared.linked.LinkFault.TheVariants.{SymbolNumber}
 use Rattle.tool_options.specs.declared.options.Keep.TheVariants.{NotL, Nothing}
 use Rattle.tool_options.specs.Choices.{Choices}
 use Rattle.link_out.specs.Results.{ReportNames, Outcome}
-use Rattle.link_out.specs.relation.Refusals.{kept_locals}
+use Rattle.link_laws.specs.relation.Refusals.{kept_locals}
 use Rattle.link_out.specs.function.Link.{link}
 use Rattle.laws.specs.Frame.{TakesPlace, AreReplaced, DifferInObject, FrameHolds, IsBeside, IsOutside, FrameOfBytes, TakesPlaceRevalued, AreRevaluedLinks, Follows, WordStays, DifferByValues, FrameOfValues}
 use Rattle.laws.proofs.FrameBytes.{beside_same}

@@ -22,9 +22,9 @@ use Rattle.tool_options.specs.declared.options.Layout.TheVariants.{Plain, Pure, 
 use Rattle.tool_options.specs.Choices.{Choices, lays_commons}
 use Rattle.link_out.specs.Results.{Outcome}
 use Rattle.link_out.specs.function.Link.{link}
-use Rattle.link_out.specs.relation.Relocated.{entry_of as row_of, external_type}
-use Rattle.link_out.specs.laws.CommonsAndLayouts.{IsCommon}
-use Rattle.link_out.proofs.HasStateLemmas.{has_state}
+use Rattle.link_laws.specs.relation.Relocated.{entry_of as row_of, external_type}
+use Rattle.link_laws.specs.CommonsAndLayouts.{IsCommon}
+use Rattle.link_laws.proofs.HasStateLemmas.{has_state}
 use Rattle.instructions.specs.Relocated.{is_relocated}
 use Rattle.laws.specs.Core.{Space, of_instructions, of_data, core, IsWordAt}
 use Rattle.laws.specs.CoreLaws.{space_of}

@@ -13,7 +13,7 @@ use Rattle.tool_options.specs.declared.options.Keep.TheVariants.{NotL}
 use Rattle.link_out.specs.declared.linked.LinkFault.{LinkFault}
 use Rattle.link_out.specs.function.Link.{Outcome, link}
 use Rattle.link_out.specs.laws.PartialLinks.{IsPartialLink}
-use Rattle.link_out.proofs.PartialTheorem.{partial_stands_among}
+use Rattle.link_out.proofs.partial_links.PartialTheorem.{partial_stands_among}
 use Rattle.conformance.specs.Samples.{_f, sym, object, c_o, d_o, d2_o, e_o, p_o, q_o, r_o, plain, plain_s, relocatable, with_keep}
 use Rattle.std.specs.Prelude.{Result}
 

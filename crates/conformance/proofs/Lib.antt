@@ -25,3 +25,4 @@ mod ConversionExamples
 mod TextExamples
 mod InstructionExamples
 mod TableExamples
+mod CallExamples

@@ -17,11 +17,11 @@ use Rattle.tool_options.specs.declared.options.Keep.TheVariants.{All, Externals,
 use Rattle.tool_options.specs.Choices.{Choices, lays_commons}
 use Rattle.link_out.specs.Results.{Outcome}
 use Rattle.link_out.specs.function.Link.{link}
-use Rattle.link_out.specs.relation.NameStates.{HasState, IsWanted}
+use Rattle.link_laws.specs.relation.NameStates.{HasState, IsWanted}
 use Rattle.aout_core.specs.Addresses.{data_start_in}
-use Rattle.link_out.specs.relation.Relocated.{entry_of}
-use Rattle.link_out.specs.relation.LinkedFrom.{IsLinkedFrom, moved_locals_in}
-use Rattle.link_out.proofs.LinkedTheorem.{linked_exactly}
+use Rattle.link_laws.specs.relation.Relocated.{entry_of}
+use Rattle.link_laws.specs.relation.LinkedFrom.{IsLinkedFrom, moved_locals_in}
+use Rattle.link_laws.proofs.LinkedTheorem.{linked_exactly}
 use Rattle.tool_options.specs.declared.nm_options.NmOptions.{NmOptions}
 use Rattle.texts.specs.Numbers.{six_digits}
 use Rattle.symtools.specs.SymbolLines.{letter, symbol_line, value_column}

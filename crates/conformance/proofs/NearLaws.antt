@@ -19,12 +19,12 @@ use Rattle.link_out.specs.declared.linked.LinkFault.TheVariants.{DoesNotFit, Too
 use Rattle.tool_options.specs.declared.options.Layout.{Layout}
 use Rattle.tool_options.specs.declared.options.Layout.TheVariants.{Split}
 use Rattle.tool_options.specs.Choices.{Choices}
-use Rattle.link_out.specs.relation.NameStates.{IsFirst}
+use Rattle.link_laws.specs.relation.NameStates.{IsFirst}
 use Rattle.link_out.specs.Results.{Outcome}
 use Rattle.link_out.specs.function.Link.{link}
-use Rattle.link_out.specs.laws.WordsAndNames.{IsSaid, HasTwoDefinitions, MultiplesDiffer}
-use Rattle.link_out.specs.laws.CommonsAndLayouts.{DifferInPlace, LayoutsDiffer}
-use Rattle.link_out.specs.relation.Refusals.{CommonsTake, EndsAt, entry_count, HasFarWord, RefusedExactly}
+use Rattle.link_laws.specs.WordsAndNames.{IsSaid, HasTwoDefinitions, MultiplesDiffer}
+use Rattle.link_laws.specs.CommonsAndLayouts.{DifferInPlace, LayoutsDiffer}
+use Rattle.link_laws.specs.relation.Refusals.{CommonsTake, EndsAt, entry_count, HasFarWord, RefusedExactly}
 use Rattle.conformance.specs.Samples.{sym as entry_of, object, _f, _x, L1, a_o, c_o, d_o, i_o, plain, relocatable, with_layout}
 use Rattle.conformance.proofs.LawExamples.{outcome_of}
 use Rattle.conformance.proofs.ClauseLemmas.{only_object, only_word, no_word, as_object, at_most_so, less_so, only_wanted}

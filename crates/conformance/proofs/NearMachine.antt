@@ -21,8 +21,8 @@ use Rattle.tool_options.specs.declared.options.Keep.TheVariants.{All, Nothing}
 use Rattle.tool_options.specs.Choices.{Choices, lays_commons}
 use Rattle.link_out.specs.Results.{Outcome}
 use Rattle.link_out.specs.function.Link.{link}
-use Rattle.link_out.specs.relation.Relocated.{base_in, entry_of}
-use Rattle.link_out.specs.laws.CommonsAndLayouts.{IsCommon}
+use Rattle.link_laws.specs.relation.Relocated.{base_in, entry_of}
+use Rattle.link_laws.specs.CommonsAndLayouts.{IsCommon}
 use Rattle.laws.specs.Core.{Space, of_instructions, of_data, has_segment, first_address, bytes_of, is_in, core}
 use Rattle.laws.specs.CoreLaws.{IsLoaded, IsZero, IsOfWord, NothingElse}
 use Rattle.laws.specs.OperandWords.{space_used}

@@ -19,9 +19,9 @@ use Rattle.tool_options.specs.Choices.{Choices, lays_commons, option_fault}
 use Rattle.link_out.specs.Results.{Outcome}
 use Rattle.link_out.specs.function.Link.{link}
 use Rattle.link_out.specs.laws.PartialLinks.{KeepsNoMore, IsPartialLink, without_multiples}
-use Rattle.link_out.specs.relation.Relocated.{entry_of, IsRelocated, HoldsObjects, IsEntry}
-use Rattle.link_out.specs.laws.WordsAndNames.{IsDefined}
-use Rattle.link_out.specs.laws.CommonsAndLayouts.{IsCommon, HasRoom}
+use Rattle.link_laws.specs.relation.Relocated.{entry_of, IsRelocated, HoldsObjects, IsEntry}
+use Rattle.link_laws.specs.WordsAndNames.{IsDefined}
+use Rattle.link_laws.specs.CommonsAndLayouts.{IsCommon, HasRoom}
 use Rattle.conformance.specs.Samples.{sym as entry, sized, _f, _x, _z, c_o, d_o, d2_o, x4_o, plain, plain_s, relocatable, relocatable_d, with_keep, with_entry}
 use Rattle.conformance.proofs.LawExamples.{outcome_of}
 use Rattle.conformance.proofs.ClauseLemmas.{as_object, only_wanted}

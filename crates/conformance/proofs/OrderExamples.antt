@@ -23,7 +23,7 @@ use Rattle.tool_options.specs.Choices.{Choices}
 use Rattle.link_out.specs.Results.{Outcome}
 use Rattle.link_out.specs.function.Link.{link}
 use Rattle.link_out.specs.Runs.{link_after}
-use Rattle.link_out.specs.relation.Relocated.{entry_of as row_of, external_type}
+use Rattle.link_laws.specs.relation.Relocated.{entry_of as row_of, external_type}
 use Rattle.laws.specs.Orders.{additions, AreAdded, OrderAddsAlike, AreAlike, OrderLinksAlike, AreOrders, Meaning, definition, common, missing, Means, MeansTheSame, RefersAlike, OrderKeepsSizes, OrderReportsAlike, OrderFindsEntry, OrderKeepsMeanings, defines, OnceInAnyOrder}
 use Rattle.conformance.specs.Samples.{sym as entry, object, sized, d_o, _f, _g, _x, L1, _main, _twice, main_o, twice_o, count_o, g_o, x4_o, plain, plain_s, relocatable, with_entry}
 use Rattle.conformance.proofs.ClauseLemmas.{at_most_so}

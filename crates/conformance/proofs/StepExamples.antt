@@ -20,8 +20,7 @@ use Rattle.tool_options.specs.declared.options.Keep.TheVariants.{Externals}
 use Rattle.tool_options.specs.Choices.{Choices}
 use Rattle.link_out.specs.Outcomes.{outcome_of as result_of}
 use Rattle.link_out.specs.function.Link.{link}
-use Rattle.link_out.specs.laws.PartialLinks.{KeepsNoMore}
-use Rattle.link_out.specs.laws.PartialLinksAmongOthers.{IsPart, DefinesNoMultiple}
+use Rattle.link_out.specs.laws.PartialLinks.{KeepsNoMore, IsPart, DefinesNoMultiple}
 use Rattle.command_words.specs.declared.words.Call.TheVariants.{Ld}
 use Rattle.command_words.specs.Tools.{v7_app}
 use Rattle.v7tools.specs.CommandRuns.{AsksFor}

@@ -10,17 +10,17 @@ use Rattle.tool_options.specs.NameLists.{is_among}
 use Rattle.link_session.specs.Mentions.{Mention, mentions, externals}
 use Rattle.tool_options.specs.Choices.{Choices}
 use Rattle.link_out.specs.Layouts.{magic_of}
-use Rattle.link_out.specs.relation.NameStates.{IsWanted}
+use Rattle.link_laws.specs.relation.NameStates.{IsWanted}
 use Rattle.link_out.specs.KeptSymbols.{rows_kept}
 use Rattle.link_out.specs.ReservedNames.{reserved_names}
 use Rattle.link_out.specs.Results.{Outcome}
 use Rattle.link_out.specs.function.Link.{link}
 use Rattle.aout_core.specs.Addresses.{data_start_in}
-use Rattle.link_out.specs.relation.Relocated.{base_in, IsEntry}
-use Rattle.link_out.specs.relation.LinkedTable.{AreRows, moved_locals_in}
-use Rattle.link_out.specs.relation.LinkedWords.{AreRelocated, AreKept}
-use Rattle.link_out.specs.relation.Reported.{ArePicked, IsOther}
-use Rattle.link_out.specs.relation.LinkedFrom.{IsLinkedFrom}
+use Rattle.link_laws.specs.relation.Relocated.{base_in, IsEntry}
+use Rattle.link_laws.specs.relation.LinkedTable.{AreRows, moved_locals_in}
+use Rattle.link_laws.specs.relation.LinkedWords.{AreRelocated, AreKept}
+use Rattle.link_laws.specs.relation.Reported.{ArePicked, IsOther}
+use Rattle.link_laws.specs.relation.LinkedFrom.{IsLinkedFrom}
 
 -- each by the name that it has there
 pub data Clause : Type 0 where

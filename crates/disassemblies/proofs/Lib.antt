@@ -3,3 +3,4 @@ pub mod BlockLemmas
 pub mod StartLemmas
 pub mod LabelLemmas
 pub mod PlainLemmas
+pub mod ColumnLemmas

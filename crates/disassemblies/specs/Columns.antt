@@ -1,9 +1,10 @@
 -- Lines in columns: the address, the words and the text. Those of a file have labels before them. (own choice)
-use Rattle.std.specs.Prelude.{ℕ, ◌-◌, ◌*◌, List, [], ◌∷◌, ◌++◌, length, take, drop, replicate, codes}
+use Rattle.std.specs.Prelude.{ℕ, ◌+◌, ◌-◌, ◌*◌, List, [], ◌∷◌, ◌++◌, length, take, drop, replicate, codes}
 use Rattle.std.specs.List.{flat_map}
 use Rattle.aout_core.specs.Contents.{Contents}
 use Rattle.aout_core.specs.Words.{plus}
 use Rattle.instructions.specs.declared.line.Line.{Line}
+use Rattle.instructions.specs.declared.unix.Decoder.{Decoder}
 use Rattle.instructions.specs.Lines.{line_length, lines, words_of}
 use Rattle.texts.specs.Numbers.{six_digits}
 use Rattle.instructions.specs.Texts.{line_text}
@@ -18,15 +19,24 @@ word_column w = six_digits w ++ codes " "
 abbrev pub columns : ℕ → List ℕ → List ℕ
 columns address words = six_digits address ++ codes "  " ++ flat_map word_column words ++ replicate (22 - 7 * length words) 32
 
+-- the words from a place on that have no column in the row of their line: a row of their own, if there are any
+abbrev pub rest_row : ℕ → List ℕ → List ℕ
+rest_row place [] = []
+rest_row place (w ∷ ws) = six_digits (2 * place) ++ codes "  " ++ six_digits w ++ flat_map (λ v. codes " " ++ six_digits v) ws ++ codes "\n"
+
+-- these words of the line at a place of a file's text
+abbrev pub row_of : Decoder → Contents → ℕ → List ℕ → List ℕ
+row_of d c place words = columns (2 * place) (take 3 words) ++ line_text_in d c place ++ codes "\n" ++ rest_row (place + 3) (drop 3 words)
+
 -- the line of so many words at a place of a file's text
-abbrev pub row : Contents → ℕ → ℕ → List ℕ
-row c place n = columns (2 * place) (take n (drop place c.text_words)) ++ line_text_in c place ++ codes "\n"
+abbrev pub row : Decoder → Contents → ℕ → ℕ → List ℕ
+row d c place n = row_of d c place (take n (drop place c.text_words))
 
-abbrev pub labelled_row : Contents → ℕ → ℕ → List ℕ
-labelled_row c place n = labels c.symbols (2 * place) n ++ row c place n
+abbrev pub labelled_row : Decoder → Contents → ℕ → ℕ → List ℕ
+labelled_row d c place n = labels c.symbols (2 * place) n ++ row d c place n
 
-abbrev pub disassembly : Contents → List ℕ
-disassembly c = by_lines c (λ place n. labelled_row c place n) (labels c.symbols (2 * length c.text_words) 0)
+abbrev pub disassembly : Decoder → Contents → List ℕ
+disassembly d c = by_lines d c (λ place n. labelled_row d c place n) (labels c.symbols (2 * length c.text_words) 0)
 
 -- a line at an address, without names
 abbrev pub plain_row : ℕ → Line → List ℕ

@@ -2,29 +2,34 @@
 --
 -- A line is at a place, which counts the words of text. A relocated word begins no instruction, since a link changes it. Other
 -- lines are those of the words alone, and each operand is named by its relocation word, or without relocation by its address.
-use Rattle.std.specs.Prelude.{ℕ, ◌+◌, ◌*◌, true, eqb, if◌then◌else◌, List, Option, Some, None, slice_get, slice_index}
+use Rattle.std.specs.Prelude.{ℕ, ◌+◌, ◌*◌, true, eqb, if◌then◌else◌, List, [], ◌∷◌, ◌++◌, take, drop, Option, Some, None, slice_get, slice_index}
+use Rattle.aout_core.specs.declared.symbol.Symbol.{Symbol}
 use Rattle.aout_core.specs.declared.symbol.Segment.TheVariants.{TextSeg}
 use Rattle.aout_core.specs.declared.reloc.Reloc.{Reloc}
 use Rattle.aout_core.specs.Contents.{Contents}
 use Rattle.instructions.specs.declared.operation.Operation.{Operation}
 use Rattle.instructions.specs.declared.mode.Addressing.{Addressing}
+use Rattle.instructions.specs.declared.mode.Addressing.TheVariants.{Immediate}
 use Rattle.instructions.specs.declared.operand.Operand.{Operand}
 use Rattle.instructions.specs.declared.operand.Operand.TheVariants.{General, Forward, Backward}
 use Rattle.instructions.specs.declared.reference.Reference.{Reference}
 use Rattle.instructions.specs.declared.reference.References.{References}
 use Rattle.instructions.specs.declared.line.Line.{Line}
 use Rattle.instructions.specs.declared.line.Line.TheVariants.{Plain, Decoded}
+use Rattle.instructions.specs.declared.unix.Decoder.{Decoder}
+use Rattle.instructions.specs.declared.unix.UnixLine.{UnixLine}
+use Rattle.instructions.specs.declared.unix.UnixLine.TheVariants.{Machine, Call}
 use Rattle.instructions.specs.Modes.{addressing}
 use Rattle.instructions.specs.Instructions.{word_count_of}
 use Rattle.instructions.specs.Relocated.{is_relocated}
-use Rattle.instructions.specs.Lines.{line_at}
+use Rattle.instructions.specs.UnixLines.{unix_line_at, argument_text, call_text}
 use Rattle.instructions.specs.Texts.{number, branch_target, branch_back_target, first_next, second_next, text_with}
 use Rattle.disassemblies.specs.Naming.{symbol_at, exact, object_reference, relocated_text}
 use Rattle.disassemblies.specs.Linked.{located, linked_reference}
 
-abbrev pub line_in : Contents → ℕ → Line
-line_in c place =
-    if is_relocated (slice_get c.text_reloc place) then Plain (slice_index c.text_words place) else line_at c.text_words place
+abbrev pub unix_line_in : Decoder → Contents → ℕ → UnixLine
+unix_line_in d c place =
+    if is_relocated (slice_get c.text_reloc place) then Machine (Plain (slice_index c.text_words place)) else unix_line_at d c.text_words place
 
 -- what an operand word refers to, if it has this relocation word or none
 abbrev pub word_reference : Contents → Operation → ℕ → Option Reloc → ℕ → Addressing → Option Reference
@@ -54,14 +59,28 @@ references c place (Decoded i a b) = record {
   second = operand_reference c i.row.operation (2 * place) (second_next (2 * place) i.first) (slice_get c.text_reloc (place + 1 + word_count_of i.first)) i.second b;
 }
 
-abbrev pub decoded_text : Contents → ℕ → List ℕ
-decoded_text c place = let line : Line = line_at c.text_words place in text_with (references c place line) (2 * place) line
+-- what an argument of a system call refers to: an address or a number, as an immediate operand
+abbrev pub argument_reference : List Symbol → Option Reloc → ℕ → Option Reference
+argument_reference symbols None n = None
+argument_reference symbols (Some r) n = object_reference symbols r n 0 Immediate
 
-abbrev pub text_by : Contents → ℕ → Option Reloc → List ℕ
-text_by c place None = decoded_text c place
-text_by c place (Some r) =
-    if is_relocated (Some r) then relocated_text c.symbols r (slice_index c.text_words place) (2 * place) else decoded_text c place
+-- arguments, the first of them at a place
+abbrev pub arguments_text : Contents → ℕ → List ℕ → List ℕ
+arguments_text c place [] = []
+arguments_text c place (n ∷ ns) = argument_text (argument_reference c.symbols (slice_get c.text_reloc place) n) n ++ arguments_text c (place + 1) ns
+
+abbrev pub unix_text_in : Contents → ℕ → UnixLine → List ℕ
+unix_text_in c place (Machine line) = text_with (references c place line) (2 * place) line
+unix_text_in c place (Call k) = call_text k ++ arguments_text c (place + 1) (take k.words (drop (place + 1) c.text_words))
+
+abbrev pub decoded_text : Decoder → Contents → ℕ → List ℕ
+decoded_text d c place = unix_text_in c place (unix_line_at d c.text_words place)
+
+abbrev pub text_by : Decoder → Contents → ℕ → Option Reloc → List ℕ
+text_by d c place None = decoded_text d c place
+text_by d c place (Some r) =
+    if is_relocated (Some r) then relocated_text c.symbols r (slice_index c.text_words place) (2 * place) else decoded_text d c place
 
 -- the text of the line at a place
-abbrev pub line_text_in : Contents → ℕ → List ℕ
-line_text_in c place = text_by c place (slice_get c.text_reloc place)
+abbrev pub line_text_in : Decoder → Contents → ℕ → List ℕ
+line_text_in d c place = text_by d c place (slice_get c.text_reloc place)

@@ -10,10 +10,10 @@ fn block(shift: u8, value: usize) -> usize
     requires { value ≤ 100000 }
     ensures { result ≡ block shift value }
 {
-    (value + usize::from(shift)) / 16
+    (value + usize::from(shift)) / 32
 }
 
-/// Symbols, each of which leads to the next in its bucket. Each block of 16 values has a bucket, and blocks far apart share one
+/// Symbols, each of which leads to the next in its bucket. Each block of 32 values has a bucket, and blocks far apart share one
 /// if there are fewer symbols than blocks. So the chains of the buckets of all blocks of a text have together at most so many
 /// symbols as the table has, and one for each block, whatever the values are.
 #[derive(Drop)]
@@ -68,7 +68,7 @@ fn put_before(
 }
 
 impl<'a> Chains<'a> {
-    /// The symbols, by the blocks of their values, which begin so many before a multiple of 16. An error: out of memory.
+    /// The symbols, by the blocks of their values, which begin so many before a multiple of 32. An error: out of memory.
     pub(crate) fn new(
         alloc: Global,
         symbols: &'a [Symbol],

@@ -1,16 +1,17 @@
 //! A text in columns.
-ghost use Rattle.std.specs.Prelude.{◌≡◌, ◌<◌, ◌≤◌, ◌+◌, ◌-◌, ◌*◌, [], ◌++◌, length, take, drop, replicate};
+ghost use Rattle.std.specs.Prelude.{◌≡◌, ◌<◌, ◌≤◌, ◌+◌, ◌-◌, ◌*◌, [], ◌++◌, length, take, drop, replicate, codes};
 ghost use Rattle.std.specs.List.{flat_map};
+ghost use Rattle.texts.specs.Numbers.{six_digits};
 ghost use Rattle.texts.specs.Texts.{Puts};
 ghost use Rattle.instructions.specs.Lines.{words_of};
 ghost use Rattle.disassemblies.specs.Labels.{labels};
-ghost use Rattle.disassemblies.specs.Columns.{word_column, columns, row, labelled_row, disassembly, plain_row, plain_disassembly};
+ghost use Rattle.disassemblies.specs.Columns.{word_column, columns, rest_row, row_of, row, labelled_row, disassembly, plain_row, plain_disassembly};
 
 use crate::label::put_labels;
-use crate::line::{line_in, put_line_text};
+use crate::line::{put_line_text, unix_line_in};
 use crate::named::NamedFile;
 use aout_core::File;
-use instructions::{Line, decode};
+use instructions::{Decoder, Line, decode};
 use texts::Text;
 
 /// Appends words, each with a blank after it.
@@ -48,29 +49,89 @@ fn put_columns(text: &mut Text, address: u16, words: &[u16])
     text.put(blanks(words.len()));
 }
 
+/// Appends words, each with a blank before it.
+fn put_more_words(text: &mut Text, words: &[u16])
+    ensures { Puts text.old text.new (flat_map (λ v. codes " " ++ six_digits v) words.now) }
+{
+    for word in words {
+        text.put(" ");
+        text.put_six_digits(u32::from(*word));
+    }
+}
+
+/// Appends a row of words from a place on, if there are any.
+fn put_rest_row(text: &mut Text, place: usize, words: &[u16])
+    requires { place ≤ 100000 }
+    ensures { Puts text.old text.new (rest_row place words.now) }
+{
+    match words {
+        [] => {},
+        [first, rest @ ..] => {
+            text.put_six_digits((2 * place) as u32);
+            text.put("  ");
+            text.put_six_digits(u32::from(*first));
+            put_more_words(text, rest);
+            text.put("\n");
+        }
+    }
+}
+
+/// The first three of these words, and the others.
+#[tactic(auto, using(crate::proofs::ColumnLemmas::few_shown, crate::proofs::ColumnLemmas::few_left, crate::proofs::ColumnLemmas::three_shown, crate::proofs::ColumnLemmas::others_left))]
+fn first_three(words: &[u16]) -> (&[u16], &[u16])
+    requires { 1 ≤ length words.now }
+    ensures shown { result.0.now ≡ take 3 words.now }
+    ensures left { result.1.now ≡ drop 3 words.now }
+    ensures some { 1 ≤ length result.0.now }
+    ensures short { length result.0.now ≤ 3 }
+{
+    if words.len() <= 3 {
+        let none: &[u16] = &[];
+        return (words, none);
+    }
+    (&words[..3], &words[3..])
+}
+
+/// Appends these words of the line at a place, in columns.
+fn put_row_of(text: &mut Text, decoder: Decoder, file: &NamedFile<'_>, place: usize, words: &[u16])
+    requires within { place < length file.now.text_words }
+    requires some { 1 ≤ length words.now }
+    ensures { Puts text.old text.new (row_of decoder file.now place words.now) }
+{
+    let _text_words = file.file().text_words();
+    let (shown, rest) = first_three(words);
+    put_columns(text, (2 * place) as u16, shown);
+    put_line_text(text, decoder, file, place);
+    text.put("\n");
+    put_rest_row(text, place + 3, rest);
+}
+
 /// Appends the line of so many words at a place, in columns.
-fn put_row(text: &mut Text, file: &NamedFile<'_>, place: usize, count: usize)
+fn put_row(text: &mut Text, decoder: Decoder, file: &NamedFile<'_>, place: usize, count: usize)
     requires within { place + count ≤ length file.now.text_words }
     requires some { 1 ≤ count }
-    requires short { count ≤ 3 }
-    ensures { Puts text.old text.new (row file.now place count) }
+    ensures { Puts text.old text.new (row decoder file.now place count) }
 {
     let words = file.file().text_words();
-    put_columns(text, (2 * place) as u16, &words[place..place + count]);
-    put_line_text(text, file, place);
-    text.put("\n");
+    put_row_of(text, decoder, file, place, &words[place..place + count]);
 }
 
 /// Appends the labels and the line of so many words at a place.
-fn put_labelled_row(text: &mut Text, file: &NamedFile<'_>, place: usize, count: usize)
+fn put_labelled_row(
+    text: &mut Text,
+    decoder: Decoder,
+    file: &NamedFile<'_>,
+    place: usize,
+    count: usize,
+)
     requires within { place + count ≤ length file.now.text_words }
     requires some { 1 ≤ count }
-    requires short { count ≤ 3 }
-    ensures { Puts text.old text.new (labelled_row file.now place count) }
+    requires short { count ≤ 5 }
+    ensures { Puts text.old text.new (labelled_row decoder file.now place count) }
 {
     let _words = file.file().text_words();
     put_labels(text, file, (2 * place) as u16, count as u8);
-    put_row(text, file, place, count);
+    put_row(text, decoder, file, place, count);
 }
 
 /// Appends the labels of the end of the text.
@@ -82,27 +143,28 @@ fn put_end_labels(text: &mut Text, file: &NamedFile<'_>)
 }
 
 /// Appends the lines of a file's text in columns, with the labels before each, and those of the end.
-fn put_rows(text: &mut Text, named: &NamedFile<'_>, file: &File)
+fn put_rows(text: &mut Text, decoder: Decoder, named: &NamedFile<'_>, file: &File)
     requires { named.now ≡ file.now }
-    ensures { Puts text.old text.new (disassembly file.now) }
+    ensures { Puts text.old text.new (disassembly decoder file.now) }
 {
     let end = file.text_words().len();
     let mut place = 0;
     while place < end {
-        let count = line_in(file, place).length();
-        put_labelled_row(text, named, place, count);
+        let count = unix_line_in(decoder, file, place).length();
+        put_labelled_row(text, decoder, named, place, count);
         place += count;
     }
     put_end_labels(text, named);
 }
 
 /// Appends the lines of a file's text in columns: the address, two blanks, one to three words in 20 columns, two blanks, and
-/// the text of the line. Labels precede their lines, and those of the end of the text are last. (own choice)
-pub fn put_disassembly(text: &mut Text, file: &File)
-    ensures { Puts text.old text.new (disassembly file.now) }
+/// the text of the line. A system call may have more words, which are in a row below it. Labels precede their lines, and those of the
+/// end of the text are last. (own choice)
+pub fn put_disassembly(text: &mut Text, decoder: Decoder, file: &File)
+    ensures { Puts text.old text.new (disassembly decoder file.now) }
 {
     match NamedFile::new(text.allocator(), file) {
-        Ok(named) => put_rows(text, &named, file),
+        Ok(named) => put_rows(text, decoder, &named, file),
         Err(_) => text.cut(),
     }
 }

@@ -92,7 +92,7 @@ fn put_labels_within(text: &mut Text, blocks: &Blocks<'_>, address: u16, length:
 }
 
 /// Appends the labels of a line of so many words at an address, 0 for the end of the text: a line `NAME:` for each symbol of
-/// text with this address, and then a line `NAME = .+K` for each with an address within the line, K from 1 to 5. Both are in
+/// text with this address, and then a line `NAME = .+K` for each with an address within the line, K from 1 to 9. Both are in
 /// the order of the table. (as(1); labels within a line: own choice)
 pub fn put_labels(text: &mut Text, file: &NamedFile<'_>, address: u16, length: u8)
     ensures { Puts text.old text.new (labels file.now.symbols address length) }

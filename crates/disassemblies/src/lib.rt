@@ -2,10 +2,11 @@
 //!
 //! ```rust
 //! use disassemblies::put_disassembly;
+//! use instructions::Decoder;
 //!
 //! let file = read_file(alloc, &mut Wire::new(bytes))?;
 //! let mut text = Text::new(alloc);
-//! put_disassembly(&mut text, &file);
+//! put_disassembly(&mut text, Decoder::Unix, &file);
 //! Ok(text.finish()?)
 //! ```
 //!
@@ -14,7 +15,7 @@
 //! - `NamedFile`: a file whose symbols are found by their addresses, made once for all its lines
 //! - `put_disassembly`: appends the whole text of a file, in columns
 //! - `put_plain_disassembly`: appends words at an address in these columns, without names
-//! - `line_in`: the line at a place of a file's text
+//! - `unix_line_in`: the line at a place of a file's text
 //! - `put_line_text`: appends the text of that line
 //! - `put_labels`: appends the labels before a line
 //! - `line_starts`: for each word of a text, whether a line begins there
@@ -37,6 +38,6 @@ mod starts;
 
 pub use columns::{put_disassembly, put_plain_disassembly};
 pub use label::put_labels;
-pub use line::{line_in, put_line_text};
+pub use line::{put_line_text, unix_line_in};
 pub use named::NamedFile;
 pub use starts::{is_start, line_start, line_starts};

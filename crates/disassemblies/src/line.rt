@@ -1,8 +1,9 @@
 //! The lines of a file's text.
-ghost use Rattle.instructions.specs.Lines.{line_length};
-ghost use Rattle.std.specs.Prelude.{◌≡◌, ◌≤◌, ◌<◌, ◌*◌, ◌+◌, length, slice_get, option_copied};
+ghost use Rattle.instructions.specs.UnixLines.{unix_length};
+ghost use Rattle.std.specs.Prelude.{◌≡◌, ◌≤◌, ◌<◌, ◌*◌, ◌+◌, length, take, drop, slice_get, option_copied};
 ghost use Rattle.texts.specs.Texts.{Puts};
-ghost use Rattle.disassemblies.specs.Lines.{line_in, word_reference, general_reference, branch_reference, operand_reference, references, decoded_text, line_text_in};
+ghost use Rattle.instructions.specs.declared.unix.UnixLine.TheVariants.{Call};
+ghost use Rattle.disassemblies.specs.Lines.{unix_line_in, word_reference, general_reference, branch_reference, operand_reference, references, argument_reference, arguments_text, unix_text_in, decoded_text, line_text_in};
 
 use crate::linked::{linked_reference, located};
 use crate::named::NamedFile;
@@ -10,8 +11,8 @@ use crate::naming::reference_at;
 use crate::relocated::{object_reference, put_relocated};
 use aout_core::{File, Reloc, Segment};
 use instructions::{
-    Addressing, Line, Operand, Operation, Reference, References, branch_back_target, branch_target,
-    decode, is_relocated,
+    Addressing, CallRow, Decoder, Line, Operand, Operation, Reference, References, UnixLine,
+    branch_back_target, branch_target, decode_by, is_relocated, put_argument,
 };
 use texts::Text;
 
@@ -22,18 +23,20 @@ fn reloc_at(file: &File, place: usize) -> Option<Reloc>
     file.text_reloc().get(place).copied()
 }
 
-/// The line at a place of a file's text, which counts words. A word that is relocated begins no instruction: it is plain.
-/// (as(1); relocated words: own choice)
-pub fn line_in(file: &File, place: usize) -> Line
+/// The line at a place of a file's text, which counts words, with its arguments if it is a system call and the decoder knows
+/// them. A word that is relocated begins no instruction: it is plain. (as(1); relocated words: own choice)
+pub fn unix_line_in(decoder: Decoder, file: &File, place: usize) -> UnixLine
     requires { place < length file.now.text_words }
-    ensures line { result ≡ line_in file.now place }
-    ensures fits { place + line_length result ≤ length file.now.text_words }
+    ensures line { result ≡ unix_line_in decoder file.now place }
+    ensures fits { place + unix_length result ≤ length file.now.text_words }
+    ensures some { 1 ≤ unix_length result }
+    ensures short { unix_length result ≤ 5 }
 {
     let words = file.text_words();
     if is_relocated(reloc_at(file, place)) {
-        return Line::Plain(words[place]);
+        return UnixLine::Machine(Line::Plain(words[place]));
     }
-    decode(words, place)
+    decode_by(decoder, words, place)
 }
 
 /// Where an operand is in a text, and what its instruction does.
@@ -138,29 +141,73 @@ fn references(file: &NamedFile<'_>, place: usize, line: &Line) -> References
     }
 }
 
-/// Appends the text of an instruction or a plain word that is not relocated.
-fn put_decoded(text: &mut Text, file: &NamedFile<'_>, place: usize)
-    requires { place < length file.now.text_words }
-    ensures { Puts text.old text.new (decoded_text file.now place) }
+/// What an argument of a system call refers to, if a name is known for it.
+fn argument_reference(
+    file: &NamedFile<'_>,
+    reloc: Option<Reloc>,
+    argument: u16,
+) -> Option<Reference>
+    ensures { result ≡ argument_reference file.now.symbols reloc argument }
+{
+    object_reference(file.names(), reloc?, argument, 0, Addressing::Immediate)
+}
+
+/// Appends these words, the first of them at a place of the text, as arguments of a system call.
+fn put_arguments(text: &mut Text, file: &NamedFile<'_>, place: usize, arguments: &[u16])
+    requires { place + length arguments.now ≤ 100000 }
+    ensures { Puts text.old text.new (arguments_text file.now place arguments.now) }
+{
+    let mut at = place;
+    for argument in arguments {
+        let reloc = reloc_at(file.file(), at);
+        put_argument(text, *argument, argument_reference(file, reloc, *argument));
+        at += 1;
+    }
+}
+
+/// Appends a system call at a place of the text, with its arguments.
+fn put_call(text: &mut Text, file: &NamedFile<'_>, place: usize, call: &CallRow)
+    requires { place + 1 + call.now.words ≤ length file.now.text_words }
+    ensures { Puts text.old text.new (unix_text_in file.now place (Call call.now)) }
 {
     let words = file.file().text_words();
-    let line = decode(words, place);
-    let references = references(file, place, &line);
-    line.put_text_with((2 * place) as u16, &references, text);
+    let first = place + 1;
+    call.put_text(text);
+    put_arguments(
+        text,
+        file,
+        first,
+        &words[first..first + usize::from(call.words)],
+    );
+}
+
+/// Appends the text of an instruction, a system call or a plain word that is not relocated.
+fn put_decoded(text: &mut Text, decoder: Decoder, file: &NamedFile<'_>, place: usize)
+    requires { place < length file.now.text_words }
+    ensures { Puts text.old text.new (decoded_text decoder file.now place) }
+{
+    let words = file.file().text_words();
+    match decode_by(decoder, words, place) {
+        UnixLine::Call(call) => put_call(text, file, place, &call),
+        UnixLine::Machine(line) => {
+            let references = references(file, place, &line);
+            line.put_text_with((2 * place) as u16, &references, text);
+        }
+    }
 }
 
 /// Appends the text of the line at a place of a file's text, which counts words. Where a name is known, it is in place of the
-/// number. A relocated word that begins a line is followed by what it refers to, as `000002 / _x+2`. (as(1); names and
-/// relocated words: own choice)
-pub fn put_line_text(text: &mut Text, file: &NamedFile<'_>, place: usize)
+/// number. A relocated word that begins a line is followed by what it refers to, as `000002 / _x+2`. A system call is followed by
+/// its arguments, as `sys write; _buf; 000012`, if the decoder knows them. (as(1); names and relocated words: own choice)
+pub fn put_line_text(text: &mut Text, decoder: Decoder, file: &NamedFile<'_>, place: usize)
     requires { place < length file.now.text_words }
-    ensures { Puts text.old text.new (line_text_in file.now place) }
+    ensures { Puts text.old text.new (line_text_in decoder file.now place) }
 {
     let words = file.file().text_words();
     match reloc_at(file.file(), place) {
         Some(reloc) if is_relocated(Some(reloc)) => {
             put_relocated(text, file.names(), reloc, words[place], (2 * place) as u16);
         }
-        _ => put_decoded(text, file, place),
+        _ => put_decoded(text, decoder, file, place),
     }
 }

@@ -7,7 +7,7 @@ use aout_core::{File, Symbol};
 use std::alloc::{AllocError, Global};
 use std::marker::Model;
 
-/// Symbols in the blocks that begin at multiples of 16, and in those that begin 8 before them: a line of at most four words is
+/// Symbols in the blocks that begin at multiples of 32, and in those that begin 16 before them: a line of at most eight words is
 /// in one block of either kind.
 #[derive(Drop)]
 pub(crate) struct Blocks<'a> {
@@ -23,7 +23,7 @@ impl<'a> Blocks<'a> {
     {
         Ok(Blocks {
             whole: Chains::new(alloc, symbols, 0)?,
-            half: Chains::new(alloc, symbols, 8)?,
+            half: Chains::new(alloc, symbols, 16)?,
         })
     }
 }

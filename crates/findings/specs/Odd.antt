@@ -15,6 +15,7 @@ use Rattle.aout_core.specs.Encoding.{relocation_at, symbols_at, file_length}
 use Rattle.aout_core.specs.WellFormed.{is_undefined, kind_of, masked_type, segment_of}
 use Rattle.aout_core.specs.Words.{plus}
 use Rattle.aout_core.specs.Addresses.{data_start_in, target}
+use Rattle.texts.specs.Names.{is_printable}
 use Rattle.findings.specs.declared.finding.FindingKind.TheVariants.{IgnoredEntry, IgnoredWord, BytesAfterTable, IgnoredRelocationBits, OutsideReference, EmptyName, UnprintableName, BytesAfterName, RepeatedName, IgnoredTypeBits, UnknownType, OddCommon, OutsideValue}
 use Rattle.findings.specs.Found.{Found, found_if}
 use Rattle.findings.specs.OddTexts.{entry_text, unused_text, bytes_after_text, ignored_bits_text, outside_reference_text, symbol_title, empty_name_text, hidden_text, rest_text, repeated_text, type_bits_text, unknown_type_text, common_text, outside_value_text}
@@ -61,9 +62,9 @@ odd_words h place address words n [] = []
 odd_words h place address words n (r ∷ rs) =
     odd_word h (place + 2 * n) (plus address (2 * n)) (slice_index words n) r ++ odd_words h place address words (n + 1) rs
 
--- the byte does not print: a blank does not, since it is not seen in a name
+-- the byte does not print; a backslash does, though names that are shown have it as `\134`
 abbrev pub is_hidden : ℕ → Bool
-is_hidden byte = nat_le byte 32 || nat_le 127 byte
+is_hidden byte = not (is_printable byte) && not (eqb byte 92)
 
 -- the bytes of a name's field after the name; none if the bytes end before the field does
 abbrev pub after_name : List ℕ → ℕ → Symbol → List ℕ

@@ -9,6 +9,7 @@ use Rattle.aout_core.specs.WellFormed.{symbol_number}
 use Rattle.texts.specs.Numbers.{octal, six_digits}
 use Rattle.texts.specs.Names.{printable_name}
 use Rattle.findings.specs.Notes.{in_both}
+use Rattle.instructions.specs.declared.unix.Decoder.TheVariants.{Unix}
 use Rattle.disassemblies.specs.Starts.{starts, line_start}
 use Rattle.disassemblies.specs.Lines.{line_text_in}
 use Rattle.findings.specs.declared.finding.FindingKind.{FindingKind}
@@ -83,15 +84,15 @@ address_text address = codes "; the instruction at " ++ six_digits address ++ co
 -- the instruction that begins at a word, if it is one of text
 abbrev pub instruction_text : Contents → ℕ → List ℕ
 instruction_text c start =
-    if nat_lt start (length c.text_words) then address_text (2 * start) ++ line_text_in c start else []
+    if nat_lt start (length c.text_words) then address_text (2 * start) ++ line_text_in Unix c start else []
 
 -- the instruction that has word n as an operand word, if it is one
 abbrev pub owner_by : Contents → ℕ → Option Bool → List ℕ
-owner_by c n (Some false) = instruction_text c (line_start (starts c) n)
+owner_by c n (Some false) = instruction_text c (line_start (starts Unix c) n)
 owner_by c n _ = []
 
 abbrev pub owner_text : Contents → ℕ → List ℕ
-owner_text c n = owner_by c n (slice_get (starts c) n)
+owner_text c n = owner_by c n (slice_get (starts Unix c) n)
 
 unfoldable pub more_text : ℕ → List ℕ
 more_text more = codes "and " ++ decimal more ++ codes " more such relocation words"

@@ -51,6 +51,10 @@ pub enum FindingKind {
     OddCommon,
     /// The value of a symbol is outside of its segment.
     OutsideValue,
+    /// The first word of an instruction is relocated.
+    RelocatedFirstWord,
+    /// The pc bit of an operand word does not suit its mode.
+    UnsuitablePcBit,
 }
 
 /// What is found at a byte of a file.
@@ -66,7 +70,7 @@ pub struct Finding {
 
 /// Findings while they are collected. Once memory runs out they are cut, and `finish` returns the error.
 #[derive(Drop)]
-pub(crate) struct Findings {
+pub struct Findings {
     list: Vec<Finding>,
     is_cut: bool,
 }
@@ -85,7 +89,7 @@ impl Findings {
     ghost use Rattle.findings.specs.Found.{all_found, found_if};
 
     /// None yet.
-    pub(crate) fn new(alloc: Global) -> Findings
+    pub fn new(alloc: Global) -> Findings
         ensures found { result.found ≡ [] }
         ensures whole { result.is_cut ≡ false }
     {
@@ -96,19 +100,19 @@ impl Findings {
     }
 
     /// Where they have their memory.
-    pub(crate) fn allocator(&self) -> Global {
+    pub fn allocator(&self) -> Global {
         *self.list.allocator()
     }
 
     /// An empty text.
-    pub(crate) fn text(&self) -> Text
+    pub fn text(&self) -> Text
         ensures { result ≡ nothing_written }
     {
         Text::new(self.allocator())
     }
 
     /// Adds a finding.
-    pub(crate) fn find(&mut self, place: usize, kind: FindingKind, text: Text)
+    pub fn find(&mut self, place: usize, kind: FindingKind, text: Text)
         ensures { self.new.is_cut ≡ false → (self.old.is_cut ≡ false) × (text.is_cut ≡ false) × (self.new.found ≡ self.old.found ++ found_if true place kind text.bytes) }
     {
         let Ok(text) = text.finish() else {
@@ -121,14 +125,14 @@ impl Findings {
     }
 
     /// Cuts the findings: memory ran out for something that one needs.
-    pub(crate) fn cut(&mut self)
+    pub fn cut(&mut self)
         ensures { self.new.is_cut ≡ true }
     {
         self.is_cut = true;
     }
 
     /// The findings. An error, out of memory, if they are cut.
-    pub(crate) fn finish(self) -> Result<Vec<Finding>, AllocError>
+    pub fn finish(self) -> Result<Vec<Finding>, AllocError>
         ensures { IfOk result (λ list. (self.is_cut ≡ false) × (all_found list.items ≡ self.found)) }
     {
         let Findings { list, is_cut } = self;

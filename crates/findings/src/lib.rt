@@ -25,10 +25,11 @@ mod other_files;
 mod places;
 mod wrong;
 
-pub use finding::{Finding, FindingKind, put_finding_text, put_findings};
+pub use finding::{Finding, FindingKind, Findings, put_finding_text, put_findings};
 pub use heading::put_header;
 pub use kind::put_kind;
 pub use notes::Notes;
 pub use odd::odd_of;
 pub use other_files::{header_of, is_of_gnu, likeness};
-pub use wrong::{wrong_bytes, wrong_words};
+pub use places::FilePlaces;
+pub use wrong::{put_instruction, wrong_bytes, wrong_words};

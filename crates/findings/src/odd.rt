@@ -1,6 +1,6 @@
 //! What is odd of a file, and not refused.
-ghost use Rattle.std.specs.Prelude.{◌≡◌, ◌+◌, ◌*◌, ◌%◌, ◌^◌, ◌<◌, ◌≤◌, ◌&&◌, not, Some, length, take, slice_index, if◌then◌else◌, bytes_eq, is_some, IfOk, OnOk};
-ghost use Rattle.std.specs.Prelude.{List, ℕ, false};
+ghost use Rattle.std.specs.Prelude.{◌≡◌, ◌+◌, ◌*◌, ◌%◌, ◌^◌, ◌<◌, ◌≤◌, ◌&&◌, not, Some, length, take, slice_index};
+ghost use Rattle.std.specs.Prelude.{if◌then◌else◌, bytes_eq, is_some, IfOk, OnOk, List, ℕ, false};
 ghost use Rattle.std.specs.List.{list_any};
 ghost use Rattle.std.specs.BTreeMap.{get};
 ghost use Rattle.std.specs.Cmp.Lexicographic.{slice_cmp};
@@ -9,11 +9,15 @@ ghost use Rattle.aout_core.specs.WellFormed.{segment_of};
 ghost use Rattle.texts.specs.Texts.{Puts};
 ghost use Rattle.findings.specs.Found.{all_found, Finds, Holds};
 ghost use Rattle.findings.specs.Segments.{segment_meant};
-ghost use Rattle.findings.specs.OddTexts.{symbol_title, lies_text, common_size_text, value_text, referring_text, entry_text, unused_text, bytes_after_text};
-ghost use Rattle.findings.specs.OddTexts.{ignored_bits_text, outside_reference_text, repeated_text, type_bits_text, unknown_type_text, common_text, outside_value_text};
-ghost use Rattle.findings.specs.Odd.{odd_entry, odd_unused, odd_rest, odd_header, ignores_number, odd_relocation, odd_target, odd_word, odd_words};
-ghost use Rattle.findings.specs.Odd.{is_hidden, after_name, is_byte, has_type, odd_empty, odd_hidden, odd_rest_of_name, odd_repeated, odd_name};
-ghost use Rattle.findings.specs.Odd.{odd_type_bits, odd_type, odd_common, odd_value, odd_fields, first_named, odd_symbol, symbol_at, odd_symbols, odd};
+ghost use Rattle.findings.specs.OddTexts.{symbol_title, lies_text, common_size_text, value_text, referring_text};
+ghost use Rattle.findings.specs.OddTexts.{entry_text, unused_text, bytes_after_text, ignored_bits_text};
+ghost use Rattle.findings.specs.OddTexts.{outside_reference_text, repeated_text, type_bits_text, unknown_type_text};
+ghost use Rattle.findings.specs.OddTexts.{common_text, outside_value_text};
+ghost use Rattle.findings.specs.Odd.{odd_entry, odd_unused, odd_rest, odd_header, ignores_number, odd_relocation};
+ghost use Rattle.findings.specs.Odd.{odd_target, odd_word, odd_words, is_hidden, after_name, is_byte, has_type};
+ghost use Rattle.findings.specs.Odd.{odd_empty, odd_hidden, odd_rest_of_name, odd_repeated, odd_name, odd_type_bits};
+ghost use Rattle.findings.specs.Odd.{odd_type, odd_common, odd_value, odd_fields, first_named, odd_symbol, symbol_at};
+ghost use Rattle.findings.specs.Odd.{odd_symbols, odd};
 
 use crate::finding::{Finding, FindingKind, Findings};
 use crate::notes::put_in_both;
@@ -21,7 +25,7 @@ use crate::places::{FilePlaces, has_address, range_of, segment_name, symbol_at};
 use aout_core::{File, Header, Kind, Name, Reloc, Segment, Symbol};
 use std::alloc::{AllocError, Global};
 use std::collections::BTreeMap;
-use texts::Text;
+use texts::{Text, is_printable};
 
 /// Appends where a segment lies.
 #[tactic(auto, unfolding(crate::specs::OddTexts::lies_text))]
@@ -118,7 +122,8 @@ fn find_empty_name(findings: &mut Findings, at: &Numbered<'_>)
 fn has_hidden(name: &[u8]) -> bool
     ensures { result ≡ list_any is_hidden name.now }
 {
-    name.iter().any(|byte| *byte <= b' ' || 127 <= *byte)
+    name.iter()
+        .any(|byte| !is_printable(*byte) && *byte != b'\\')
 }
 
 /// Adds a name with bytes that do not print.
@@ -483,7 +488,7 @@ fn find_word(findings: &mut Findings, header: &Header, at: Relocated)
     );
 }
 
-/// The words of a segment, of which the first has this address, and their relocation words, which begin at this place of the file.
+/// The words of a segment, from this address on, and their relocation words, from this place of the file on.
 #[derive(Clone, Copy)]
 struct Contents<'a> {
     start: u16,

@@ -10,17 +10,18 @@ use aout_core::{Header, Segment};
 
 /// The bytes of a file at which its parts begin, and the first after them.
 #[derive(Clone, Copy)]
-pub(crate) struct FilePlaces {
-    pub(crate) text: usize,
-    pub(crate) data: usize,
-    pub(crate) relocation: usize,
-    pub(crate) symbols: usize,
-    pub(crate) end: usize,
+pub struct FilePlaces {
+    pub text: usize,
+    pub data: usize,
+    pub relocation: usize,
+    pub symbols: usize,
+    pub end: usize,
 }
 
 impl FilePlaces {
     /// The places that a header announces.
-    pub(crate) fn of(header: &Header) -> FilePlaces
+    pub fn of(header: &Header) -> FilePlaces
+        ensures first { result.text ≡ 16 }
         ensures second { result.«data» ≡ 16 + header.now.text_size }
         ensures relocation { result.relocation ≡ relocation_at header.now }
         ensures symbols { result.symbols ≡ symbols_at header.now }

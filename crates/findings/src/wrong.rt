@@ -1,6 +1,7 @@
 //! What is damaged in a file.
 ghost use Rattle.std.specs.Prelude.{◌≡◌, ◌+◌, ◌*◌, ◌^◌, ◌<◌, ◌++◌, false, true, length, IfOk, OnOk};
 ghost use Rattle.aout_core.specs.WellFormed.{word_fault};
+ghost use Rattle.instructions.specs.declared.unix.Decoder.TheVariants.{Unix};
 ghost use Rattle.disassemblies.specs.Starts.{starts};
 ghost use Rattle.texts.specs.Texts.{Puts};
 ghost use Rattle.findings.specs.Found.{all_found, found_if, Finds, Holds};
@@ -16,6 +17,7 @@ use crate::other_files::header_of;
 use crate::places::FilePlaces;
 use aout_core::{File, Header, Kind, ReadFault, Reloc, Symbol};
 use disassemblies::{NamedFile, line_start, line_starts, put_line_text};
+use instructions::Decoder;
 use std::alloc::{AllocError, Global};
 use texts::Text;
 
@@ -360,19 +362,19 @@ fn put_address(text: &mut Text, address: u32)
     text.put(" is ");
 }
 
-/// Appends the instruction that begins at a word, if it is one of text.
-fn put_instruction(text: &mut Text, named: &NamedFile<'_>, place: usize)
+/// Appends the instruction that begins at a word, if it is one of text, as `; the instruction at 000000 is mov 0,r0`. (own choice)
+pub fn put_instruction(text: &mut Text, named: &NamedFile<'_>, place: usize)
     ensures { Puts text.old text.new (instruction_text named.now place) }
 {
     if place < named.file().text_words().len() {
         put_address(text, (2 * place) as u32);
-        put_line_text(text, named, place);
+        put_line_text(text, Decoder::Unix, named, place);
     }
 }
 
 /// Appends the instruction that has a word of text as an operand word, if it is one.
 fn put_owner(text: &mut Text, lined: &Lined<'_>, index: usize)
-    requires { lined.now.starts.now ≡ starts lined.now.named.now }
+    requires { lined.now.starts.now ≡ starts Unix lined.now.named.now }
     ensures { Puts text.old text.new (owner_text lined.now.named.now index) }
 {
     if let Some(false) = lined.starts.get(index) {
@@ -382,7 +384,7 @@ fn put_owner(text: &mut Text, lined: &Lined<'_>, index: usize)
 
 /// Adds a bad relocation word.
 fn find_bad(findings: &mut Findings, lined: &Lined<'_>, bad: BadWord)
-    requires { lined.now.starts.now ≡ starts lined.now.named.now }
+    requires { lined.now.starts.now ≡ starts Unix lined.now.named.now }
     ensures { Finds findings.old findings.new (found_if true bad.place bad.kind (bad_text lined.now.named.now bad)) }
 {
     let mut text = findings.text();
@@ -393,7 +395,7 @@ fn find_bad(findings: &mut Findings, lined: &Lined<'_>, bad: BadWord)
 
 /// Adds bad relocation words.
 fn find_each(findings: &mut Findings, lined: &Lined<'_>, bad: &[BadWord])
-    requires { lined.now.starts.now ≡ starts lined.now.named.now }
+    requires { lined.now.starts.now ≡ starts Unix lined.now.named.now }
     ensures { Finds findings.old findings.new (all_bad lined.now.named.now bad.now) }
 {
     for word in bad {
@@ -409,7 +411,7 @@ fn find_shown(findings: &mut Findings, file: &File, bad: &[BadWord]) -> Result<(
         return Ok(());
     }
     let alloc = findings.allocator();
-    let starts = line_starts(alloc, file)?;
+    let starts = line_starts(alloc, Decoder::Unix, file)?;
     let named = NamedFile::new(alloc, file)?;
     let lined = Lined {
         named: &named,

@@ -1,4 +1,4 @@
-//! Names that are found by their first eight bytes.
+//! Names that are found by their first eight bytes. Two names are alike if they differ, and are equal in these bytes.
 ghost use Rattle.std.specs.Prelude.{◌≡◌, ◌≤◌, ◌<◌, ◌^◌, IfOk, OnOk, OnErr, length};
 ghost use Rattle.aout_core.specs.Names.{before_nul};
 ghost use Rattle.gnu_objects.specs.internal.AlikeNames.{found, PutsName, PutsSymbol, PutsSymbols, FindsAlike, FindsNoLess};
@@ -25,7 +25,7 @@ pub(crate) struct Equals {
 /// Names with their numbers, by their first eight bytes.
 pub(crate) type AlikeNames = IndexMap<Name, Equals>;
 
-/// The number of the name put in last that is alike with this one.
+/// The number of the name that was put in last of those that are alike with this one.
 pub(crate) fn found(names: &AlikeNames, name: &[u8]) -> Option<u16>
     requires { before_nul name.now ≡ name.now }
     ensures { result ≡ found names.now name.now }
@@ -38,7 +38,7 @@ pub(crate) fn found(names: &AlikeNames, name: &[u8]) -> Option<u16>
     }
 }
 
-/// Puts in a name, which is found before those that are there.
+/// Puts in a name, which is then found before those that are there.
 fn put_name(names: &mut AlikeNames, name: &[u8], number: u16) -> Result<(), AllocError>
     requires { before_nul name.now ≡ name.now }
     ensures ok { OnOk result (PutsName name.now number names.old names.new) }

@@ -11,10 +11,12 @@ use crate::names::name_at;
 use crate::staying::counts;
 use crate::symbols::GnuSymbol;
 
-/// An external of one file and one of another. (own choice)
+/// An external of one file and one of another, whose names differ, and are equal in their first eight bytes. (own choice)
 #[derive(Clone, Copy, Debug, PartialEq, Eq)]
 pub struct Clash {
+    /// The number of the symbol in the file that was added first, counted from 0.
     pub first: u16,
+    /// The number of the symbol in the other file.
     pub second: u16,
 }
 

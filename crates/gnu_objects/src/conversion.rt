@@ -169,8 +169,8 @@ fn convert_with(
     convert_rows(alloc, options, bytes, header, strings, &symbols, &words)
 }
 
-/// The object of the Seventh Edition that the bytes are, which begin with an object in GNU's form. Symbols for a
-/// debugger are dropped or refused, and locals are dropped as the options say, or because their names are equal in
+/// Converts the object in GNU's form with which the bytes begin to one of the Seventh Edition. Symbols for a debugger are
+/// dropped or refused, as the options say. Locals are dropped as the options say, or because their names are equal in
 /// eight bytes to another's. (a.out(5); binutils, pdp11-aout)
 ///
 /// Errors, the first that applies. For the header and the sizes: `ShortHeader`, 1, `BadMagic`, 2, `OddSize`, 3, `Truncated`,

@@ -1,6 +1,6 @@
 //! What a conversion leaves out.
 
-/// Which locals stay. (own choice)
+/// Which local symbols stay in a converted object. (own choice)
 #[derive(Clone, Copy, Debug, PartialEq, Eq)]
 pub enum Locals {
     KeepAll,
@@ -12,7 +12,7 @@ pub enum Locals {
 /// The options of a conversion. (own choice)
 #[derive(Clone, Copy, Debug, PartialEq, Eq)]
 pub struct Options {
-    /// Symbols for a debugger are dropped, and not refused.
+    /// Symbols for a debugger are dropped. If not, an object that has one is refused.
     pub drops_debugger: bool,
     pub locals: Locals,
 }

@@ -44,8 +44,8 @@ fn fault_place(header: &Header, fault: ObjectFault) -> usize
     }
 }
 
-/// The byte of the file at which a refusal of `convert` stands: a word of the header, the length of the strings, a
-/// symbol, of two the second, or a relocation word; and the end of a file that is too short. (own choice)
+/// The byte of the file, counted from 0, at which `convert` found what it refuses: a word of the header, the length of the
+/// strings, a symbol, the second of two, or a relocation word; or the end of a file that is too short. (own choice)
 pub fn place_of(bytes: &[u8], refusal: Refusal) -> usize
     ensures { result ≡ place_of bytes.now refusal }
 {
@@ -70,8 +70,8 @@ pub fn place_of(bytes: &[u8], refusal: Refusal) -> usize
     }
 }
 
-/// The whole name of symbol `n`; no bytes if the file is refused for its header or its strings, or has no such
-/// symbol. (own choice)
+/// The whole name of symbol `n`, counted from 0. It has no bytes if `convert` refuses the file for its header or its
+/// strings, or if there is no such symbol. (own choice)
 pub fn whole_name(bytes: &[u8], n: u16) -> &[u8]
     ensures name { HasSymbol bytes.now n → (result.now ≡ whole_name bytes.now n) }
     ensures none { result.now ≢ [] → HasSymbol bytes.now n }

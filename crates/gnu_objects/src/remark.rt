@@ -14,7 +14,7 @@ use crate::symbols::GnuSymbol;
 use crate::whole::{relocation_of, strings_of, symbols_of, whole_header};
 use std::alloc::{AllocError, Global};
 
-/// What there is to say of a symbol that is converted. (own choice)
+/// What there is to say of a symbol that is converted. Symbols have their numbers, counted from 0. (own choice)
 #[derive(Clone, Copy, Debug, PartialEq, Eq)]
 pub enum Remark {
     /// This external has a name of more than eight bytes.

@@ -39,12 +39,14 @@ pub(crate) fn is_chosen(locals: Locals, words: &[u16], n: u16) -> bool
     }
 }
 
+/// Whether the name of a symbol counts: it is not for a debugger, and if externals alone count it is external.
 pub(crate) fn counts(strings: &[u8], externals: bool, symbol: &GnuSymbol) -> bool
     ensures { result ≡ counts strings.now externals symbol.now }
 {
     !is_stab(strings, symbol) && (!externals || is_external(symbol))
 }
 
+/// Whether the name of a symbol is alike with one that counts.
 fn collides(named: &NamedSymbols<'_>, symbol: &GnuSymbol) -> bool
     requires { named.now.externals ≡ false }
     ensures { result ≡ collides named.now.strings.now named.now.symbols.now symbol.now }

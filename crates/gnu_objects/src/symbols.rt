@@ -8,14 +8,15 @@ use std::alloc::{AllocError, Global};
 /// A symbol in GNU's form, 8 bytes long. (binutils, pdp11-aout)
 #[derive(Clone, Copy, Debug, PartialEq, Eq)]
 pub struct GnuSymbol {
-    /// What a symbol for a debugger says, and else 0.
+    /// The description of a symbol for a debugger, and 0 for any other.
     pub description: u16,
-    /// The place of the name in the strings, or 0 without a name.
+    /// The byte of the table of strings at which the name begins, counted from the table's length; 0 if there is no name.
     pub place: u16,
-    /// The low byte of the Seventh Edition's type word; above 044 it is a symbol for a debugger.
+    /// The type, as in the low byte of the Seventh Edition's type word; above 044 it is that of a symbol for a debugger.
     pub type_bits: u8,
     /// The number of an overlay, or 0.
     pub overlay: u8,
+    /// As in the Seventh Edition: an address, a number, or the size of a common.
     pub value: u16,
 }
 

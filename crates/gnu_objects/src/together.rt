@@ -18,8 +18,8 @@ use indexmap::IndexMap;
 use std::alloc::{AllocError, Global};
 use std::marker::Model;
 
-/// Files in GNU's form that are to be linked together. None of them has an external with another name than an external of
-/// an earlier one, and one that is equal to it in eight bytes. (own choice)
+/// Files in GNU's form that are to be linked together. No two of them have externals whose names differ, and are equal in
+/// their first eight bytes, since a link would take these for one name. (own choice)
 #[derive(Drop)]
 pub struct Together<'a> {
     files: Vec<FileTable<'a>>,
@@ -76,10 +76,10 @@ impl<'a> Together<'a> {
         }
     }
 
-    /// Adds a file, unless one of its externals has another name than an external of an earlier file, and one that is equal
-    /// to it in eight bytes: linked together, both would be one name. Then the answer is the number of the first such file,
-    /// counted from 0, and its first such external. The time grows with the file and not with those before it, unless there is
-    /// such a file. (own choice)
+    /// Adds a file with which the bytes begin, and returns `None`; or finds the first earlier file of which an external and
+    /// one of this file have names that differ, and are equal in their first eight bytes. Then it does not add the file, and
+    /// returns the number of the earlier one, counted from 0, and the two symbols. The time grows with the file and not with
+    /// those before it, unless there is such a file. (own choice)
     ///
     /// Errors: `ShortHeader`, 1, `BadMagic`, 2, `OddSize`, 3, `Truncated`, 4, and `BadStrings`, 5, as `convert` says; and
     /// `Memory`, 16, if memory runs out, but never in place of these. The file is not added then.

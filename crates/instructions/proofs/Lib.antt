@@ -10,3 +10,6 @@ pub mod ReadLineLemmas
 pub mod FoundLemmas
 pub mod AlikeLemmas
 pub mod WholeTextLemmas
+pub mod CallLemmas
+pub mod UnixLemmas
+pub mod UnixReadLemmas

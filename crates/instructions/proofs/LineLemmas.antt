@@ -27,7 +27,7 @@ operand_words true true [] h = absurd (omega arith)
 operand_words true true (x ∷ []) h = absurd (omega arith)
 operand_words true true (x ∷ y ∷ rest) h = refl
 
-take_one_more : (n x : ℕ) (xs : List ℕ) → take (1 + n) (x ∷ xs) ≡ x ∷ take n xs
+pub take_one_more : (n x : ℕ) (xs : List ℕ) → take (1 + n) (x ∷ xs) ≡ x ∷ take n xs
 take_one_more n x xs = let e : 1 + n ≡ suc n = omega arith in ap (λ k. take k (x ∷ xs)) e
 
 whole_words : (i : Instruction) (w : ℕ) (following : List ℕ) (b : Bool) → nat_lt (length following) (following_words i) ≡ b → first_word i ≡ w →
@@ -45,12 +45,15 @@ line_words : (o : Option Instruction) (w : ℕ) (following : List ℕ) → ((i :
 line_words None w following starts = sym (take_one_more 0 w following)
 line_words (Some i) w following starts = whole_words i w following (nat_lt (length following) (following_words i)) refl (starts i refl)
 
+-- the words from a place on are that word and those that follow it
+pub from_place : (words : List ℕ) (place : ℕ) → place < length words → drop place words ≡ slice_index words place ∷ drop (place + 1) words
+from_place words place h = drop-cons words place 0 h ∙ ap (λ n. slice_index words place ∷ drop n words) (sym (add-one place))
+
 pub identity : IdentityLaw
 identity words place h =
     let w : ℕ = slice_index words place in
     let following : List ℕ = drop (place + 1) words in
-    let list : drop place words ≡ w ∷ following = drop-cons words place 0 h ∙ ap (λ n. w ∷ drop n words) (sym (add-one place)) in
-    line_words (instruction_of w) w following (first_word_again w) ∙ ap (take (line_length (line_at words place))) (sym list)
+    line_words (instruction_of w) w following (first_word_again w) ∙ ap (take (line_length (line_at words place))) (sym (from_place words place h))
 
 counted_once : (b : Bool) → (if b then 1 else 0) ≤ 1
 counted_once true = omega arith

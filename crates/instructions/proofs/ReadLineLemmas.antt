@@ -27,42 +27,46 @@ use Rattle.instructions.proofs.FieldReadLemmas.{Word, field_read, field_back, fi
 use Rattle.instructions.proofs.TableLemmas.{Layout, layout_of, layout, FitsBy, Sound, row_sound}
 
 -- what a field adds to the base, and the word of its operand
-abbrev part_read : Option Field → ℕ → ℕ → List ℕ → Reading
+abbrev pub part_read : Option Field → ℕ → ℕ → List ℕ → Reading
 part_read None next address cs = (0, None)
 part_read (Some f) next address cs = let r : Reading = field_read f next address cs in (r.0 * place f, r.1)
 
-abbrev count : Option ℕ → ℕ
+abbrev pub count : Option ℕ → ℕ
 count None = 0
 count (Some w) = 1
 
-abbrev joined : ℕ → Reading → Reading → List ℕ
+abbrev pub joined : ℕ → Reading → Reading → List ℕ
 joined base x y = (base + x.0 + y.0) ∷ (word_list x.1 ++ word_list y.1)
 
-abbrev layout_read : Option Layout → ℕ → List ℕ → List ℕ
+abbrev pub layout_read : Option Layout → ℕ → List ℕ → List ℕ
 layout_read None address cs = []
 layout_read (Some l) address cs =
     let x : Reading = part_read l.1 (address + 4) address (until 44 cs) in
     joined l.0 x (part_read l.2 (address + 4 + 2 * count x.1) address (tail (past 44 cs)))
 
-abbrev six_read : List ℕ → ℕ
+abbrev pub six_read : List ℕ → ℕ
 six_read cs =
     (slice_index cs 0 - 48) * 0o100000 + (slice_index cs 1 - 48) * 0o10000 + (slice_index cs 2 - 48) * 0o1000
     + (slice_index cs 3 - 48) * 0o100 + (slice_index cs 4 - 48) * 0o10 + (slice_index cs 5 - 48)
 
-abbrev is_f : List ℕ → Bool
+abbrev pub is_f : List ℕ → Bool
 is_f cs = eqb (slice_index cs 0) 102
 
 -- the words of a line's text
-abbrev line_read : ℕ → List ℕ → List ℕ
+abbrev pub line_read : ℕ → List ℕ → List ℕ
 line_read address cs =
     if nat_lt (slice_index cs 0) 58 then six_read cs ∷ []
     else layout_read (layout (until 32 cs) (is_f (tail (past 32 cs)))) address (tail (past 32 cs))
 
-plain_back : (address w : ℕ) → w < 0o200000 → line_read address (six_digits w) ≡ w ∷ []
+pub six_back : (w : ℕ) → w < 0o200000 → six_read (six_digits w) ≡ w
+unfolding six_digits
+six_back w h = omega arith
+
+pub plain_back : (address w : ℕ) → w < 0o200000 → line_read address (six_digits w) ≡ w ∷ []
 unfolding six_digits
 plain_back address w h =
     let d : nat_lt (48 + w / 0o100000 % 8) 58 ≡ true = grind (arith, nat_tests) in
-    let s : six_read (six_digits w) ≡ w = omega arith in
+    let s : six_read (six_digits w) ≡ w = six_back w h in
     ap (λ b. if b then six_read (six_digits w) ∷ [] else layout_read (layout (until 32 (six_digits w)) (is_f (tail (past 32 (six_digits w))))) address (tail (past 32 (six_digits w)))) d
     ∙ ap (λ n. n ∷ []) s
 
@@ -108,7 +112,7 @@ operands_back base (Some f) (Some g) w a b address alone p q =
     ∙ ap (λ (c : ℕ). joined base (part (Some f) w, a) (part_read (Some g) (address + 4 + 2 * c) address (operand_text (operand_of g u) (number b) later address))) (counted (takes_word (field_operand (Some f) w)) a p)
     ∙ ap (λ (y : Reading). joined base (part (Some f) w, a) y) (part_back g w b later address q)
 
-stops : (f g : Option Field) (w : ℕ) (a b : Option ℕ) (next later address : ℕ) → (f ≡ None → g ≡ None) →
+pub stops : (f g : Option Field) (w : ℕ) (a b : Option ℕ) (next later address : ℕ) → (f ≡ None → g ≡ None) →
     Stops 32 (operand_after (codes " ") (field_operand f w) a next address ++ operand_after (codes ",") (field_operand g w) b later address)
 stops None None w a b next later address alone = tt
 stops None (Some g) w a b next later address alone = let e : Some g ≡ None = alone refl in absurd cc

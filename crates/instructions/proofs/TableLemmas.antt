@@ -51,6 +51,7 @@ pub record Sound (r : Row) : Type 0 where
   pub floating : eqb r.base 0o172400 ≡ true → r.first ≡ Some fields.Floating
   pub accumulator : eqb r.base 0o174000 ≡ true → r.first ≡ Some fields.Accumulator
   pub ldf : eqb r.base 0o172400 ≡ true → (a : Bool) → layout (codes "ldf") a ≡ Some (layout_of r)
+  pub sys : same_text (name_text r.operation) (codes "sys") ≡ true → r.first ≡ Some fields.Byte
   pub found : (a : Bool) → Fits r.base a → layout (name_text r.operation) a ≡ Some (layout_of r)
 
 abbrev Each : List Row → Type 0
@@ -59,7 +60,7 @@ Each (r ∷ rows) = Sound r × Each rows
 
 each_sound : Each ROWS
 unfolding layout
-each_sound = (record { letter = λ rest. refl; blank = refl; clean = refl; alone = λ e. refl; floating = λ e. cc; accumulator = λ e. cc; ldf = λ e. absurd cc; found = λ a e. refl }, (record { letter = λ rest. refl; blank = refl; clean = refl; alone = λ e. refl; floating = λ e. cc; accumulator = λ e. cc; ldf = λ e. absurd cc; found = λ a e. refl }, (record { letter = λ rest. refl; blank = refl; clean = refl; alone = λ e. refl; floating = λ e. cc; accumulator = λ e. cc; ldf = λ e. absurd cc; found = λ a e. refl }, (record { letter = λ rest. refl; blank = refl; clean = refl; alone = λ e. refl; floating = λ e. cc; accumulator = λ e. cc; ldf = λ e. absurd cc; found = λ a e. refl }, (record { letter = λ rest. refl; blank = refl; clean = refl; alone = λ e. refl; floating = λ e. cc; accumulator = λ e. cc; ldf = λ e. absurd cc; found = λ a e. refl }, (record { letter = λ rest. refl; blank = refl; clean = refl; alone = λ e. refl; floating = λ e. cc; accumulator = λ e. cc; ldf = λ e. absurd cc; found = λ a e. refl }, (record { letter = λ rest. refl; blank = refl; clean = refl; alone = λ e. refl; floating = λ e. cc; accumulator = λ e. cc; ldf = λ e. absurd cc; found = λ a e. refl }, (record { letter = λ rest. refl; blank = refl; clean = refl; alone = λ e. cc; floating = λ e. cc; accumulator = λ e. cc; ldf = λ e. absurd cc; found = λ a e. refl }, (record { letter = λ rest. refl; blank = refl; clean = refl; alone = λ e. cc; floating = λ e. cc; accumulator = λ e. cc; ldf = λ e. absurd cc; found = λ a e. refl }, (record { letter = λ rest. refl; blank = refl; clean = refl; alone = λ e. cc; floating = λ e. cc; accumulator = λ e. cc; ldf = λ e. absurd cc; found = λ a e. refl }, (record { letter = λ rest. refl; blank = refl; clean = refl; alone = λ e. refl; floating = λ e. cc; accumulator = λ e. cc; ldf = λ e. absurd cc; found = λ a e. refl }, (record { letter = λ rest. refl; blank = refl; clean = refl; alone = λ e. refl; floating = λ e. cc; accumulator = λ e. cc; ldf = λ e. absurd cc; found = λ a e. refl }, (record { letter = λ rest. refl; blank = refl; clean = refl; alone = λ e. refl; floating = λ e. cc; accumulator = λ e. cc; ldf = λ e. absurd cc; found = λ a e. refl }, (record { letter = λ rest. refl; blank = refl; clean = refl; alone = λ e. refl; floating = λ e. cc; accumulator = λ e. cc; ldf = λ e. absurd cc; found = λ a e. refl }, (record { letter = λ rest. refl; blank = refl; clean = refl; alone = λ e. refl; floating = λ e. cc; accumulator = λ e. cc; ldf = λ e. absurd cc; found = λ a e. refl }, (record { letter = λ rest. refl; blank = refl; clean = refl; alone = λ e. refl; floating = λ e. cc; accumulator = λ e. cc; ldf = λ e. absurd cc; found = λ a e. refl }, (record { letter = λ rest. refl; blank = refl; clean = refl; alone = λ e. refl; floating = λ e. cc; accumulator = λ e. cc; ldf = λ e. absurd cc; found = λ a e. refl }, (record { letter = λ rest. refl; blank = refl; clean = refl; alone = λ e. refl; floating = λ e. cc; accumulator = λ e. cc; ldf = λ e. absurd cc; found = λ a e. refl }, (record { letter = λ rest. refl; blank = refl; clean = refl; alone = λ e. refl; floating = λ e. cc; accumulator = λ e. cc; ldf = λ e. absurd cc; found = λ a e. refl }, (record { letter = λ rest. refl; blank = refl; clean = refl; alone = λ e. refl; floating = λ e. cc; accumulator = λ e. cc; ldf = λ e. absurd cc; found = λ a e. refl }, (record { letter = λ rest. refl; blank = refl; clean = refl; alone = λ e. refl; floating = λ e. cc; accumulator = λ e. cc; ldf = λ e. absurd cc; found = λ a e. refl }, (record { letter = λ rest. refl; blank = refl; clean = refl; alone = λ e. cc; floating = λ e. cc; accumulator = λ e. cc; ldf = λ e. absurd cc; found = λ a e. refl }, (record { letter = λ rest. refl; blank = refl; clean = refl; alone = λ e. cc; floating = λ e. cc; accumulator = λ e. cc; ldf = λ e. absurd cc; found = λ a e. refl }, (record { letter = λ rest. refl; blank = refl; clean = refl; alone = λ e. cc; floating = λ e. cc; accumulator = λ e. cc; ldf = λ e. absurd cc; found = λ a e. refl }, (record { letter = λ rest. refl; blank = refl; clean = refl; alone = λ e. cc; floating = λ e. cc; accumulator = λ e. cc; ldf = λ e. absurd cc; found = λ a e. refl }, (record { letter = λ rest. refl; blank = refl; clean = refl; alone = λ e. cc; floating = λ e. cc; accumulator = λ e. cc; ldf = λ e. absurd cc; found = λ a e. refl }, (record { letter = λ rest. refl; blank = refl; clean = refl; alone = λ e. cc; floating = λ e. cc; accumulator = λ e. cc; ldf = λ e. absurd cc; found = λ a e. refl }, (record { letter = λ rest. refl; blank = refl; clean = refl; alone = λ e. cc; floating = λ e. cc; accumulator = λ e. cc; ldf = λ e. absurd cc; found = λ a e. refl }, (record { letter = λ rest. refl; blank = refl; clean = refl; alone = λ e. cc; floating = λ e. cc; accumulator = λ e. cc; ldf = λ e. absurd cc; found = λ a e. refl }, (record { letter = λ rest. refl; blank = refl; clean = refl; alone = λ e. cc; floating = λ e. cc; accumulator = λ e. cc; ldf = λ e. absurd cc; found = λ a e. refl }, (record { letter = λ rest. refl; blank = refl; clean = refl; alone = λ e. cc; floating = λ e. cc; accumulator = λ e. cc; ldf = λ e. absurd cc; found = λ a e. refl }, (record { letter = λ rest. refl; blank = refl; clean = refl; alone = λ e. cc; floating = λ e. cc; accumulator = λ e. cc; ldf = λ e. absurd cc; found = λ a e. refl }, (record { letter = λ rest. refl; blank = refl; clean = refl; alone = λ e. cc; floating = λ e. cc; accumulator = λ e. cc; ldf = λ e. absurd cc; found = λ a e. refl }, (record { letter = λ rest. refl; blank = refl; clean = refl; alone = λ e. cc; floating = λ e. cc; accumulator = λ e. cc; ldf = λ e. absurd cc; found = λ a e. refl }, (record { letter = λ rest. refl; blank = refl; clean = refl; alone = λ e. cc; floating = λ e. cc; accumulator = λ e. cc; ldf = λ e. absurd cc; found = λ a e. refl }, (record { letter = λ rest. refl; blank = refl; clean = refl; alone = λ e. cc; floating = λ e. cc; accumulator = λ e. cc; ldf = λ e. absurd cc; found = λ a e. refl }, (record { letter = λ rest. refl; blank = refl; clean = refl; alone = λ e. cc; floating = λ e. cc; accumulator = λ e. cc; ldf = λ e. absurd cc; found = λ a e. refl }, (record { letter = λ rest. refl; blank = refl; clean = refl; alone = λ e. cc; floating = λ e. cc; accumulator = λ e. cc; ldf = λ e. absurd cc; found = λ a e. refl }, (record { letter = λ rest. refl; blank = refl; clean = refl; alone = λ e. cc; floating = λ e. cc; accumulator = λ e. cc; ldf = λ e. absurd cc; found = λ a e. refl }, (record { letter = λ rest. refl; blank = refl; clean = refl; alone = λ e. cc; floating = λ e. cc; accumulator = λ e. cc; ldf = λ e. absurd cc; found = λ a e. refl }, (record { letter = λ rest. refl; blank = refl; clean = refl; alone = λ e. cc; floating = λ e. cc; accumulator = λ e. cc; ldf = λ e. absurd cc; found = λ a e. refl }, (record { letter = λ rest. refl; blank = refl; clean = refl; alone = λ e. cc; floating = λ e. cc; accumulator = λ e. cc; ldf = λ e. absurd cc; found = λ a e. refl }, (record { letter = λ rest. refl; blank = refl; clean = refl; alone = λ e. cc; floating = λ e. cc; accumulator = λ e. cc; ldf = λ e. absurd cc; found = λ a e. refl }, (record { letter = λ rest. refl; blank = refl; clean = refl; alone = λ e. cc; floating = λ e. cc; accumulator = λ e. cc; ldf = λ e. absurd cc; found = λ a e. refl }, (record { letter = λ rest. refl; blank = refl; clean = refl; alone = λ e. cc; floating = λ e. cc; accumulator = λ e. cc; ldf = λ e. absurd cc; found = λ a e. refl }, (record { letter = λ rest. refl; blank = refl; clean = refl; alone = λ e. cc; floating = λ e. cc; accumulator = λ e. cc; ldf = λ e. absurd cc; found = λ a e. refl }, (record { letter = λ rest. refl; blank = refl; clean = refl; alone = λ e. cc; floating = λ e. cc; accumulator = λ e. cc; ldf = λ e. absurd cc; found = λ a e. refl }, (record { letter = λ rest. refl; blank = refl; clean = refl; alone = λ e. cc; floating = λ e. cc; accumulator = λ e. cc; ldf = λ e. absurd cc; found = λ a e. refl }, (record { letter = λ rest. refl; blank = refl; clean = refl; alone = λ e. cc; floating = λ e. cc; accumulator = λ e. cc; ldf = λ e. absurd cc; found = λ a e. refl }, (record { letter = λ rest. refl; blank = refl; clean = refl; alone = λ e. cc; floating = λ e. cc; accumulator = λ e. cc; ldf = λ e. absurd cc; found = λ a e. refl }, (record { letter = λ rest. refl; blank = refl; clean = refl; alone = λ e. cc; floating = λ e. cc; accumulator = λ e. cc; ldf = λ e. absurd cc; found = λ a e. refl }, (record { letter = λ rest. refl; blank = refl; clean = refl; alone = λ e. cc; floating = λ e. cc; accumulator = λ e. cc; ldf = λ e. absurd cc; found = λ a e. refl }, (record { letter = λ rest. refl; blank = refl; clean = refl; alone = λ e. cc; floating = λ e. cc; accumulator = λ e. cc; ldf = λ e. absurd cc; found = λ a e. refl }, (record { letter = λ rest. refl; blank = refl; clean = refl; alone = λ e. cc; floating = λ e. cc; accumulator = λ e. cc; ldf = λ e. absurd cc; found = λ a e. refl }, (record { letter = λ rest. refl; blank = refl; clean = refl; alone = λ e. cc; floating = λ e. cc; accumulator = λ e. cc; ldf = λ e. absurd cc; found = λ a e. refl }, (record { letter = λ rest. refl; blank = refl; clean = refl; alone = λ e. cc; floating = λ e. cc; accumulator = λ e. cc; ldf = λ e. absurd cc; found = λ a e. refl }, (record { letter = λ rest. refl; blank = refl; clean = refl; alone = λ e. cc; floating = λ e. cc; accumulator = λ e. cc; ldf = λ e. absurd cc; found = λ a e. refl }, (record { letter = λ rest. refl; blank = refl; clean = refl; alone = λ e. cc; floating = λ e. cc; accumulator = λ e. cc; ldf = λ e. absurd cc; found = λ a e. refl }, (record { letter = λ rest. refl; blank = refl; clean = refl; alone = λ e. cc; floating = λ e. cc; accumulator = λ e. cc; ldf = λ e. absurd cc; found = λ a e. refl }, (record { letter = λ rest. refl; blank = refl; clean = refl; alone = λ e. cc; floating = λ e. cc; accumulator = λ e. cc; ldf = λ e. absurd cc; found = λ a e. refl }, (record { letter = λ rest. refl; blank = refl; clean = refl; alone = λ e. cc; floating = λ e. cc; accumulator = λ e. cc; ldf = λ e. absurd cc; found = λ a e. refl }, (record { letter = λ rest. refl; blank = refl; clean = refl; alone = λ e. cc; floating = λ e. cc; accumulator = λ e. cc; ldf = λ e. absurd cc; found = λ a e. refl }, (record { letter = λ rest. refl; blank = refl; clean = refl; alone = λ e. cc; floating = λ e. cc; accumulator = λ e. cc; ldf = λ e. absurd cc; found = λ a e. refl }, (record { letter = λ rest. refl; blank = refl; clean = refl; alone = λ e. cc; floating = λ e. cc; accumulator = λ e. cc; ldf = λ e. absurd cc; found = λ a e. refl }, (record { letter = λ rest. refl; blank = refl; clean = refl; alone = λ e. cc; floating = λ e. cc; accumulator = λ e. cc; ldf = λ e. absurd cc; found = λ a e. refl }, (record { letter = λ rest. refl; blank = refl; clean = refl; alone = λ e. cc; floating = λ e. cc; accumulator = λ e. cc; ldf = λ e. absurd cc; found = λ a e. refl }, (record { letter = λ rest. refl; blank = refl; clean = refl; alone = λ e. cc; floating = λ e. cc; accumulator = λ e. cc; ldf = λ e. absurd cc; found = λ a e. refl }, (record { letter = λ rest. refl; blank = refl; clean = refl; alone = λ e. cc; floating = λ e. cc; accumulator = λ e. cc; ldf = λ e. absurd cc; found = λ a e. refl }, (record { letter = λ rest. refl; blank = refl; clean = refl; alone = λ e. cc; floating = λ e. cc; accumulator = λ e. cc; ldf = λ e. absurd cc; found = λ a e. refl }, (record { letter = λ rest. refl; blank = refl; clean = refl; alone = λ e. cc; floating = λ e. cc; accumulator = λ e. cc; ldf = λ e. absurd cc; found = λ a e. refl }, (record { letter = λ rest. refl; blank = refl; clean = refl; alone = λ e. cc; floating = λ e. cc; accumulator = λ e. cc; ldf = λ e. absurd cc; found = λ a e. refl }, (record { letter = λ rest. refl; blank = refl; clean = refl; alone = λ e. cc; floating = λ e. cc; accumulator = λ e. cc; ldf = λ e. absurd cc; found = λ a e. refl }, (record { letter = λ rest. refl; blank = refl; clean = refl; alone = λ e. cc; floating = λ e. cc; accumulator = λ e. cc; ldf = λ e. absurd cc; found = λ a e. refl }, (record { letter = λ rest. refl; blank = refl; clean = refl; alone = λ e. cc; floating = λ e. cc; accumulator = λ e. cc; ldf = λ e. absurd cc; found = λ a e. refl }, (record { letter = λ rest. refl; blank = refl; clean = refl; alone = λ e. cc; floating = λ e. cc; accumulator = λ e. cc; ldf = λ e. absurd cc; found = λ a e. refl }, (record { letter = λ rest. refl; blank = refl; clean = refl; alone = λ e. cc; floating = λ e. cc; accumulator = λ e. cc; ldf = λ e. absurd cc; found = λ a e. refl }, (record { letter = λ rest. refl; blank = refl; clean = refl; alone = λ e. cc; floating = λ e. cc; accumulator = λ e. cc; ldf = λ e. absurd cc; found = λ a e. refl }, (record { letter = λ rest. refl; blank = refl; clean = refl; alone = λ e. cc; floating = λ e. cc; accumulator = λ e. cc; ldf = λ e. absurd cc; found = λ a e. refl }, (record { letter = λ rest. refl; blank = refl; clean = refl; alone = λ e. cc; floating = λ e. cc; accumulator = λ e. cc; ldf = λ e. absurd cc; found = λ a e. refl }, (record { letter = λ rest. refl; blank = refl; clean = refl; alone = λ e. cc; floating = λ e. cc; accumulator = λ e. cc; ldf = λ e. absurd cc; found = λ a e. refl }, (record { letter = λ rest. refl; blank = refl; clean = refl; alone = λ e. cc; floating = λ e. cc; accumulator = λ e. cc; ldf = λ e. absurd cc; found = λ a e. refl }, (record { letter = λ rest. refl; blank = refl; clean = refl; alone = λ e. cc; floating = λ e. cc; accumulator = λ e. cc; ldf = λ e. absurd cc; found = λ a e. refl }, (record { letter = λ rest. refl; blank = refl; clean = refl; alone = λ e. cc; floating = λ e. cc; accumulator = λ e. cc; ldf = λ e. absurd cc; found = λ a e. refl }, (record { letter = λ rest. refl; blank = refl; clean = refl; alone = λ e. cc; floating = λ e. cc; accumulator = λ e. cc; ldf = λ e. absurd cc; found = λ a e. refl }, (record { letter = λ rest. refl; blank = refl; clean = refl; alone = λ e. cc; floating = λ e. cc; accumulator = λ e. cc; ldf = λ e. absurd cc; found = λ a e. refl }, (record { letter = λ rest. refl; blank = refl; clean = refl; alone = λ e. cc; floating = λ e. cc; accumulator = λ e. cc; ldf = λ e. absurd cc; found = λ a e. refl }, (record { letter = λ rest. refl; blank = refl; clean = refl; alone = λ e. cc; floating = λ e. cc; accumulator = λ e. cc; ldf = λ e. absurd cc; found = λ a e. refl }, (record { letter = λ rest. refl; blank = refl; clean = refl; alone = λ e. cc; floating = λ e. cc; accumulator = λ e. cc; ldf = λ e. absurd cc; found = λ a e. refl }, (record { letter = λ rest. refl; blank = refl; clean = refl; alone = λ e. refl; floating = λ e. cc; accumulator = λ e. cc; ldf = λ e. absurd cc; found = λ a e. refl }, (record { letter = λ rest. refl; blank = refl; clean = refl; alone = λ e. refl; floating = λ e. cc; accumulator = λ e. cc; ldf = λ e. absurd cc; found = λ a e. refl }, (record { letter = λ rest. refl; blank = refl; clean = refl; alone = λ e. refl; floating = λ e. cc; accumulator = λ e. cc; ldf = λ e. absurd cc; found = λ a e. refl }, (record { letter = λ rest. refl; blank = refl; clean = refl; alone = λ e. refl; floating = λ e. cc; accumulator = λ e. cc; ldf = λ e. absurd cc; found = λ a e. refl }, (record { letter = λ rest. refl; blank = refl; clean = refl; alone = λ e. refl; floating = λ e. cc; accumulator = λ e. cc; ldf = λ e. absurd cc; found = λ a e. refl }, (record { letter = λ rest. refl; blank = refl; clean = refl; alone = λ e. cc; floating = λ e. cc; accumulator = λ e. cc; ldf = λ e. absurd cc; found = λ a e. refl }, (record { letter = λ rest. refl; blank = refl; clean = refl; alone = λ e. cc; floating = λ e. cc; accumulator = λ e. cc; ldf = λ e. absurd cc; found = λ a e. refl }, (record { letter = λ rest. refl; blank = refl; clean = refl; alone = λ e. cc; floating = λ e. cc; accumulator = λ e. cc; ldf = λ e. absurd cc; found = λ a e. refl }, (record { letter = λ rest. refl; blank = refl; clean = refl; alone = λ e. cc; floating = λ e. cc; accumulator = λ e. cc; ldf = λ e. absurd cc; found = λ a e. refl }, (record { letter = λ rest. refl; blank = refl; clean = refl; alone = λ e. cc; floating = λ e. cc; accumulator = λ e. cc; ldf = λ e. absurd cc; found = λ a e. refl }, (record { letter = λ rest. refl; blank = refl; clean = refl; alone = λ e. cc; floating = λ e. cc; accumulator = λ e. cc; ldf = λ e. absurd cc; found = λ a e. refl }, (record { letter = λ rest. refl; blank = refl; clean = refl; alone = λ e. cc; floating = λ e. cc; accumulator = λ e. cc; ldf = λ e. absurd cc; found = λ a e. refl }, (record { letter = λ rest. refl; blank = refl; clean = refl; alone = λ e. cc; floating = λ e. cc; accumulator = λ e. cc; ldf = λ e. absurd cc; found = λ a e. refl }, (record { letter = λ rest. refl; blank = refl; clean = refl; alone = λ e. cc; floating = λ e. cc; accumulator = λ e. cc; ldf = λ e. absurd cc; found = λ a e. refl }, (record { letter = λ rest. refl; blank = refl; clean = refl; alone = λ e. cc; floating = λ e. cc; accumulator = λ e. cc; ldf = λ e. absurd cc; found = λ a e. refl }, (record { letter = λ rest. refl; blank = refl; clean = refl; alone = λ e. cc; floating = λ e. refl; accumulator = λ e. cc; ldf = λ e a. refl; found = λ a e. ap (layout (codes "movf")) e }, (record { letter = λ rest. refl; blank = refl; clean = refl; alone = λ e. cc; floating = λ e. cc; accumulator = λ e. cc; ldf = λ e. absurd cc; found = λ a e. refl }, (record { letter = λ rest. refl; blank = refl; clean = refl; alone = λ e. cc; floating = λ e. cc; accumulator = λ e. cc; ldf = λ e. absurd cc; found = λ a e. refl }, (record { letter = λ rest. refl; blank = refl; clean = refl; alone = λ e. cc; floating = λ e. cc; accumulator = λ e. refl; ldf = λ e. absurd cc; found = λ a e. ap (layout (codes "movf")) e }, (record { letter = λ rest. refl; blank = refl; clean = refl; alone = λ e. cc; floating = λ e. cc; accumulator = λ e. cc; ldf = λ e. absurd cc; found = λ a e. refl }, (record { letter = λ rest. refl; blank = refl; clean = refl; alone = λ e. cc; floating = λ e. cc; accumulator = λ e. cc; ldf = λ e. absurd cc; found = λ a e. refl }, (record { letter = λ rest. refl; blank = refl; clean = refl; alone = λ e. cc; floating = λ e. cc; accumulator = λ e. cc; ldf = λ e. absurd cc; found = λ a e. refl }, (record { letter = λ rest. refl; blank = refl; clean = refl; alone = λ e. cc; floating = λ e. cc; accumulator = λ e. cc; ldf = λ e. absurd cc; found = λ a e. refl }, (record { letter = λ rest. refl; blank = refl; clean = refl; alone = λ e. cc; floating = λ e. cc; accumulator = λ e. cc; ldf = λ e. absurd cc; found = λ a e. refl }, (record { letter = λ rest. refl; blank = refl; clean = refl; alone = λ e. cc; floating = λ e. cc; accumulator = λ e. cc; ldf = λ e. absurd cc; found = λ a e. refl }, (record { letter = λ rest. refl; blank = refl; clean = refl; alone = λ e. cc; floating = λ e. cc; accumulator = λ e. cc; ldf = λ e. absurd cc; found = λ a e. refl }, tt))))))))))))))))))))))))))))))))))))))))))))))))))))))))))))))))))))))))))))))))))))))))))))))))))))))))))))))))))
+each_sound = (record { letter = λ rest. refl; blank = refl; clean = refl; alone = λ e. refl; floating = λ e. cc; accumulator = λ e. cc; ldf = λ e. absurd cc; sys = λ e. cc; found = λ a e. refl }, (record { letter = λ rest. refl; blank = refl; clean = refl; alone = λ e. refl; floating = λ e. cc; accumulator = λ e. cc; ldf = λ e. absurd cc; sys = λ e. cc; found = λ a e. refl }, (record { letter = λ rest. refl; blank = refl; clean = refl; alone = λ e. refl; floating = λ e. cc; accumulator = λ e. cc; ldf = λ e. absurd cc; sys = λ e. cc; found = λ a e. refl }, (record { letter = λ rest. refl; blank = refl; clean = refl; alone = λ e. refl; floating = λ e. cc; accumulator = λ e. cc; ldf = λ e. absurd cc; sys = λ e. cc; found = λ a e. refl }, (record { letter = λ rest. refl; blank = refl; clean = refl; alone = λ e. refl; floating = λ e. cc; accumulator = λ e. cc; ldf = λ e. absurd cc; sys = λ e. cc; found = λ a e. refl }, (record { letter = λ rest. refl; blank = refl; clean = refl; alone = λ e. refl; floating = λ e. cc; accumulator = λ e. cc; ldf = λ e. absurd cc; sys = λ e. cc; found = λ a e. refl }, (record { letter = λ rest. refl; blank = refl; clean = refl; alone = λ e. refl; floating = λ e. cc; accumulator = λ e. cc; ldf = λ e. absurd cc; sys = λ e. cc; found = λ a e. refl }, (record { letter = λ rest. refl; blank = refl; clean = refl; alone = λ e. cc; floating = λ e. cc; accumulator = λ e. cc; ldf = λ e. absurd cc; sys = λ e. cc; found = λ a e. refl }, (record { letter = λ rest. refl; blank = refl; clean = refl; alone = λ e. cc; floating = λ e. cc; accumulator = λ e. cc; ldf = λ e. absurd cc; sys = λ e. cc; found = λ a e. refl }, (record { letter = λ rest. refl; blank = refl; clean = refl; alone = λ e. cc; floating = λ e. cc; accumulator = λ e. cc; ldf = λ e. absurd cc; sys = λ e. cc; found = λ a e. refl }, (record { letter = λ rest. refl; blank = refl; clean = refl; alone = λ e. refl; floating = λ e. cc; accumulator = λ e. cc; ldf = λ e. absurd cc; sys = λ e. cc; found = λ a e. refl }, (record { letter = λ rest. refl; blank = refl; clean = refl; alone = λ e. refl; floating = λ e. cc; accumulator = λ e. cc; ldf = λ e. absurd cc; sys = λ e. cc; found = λ a e. refl }, (record { letter = λ rest. refl; blank = refl; clean = refl; alone = λ e. refl; floating = λ e. cc; accumulator = λ e. cc; ldf = λ e. absurd cc; sys = λ e. cc; found = λ a e. refl }, (record { letter = λ rest. refl; blank = refl; clean = refl; alone = λ e. refl; floating = λ e. cc; accumulator = λ e. cc; ldf = λ e. absurd cc; sys = λ e. cc; found = λ a e. refl }, (record { letter = λ rest. refl; blank = refl; clean = refl; alone = λ e. refl; floating = λ e. cc; accumulator = λ e. cc; ldf = λ e. absurd cc; sys = λ e. cc; found = λ a e. refl }, (record { letter = λ rest. refl; blank = refl; clean = refl; alone = λ e. refl; floating = λ e. cc; accumulator = λ e. cc; ldf = λ e. absurd cc; sys = λ e. cc; found = λ a e. refl }, (record { letter = λ rest. refl; blank = refl; clean = refl; alone = λ e. refl; floating = λ e. cc; accumulator = λ e. cc; ldf = λ e. absurd cc; sys = λ e. cc; found = λ a e. refl }, (record { letter = λ rest. refl; blank = refl; clean = refl; alone = λ e. refl; floating = λ e. cc; accumulator = λ e. cc; ldf = λ e. absurd cc; sys = λ e. cc; found = λ a e. refl }, (record { letter = λ rest. refl; blank = refl; clean = refl; alone = λ e. refl; floating = λ e. cc; accumulator = λ e. cc; ldf = λ e. absurd cc; sys = λ e. cc; found = λ a e. refl }, (record { letter = λ rest. refl; blank = refl; clean = refl; alone = λ e. refl; floating = λ e. cc; accumulator = λ e. cc; ldf = λ e. absurd cc; sys = λ e. cc; found = λ a e. refl }, (record { letter = λ rest. refl; blank = refl; clean = refl; alone = λ e. refl; floating = λ e. cc; accumulator = λ e. cc; ldf = λ e. absurd cc; sys = λ e. cc; found = λ a e. refl }, (record { letter = λ rest. refl; blank = refl; clean = refl; alone = λ e. cc; floating = λ e. cc; accumulator = λ e. cc; ldf = λ e. absurd cc; sys = λ e. cc; found = λ a e. refl }, (record { letter = λ rest. refl; blank = refl; clean = refl; alone = λ e. cc; floating = λ e. cc; accumulator = λ e. cc; ldf = λ e. absurd cc; sys = λ e. cc; found = λ a e. refl }, (record { letter = λ rest. refl; blank = refl; clean = refl; alone = λ e. cc; floating = λ e. cc; accumulator = λ e. cc; ldf = λ e. absurd cc; sys = λ e. cc; found = λ a e. refl }, (record { letter = λ rest. refl; blank = refl; clean = refl; alone = λ e. cc; floating = λ e. cc; accumulator = λ e. cc; ldf = λ e. absurd cc; sys = λ e. cc; found = λ a e. refl }, (record { letter = λ rest. refl; blank = refl; clean = refl; alone = λ e. cc; floating = λ e. cc; accumulator = λ e. cc; ldf = λ e. absurd cc; sys = λ e. cc; found = λ a e. refl }, (record { letter = λ rest. refl; blank = refl; clean = refl; alone = λ e. cc; floating = λ e. cc; accumulator = λ e. cc; ldf = λ e. absurd cc; sys = λ e. cc; found = λ a e. refl }, (record { letter = λ rest. refl; blank = refl; clean = refl; alone = λ e. cc; floating = λ e. cc; accumulator = λ e. cc; ldf = λ e. absurd cc; sys = λ e. cc; found = λ a e. refl }, (record { letter = λ rest. refl; blank = refl; clean = refl; alone = λ e. cc; floating = λ e. cc; accumulator = λ e. cc; ldf = λ e. absurd cc; sys = λ e. cc; found = λ a e. refl }, (record { letter = λ rest. refl; blank = refl; clean = refl; alone = λ e. cc; floating = λ e. cc; accumulator = λ e. cc; ldf = λ e. absurd cc; sys = λ e. cc; found = λ a e. refl }, (record { letter = λ rest. refl; blank = refl; clean = refl; alone = λ e. cc; floating = λ e. cc; accumulator = λ e. cc; ldf = λ e. absurd cc; sys = λ e. cc; found = λ a e. refl }, (record { letter = λ rest. refl; blank = refl; clean = refl; alone = λ e. cc; floating = λ e. cc; accumulator = λ e. cc; ldf = λ e. absurd cc; sys = λ e. cc; found = λ a e. refl }, (record { letter = λ rest. refl; blank = refl; clean = refl; alone = λ e. cc; floating = λ e. cc; accumulator = λ e. cc; ldf = λ e. absurd cc; sys = λ e. cc; found = λ a e. refl }, (record { letter = λ rest. refl; blank = refl; clean = refl; alone = λ e. cc; floating = λ e. cc; accumulator = λ e. cc; ldf = λ e. absurd cc; sys = λ e. cc; found = λ a e. refl }, (record { letter = λ rest. refl; blank = refl; clean = refl; alone = λ e. cc; floating = λ e. cc; accumulator = λ e. cc; ldf = λ e. absurd cc; sys = λ e. cc; found = λ a e. refl }, (record { letter = λ rest. refl; blank = refl; clean = refl; alone = λ e. cc; floating = λ e. cc; accumulator = λ e. cc; ldf = λ e. absurd cc; sys = λ e. cc; found = λ a e. refl }, (record { letter = λ rest. refl; blank = refl; clean = refl; alone = λ e. cc; floating = λ e. cc; accumulator = λ e. cc; ldf = λ e. absurd cc; sys = λ e. cc; found = λ a e. refl }, (record { letter = λ rest. refl; blank = refl; clean = refl; alone = λ e. cc; floating = λ e. cc; accumulator = λ e. cc; ldf = λ e. absurd cc; sys = λ e. cc; found = λ a e. refl }, (record { letter = λ rest. refl; blank = refl; clean = refl; alone = λ e. cc; floating = λ e. cc; accumulator = λ e. cc; ldf = λ e. absurd cc; sys = λ e. cc; found = λ a e. refl }, (record { letter = λ rest. refl; blank = refl; clean = refl; alone = λ e. cc; floating = λ e. cc; accumulator = λ e. cc; ldf = λ e. absurd cc; sys = λ e. cc; found = λ a e. refl }, (record { letter = λ rest. refl; blank = refl; clean = refl; alone = λ e. cc; floating = λ e. cc; accumulator = λ e. cc; ldf = λ e. absurd cc; sys = λ e. cc; found = λ a e. refl }, (record { letter = λ rest. refl; blank = refl; clean = refl; alone = λ e. cc; floating = λ e. cc; accumulator = λ e. cc; ldf = λ e. absurd cc; sys = λ e. cc; found = λ a e. refl }, (record { letter = λ rest. refl; blank = refl; clean = refl; alone = λ e. cc; floating = λ e. cc; accumulator = λ e. cc; ldf = λ e. absurd cc; sys = λ e. cc; found = λ a e. refl }, (record { letter = λ rest. refl; blank = refl; clean = refl; alone = λ e. cc; floating = λ e. cc; accumulator = λ e. cc; ldf = λ e. absurd cc; sys = λ e. cc; found = λ a e. refl }, (record { letter = λ rest. refl; blank = refl; clean = refl; alone = λ e. cc; floating = λ e. cc; accumulator = λ e. cc; ldf = λ e. absurd cc; sys = λ e. cc; found = λ a e. refl }, (record { letter = λ rest. refl; blank = refl; clean = refl; alone = λ e. cc; floating = λ e. cc; accumulator = λ e. cc; ldf = λ e. absurd cc; sys = λ e. cc; found = λ a e. refl }, (record { letter = λ rest. refl; blank = refl; clean = refl; alone = λ e. cc; floating = λ e. cc; accumulator = λ e. cc; ldf = λ e. absurd cc; sys = λ e. cc; found = λ a e. refl }, (record { letter = λ rest. refl; blank = refl; clean = refl; alone = λ e. cc; floating = λ e. cc; accumulator = λ e. cc; ldf = λ e. absurd cc; sys = λ e. cc; found = λ a e. refl }, (record { letter = λ rest. refl; blank = refl; clean = refl; alone = λ e. cc; floating = λ e. cc; accumulator = λ e. cc; ldf = λ e. absurd cc; sys = λ e. cc; found = λ a e. refl }, (record { letter = λ rest. refl; blank = refl; clean = refl; alone = λ e. cc; floating = λ e. cc; accumulator = λ e. cc; ldf = λ e. absurd cc; sys = λ e. cc; found = λ a e. refl }, (record { letter = λ rest. refl; blank = refl; clean = refl; alone = λ e. cc; floating = λ e. cc; accumulator = λ e. cc; ldf = λ e. absurd cc; sys = λ e. cc; found = λ a e. refl }, (record { letter = λ rest. refl; blank = refl; clean = refl; alone = λ e. cc; floating = λ e. cc; accumulator = λ e. cc; ldf = λ e. absurd cc; sys = λ e. cc; found = λ a e. refl }, (record { letter = λ rest. refl; blank = refl; clean = refl; alone = λ e. cc; floating = λ e. cc; accumulator = λ e. cc; ldf = λ e. absurd cc; sys = λ e. cc; found = λ a e. refl }, (record { letter = λ rest. refl; blank = refl; clean = refl; alone = λ e. cc; floating = λ e. cc; accumulator = λ e. cc; ldf = λ e. absurd cc; sys = λ e. cc; found = λ a e. refl }, (record { letter = λ rest. refl; blank = refl; clean = refl; alone = λ e. cc; floating = λ e. cc; accumulator = λ e. cc; ldf = λ e. absurd cc; sys = λ e. cc; found = λ a e. refl }, (record { letter = λ rest. refl; blank = refl; clean = refl; alone = λ e. cc; floating = λ e. cc; accumulator = λ e. cc; ldf = λ e. absurd cc; sys = λ e. cc; found = λ a e. refl }, (record { letter = λ rest. refl; blank = refl; clean = refl; alone = λ e. cc; floating = λ e. cc; accumulator = λ e. cc; ldf = λ e. absurd cc; sys = λ e. cc; found = λ a e. refl }, (record { letter = λ rest. refl; blank = refl; clean = refl; alone = λ e. cc; floating = λ e. cc; accumulator = λ e. cc; ldf = λ e. absurd cc; sys = λ e. cc; found = λ a e. refl }, (record { letter = λ rest. refl; blank = refl; clean = refl; alone = λ e. cc; floating = λ e. cc; accumulator = λ e. cc; ldf = λ e. absurd cc; sys = λ e. cc; found = λ a e. refl }, (record { letter = λ rest. refl; blank = refl; clean = refl; alone = λ e. cc; floating = λ e. cc; accumulator = λ e. cc; ldf = λ e. absurd cc; sys = λ e. cc; found = λ a e. refl }, (record { letter = λ rest. refl; blank = refl; clean = refl; alone = λ e. cc; floating = λ e. cc; accumulator = λ e. cc; ldf = λ e. absurd cc; sys = λ e. cc; found = λ a e. refl }, (record { letter = λ rest. refl; blank = refl; clean = refl; alone = λ e. cc; floating = λ e. cc; accumulator = λ e. cc; ldf = λ e. absurd cc; sys = λ e. cc; found = λ a e. refl }, (record { letter = λ rest. refl; blank = refl; clean = refl; alone = λ e. cc; floating = λ e. cc; accumulator = λ e. cc; ldf = λ e. absurd cc; sys = λ e. cc; found = λ a e. refl }, (record { letter = λ rest. refl; blank = refl; clean = refl; alone = λ e. cc; floating = λ e. cc; accumulator = λ e. cc; ldf = λ e. absurd cc; sys = λ e. cc; found = λ a e. refl }, (record { letter = λ rest. refl; blank = refl; clean = refl; alone = λ e. cc; floating = λ e. cc; accumulator = λ e. cc; ldf = λ e. absurd cc; sys = λ e. cc; found = λ a e. refl }, (record { letter = λ rest. refl; blank = refl; clean = refl; alone = λ e. cc; floating = λ e. cc; accumulator = λ e. cc; ldf = λ e. absurd cc; sys = λ e. cc; found = λ a e. refl }, (record { letter = λ rest. refl; blank = refl; clean = refl; alone = λ e. cc; floating = λ e. cc; accumulator = λ e. cc; ldf = λ e. absurd cc; sys = λ e. cc; found = λ a e. refl }, (record { letter = λ rest. refl; blank = refl; clean = refl; alone = λ e. cc; floating = λ e. cc; accumulator = λ e. cc; ldf = λ e. absurd cc; sys = λ e. cc; found = λ a e. refl }, (record { letter = λ rest. refl; blank = refl; clean = refl; alone = λ e. cc; floating = λ e. cc; accumulator = λ e. cc; ldf = λ e. absurd cc; sys = λ e. cc; found = λ a e. refl }, (record { letter = λ rest. refl; blank = refl; clean = refl; alone = λ e. cc; floating = λ e. cc; accumulator = λ e. cc; ldf = λ e. absurd cc; sys = λ e. cc; found = λ a e. refl }, (record { letter = λ rest. refl; blank = refl; clean = refl; alone = λ e. cc; floating = λ e. cc; accumulator = λ e. cc; ldf = λ e. absurd cc; sys = λ e. cc; found = λ a e. refl }, (record { letter = λ rest. refl; blank = refl; clean = refl; alone = λ e. cc; floating = λ e. cc; accumulator = λ e. cc; ldf = λ e. absurd cc; sys = λ e. cc; found = λ a e. refl }, (record { letter = λ rest. refl; blank = refl; clean = refl; alone = λ e. cc; floating = λ e. cc; accumulator = λ e. cc; ldf = λ e. absurd cc; sys = λ e. cc; found = λ a e. refl }, (record { letter = λ rest. refl; blank = refl; clean = refl; alone = λ e. cc; floating = λ e. cc; accumulator = λ e. cc; ldf = λ e. absurd cc; sys = λ e. cc; found = λ a e. refl }, (record { letter = λ rest. refl; blank = refl; clean = refl; alone = λ e. cc; floating = λ e. cc; accumulator = λ e. cc; ldf = λ e. absurd cc; sys = λ e. cc; found = λ a e. refl }, (record { letter = λ rest. refl; blank = refl; clean = refl; alone = λ e. cc; floating = λ e. cc; accumulator = λ e. cc; ldf = λ e. absurd cc; sys = λ e. cc; found = λ a e. refl }, (record { letter = λ rest. refl; blank = refl; clean = refl; alone = λ e. cc; floating = λ e. cc; accumulator = λ e. cc; ldf = λ e. absurd cc; sys = λ e. cc; found = λ a e. refl }, (record { letter = λ rest. refl; blank = refl; clean = refl; alone = λ e. cc; floating = λ e. cc; accumulator = λ e. cc; ldf = λ e. absurd cc; sys = λ e. cc; found = λ a e. refl }, (record { letter = λ rest. refl; blank = refl; clean = refl; alone = λ e. cc; floating = λ e. cc; accumulator = λ e. cc; ldf = λ e. absurd cc; sys = λ e. cc; found = λ a e. refl }, (record { letter = λ rest. refl; blank = refl; clean = refl; alone = λ e. cc; floating = λ e. cc; accumulator = λ e. cc; ldf = λ e. absurd cc; sys = λ e. cc; found = λ a e. refl }, (record { letter = λ rest. refl; blank = refl; clean = refl; alone = λ e. cc; floating = λ e. cc; accumulator = λ e. cc; ldf = λ e. absurd cc; sys = λ e. cc; found = λ a e. refl }, (record { letter = λ rest. refl; blank = refl; clean = refl; alone = λ e. cc; floating = λ e. cc; accumulator = λ e. cc; ldf = λ e. absurd cc; sys = λ e. cc; found = λ a e. refl }, (record { letter = λ rest. refl; blank = refl; clean = refl; alone = λ e. cc; floating = λ e. cc; accumulator = λ e. cc; ldf = λ e. absurd cc; sys = λ e. cc; found = λ a e. refl }, (record { letter = λ rest. refl; blank = refl; clean = refl; alone = λ e. cc; floating = λ e. cc; accumulator = λ e. cc; ldf = λ e. absurd cc; sys = λ e. cc; found = λ a e. refl }, (record { letter = λ rest. refl; blank = refl; clean = refl; alone = λ e. cc; floating = λ e. cc; accumulator = λ e. cc; ldf = λ e. absurd cc; sys = λ e. cc; found = λ a e. refl }, (record { letter = λ rest. refl; blank = refl; clean = refl; alone = λ e. cc; floating = λ e. cc; accumulator = λ e. cc; ldf = λ e. absurd cc; sys = λ e. cc; found = λ a e. refl }, (record { letter = λ rest. refl; blank = refl; clean = refl; alone = λ e. cc; floating = λ e. cc; accumulator = λ e. cc; ldf = λ e. absurd cc; sys = λ e. cc; found = λ a e. refl }, (record { letter = λ rest. refl; blank = refl; clean = refl; alone = λ e. cc; floating = λ e. cc; accumulator = λ e. cc; ldf = λ e. absurd cc; sys = λ e. cc; found = λ a e. refl }, (record { letter = λ rest. refl; blank = refl; clean = refl; alone = λ e. refl; floating = λ e. cc; accumulator = λ e. cc; ldf = λ e. absurd cc; sys = λ e. cc; found = λ a e. refl }, (record { letter = λ rest. refl; blank = refl; clean = refl; alone = λ e. refl; floating = λ e. cc; accumulator = λ e. cc; ldf = λ e. absurd cc; sys = λ e. cc; found = λ a e. refl }, (record { letter = λ rest. refl; blank = refl; clean = refl; alone = λ e. refl; floating = λ e. cc; accumulator = λ e. cc; ldf = λ e. absurd cc; sys = λ e. cc; found = λ a e. refl }, (record { letter = λ rest. refl; blank = refl; clean = refl; alone = λ e. refl; floating = λ e. cc; accumulator = λ e. cc; ldf = λ e. absurd cc; sys = λ e. cc; found = λ a e. refl }, (record { letter = λ rest. refl; blank = refl; clean = refl; alone = λ e. refl; floating = λ e. cc; accumulator = λ e. cc; ldf = λ e. absurd cc; sys = λ e. cc; found = λ a e. refl }, (record { letter = λ rest. refl; blank = refl; clean = refl; alone = λ e. cc; floating = λ e. cc; accumulator = λ e. cc; ldf = λ e. absurd cc; sys = λ e. cc; found = λ a e. refl }, (record { letter = λ rest. refl; blank = refl; clean = refl; alone = λ e. cc; floating = λ e. cc; accumulator = λ e. cc; ldf = λ e. absurd cc; sys = λ e. cc; found = λ a e. refl }, (record { letter = λ rest. refl; blank = refl; clean = refl; alone = λ e. cc; floating = λ e. cc; accumulator = λ e. cc; ldf = λ e. absurd cc; sys = λ e. cc; found = λ a e. refl }, (record { letter = λ rest. refl; blank = refl; clean = refl; alone = λ e. cc; floating = λ e. cc; accumulator = λ e. cc; ldf = λ e. absurd cc; sys = λ e. cc; found = λ a e. refl }, (record { letter = λ rest. refl; blank = refl; clean = refl; alone = λ e. cc; floating = λ e. cc; accumulator = λ e. cc; ldf = λ e. absurd cc; sys = λ e. cc; found = λ a e. refl }, (record { letter = λ rest. refl; blank = refl; clean = refl; alone = λ e. cc; floating = λ e. cc; accumulator = λ e. cc; ldf = λ e. absurd cc; sys = λ e. cc; found = λ a e. refl }, (record { letter = λ rest. refl; blank = refl; clean = refl; alone = λ e. cc; floating = λ e. cc; accumulator = λ e. cc; ldf = λ e. absurd cc; sys = λ e. cc; found = λ a e. refl }, (record { letter = λ rest. refl; blank = refl; clean = refl; alone = λ e. cc; floating = λ e. cc; accumulator = λ e. cc; ldf = λ e. absurd cc; sys = λ e. cc; found = λ a e. refl }, (record { letter = λ rest. refl; blank = refl; clean = refl; alone = λ e. cc; floating = λ e. cc; accumulator = λ e. cc; ldf = λ e. absurd cc; sys = λ e. cc; found = λ a e. refl }, (record { letter = λ rest. refl; blank = refl; clean = refl; alone = λ e. cc; floating = λ e. cc; accumulator = λ e. cc; ldf = λ e. absurd cc; sys = λ e. cc; found = λ a e. refl }, (record { letter = λ rest. refl; blank = refl; clean = refl; alone = λ e. cc; floating = λ e. refl; accumulator = λ e. cc; ldf = λ e a. refl; sys = λ e. cc; found = λ a e. ap (layout (codes "movf")) e }, (record { letter = λ rest. refl; blank = refl; clean = refl; alone = λ e. cc; floating = λ e. cc; accumulator = λ e. cc; ldf = λ e. absurd cc; sys = λ e. cc; found = λ a e. refl }, (record { letter = λ rest. refl; blank = refl; clean = refl; alone = λ e. cc; floating = λ e. cc; accumulator = λ e. cc; ldf = λ e. absurd cc; sys = λ e. cc; found = λ a e. refl }, (record { letter = λ rest. refl; blank = refl; clean = refl; alone = λ e. cc; floating = λ e. cc; accumulator = λ e. refl; ldf = λ e. absurd cc; sys = λ e. cc; found = λ a e. ap (layout (codes "movf")) e }, (record { letter = λ rest. refl; blank = refl; clean = refl; alone = λ e. cc; floating = λ e. cc; accumulator = λ e. cc; ldf = λ e. absurd cc; sys = λ e. cc; found = λ a e. refl }, (record { letter = λ rest. refl; blank = refl; clean = refl; alone = λ e. cc; floating = λ e. cc; accumulator = λ e. cc; ldf = λ e. absurd cc; sys = λ e. cc; found = λ a e. refl }, (record { letter = λ rest. refl; blank = refl; clean = refl; alone = λ e. cc; floating = λ e. cc; accumulator = λ e. cc; ldf = λ e. absurd cc; sys = λ e. cc; found = λ a e. refl }, (record { letter = λ rest. refl; blank = refl; clean = refl; alone = λ e. cc; floating = λ e. cc; accumulator = λ e. cc; ldf = λ e. absurd cc; sys = λ e. cc; found = λ a e. refl }, (record { letter = λ rest. refl; blank = refl; clean = refl; alone = λ e. cc; floating = λ e. cc; accumulator = λ e. cc; ldf = λ e. absurd cc; sys = λ e. cc; found = λ a e. refl }, (record { letter = λ rest. refl; blank = refl; clean = refl; alone = λ e. cc; floating = λ e. cc; accumulator = λ e. cc; ldf = λ e. absurd cc; sys = λ e. cc; found = λ a e. refl }, (record { letter = λ rest. refl; blank = refl; clean = refl; alone = λ e. cc; floating = λ e. cc; accumulator = λ e. cc; ldf = λ e. absurd cc; sys = λ e. cc; found = λ a e. refl }, tt))))))))))))))))))))))))))))))))))))))))))))))))))))))))))))))))))))))))))))))))))))))))))))))))))))))))))))))))))
 
 sound_at : (p : Row → Bool) (r o : Row) (b : Bool) (rest : Option Row) → Sound r → (rest ≡ Some o → Sound o) → cond b (Some r) rest ≡ Some o → Sound o
 sound_at p r o true rest s later e = let same : r ≡ o = cc in subst Sound same s

@@ -11,3 +11,8 @@ pub mod Texts
 pub mod Relocated
 pub mod Alike
 pub mod Laws
+pub mod CallNames
+pub mod Calls
+pub mod UnixLines
+pub mod UnixLaws
+pub mod internal

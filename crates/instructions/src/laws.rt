@@ -2,6 +2,8 @@
 ghost use Rattle.std.specs.Prelude.{◌≡◌, ◌<◌, length, take, drop};
 ghost use Rattle.instructions.specs.Lines.{line_at, line_length, listed};
 ghost use Rattle.instructions.specs.Laws.{IdentityLaw, FirstWordLaw, SameTable, OneRow, RowsAreFound, TotalLaw, UnambiguousLaw, UnambiguousTextLaw};
+ghost use Rattle.instructions.specs.UnixLaws.{UnixIdentityLaw, UnixFirstWordLaw, UnixTotalLaw, UnixUnambiguousLaw, SameCalls, AreMadeBySys};
+ghost use Rattle.instructions.specs.Calls.{system_calls};
 
 use crate::line::{Words, decode, encode};
 
@@ -49,4 +51,34 @@ pub fn table_law()
     ensures same { SameTable }
     ensures one { OneRow }
     ensures found { RowsAreFound }
+{}
+
+/// With either decoder the words of each line are those of the list, the arguments of a system call too. (own choice)
+pub fn unix_identity_law()
+    ensures { UnixIdentityLaw }
+{}
+
+/// With either decoder the first word alone decides which call or instruction it begins, and the length, if enough words follow
+/// it. (section 2 of the Unix Programmer's Manual, Seventh Edition)
+pub fn unix_first_word_law()
+    ensures { UnixFirstWordLaw }
+{}
+
+/// With either decoder every list of words is decoded whole, in lines of one to five words without a gap. (own choice)
+pub fn unix_total_law()
+    ensures { UnixTotalLaw }
+{}
+
+/// With either decoder, and without references, lines with the same text at one address have the same words. (own choice)
+pub fn unix_unambiguous_law()
+    ensures { UnixUnambiguousLaw }
+{}
+
+/// The table of calls of the code is that of the manual. (section 2 of the Unix Programmer's Manual, Seventh Edition)
+///
+/// - `same`: its rows are those of `system_calls` in specs/Calls.
+/// - `sys`: each call is made by `sys` with its number.
+pub fn call_table_law()
+    ensures same { SameCalls }
+    ensures sys { AreMadeBySys system_calls }
 {}

@@ -22,12 +22,12 @@ use Rattle.tool_options.specs.Choices.{Choices}
 use Rattle.link_out.specs.KeptSymbols.{is_kept_local}
 use Rattle.link_out.specs.ReservedNames.{etext, edata, end_name}
 use Rattle.link_out.specs.Results.{Outcome}
-use Rattle.link_out.specs.relation.NameStates.{HasState}
+use Rattle.link_laws.specs.relation.NameStates.{HasState}
 use Rattle.aout_core.specs.Addresses.{data_start_in}
-use Rattle.link_out.specs.relation.Relocated.{base_in, entry_of}
-use Rattle.link_out.specs.relation.LinkedTable.{shown as row_of_name, row_for, room_for, AreRows, moved_local_in, moved_locals_in}
-use Rattle.link_out.specs.relation.Refusals.{CommonsTake}
-use Rattle.link_out.specs.relation.LinkedFrom.{IsLinkedFrom}
+use Rattle.link_laws.specs.relation.Relocated.{base_in, entry_of}
+use Rattle.link_laws.specs.relation.LinkedTable.{shown as row_of_name, row_for, room_for, AreRows, moved_local_in, moved_locals_in}
+use Rattle.link_laws.specs.relation.Refusals.{CommonsTake}
+use Rattle.link_laws.specs.relation.LinkedFrom.{IsLinkedFrom}
 use Rattle.link_out.proofs.RowLemmas.{rows_kept-others}
 use Rattle.tool_options.specs.declared.nm_options.NmOptions.{NmOptions}
 use Rattle.symtools.specs.SymbolLines.{letter}

@@ -7,7 +7,7 @@ use Rattle.aout_core.specs.Contents.{Contents}
 use Rattle.aout_core.specs.Words.{plus, minus}
 use Rattle.link_session.specs.Starts.{size_of, total, shift}
 use Rattle.link_session.proofs.TotalLemmas.{total-first}
-use Rattle.link_out.proofs.NeighbourMentions.{AreAsLong, as_long_append, as_long_self, blocks, blocks_same, blocks-append}
+use Rattle.link_session.proofs.NeighbourLemmas.{AreAsLong, as_long_append, as_long_self, blocks, blocks_same, blocks-append}
 use Rattle.laws.specs.Frame.{DifferAt}
 
 -- two lists that differ so are as long

@@ -17,12 +17,12 @@ use Rattle.link_session.specs.Starts.{total}
 use Rattle.link_session.specs.Sessions.{IsObject}
 use Rattle.link_session.proofs.ListLemmas.{all_split}
 use Rattle.tool_options.specs.Choices.{Choices}
-use Rattle.link_out.specs.relation.Refusals.{kept_locals}
+use Rattle.link_laws.specs.relation.Refusals.{kept_locals}
 use Rattle.link_out.specs.function.Plans.{plan}
 use Rattle.link_out.specs.function.Link.{Outcome}
 use Rattle.link_out.proofs.FitLemmas.{linked_fits}
 use Rattle.link_out.proofs.OutcomeLemmas.{made_file}
-use Rattle.link_out.proofs.SegmentLemmas.{HasWords, made_length}
+use Rattle.link_laws.proofs.SegmentLemmas.{HasWords, made_length}
 use Rattle.laws.specs.Frame.{AreReplaced, DifferAt, DifferInObject, IsBeside, IsOutside}
 use Rattle.laws.proofs.FrameBlocks.{differ_long}
 use Rattle.laws.proofs.FrameLinks.{frame_holds}

@@ -18,16 +18,16 @@ use Rattle.tool_options.specs.Choices.{Choices}
 use Rattle.link_out.specs.declared.linked.LinkFault.{LinkFault}
 use Rattle.link_out.specs.declared.linked.LinkFault.TheVariants.{DoesNotFit, TooManySymbols, SymbolNumber}
 use Rattle.link_out.specs.Layouts.{bases, magic_of}
-use Rattle.link_out.specs.relation.Refusals.{kept_locals}
+use Rattle.link_laws.specs.relation.Refusals.{kept_locals}
 use Rattle.link_out.specs.function.Plans.{Plan, plan, commons_laid}
 use Rattle.link_out.specs.function.Finals.{final}
 use Rattle.link_out.specs.function.Words.{final_word, final_words}
 use Rattle.link_out.specs.function.Tables.{is_kept_local, rows_kept, local_rows, external_rows, table, name_bits, referent_bits, has_far_word}
 use Rattle.link_out.specs.function.Reports.{report_of, entry_word}
 use Rattle.link_out.specs.function.Link.{Outcome, linked_header, linked_file, link}
-use Rattle.link_out.proofs.NeighbourMentions.{mentions_in_same}
+use Rattle.link_session.proofs.NeighbourLemmas.{mentions_in_same}
 use Rattle.link_out.proofs.OutcomeLemmas.{made}
-use Rattle.link_out.proofs.SegmentLemmas.{HasWords}
+use Rattle.link_laws.proofs.SegmentLemmas.{HasWords}
 use Rattle.laws.specs.Orders.{AreAlike}
 use Rattle.laws.specs.Frame.{TakesPlace, AreReplaced, DifferAt, DifferInObject}
 use Rattle.laws.proofs.FrameBlocks.{differ_long, differ_append, replaced_same, as_long, own_shift}

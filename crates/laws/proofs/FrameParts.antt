@@ -19,14 +19,14 @@ use Rattle.tool_options.specs.declared.options.Keep.{Keep}
 use Rattle.tool_options.specs.declared.options.Keep.TheVariants.{Nothing}
 use Rattle.tool_options.specs.Choices.{Choices}
 use Rattle.link_out.specs.Layouts.{Bases, base}
-use Rattle.link_out.specs.relation.Refusals.{kept_locals}
+use Rattle.link_laws.specs.relation.Refusals.{kept_locals}
 use Rattle.link_out.specs.function.Plans.{Plan, plan}
 use Rattle.link_out.specs.function.Words.{referent_move, final_word}
 use Rattle.link_out.specs.function.Tables.{is_kept_local, moved_value, moved_local, local_rows, referent_bits, final_reloc, final_relocs}
 use Rattle.link_out.specs.function.Link.{linked_header}
-use Rattle.link_out.proofs.NeighbourMentions.{AreAsLong, shift_same}
-use Rattle.link_out.proofs.RefusalLemmas.{locals_long}
-use Rattle.link_out.proofs.SegmentLemmas.{HasWords, made_length}
+use Rattle.link_session.proofs.NeighbourLemmas.{AreAsLong, shift_same}
+use Rattle.link_laws.proofs.RefusalLemmas.{locals_long}
+use Rattle.link_laws.proofs.SegmentLemmas.{HasWords, made_length}
 use Rattle.laws.specs.Frame.{DifferAt}
 use Rattle.laws.proofs.FrameBlocks.{differ_long, replaced, same_totals, as_long}
 

@@ -22,15 +22,15 @@ use Rattle.tool_options.specs.declared.options.Keep.TheVariants.{Nothing}
 use Rattle.tool_options.specs.Choices.{Choices, lays_commons}
 use Rattle.link_out.specs.Layouts.{Bases, bases, magic_of}
 use Rattle.link_out.specs.ReservedNames.{reserved_names}
-use Rattle.link_out.specs.relation.Refusals.{kept_locals}
-use Rattle.link_out.specs.relation.Relocated.{entry_of}
+use Rattle.link_laws.specs.relation.Refusals.{kept_locals}
+use Rattle.link_laws.specs.relation.Relocated.{entry_of}
 use Rattle.link_out.specs.function.Plans.{Plan, plan, common_size, room_of, common_offset, commons_laid}
 use Rattle.link_out.specs.function.Finals.{Final, final, final_at, type_of}
 use Rattle.link_out.specs.function.Tables.{local_rows, external_row, external_rows, table, name_bits, referent_bits}
 use Rattle.link_out.specs.function.Reports.{report_of, entry_word, entry_found_bad, is_undefined, undefined_names}
 use Rattle.link_out.specs.function.Link.{linked_header}
-use Rattle.link_out.proofs.NeighbourMentions.{blocks, mentions_in_same}
-use Rattle.link_out.proofs.ExternalLemmas.{entry_in_table}
+use Rattle.link_session.proofs.NeighbourLemmas.{blocks, mentions_in_same}
+use Rattle.link_laws.proofs.ExternalLemmas.{entry_in_table}
 use Rattle.link_out.proofs.RowLemmas.{rows_kept-others}
 use Rattle.laws.specs.Frame.{TakesPlaceRevalued, DifferAt, IsBeside, IsRedefined, SymbolsStay}
 use Rattle.laws.proofs.FrameBlocks.{differ_long, after_same, as_long, own_shift}

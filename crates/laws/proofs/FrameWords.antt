@@ -17,13 +17,13 @@ use Rattle.link_session.specs.Sessions.{IsObject}
 use Rattle.link_session.proofs.ListLemmas.{all_append, all_split}
 use Rattle.tool_options.specs.declared.options.Keep.TheVariants.{Nothing}
 use Rattle.tool_options.specs.Choices.{Choices}
-use Rattle.link_out.specs.relation.Relocated.{base_in, move_in, entry_of, address_in, IsAdded, IsRelocated}
+use Rattle.link_laws.specs.relation.Relocated.{base_in, move_in, entry_of, address_in, IsAdded, IsRelocated}
 use Rattle.link_out.specs.function.Plans.{plan}
 use Rattle.link_out.specs.function.Reports.{report_of}
 use Rattle.link_out.specs.function.Link.{Outcome, linked_file, link}
-use Rattle.link_out.proofs.NeighbourMentions.{AreAsLong, as_long_self}
+use Rattle.link_session.proofs.NeighbourLemmas.{AreAsLong, as_long_self}
 use Rattle.link_out.proofs.OutcomeLemmas.{made}
-use Rattle.link_out.proofs.RelocatedLemmas.{words_relocated}
+use Rattle.link_laws.proofs.RelocatedLemmas.{words_relocated}
 use Rattle.laws.specs.Frame.{AreRevaluedLinks, IsRedefined, Follows, WordStays, WordsStay, DifferByValues}
 use Rattle.laws.proofs.FrameBlocks.{same_totals, as_long}
 use Rattle.laws.proofs.FrameParts.{kept_relocs_differ}

@@ -19,8 +19,8 @@ use Rattle.link_session.proofs.ListLemmas.{all_split}
 use Rattle.link_session.proofs.WellFormedLemmas.{well_formed_parts}
 use Rattle.tool_options.specs.Choices.{Choices}
 use Rattle.link_out.specs.Results.{Outcome}
-use Rattle.link_out.specs.relation.Relocated.{move_in, IsAdded, IsRelocated}
-use Rattle.link_out.specs.relation.LinkedFrom.{IsLinkedFrom}
+use Rattle.link_laws.specs.relation.Relocated.{move_in, IsAdded, IsRelocated}
+use Rattle.link_laws.specs.relation.LinkedFrom.{IsLinkedFrom}
 use Rattle.instructions.specs.Lines.{lines}
 use Rattle.instructions.specs.Relocated.{is_relocated}
 use Rattle.instructions.proofs.AlikeLemmas.{Pairs, Same, get_from, drop_twice, BeginAlike, begin_alike}

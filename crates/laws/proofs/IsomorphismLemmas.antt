@@ -26,12 +26,12 @@ use Rattle.tool_options.specs.Choices.{Choices, lays_commons}
 use Rattle.link_out.specs.ReservedNames.{etext, edata, end_name}
 use Rattle.link_out.specs.Results.{Outcome}
 use Rattle.link_out.specs.function.Link.{link}
-use Rattle.link_out.specs.relation.Relocated.{base_in, move_in, entry_of, address_in, IsAdded}
-use Rattle.link_out.specs.relation.LinkedTable.{shown, undefined_row}
-use Rattle.link_out.specs.laws.WordsAndNames.{IsDefined}
-use Rattle.link_out.specs.laws.CommonsAndLayouts.{HasRoom}
-use Rattle.link_out.proofs.SegmentLemmas.{HasWords}
-use Rattle.link_out.proofs.DefinedLemmas.{definitions_hold}
+use Rattle.link_laws.specs.relation.Relocated.{base_in, move_in, entry_of, address_in, IsAdded}
+use Rattle.link_laws.specs.relation.LinkedTable.{shown, undefined_row}
+use Rattle.link_laws.specs.WordsAndNames.{IsDefined}
+use Rattle.link_laws.specs.CommonsAndLayouts.{HasRoom}
+use Rattle.link_laws.proofs.SegmentLemmas.{HasWords}
+use Rattle.link_laws.proofs.DefinedLemmas.{definitions_hold}
 use Rattle.instructions.proofs.AlikeLemmas.{get_inside}
 use Rattle.laws.specs.Core.{Space, of_instructions, of_data, has_segment, is_in, core, IsWordAt}
 use Rattle.laws.specs.CoreLaws.{space_of, IsPlace, IsLoaded}

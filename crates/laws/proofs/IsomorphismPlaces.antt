@@ -27,15 +27,15 @@ use Rattle.link_out.specs.function.Plans.{Plan, plan, common_size, commons_total
 use Rattle.link_out.specs.function.Finals.{Final, final, final_by, bound_at, waiting, reserved_or_waiting}
 use Rattle.link_out.specs.function.Tables.{external_row}
 use Rattle.link_out.specs.function.Link.{link}
-use Rattle.link_out.specs.relation.NameStates.{HasState}
-use Rattle.link_out.specs.relation.Relocated.{base_in, entry_of, HoldsObjects}
-use Rattle.link_out.specs.laws.CommonsAndLayouts.{IsCommon, HasRoom}
-use Rattle.link_out.proofs.HasStateLemmas.{has_state, state_is}
+use Rattle.link_laws.specs.relation.NameStates.{HasState}
+use Rattle.link_laws.specs.relation.Relocated.{base_in, entry_of, HoldsObjects}
+use Rattle.link_laws.specs.CommonsAndLayouts.{IsCommon, HasRoom}
+use Rattle.link_laws.proofs.HasStateLemmas.{has_state, state_is}
 use Rattle.link_out.proofs.OutcomeLemmas.{made_file, made_fits}
-use Rattle.link_out.proofs.ExternalLemmas.{entry_in_table, entry_there}
-use Rattle.link_out.proofs.MoveLemmas.{data_begun}
-use Rattle.link_out.proofs.CommonLemmas.{commons_have_room}
-use Rattle.link_out.proofs.RelocatedLemmas.{objects_fill}
+use Rattle.link_laws.proofs.ExternalLemmas.{entry_in_table, entry_there}
+use Rattle.link_laws.proofs.MoveLemmas.{data_begun}
+use Rattle.link_laws.proofs.CommonLemmas.{commons_have_room}
+use Rattle.link_laws.proofs.RelocatedLemmas.{objects_fill}
 use Rattle.laws.specs.Core.{Space, has_segment, first_address, bytes_of, is_in, core}
 use Rattle.laws.specs.Isomorphism.{Place, of_object, of_common, IsInObject, IsInCommon, IsPlaceOf, segment_at, value_in, address_at, LiesAt, PlacesLieApart, BytesHavePlaces}
 use Rattle.laws.proofs.CoreLemmas.{IsWithin, within, within_back, segments_apart, IsByteOf, core_back}

@@ -28,15 +28,15 @@ use Rattle.link_out.specs.Results.{Outcome}
 use Rattle.link_out.specs.function.Plans.{plan, commons_laid}
 use Rattle.link_out.specs.function.Link.{link, linked_file}
 use Rattle.aout_core.specs.Addresses.{data_start_in}
-use Rattle.link_out.specs.relation.Relocated.{base_in, move_in, entry_of, IsRelocated, HoldsObjects}
-use Rattle.link_out.specs.relation.LinkedFrom.{IsLinkedFrom}
-use Rattle.link_out.specs.laws.CommonsAndLayouts.{IsCommon, HasRoom}
+use Rattle.link_laws.specs.relation.Relocated.{base_in, move_in, entry_of, IsRelocated, HoldsObjects}
+use Rattle.link_laws.specs.relation.LinkedFrom.{IsLinkedFrom}
+use Rattle.link_laws.specs.CommonsAndLayouts.{IsCommon, HasRoom}
 use Rattle.link_out.proofs.OutcomeLemmas.{made_file, made_fits}
-use Rattle.link_out.proofs.SegmentLemmas.{HasWords, made_length}
-use Rattle.link_out.proofs.RelocatedLemmas.{words_relocated, objects_fill}
-use Rattle.link_out.proofs.MoveLemmas.{data_begun}
-use Rattle.link_out.proofs.CommonLemmas.{commons_have_room}
-use Rattle.link_out.proofs.LinkedTheorem.{linked_exactly}
+use Rattle.link_laws.proofs.SegmentLemmas.{HasWords, made_length}
+use Rattle.link_laws.proofs.RelocatedLemmas.{words_relocated, objects_fill}
+use Rattle.link_laws.proofs.MoveLemmas.{data_begun}
+use Rattle.link_laws.proofs.CommonLemmas.{commons_have_room}
+use Rattle.link_laws.proofs.LinkedTheorem.{linked_exactly}
 use Rattle.laws.specs.Core.{Space, of_instructions, of_data, has_one_space, has_segment, first_address, bytes_of, segment_byte, is_in, core, IsWordAt}
 use Rattle.laws.specs.CoreLaws.{space_of, IsPlace, IsLoaded, IsZero, IsOfWord}
 use Rattle.laws.proofs.ByteLemmas.{low_byte, high_byte}

@@ -31,14 +31,14 @@ use Rattle.link_out.specs.function.Finals.{Final, final_by, bound_at, waiting, r
 use Rattle.link_out.specs.function.Tables.{external_row}
 use Rattle.link_out.specs.function.Link.{link}
 use Rattle.aout_core.specs.Addresses.{data_start_in}
-use Rattle.link_out.specs.relation.Relocated.{move_in, entry_of, address_in, IsAddressOf, IsAdded, base_in, external_type, HoldsObjects}
-use Rattle.link_out.proofs.RelocatedLemmas.{objects_fill}
-use Rattle.link_out.specs.laws.WordsAndNames.{IsDefined}
+use Rattle.link_laws.specs.relation.Relocated.{move_in, entry_of, address_in, IsAddressOf, IsAdded, base_in, external_type, HoldsObjects}
+use Rattle.link_laws.proofs.RelocatedLemmas.{objects_fill}
+use Rattle.link_laws.specs.WordsAndNames.{IsDefined}
 use Rattle.link_out.proofs.OutcomeLemmas.{made_file}
-use Rattle.link_out.proofs.ExternalLemmas.{entry_in_table, row_address}
-use Rattle.link_out.proofs.SegmentLemmas.{HasWords}
-use Rattle.link_out.proofs.DefinedLemmas.{definitions_hold}
-use Rattle.link_out.proofs.LinkedTheorem.{linked_exactly}
+use Rattle.link_laws.proofs.ExternalLemmas.{entry_in_table, row_address}
+use Rattle.link_laws.proofs.SegmentLemmas.{HasWords}
+use Rattle.link_laws.proofs.DefinedLemmas.{definitions_hold}
+use Rattle.link_laws.proofs.LinkedTheorem.{linked_exactly}
 use Rattle.laws.specs.Core.{Space, is_in}
 use Rattle.laws.specs.CoreLaws.{IsPlace, IsLoaded}
 use Rattle.laws.specs.Operands.{operand, FindsMore, FindsName, segment_meant, Calls, Defines, is_usable_in, Arrives}

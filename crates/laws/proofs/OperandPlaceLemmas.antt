@@ -22,11 +22,11 @@ use Rattle.tool_options.specs.declared.options.Keep.TheVariants.{Nothing}
 use Rattle.tool_options.specs.Choices.{Choices}
 use Rattle.link_out.specs.Results.{Outcome}
 use Rattle.link_out.specs.function.Link.{link}
-use Rattle.link_out.specs.relation.Relocated.{move_in, entry_of, address_in, external_type}
-use Rattle.link_out.specs.relation.LinkedFrom.{IsLinkedFrom}
-use Rattle.link_out.specs.laws.WordsAndNames.{IsDefined}
-use Rattle.link_out.proofs.DefinedLemmas.{definitions_hold}
-use Rattle.link_out.proofs.LinkedTheorem.{linked_exactly}
+use Rattle.link_laws.specs.relation.Relocated.{move_in, entry_of, address_in, external_type}
+use Rattle.link_laws.specs.relation.LinkedFrom.{IsLinkedFrom}
+use Rattle.link_laws.specs.WordsAndNames.{IsDefined}
+use Rattle.link_laws.proofs.DefinedLemmas.{definitions_hold}
+use Rattle.link_laws.proofs.LinkedTheorem.{linked_exactly}
 use Rattle.instructions.specs.declared.operation.Operation.{Operation}
 use Rattle.instructions.specs.declared.mode.Mode.{Mode}
 use Rattle.instructions.specs.declared.mode.Mode.TheVariants.{Direct, Deferred, Increment, IncrementDeferred, Decrement, DecrementDeferred, Index, IndexDeferred}

@@ -5,7 +5,7 @@ use Rattle.aout_core.specs.declared.reloc.Reloc.{Reloc}
 use Rattle.aout_core.specs.Contents.{Contents}
 use Rattle.aout_core.specs.Words.{plus}
 use Rattle.aout_core.specs.WellFormed.{is_pc_relative}
-use Rattle.link_out.specs.relation.Relocated.{move_in}
+use Rattle.link_laws.specs.relation.Relocated.{move_in}
 use Rattle.instructions.specs.declared.mode.Addressing.{Addressing}
 use Rattle.instructions.specs.declared.mode.Addressing.TheVariants.{Immediate, Absolute, Relative, RelativeDeferred, Indexed}
 use Rattle.laws.specs.Operands.{operand, FindsMore}

@@ -17,12 +17,12 @@ use Rattle.link_session.specs.Starts.{shift}
 use Rattle.link_session.specs.Mentions.{Mention, statement, mention, mentions, mentions_in, forced_mention}
 use Rattle.link_session.specs.States.{Definition, first_definition, wanted_size, state_by, state, differs, multiple_names}
 use Rattle.link_session.proofs.ListLemmas.{all_append}
-use Rattle.link_out.specs.relation.NameStates.{LeavesOpen, IsFirst, HasState}
-use Rattle.link_out.specs.laws.WordsAndNames.{IsSaid}
-use Rattle.link_out.proofs.HasStateLemmas.{has_state}
-use Rattle.link_out.proofs.MultipleLemmas.{AgreesIn, none_differ, agrees_with}
-use Rattle.link_out.proofs.NeighbourMentions.{blocks}
-use Rattle.link_out.proofs.SaidLemmas.{of_entry}
+use Rattle.link_laws.specs.relation.NameStates.{LeavesOpen, IsFirst, HasState}
+use Rattle.link_laws.specs.WordsAndNames.{IsSaid}
+use Rattle.link_laws.proofs.HasStateLemmas.{has_state}
+use Rattle.link_session.proofs.AgreementLemmas.{AgreesIn, none_differ, agrees_with}
+use Rattle.link_session.proofs.NeighbourLemmas.{blocks}
+use Rattle.link_laws.proofs.SaidLemmas.{of_entry}
 use Rattle.laws.proofs.ReorderedMentions.{placed_again, none_first}
 
 -- a symbol of one of the objects defines the name, and of these mentions its is the first to

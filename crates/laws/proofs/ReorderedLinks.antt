@@ -18,15 +18,15 @@ use Rattle.tool_options.specs.Choices.{Choices, lays_commons}
 use Rattle.link_out.specs.KeptSymbols.{is_kept_local}
 use Rattle.link_out.specs.Layouts.{Bases, bases, magic_of}
 use Rattle.link_out.specs.Results.{ReportNames}
-use Rattle.link_out.specs.relation.Refusals.{kept_locals, entries}
+use Rattle.link_laws.specs.relation.Refusals.{kept_locals, entries}
 use Rattle.link_out.specs.function.Plans.{Plan, plan, commons_laid, common_offset}
 use Rattle.link_out.specs.function.Finals.{Final, final, final_at, bound_at, waiting, etext, edata, end_name, type_of}
 use Rattle.link_out.specs.function.Tables.{table, has_far_word}
 use Rattle.link_out.specs.function.Reports.{report_of, entry_found_bad, undefined_names}
 use Rattle.link_out.specs.function.Link.{Outcome, linked_header, linked_file, link}
-use Rattle.link_out.proofs.HasStateLemmas.{state_is}
+use Rattle.link_laws.proofs.HasStateLemmas.{state_is}
 use Rattle.link_out.proofs.OutcomeLemmas.{made_file, made_report}
-use Rattle.link_out.proofs.RefusalLemmas.{table_long}
+use Rattle.link_laws.proofs.RefusalLemmas.{table_long}
 use Rattle.laws.specs.Orders.{AreOrders}
 use Rattle.laws.proofs.ReorderedMentions.{size_if_wanted, same_names, names_reordered, same_wants, same_total, same_commons, same_reserved, undefined_reordered}
 use Rattle.laws.proofs.ReorderedDefinitions.{definition_found, said_again, first_is_said}

@@ -30,24 +30,24 @@ use Rattle.tool_options.specs.declared.options.Layout.{Layout}
 use Rattle.tool_options.specs.Choices.{Choices, lays_commons}
 use Rattle.link_out.specs.Layouts.{Bases, base}
 use Rattle.link_out.specs.Results.{ReportNames}
-use Rattle.link_out.specs.relation.NameStates.{HasState, IsWanted}
+use Rattle.link_laws.specs.relation.NameStates.{HasState, IsWanted}
 use Rattle.aout_core.specs.Addresses.{data_start_in}
-use Rattle.link_out.specs.relation.Relocated.{entry_of, external_type, IsRelocated}
-use Rattle.link_out.specs.relation.LinkedTable.{shown, undefined_row}
-use Rattle.link_out.specs.laws.WordsAndNames.{IsDefined, IsSaid}
-use Rattle.link_out.specs.laws.CommonsAndLayouts.{IsCommon}
+use Rattle.link_laws.specs.relation.Relocated.{entry_of, external_type, IsRelocated}
+use Rattle.link_laws.specs.relation.LinkedTable.{shown, undefined_row}
+use Rattle.link_laws.specs.WordsAndNames.{IsDefined, IsSaid}
+use Rattle.link_laws.specs.CommonsAndLayouts.{IsCommon}
 use Rattle.link_out.specs.function.Plans.{Plan, plan, commons_laid}
 use Rattle.link_out.specs.function.Finals.{Final, final, final_by, type_of, bound_at, waiting, reserved_or_waiting, etext, edata, end_name}
 use Rattle.link_out.specs.function.Words.{move}
 use Rattle.link_out.specs.function.Tables.{external_row}
 use Rattle.link_out.specs.function.Link.{Outcome, linked_header, linked_file, link}
-use Rattle.link_out.proofs.HasStateLemmas.{has_state, state_is}
+use Rattle.link_laws.proofs.HasStateLemmas.{has_state, state_is}
 use Rattle.link_out.proofs.OutcomeLemmas.{made_file, made_report}
-use Rattle.link_out.proofs.MoveLemmas.{data_begun, move_by_header}
-use Rattle.link_out.proofs.ExternalLemmas.{row_at, entry_there}
-use Rattle.link_out.proofs.CommonLemmas.{commons_have_room}
-use Rattle.link_out.proofs.SegmentLemmas.{word_at}
-use Rattle.link_out.proofs.RelocatedLemmas.{words_relocated}
+use Rattle.link_laws.proofs.MoveLemmas.{data_begun, move_by_header}
+use Rattle.link_laws.proofs.ExternalLemmas.{row_at, entry_there}
+use Rattle.link_laws.proofs.CommonLemmas.{commons_have_room}
+use Rattle.link_laws.proofs.SegmentLemmas.{word_at}
+use Rattle.link_laws.proofs.RelocatedLemmas.{words_relocated}
 use Rattle.laws.specs.Orders.{definition, common, missing, IsDefinedBy, Means, MeansTheSame}
 use Rattle.laws.specs.Isomorphism.{AreLinks, LinksKeepReferents}
 use Rattle.laws.proofs.ReorderedMentions.{size_if_wanted, wanted_too, same_names, same_wants, placed_again}

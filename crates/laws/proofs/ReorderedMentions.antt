@@ -22,12 +22,12 @@ use Rattle.link_session.specs.States.{state}
 use Rattle.link_session.proofs.ListLemmas.{all_append, all_split}
 use Rattle.link_session.proofs.MentionLemmas.{is_among-externals}
 use Rattle.link_out.specs.ReservedNames.{reserved_names}
-use Rattle.link_out.specs.relation.NameStates.{LeavesOpen, IsFirst, WantsAtMost, IsWanted, HasState}
+use Rattle.link_laws.specs.relation.NameStates.{LeavesOpen, IsFirst, WantsAtMost, IsWanted, HasState}
 use Rattle.link_out.specs.function.Plans.{common_size, commons_total}
 use Rattle.link_out.specs.function.Reports.{is_undefined, is_missing, reserved_taken, undefined_names}
-use Rattle.link_out.proofs.HasStateLemmas.{has_state}
-use Rattle.link_out.proofs.NeighbourMentions.{blocks}
-use Rattle.link_out.proofs.SaidLemmas.{of_entry}
+use Rattle.link_laws.proofs.HasStateLemmas.{has_state}
+use Rattle.link_session.proofs.NeighbourLemmas.{blocks}
+use Rattle.link_laws.proofs.SaidLemmas.{of_entry}
 use Rattle.laws.proofs.NameListLemmas.{HaveSame, reordered, kept_reordered, new_once}
 
 -- the object stands among these

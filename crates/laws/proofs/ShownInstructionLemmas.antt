@@ -11,6 +11,8 @@ use Rattle.instructions.specs.Instructions.{instruction_of}
 use Rattle.instructions.specs.Lines.{line_of, line_at}
 use Rattle.instructions.specs.Relocated.{is_relocated}
 use Rattle.instructions.specs.Alike.{AlikeLine}
+use Rattle.instructions.specs.declared.unix.Decoder.TheVariants.{Pdp11}
+use Rattle.instructions.specs.declared.unix.UnixLine.TheVariants.{Machine}
 use Rattle.disassemblies.specs.Naming.{relocated_text}
 use Rattle.disassemblies.specs.Lines.{decoded_text, text_by}
 use Rattle.laws.specs.Instructions.{IsLinkedWord, KeepsLineAt}
@@ -42,16 +44,17 @@ at_head ws i w more e =
     ap (λ (n : ℕ). line_of (instruction_of (slice_index ws i)) (slice_index ws i) (drop n ws)) next ∙ head_of ws i w more e
 
 -- a word that is not relocated is shown as its line
-not_moved : (file : Contents) (place : ℕ) (b : Bool) → b ≡ false → (if b then Plain (slice_index file.text_words place) else line_at file.text_words place) ≡ line_at file.text_words place
+not_moved : (file : Contents) (place : ℕ) (b : Bool) → b ≡ false →
+    (if b then Machine (Plain (slice_index file.text_words place)) else Machine (line_at file.text_words place)) ≡ Machine (line_at file.text_words place)
 not_moved file place true e = absurd cc
 not_moved file place false e = refl
 
 text_by_test : (file : Contents) (place : ℕ) (r : Reloc) (b : Bool) → b ≡ false →
-    (if b then relocated_text file.symbols r (slice_index file.text_words place) (2 * place) else decoded_text file place) ≡ decoded_text file place
+    (if b then relocated_text file.symbols r (slice_index file.text_words place) (2 * place) else decoded_text Pdp11 file place) ≡ decoded_text Pdp11 file place
 text_by_test file place r true e = absurd cc
 text_by_test file place r false e = refl
 
-text_decoded : (file : Contents) (place : ℕ) (r : Option Reloc) → is_relocated r ≡ false → text_by file place r ≡ decoded_text file place
+text_decoded : (file : Contents) (place : ℕ) (r : Option Reloc) → is_relocated r ≡ false → text_by Pdp11 file place r ≡ decoded_text Pdp11 file place
 text_decoded file place None e = refl
 text_decoded file place (Some r) e = text_by_test file place r (is_relocated (Some r)) e
 

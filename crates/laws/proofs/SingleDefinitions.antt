@@ -19,8 +19,8 @@ use Rattle.tool_options.specs.Choices.{Choices}
 use Rattle.link_out.specs.Results.{ReportNames}
 use Rattle.link_out.specs.function.Plans.{plan}
 use Rattle.link_out.specs.function.Link.{Outcome, link}
-use Rattle.link_out.proofs.MultipleLemmas.{AgreesIn, of_each_name, no_multiples, own_again}
-use Rattle.link_out.proofs.NeighbourMentions.{blocks}
+use Rattle.link_session.proofs.AgreementLemmas.{AgreesIn, of_each_name, no_multiples, own_again}
+use Rattle.link_session.proofs.NeighbourLemmas.{blocks}
 use Rattle.link_out.proofs.OutcomeLemmas.{made_report}
 use Rattle.laws.specs.Orders.{defines, DefineOnce}
 

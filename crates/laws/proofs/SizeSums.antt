@@ -8,10 +8,10 @@ use Rattle.link_session.specs.States.{state}
 use Rattle.tool_options.specs.Choices.{Choices, lays_commons}
 use Rattle.link_out.specs.function.Plans.{plan, common_size, room_of, commons_laid}
 use Rattle.link_out.specs.function.Link.{Outcome, link}
-use Rattle.link_out.specs.relation.LinkedTable.{room_for}
-use Rattle.link_out.specs.relation.Refusals.{CommonsTake}
-use Rattle.link_out.proofs.HasStateLemmas.{has_state}
-use Rattle.link_out.proofs.LinkedRows.{room_laid}
+use Rattle.link_laws.specs.relation.LinkedTable.{room_for}
+use Rattle.link_laws.specs.relation.Refusals.{CommonsTake}
+use Rattle.link_laws.proofs.HasStateLemmas.{has_state}
+use Rattle.link_laws.proofs.LinkedRows.{room_laid}
 use Rattle.link_out.proofs.OutcomeLemmas.{made_file}
 use Rattle.symtools.specs.SizeLines.{size_line}
 use Rattle.laws.specs.Listings.{HasSizes}

@@ -21,7 +21,7 @@ use Rattle.link_out.specs.Outcomes.{outcome_of, report_names}
 use Rattle.link_out.specs.Results.{Outcome}
 use Rattle.link_out.specs.function.Link.{link}
 use Rattle.link_out.specs.function.Reports.{ReportNames, report_text, status_of}
-use Rattle.link_out.specs.laws.PartialLinksAmongOthers.{PartialStandsAmongOthers}
+use Rattle.link_laws.specs.PartialLinksAmongOthers.{PartialStandsAmongOthers}
 use Rattle.link_out.specs.laws.Stripping.{StripLaw}
 use Rattle.surroundings.specs.Events.{Event, opens, paths_of, stored}
 use Rattle.surroundings.specs.declared.office.Stored.TheVariants.{Kept}

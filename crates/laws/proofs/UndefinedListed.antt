@@ -23,10 +23,10 @@ use Rattle.link_out.specs.function.Finals.{Final, final_by, bound_at, waiting, e
 use Rattle.link_out.specs.function.Tables.{moved_value, moved_local, local_rows, external_row, external_rows}
 use Rattle.link_out.specs.function.Reports.{ReportNames, is_missing, undefined_names}
 use Rattle.link_out.specs.function.Link.{Outcome, link}
-use Rattle.link_out.specs.relation.Refusals.{kept_locals}
-use Rattle.link_out.proofs.ExternalLemmas.{row_at}
+use Rattle.link_laws.specs.relation.Refusals.{kept_locals}
+use Rattle.link_laws.proofs.ExternalLemmas.{row_at}
 use Rattle.link_out.proofs.OutcomeLemmas.{made_file, made_report}
-use Rattle.link_out.proofs.PartialLemmas.{IsProper, state_is_proper, local_rows_inner, external_row_outer}
+use Rattle.link_out.proofs.partial_links.PartialLemmas.{IsProper, state_is_proper, local_rows_inner, external_row_outer}
 use Rattle.link_out.proofs.RowLemmas.{rows_kept-others}
 use Rattle.tool_options.specs.declared.nm_options.NmOptions.{NmOptions}
 use Rattle.symtools.specs.SymbolLines.{is_shown_undefined}

@@ -23,9 +23,9 @@ use Rattle.tool_options.specs.declared.options.Layout.TheVariants.{Split}
 use Rattle.tool_options.specs.Choices.{Choices, lays_commons}
 use Rattle.link_out.specs.Results.{Outcome}
 use Rattle.link_out.specs.function.Link.{link}
-use Rattle.link_out.specs.relation.Relocated.{base_in, move_in, entry_of, IsAdded}
-use Rattle.link_out.specs.relation.LinkedFrom.{IsLinkedFrom}
-use Rattle.link_out.specs.laws.CommonsAndLayouts.{IsCommon}
+use Rattle.link_laws.specs.relation.Relocated.{base_in, move_in, entry_of, IsAdded}
+use Rattle.link_laws.specs.relation.LinkedFrom.{IsLinkedFrom}
+use Rattle.link_laws.specs.CommonsAndLayouts.{IsCommon}
 use Rattle.laws.specs.Core.{Space, of_instructions, of_data, has_segment, is_in, core, IsWordAt}
 
 -- no two segments share an address of a space, whatever the file

@@ -24,8 +24,8 @@ use Rattle.link_out.specs.declared.linked.LinkFault.TheVariants.{SymbolNumber}
 use Rattle.tool_options.specs.declared.options.Keep.TheVariants.{Nothing}
 use Rattle.tool_options.specs.Choices.{Choices}
 use Rattle.link_out.specs.Results.{Outcome}
-use Rattle.link_out.specs.relation.Refusals.{kept_locals}
-use Rattle.link_out.specs.relation.Relocated.{entry_of, address_in}
+use Rattle.link_laws.specs.relation.Refusals.{kept_locals}
+use Rattle.link_laws.specs.relation.Relocated.{entry_of, address_in}
 use Rattle.link_out.specs.function.Link.{link}
 use Rattle.laws.specs.Orders.{AreAlike}
 

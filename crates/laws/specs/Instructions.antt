@@ -13,8 +13,8 @@ use Rattle.link_session.specs.Starts.{total}
 use Rattle.link_session.specs.Sessions.{IsObject}
 use Rattle.tool_options.specs.Choices.{Choices}
 use Rattle.link_out.specs.Results.{Outcome}
-use Rattle.link_out.specs.relation.Relocated.{IsRelocated}
-use Rattle.link_out.specs.relation.LinkedFrom.{IsLinkedFrom}
+use Rattle.link_laws.specs.relation.Relocated.{IsRelocated}
+use Rattle.link_laws.specs.relation.LinkedFrom.{IsLinkedFrom}
 use Rattle.instructions.specs.declared.line.Line.{Line}
 use Rattle.instructions.specs.Instructions.{instruction_of}
 use Rattle.instructions.specs.Lines.{lines, line_of}

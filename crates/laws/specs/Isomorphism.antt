@@ -28,8 +28,8 @@ use Rattle.tool_options.specs.Choices.{Choices, lays_commons}
 use Rattle.link_out.specs.ReservedNames.{etext, edata, end_name}
 use Rattle.link_out.specs.Results.{Outcome}
 use Rattle.link_out.specs.function.Link.{link}
-use Rattle.link_out.specs.relation.Relocated.{base_in, entry_of}
-use Rattle.link_out.specs.laws.CommonsAndLayouts.{IsCommon}
+use Rattle.link_laws.specs.relation.Relocated.{base_in, entry_of}
+use Rattle.link_laws.specs.CommonsAndLayouts.{IsCommon}
 use Rattle.instructions.specs.Relocated.{is_relocated}
 use Rattle.laws.specs.Core.{Space, has_segment, core, IsWordAt}
 use Rattle.laws.specs.CoreLaws.{space_of}

@@ -19,12 +19,12 @@ use Rattle.tool_options.specs.declared.options.Keep.TheVariants.{Nothing}
 use Rattle.tool_options.specs.Choices.{Choices}
 use Rattle.link_out.specs.ReservedNames.{etext, edata, end_name}
 use Rattle.link_out.specs.function.Link.{Outcome, link}
-use Rattle.link_out.specs.relation.NameStates.{HasState}
+use Rattle.link_laws.specs.relation.NameStates.{HasState}
 use Rattle.aout_core.specs.Addresses.{data_start_in}
-use Rattle.link_out.specs.relation.Relocated.{entry_of}
-use Rattle.link_out.specs.relation.LinkedTable.{row_for, moved_locals_in}
-use Rattle.link_out.specs.relation.Refusals.{CommonsTake, kept_locals}
-use Rattle.link_out.specs.relation.LinkedFrom.{IsLinkedFrom}
+use Rattle.link_laws.specs.relation.Relocated.{entry_of}
+use Rattle.link_laws.specs.relation.LinkedTable.{row_for, moved_locals_in}
+use Rattle.link_laws.specs.relation.Refusals.{CommonsTake, kept_locals}
+use Rattle.link_laws.specs.relation.LinkedFrom.{IsLinkedFrom}
 use Rattle.tool_options.specs.declared.nm_options.NmOptions.{NmOptions}
 use Rattle.symtools.specs.SymbolLines.{is_shown_undefined, letter, symbol_line}
 use Rattle.symtools.specs.NmLists.{arranged, shown, line_heading, nm_text}

@@ -22,7 +22,7 @@ use Rattle.tool_options.specs.declared.options.Keep.TheVariants.{Nothing}
 use Rattle.tool_options.specs.Choices.{Choices}
 use Rattle.link_out.specs.Results.{Outcome}
 use Rattle.link_out.specs.function.Link.{link}
-use Rattle.link_out.specs.relation.Relocated.{move_in, entry_of}
+use Rattle.link_laws.specs.relation.Relocated.{move_in, entry_of}
 use Rattle.laws.specs.Core.{Space, has_segment, is_in, IsWordAt}
 use Rattle.laws.specs.CoreLaws.{space_of, IsPlace}
 

@@ -24,11 +24,11 @@ use Rattle.tool_options.specs.declared.options.Keep.TheVariants.{Nothing}
 use Rattle.tool_options.specs.Choices.{Choices}
 use Rattle.link_out.specs.function.Link.{Outcome, link}
 use Rattle.link_out.specs.Runs.{link_after}
-use Rattle.link_out.specs.relation.NameStates.{IsWanted}
-use Rattle.link_out.specs.relation.Relocated.{entry_of, IsRelocated}
-use Rattle.link_out.specs.relation.LinkedTable.{undefined_row}
-use Rattle.link_out.specs.laws.WordsAndNames.{IsDefined}
-use Rattle.link_out.specs.laws.CommonsAndLayouts.{IsCommon, HasRoom}
+use Rattle.link_laws.specs.relation.NameStates.{IsWanted}
+use Rattle.link_laws.specs.relation.Relocated.{entry_of, IsRelocated}
+use Rattle.link_laws.specs.relation.LinkedTable.{undefined_row}
+use Rattle.link_laws.specs.WordsAndNames.{IsDefined}
+use Rattle.link_laws.specs.CommonsAndLayouts.{IsCommon, HasRoom}
 
 -- the links of the same objects in two orders, by the same options
 pub record AreOrders (forced : List (List ℕ)) (os ps : List Contents) (o : Choices) (x y : Outcome) : Type 0 where

@@ -12,19 +12,21 @@ use Rattle.link_session.specs.Starts.{total}
 use Rattle.link_session.specs.Sessions.{IsObject}
 use Rattle.tool_options.specs.Choices.{Choices}
 use Rattle.link_out.specs.Results.{Outcome}
-use Rattle.link_out.specs.relation.LinkedFrom.{IsLinkedFrom}
+use Rattle.link_laws.specs.relation.LinkedFrom.{IsLinkedFrom}
 use Rattle.instructions.specs.declared.line.Line.{Line}
 use Rattle.instructions.specs.Instructions.{instruction_of}
 use Rattle.instructions.specs.Relocated.{is_relocated}
 use Rattle.instructions.specs.Texts.{text_with}
 use Rattle.instructions.specs.Alike.{AlikeLine, is_cut}
-use Rattle.disassemblies.specs.Lines.{line_in, references, line_text_in}
+use Rattle.instructions.specs.declared.unix.Decoder.TheVariants.{Pdp11}
+use Rattle.instructions.specs.declared.unix.UnixLine.TheVariants.{Machine}
+use Rattle.disassemblies.specs.Lines.{unix_line_in, references, line_text_in}
 use Rattle.laws.specs.Instructions.{IsLinkedWord}
 
 -- the line at a place of a file's text, and what its disassembly shows of it
 pub record IsShown (file : Contents) (place : ℕ) (line : Line) : Type 0 where
-  pub is : line_in file place ≡ line
-  pub shown : line_text_in file place ≡ text_with (references file place line) (2 * place) line
+  pub is : unix_line_in Pdp11 file place ≡ Machine line
+  pub shown : line_text_in Pdp11 file place ≡ text_with (references file place line) (2 * place) line
 
 -- the lines at a place of the text of k, and in the program at the place of that word
 pub record ShowsAlike (file : Contents) (rows : List Symbol) (os before : List Contents) (k : Contents) (i : ℕ) : Type 0 where

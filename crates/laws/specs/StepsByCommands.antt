@@ -12,8 +12,7 @@ use Rattle.aout_core.specs.Decoding.{decode}
 use Rattle.aout_core.specs.Names.{IsName}
 use Rattle.tool_options.specs.declared.options.Keep.TheVariants.{Nothing}
 use Rattle.tool_options.specs.Choices.{Choices}
-use Rattle.link_out.specs.laws.PartialLinks.{KeepsNoMore}
-use Rattle.link_out.specs.laws.PartialLinksAmongOthers.{IsPart, DefinesNoMultiple}
+use Rattle.link_out.specs.laws.PartialLinks.{KeepsNoMore, IsPart, DefinesNoMultiple}
 use Rattle.command_words.specs.declared.words.Call.TheVariants.{Ld, Strip}
 use Rattle.v7tools.specs.CommandRuns.{AsksFor}
 use Rattle.laws.specs.Disks.{Disk, Run, EndsWell, file_after, Writes}

@@ -7,7 +7,7 @@ use std::io::Write;
 /// run ends without a fault, and the objects and forced names are such as the code can hold. (ld(1), strip(1))
 ///
 /// - `link`: `ld -r -o M A...` and then `ld -o P ... M ...` store the file, write the report and end with the status of
-///   one `ld -o Q ... A... ...` with the options of the second. As in `beyond_law` of `link_out`, the partial link is
+///   one `ld -o Q ... A... ...` with the options of the second. As in `beyond_law` of `link_laws`, the partial link is
 ///   one without `-d`, dropped no local that is kept later, and was forced no name that is not forced later; and its
 ///   objects define no name that is multiply defined among all.
 /// - `strip`: `ld -o P A...` and then `strip P` leave the file of `ld -s -o Q A...` with the same options. The two links

@@ -1,4 +1,4 @@
-//! Theorems about links and commands; `link_out` has others in its own `laws`. They name definitions, and no code.
+//! Theorems about links and commands; `link_laws` has those of links alone. They name definitions, and no code.
 //!
 //! - `links`: which byte is at which address when a program is loaded, what its instructions find there, and how lists, sizes and
 //!   the order of the objects agree with a link

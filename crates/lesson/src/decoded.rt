@@ -1,7 +1,7 @@
 //! The instructions of the objects' texts.
 use aout_core::File;
-use disassemblies::{NamedFile, line_in, line_starts, put_line_text};
-use instructions::Line;
+use disassemblies::{NamedFile, line_starts, put_line_text, unix_line_in};
+use instructions::{Decoder, Line, UnixLine};
 use reports::JsonWriter;
 use std::alloc::{AllocError, Global};
 use texts::Text;
@@ -10,11 +10,12 @@ use texts::Text;
 pub(crate) fn instructions_of(alloc: Global, file: &File) -> Result<Vec<Vec<u8>>, AllocError> {
     let named = NamedFile::new(alloc, file)?;
     let mut texts = Vec::new(alloc);
-    for (place, is_start) in line_starts(alloc, file)?.iter().enumerate() {
+    for (place, is_start) in line_starts(alloc, Decoder::Pdp11, file)?.iter().enumerate() {
         let mut text = Text::new(alloc);
         if *is_start && place < file.text_words().len() {
-            if let Line::Decoded(..) = line_in(file, place) {
-                put_line_text(&mut text, &named, place);
+            let line = unix_line_in(Decoder::Pdp11, file, place);
+            if let UnixLine::Machine(Line::Decoded(..)) = line {
+                put_line_text(&mut text, Decoder::Pdp11, &named, place);
             }
         }
         texts.push(text.finish()?)?;
@@ -34,8 +35,7 @@ pub(crate) fn put_instructions(
     out.begin_object();
     for (index, text) in instructions_of(alloc, file)?.iter().enumerate() {
         if !text.is_empty() {
-            let key = format!(in alloc; "{index}")?;
-            out.put_key(key.as_str());
+            out.put_number_key(index as u64);
             out.put_bytes(b"", text);
         }
     }

@@ -1,5 +1,7 @@
-//! Lists of numbers as JSON.
+//! Lists of numbers as JSON, and why something is refused.
 use reports::JsonWriter;
+use std::alloc::Global;
+use std::fmt::Display;
 
 /// Adds numbers as a list.
 pub(crate) fn put_numbers(out: &mut JsonWriter, numbers: &[usize]) {
@@ -8,6 +10,17 @@ pub(crate) fn put_numbers(out: &mut JsonWriter, numbers: &[usize]) {
         out.put_number(*number as u64);
     }
     out.end_list();
+}
+
+/// Adds why something is refused.
+pub(crate) fn put_reason<D: Display>(alloc: Global, out: &mut JsonWriter, fault: &D) {
+    match format!(in alloc; "{fault}") {
+        Ok(reason) => {
+            out.put_key("refused");
+            out.put_text(reason.as_str());
+        }
+        Err(_) => out.cut(),
+    }
 }
 
 /// Adds words as a list.

@@ -1,4 +1,5 @@
 //! The links of a session.
+use crate::json::put_reason;
 use aout_core::{Segment, Symbol, Wire};
 use link_out::{
     Bases, Keep, Layout, LinkFault, Linked, Options, Report, finish, link_bases, link_externals,
@@ -102,7 +103,7 @@ fn report_lines(alloc: Global, report: &Report) -> Vec<u8> {
 }
 
 /// Adds a link, with the bounds of its segments, or why it is refused.
-fn put_link(alloc: Global, out: &mut JsonWriter, link: &Link) -> Result<(), AllocError> {
+fn put_link(alloc: Global, out: &mut JsonWriter, link: &Link) {
     let at = &link.bases;
     out.begin_object();
     out.put_key("bases");
@@ -122,26 +123,16 @@ fn put_link(alloc: Global, out: &mut JsonWriter, link: &Link) -> Result<(), Allo
             out.put_key("report");
             out.put_bytes(b"", &report_lines(alloc, &linked.report));
         }
-        Err(fault) => {
-            let text = format!(in alloc; "{fault}")?;
-            out.put_key("refused");
-            out.put_text(text.as_str());
-        }
+        Err(fault) => put_reason(alloc, out, fault),
     }
     out.end_object();
-    Ok(())
 }
 
 /// Adds the links, as a list.
-pub(crate) fn put_links(
-    alloc: Global,
-    out: &mut JsonWriter,
-    links: &[Link],
-) -> Result<(), AllocError> {
+pub(crate) fn put_links(alloc: Global, out: &mut JsonWriter, links: &[Link]) {
     out.begin_list();
     for link in links {
-        put_link(alloc, out, link)?;
+        put_link(alloc, out, link);
     }
     out.end_list();
-    Ok(())
 }

@@ -1,6 +1,7 @@
 //! The program `v7-lesson`, for a class: what a linker knows after each addition and withdrawal, as text or as a page.
 #![tactic(auto)]
 
+mod arguments;
 mod decoded;
 mod files;
 mod fronts;
@@ -22,26 +23,26 @@ mod states;
 mod steps;
 mod symbols;
 mod walk;
-mod words;
 
 use anyhow::{Error, Result};
 use aout_core::show;
+use arguments::{Call, SYNOPSIS, arguments_given, called};
 use link_session::Session;
 use page::write_page;
 use std::process::ExitCode;
 use steps::play;
-use words::{Asked, SYNOPSIS, Words, words_given};
 
-/// Does what the words ask for, and returns the status.
+/// Does what the arguments ask for, and returns the status.
 fn run(rt: &HostRuntime, session: &mut Session) -> Result<u8> {
-    let Words { asked, files } = words_given(rt)?;
-    match asked {
-        Asked::Show(shown) => return Ok(show(rt, "v7-lesson", SYNOPSIS, shown)),
-        Asked::Steps(shown) => play(rt, session, files, shown)?,
-        Asked::Page(folder, questions) => {
-            let questions = questions.as_ref().map(|path| path.as_str());
-            write_page(rt, session, folder.as_str(), questions, files)?;
-        }
+    let arguments = arguments_given(rt)?;
+    match called(&arguments)? {
+        Call::Show(shown) => return Ok(show(rt, "v7-lesson", SYNOPSIS, shown)),
+        Call::Steps { step, files } => play(rt, session, files, step)?,
+        Call::Page {
+            folder,
+            questions,
+            files,
+        } => write_page(rt, session, folder, questions, files)?,
     }
     Ok(0)
 }

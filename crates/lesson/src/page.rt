@@ -42,10 +42,10 @@ struct Parts<'a> {
 }
 
 /// The objects at the paths.
-fn givens_at(rt: &HostRuntime, files: Vec<String>) -> Result<Vec<Given>> {
+fn givens_at(rt: &HostRuntime, files: &[String]) -> Result<Vec<Given>> {
     let mut givens = Vec::new(rt.alloc());
     for path in files {
-        givens.push(given_at(rt, path)?)?;
+        givens.push(given_at(rt, path.clone()?)?)?;
     }
     Ok(givens)
 }
@@ -103,7 +103,7 @@ pub(crate) fn write_page(
     session: &mut Session,
     folder: &str,
     questions: Option<&str>,
-    files: Vec<String>,
+    files: &[String],
 ) -> Result<()> {
     let givens = givens_at(rt, files)?;
     let mut out = Text::new(rt.alloc());

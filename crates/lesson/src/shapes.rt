@@ -2,8 +2,10 @@
 use crate::given::Given;
 use aout_core::{File, Kind, Reloc, Segment, Symbol};
 use disassemblies::line_starts;
+use instructions::Decoder;
 use reports::JsonWriter;
 use std::alloc::{AllocError, Global};
+use texts::Text;
 
 /// How many words a text has at least.
 const SHORTEST: usize = 2;
@@ -16,7 +18,7 @@ pub(crate) fn put_operands(
 ) -> Result<(), AllocError> {
     out.put_key("operands");
     out.begin_list();
-    for (index, is_start) in line_starts(alloc, file)?.iter().enumerate() {
+    for (index, is_start) in line_starts(alloc, Decoder::Pdp11, file)?.iter().enumerate() {
         if !*is_start {
             out.put_number(index as u64);
         }
@@ -74,13 +76,15 @@ fn text_lengths(alloc: Global, file: &File) -> Result<Vec<usize>, AllocError> {
 }
 
 /// Adds the bytes of some words, as a text.
-fn put_bytes_of(alloc: Global, out: &mut JsonWriter, words: &[u16]) -> Result<(), AllocError> {
-    let mut bytes = Vec::new(alloc);
+fn put_bytes_of(alloc: Global, out: &mut JsonWriter, words: &[u16]) {
+    let mut bytes = Text::new(alloc);
     for word in words {
-        bytes.extend_from_slice(&word.to_le_bytes())?;
+        bytes.put_bytes(&word.to_le_bytes());
     }
-    out.put_bytes(b"", &bytes);
-    Ok(())
+    match bytes.finish() {
+        Ok(bytes) => out.put_bytes(b"", &bytes),
+        Err(_) => out.cut(),
+    }
 }
 
 /// Adds the words of data that are texts, as a list: the index after the last word of each, how many words it has, and its bytes.
@@ -98,11 +102,8 @@ pub(crate) fn put_texts(
             out.put_number(next as u64);
             out.put_number(*length as u64);
             let first = next.saturating_sub(*length);
-            put_bytes_of(
-                alloc,
-                out,
-                file.data_words().get(first..next).unwrap_or(&[]),
-            )?;
+            let words = file.data_words().get(first..next).unwrap_or(&[]);
+            put_bytes_of(alloc, out, words);
         }
     }
     out.end_list();

@@ -36,31 +36,16 @@ fn segment_after(line: &str, segment: Option<Segment>) -> Option<Segment> {
 }
 
 /// Adds the source of a line, if it is about this word of the object.
-fn put_source(
-    rt: &HostRuntime,
-    out: &mut JsonWriter,
-    words: &[u16],
-    start: u16,
-    line: Line<'_>,
-) -> Result<()> {
+fn put_source(out: &mut JsonWriter, words: &[u16], start: u16, line: Line<'_>) {
     let index = line.address.wrapping_sub(start) / 2;
     if words.get(usize::from(index)) == Some(&line.word) && !line.source.is_empty() {
-        let key = format!(in rt.alloc(); "{index}")?;
-        out.put_key(key.as_str());
+        out.put_number_key(u64::from(index));
         out.put_text(line.source);
     }
-    Ok(())
 }
 
 /// Adds the source lines of a segment, by the indices of their words.
-fn put_segment(
-    rt: &HostRuntime,
-    out: &mut JsonWriter,
-    given: &Given,
-    file: &File,
-    segment: Segment,
-    text: &str,
-) -> Result<()> {
+fn put_segment(out: &mut JsonWriter, given: &Given, file: &File, segment: Segment, text: &str) {
     let mut here = None;
     out.begin_object();
     for line in text.lines() {
@@ -69,16 +54,14 @@ fn put_segment(
             && let Some(fields) = fields_of(line)
         {
             put_source(
-                rt,
                 out,
                 words_of(file, segment),
                 given.alone.own(segment),
                 fields,
-            )?;
+            );
         }
     }
     out.end_object();
-    Ok(())
 }
 
 /// Adds the source lines of an object's words, if a listing has them.
@@ -96,9 +79,9 @@ pub(crate) fn put_sources(
         out.put_key("source");
         out.begin_object();
         out.put_key("text");
-        put_segment(rt, out, given, file, Segment::TextSeg, text.as_str())?;
+        put_segment(out, given, file, Segment::TextSeg, text.as_str());
         out.put_key("data");
-        put_segment(rt, out, given, file, Segment::DataSeg, text.as_str())?;
+        put_segment(out, given, file, Segment::DataSeg, text.as_str());
         out.end_object();
     }
     Ok(())

@@ -1,7 +1,7 @@
 //! The states that a session can be in, as JSON.
 use crate::fronts::{fronts_of, put_last_front};
 use crate::given::Given;
-use crate::json::put_numbers;
+use crate::json::{put_numbers, put_reason};
 use crate::links::{links_of, put_links};
 use crate::marks::put_marks;
 use crate::numbers::{Computed, Numbers};
@@ -75,7 +75,7 @@ fn put_session(
     out.put_key("marks");
     put_marks(out, session);
     out.put_key("links");
-    put_links(alloc, out, &links)?;
+    put_links(alloc, out, &links);
     out.end_object();
     out.end_line();
     Ok(Before {
@@ -91,17 +91,14 @@ fn put_refused(
     list: &[usize],
     object: usize,
     cause: AddFault,
-) -> Result<(), AllocError> {
-    let text = format!(in alloc; "{cause}")?;
+) {
     out.begin_object();
     out.put_key("list");
     put_numbers(out, list);
     out.put_key("object");
     put_numbers(out, &[object]);
-    out.put_key("refused");
-    out.put_text(text.as_str());
+    put_reason(alloc, out, &cause);
     out.end_object();
-    Ok(())
 }
 
 /// Takes a step of the walk to a list that has one object more, and returns why it is refused, if it is.
@@ -146,7 +143,7 @@ pub(crate) fn put_states(
                     let now = put_session(alloc, out, session, &walk, givens, before)?;
                     trail.push(now)?;
                 }
-                Some(cause) => put_refused(alloc, out, &walk.list, object, cause)?,
+                Some(cause) => put_refused(alloc, out, &walk.list, object, cause),
             },
             None if walk.withdraw() => {
                 let _ = session.withdraw();

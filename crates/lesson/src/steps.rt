@@ -23,12 +23,12 @@ fn show_step(
 }
 
 /// Adds the object at a path.
-fn add_file(rt: &HostRuntime, session: &mut Session, path: String, is_shown: bool) -> Result<()> {
-    let bytes = bytes_at(rt, path.as_str())?;
-    let object = object_in(rt.alloc(), path.as_str(), &bytes)?;
-    let label = path.clone()?;
-    match session.add(path, object) {
-        Ok(()) => show_step(rt, session, is_shown, "add", label.as_str()),
+fn add_file(rt: &HostRuntime, session: &mut Session, path: &str, is_shown: bool) -> Result<()> {
+    let bytes = bytes_at(rt, path)?;
+    let object = object_in(rt.alloc(), path, &bytes)?;
+    let label = String::from_str(rt.alloc(), path)?;
+    match session.add(label, object) {
+        Ok(()) => show_step(rt, session, is_shown, "add", path),
         Err(refused) => Err(anyhow!("{}: {}", refused.label, refused.cause)),
     }
 }
@@ -37,12 +37,17 @@ fn add_file(rt: &HostRuntime, session: &mut Session, path: String, is_shown: boo
 fn add_all(
     rt: &HostRuntime,
     session: &mut Session,
-    files: Vec<String>,
+    files: &[String],
     shown: Shown,
 ) -> Result<usize> {
     let mut step = 1usize;
     for path in files {
-        add_file(rt, session, path, shown.is_none_or(|only| only == step))?;
+        add_file(
+            rt,
+            session,
+            path.as_str(),
+            shown.is_none_or(|only| only == step),
+        )?;
         step = step.saturating_add(1);
     }
     Ok(step)
@@ -71,7 +76,7 @@ fn withdraw_all(rt: &HostRuntime, session: &mut Session, first: usize, shown: Sh
 pub(crate) fn play(
     rt: &HostRuntime,
     session: &mut Session,
-    files: Vec<String>,
+    files: &[String],
     shown: Shown,
 ) -> Result<()> {
     let count = files.len().saturating_mul(2);

@@ -1,7 +1,9 @@
 pub mod TakingLemmas
 pub mod EachLemmas
-pub mod PartLemmas
 pub mod EditLemmas
 pub mod StateLemmas
+pub mod MapLemmas
 pub mod MemoryLemmas
+pub mod RunLemmas
+pub mod NextLemmas
 pub mod NumberLemmas

@@ -9,6 +9,7 @@ use Rattle.aout_core.specs.Contents.{Contents, is_magic, has_whole_sizes}
 use Rattle.aout_core.specs.Decoding.{contents_in, header_in}
 use Rattle.aout_core.specs.Encoding.{encoding, file_length}
 use Rattle.aout_core.specs.WellFormed.{first_object_fault}
+use Rattle.instructions.specs.declared.unix.Decoder.TheVariants.{Pdp11}
 use Rattle.link_out.specs.Steps.{and_then, refused_as, unless}
 use Rattle.library_calls.specs.declared.cause.Cause.{Cause}
 use Rattle.library_calls.specs.declared.cause.Cause.TheVariants.{NoOption, Excluded, LongName, CutNames, ManyNames, TooLong, NoEdit, BadFile, BadObject, NotAdded, NotLinked}
@@ -36,7 +37,7 @@ use Rattle.aout_core.specs.Strip.{stripped}
 use Rattle.symtools.specs.NmLists.{nm_text}
 use Rattle.symtools.specs.SizeLines.{size_text}
 use Rattle.disassemblies.specs.Columns.{disassembly}
-use Rattle.library_calls.specs.FileAnswers.{after_file, checked_in, disassembled_in, file_in, has_bit, names_in, nm_options_in, nm_options_of, object_in, object_of, sizes_in, stripped_in}
+use Rattle.library_calls.specs.FileAnswers.{after_file, checked_in, disassembled_in, file_in, names_in, nm_options_in, nm_options_of, object_in, object_of, sizes_in, stripped_in}
 use Rattle.library_calls.specs.LinkAnswers.{found_each, found_of, linked_each, linked_in, objects_in, outcome_each, output_each, output_in, output_of, with_each, with_first, with_most, with_object}
 use Rattle.library_calls.specs.LinkRequests.{choices_in, entry_of, flags_in, forced_in, name_of, unless_long, with_names}
 use Rattle.library_calls.specs.ObjectParts.{Pieces, contents_for, file_for, header_for, header_of, made_of, parts_in, pieces_of, whole_in}
@@ -103,7 +104,7 @@ pub not_memory_sizes : (bytes : List ℕ) → CauseIsNotMemory (sizes_in bytes)
 not_memory_sizes bytes = not_memory_then (file_in bytes) (λ c. Ok (size_text (([], c) ∷ []))) (not_memory_file bytes) (λ c. tt)
 
 pub not_memory_disassembled : (bytes : List ℕ) → CauseIsNotMemory (disassembled_in bytes)
-not_memory_disassembled bytes = not_memory_then (file_in bytes) (λ c. Ok (disassembly c)) (not_memory_file bytes) (λ c. tt)
+not_memory_disassembled bytes = not_memory_then (file_in bytes) (λ c. Ok (disassembly Pdp11 c)) (not_memory_file bytes) (λ c. tt)
 
 pub not_memory_apart : (bytes : List ℕ) → CauseIsNotMemory (parts_in bytes)
 not_memory_apart bytes = not_memory_then (object_in bytes) (λ c. Ok (pieces_of c)) (not_memory_object bytes) (λ c. tt)

@@ -1,5 +1,5 @@
 -- Edits that are made one by one, and what a session shows after them.
-use Rattle.std.proofs.Common.{◌≡◌, ◌≢◌, ℕ, Result, Ok, None, List, [], ◌∷◌, ◌++◌, map, length, append_assoc, append-nil, arith, sym, ap, ◌∙◌, subst, String}
+use Rattle.std.proofs.Common.{◌≡◌, ◌≢◌, ℕ, Result, Ok, List, [], ◌∷◌, ◌++◌, map, length, append_assoc, append-nil, arith, sym, ap, ◌∙◌, subst}
 use Rattle.link_session.specs.Edits.{Change, answers_from, survivors_from}
 use Rattle.link_session.specs.Labelled.{Labelled, objects}
 use Rattle.link_session.specs.Undo.{Kept, IsJournal}

@@ -7,6 +7,7 @@ use Rattle.aout_core.specs.Decoding.{header_in, decode}
 use Rattle.aout_core.specs.Encoding.{file_length, encoding}
 use Rattle.aout_core.specs.Strip.{stripped}
 use Rattle.aout_core.specs.WellFormed.{first_object_fault}
+use Rattle.instructions.specs.declared.unix.Decoder.TheVariants.{Pdp11}
 use Rattle.disassemblies.specs.Columns.{disassembly}
 use Rattle.link_out.specs.Steps.{and_then, refused_as, unless}
 use Rattle.tool_options.specs.declared.nm_options.NmOptions.{NmOptions}
@@ -43,7 +44,7 @@ sizes_in bytes = and_then (file_in bytes) (λ c. Ok (size_text (([], c) ∷ []))
 
 -- the text as instructions
 abbrev pub disassembled_in : List ℕ → Result (List ℕ) Cause
-disassembled_in bytes = and_then (file_in bytes) (λ c. Ok (disassembly c))
+disassembled_in bytes = and_then (file_in bytes) (λ c. Ok (disassembly Pdp11 c))
 
 -- the bit at a place, of value 1, 2, 4 ..
 abbrev pub has_bit : ℕ → ℕ → Bool

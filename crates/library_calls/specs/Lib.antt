@@ -6,4 +6,6 @@ pub mod ObjectParts
 pub mod SessionAnswers
 pub mod StateAnswers
 pub mod MemoryWanted
+pub mod RunAnswers
+pub mod MapAnswers
 pub mod internal

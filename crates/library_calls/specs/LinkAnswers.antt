@@ -2,7 +2,7 @@
 --
 -- Each object in order is read from the bytes after the one before it, has to be an object, and is added after those before it.
 -- The first that is not taken is the refusal. Then all are linked.
-use Rattle.std.specs.Prelude.{ℕ, zero, suc, List, [], ◌∷◌, ◌++◌, length, map, Option, Some, None, Result, Ok, Err}
+use Rattle.std.specs.Prelude.{ℕ, zero, suc, List, [], ◌∷◌, ◌++◌, length, map, Option, Some, None, Result, Ok}
 use Rattle.aout_core.specs.Contents.{Contents}
 use Rattle.aout_core.specs.Encoding.{encoding}
 use Rattle.aout_core.specs.Names.{padded}
@@ -47,10 +47,13 @@ objects_in forced bytes = with_objects forced [] bytes
 abbrev pub each_of : List ObjectBytes → List (List ℕ)
 each_of parts = map (λ (part : ObjectBytes). part.bytes.now) parts
 
--- the objects with the one that each of these begins with; the bytes after it are not looked at, as in ld
+-- the objects with the one that each of these begins with, by what takes one after others; the bytes after it are not looked at, as in ld
+abbrev pub with_each_of : (List Contents → List ℕ → Result (List Contents) Cause) → List Contents → List (List ℕ) → Result (List Contents) Refusal
+with_each_of with_one os [] = Ok os
+with_each_of with_one os (bytes ∷ rest) = and_then (at (length os) (with_one os bytes)) (λ more. with_each_of with_one more rest)
+
 abbrev pub with_each : List (List ℕ) → List Contents → List (List ℕ) → Result (List Contents) Refusal
-with_each forced os [] = Ok os
-with_each forced os (bytes ∷ rest) = and_then (at (length os) (with_first forced os bytes)) (λ more. with_each forced more rest)
+with_each forced os parts = with_each_of (with_first forced) os parts
 
 abbrev pub linked_in : List (List ℕ) → Choices → List ℕ → Result Outcome Refusal
 linked_in forced o bytes = and_then (objects_in forced bytes) (λ os. at 0 (refused_as NotLinked (link forced os o)))

@@ -2,13 +2,14 @@
 --
 -- A call works in stages, and each lacks memory only if nothing is refused up to there. The answer does not reveal which request
 -- failed. So once an object or an edit is accepted, memory may have run out there, whatever is refused later.
-use Rattle.std.specs.Prelude.{◌≡◌, ◌≢◌, ◌⊎◌, ℕ, zero, suc, ◌+◌, ◌<◌, List, [], ◌∷◌, length, IsOk, IsOkAnd}
+use Rattle.std.specs.Prelude.{◌≡◌, ◌≢◌, ◌⊎◌, ℕ, zero, suc, ◌+◌, ◌<◌, List, [], ◌∷◌, length, Result, IsOk, IsOkAnd}
 use Rattle.aout_core.specs.Contents.{Contents}
 use Rattle.aout_core.specs.Decoding.{header_in}
 use Rattle.aout_core.specs.Encoding.{file_length}
 use Rattle.link_session.specs.Edits.{Change}
 use Rattle.tool_options.specs.Choices.{Choices}
 use Rattle.link_out.specs.Runs.{link_after}
+use Rattle.library_calls.specs.declared.cause.Cause.{Cause}
 use Rattle.library_calls.specs.FileAnswers.{after_file, file_in}
 use Rattle.library_calls.specs.LinkAnswers.{linked_each, linked_in, with_first}
 use Rattle.library_calls.specs.LinkRequests.{choices_in, forced_in}
@@ -48,11 +49,15 @@ abbrev pub LinkMayRunOut : ℕ → List ℕ → List ℕ → List ℕ → ℕ �
 LinkMayRunOut bits entry forced bytes place =
     IsOkAnd (choices_in bits entry) (λ o. IsOkAnd (forced_in forced) (λ names. MayRunOutInLink names o bytes place))
 
--- the same of objects whose bytes are apart
+-- the same of objects whose bytes are apart, by what takes one after others
+abbrev pub MayRunOutInEachOf : (List Contents → List ℕ → Result (List Contents) Cause) → List Contents → List (List ℕ) → ℕ → Type 0
+MayRunOutInEachOf with_one os [] place = ⊥
+MayRunOutInEachOf with_one os (bytes ∷ rest) place =
+    ((place ≡ length os) × (HasBody bytes ⊎ IsOk (with_one os bytes)))
+    ⊎ IsOkAnd (with_one os bytes) (λ more. MayRunOutInEachOf with_one more rest place)
+
 abbrev pub MayRunOutInEach : List (List ℕ) → List Contents → List (List ℕ) → ℕ → Type 0
-MayRunOutInEach forced os [] place = ⊥
-MayRunOutInEach forced os (bytes ∷ rest) place =
-    ((place ≡ length os) × MayRunOutForObject forced os bytes) ⊎ IsOkAnd (with_first forced os bytes) (λ more. MayRunOutInEach forced more rest place)
+MayRunOutInEach forced os parts place = MayRunOutInEachOf (with_first forced) os parts place
 
 abbrev pub MayRunOutInLinkOfEach : List (List ℕ) → Choices → List (List ℕ) → ℕ → Type 0
 MayRunOutInLinkOfEach forced o parts place =
@@ -68,12 +73,17 @@ LinkOfEachMayRunOut bits entry forced parts place =
 abbrev pub MayRunOutForEdit : ℕ → List ℕ → Type 0
 MayRunOutForEdit letter bytes = ((letter ≡ 97) × HasBody bytes) ⊎ IsOk (change_in letter bytes)
 
--- memory may run out for the edit of number `place`, where the first of these has this number; those before it are read
+-- memory may run out for the edit of number `place`, where the first of these has this number; those before it are read. The objects
+-- are given in some form S, as in SessionAnswers
+abbrev pub MayRunOutInEditsOf : {S : Type 0} → (S → List ℕ) → (ℕ → S → S) → ℕ → List ℕ → S → ℕ → Type 0
+MayRunOutInEditsOf first after number [] rest place = ⊥
+MayRunOutInEditsOf first after number (letter ∷ letters) rest place =
+    ((place ≡ number) × MayRunOutForEdit letter (first rest))
+    ⊎ (IsOk (change_in letter (first rest)) × MayRunOutInEditsOf first after (number + 1) letters (after letter rest) place)
+
+-- the same of objects whose bytes are one after another
 abbrev pub MayRunOutInEdits : ℕ → List ℕ → List ℕ → ℕ → Type 0
-MayRunOutInEdits number [] bytes place = ⊥
-MayRunOutInEdits number (letter ∷ letters) bytes place =
-    ((place ≡ number) × MayRunOutForEdit letter bytes)
-    ⊎ (IsOk (change_in letter bytes) × MayRunOutInEdits (number + 1) letters (after_edit letter bytes) place)
+MayRunOutInEdits number letters bytes place = MayRunOutInEditsOf (λ (rest : List ℕ). rest) after_edit number letters bytes place
 
 -- memory may run out for forced names, for a change, or for the link of what is left, if there is one
 abbrev pub MayRunOutInRun : List (List ℕ) → Choices → List Change → Type 0

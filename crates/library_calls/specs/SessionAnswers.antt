@@ -6,6 +6,7 @@
 use Rattle.std.specs.Prelude.{ℕ, ◌+◌, eqb, if◌then◌else◌, List, [], ◌∷◌, ◌++◌, map, Result, Ok, Err}
 use Rattle.link_session.specs.Edits.{Change, addition, withdrawal, Answer, added, refused, withdrew, nothing, answers}
 use Rattle.tool_options.specs.Choices.{Choices}
+use Rattle.link_out.specs.function.Link.{Outcome}
 use Rattle.link_out.specs.Runs.{link_after}
 use Rattle.link_out.specs.Steps.{and_then, refused_as}
 use Rattle.library_calls.specs.declared.cause.Cause.{Cause}
@@ -34,11 +35,16 @@ after_edit letter bytes = if eqb letter 97 then after_file bytes else bytes
 abbrev pub with_edit : ℕ → List ℕ → List Change → Result (List Change) Cause
 with_edit letter bytes before = and_then (change_in letter bytes) (λ c. Ok (before ++ c ∷ []))
 
--- the changes with those of the edits, the first of which has this number
+-- the changes with those of the edits, the first of which has this number. The objects are given in some form S: `first` is the
+-- bytes of the next one, and `after` what an edit leaves of them
+abbrev pub with_edits_of : {S : Type 0} → (S → List ℕ) → (ℕ → S → S) → ℕ → List Change → List ℕ → S → Result (List Change) Refusal
+with_edits_of first after number before [] rest = Ok before
+with_edits_of first after number before (letter ∷ letters) rest =
+    and_then (at number (with_edit letter (first rest) before)) (λ more. with_edits_of first after (number + 1) more letters (after letter rest))
+
+-- the same of objects whose bytes are one after another
 abbrev pub with_edits : ℕ → List Change → List ℕ → List ℕ → Result (List Change) Refusal
-with_edits number before [] bytes = Ok before
-with_edits number before (letter ∷ letters) bytes =
-    and_then (at number (with_edit letter bytes before)) (λ more. with_edits (number + 1) more letters (after_edit letter bytes))
+with_edits number before letters bytes = with_edits_of (λ (rest : List ℕ). rest) after_edit number before letters bytes
 
 abbrev pub changes_in : List ℕ → List ℕ → Result (List Change) Refusal
 changes_in letters bytes = with_edits 0 [] letters bytes
@@ -65,8 +71,15 @@ session_status (n ∷ ns) status = if eqb n 0 then session_status ns status else
 abbrev pub output_with : List ℕ → Output ℕ → SessionOutput
 output_with replies x = record { replies = replies; output = record { status = session_status replies x.status; file = x.file; report = x.report } }
 
+-- the link of what changes leave, with the replies to them, given in some form
+abbrev pub given_by : {A : Type 0} → (List ℕ → Outcome → A) → List (List ℕ) → Choices → List Change → Result A Cause
+given_by give forced o cs = and_then (refused_as NotLinked (link_after forced cs o)) (λ x. Ok (give (map reply_number (answers forced cs)) x))
+
+abbrev pub session_output : List ℕ → Outcome → SessionOutput
+session_output replies x = output_with replies (output_of x)
+
 abbrev pub run_of : List (List ℕ) → Choices → List Change → Result SessionOutput Cause
-run_of forced o cs = and_then (refused_as NotLinked (link_after forced cs o)) (λ x. Ok (output_with (map reply_number (answers forced cs)) (output_of x)))
+run_of forced o cs = given_by session_output forced o cs
 
 abbrev pub sessions_of : Ran → SessionOutput
 sessions_of r = record { replies = r.replies.items; output = outputs_of r.program }

@@ -6,8 +6,9 @@ ghost use Rattle.library_calls.specs.declared.cause.Cause.TheVariants.{Memory};
 
 use crate::cause::Cause;
 use crate::first::{first_file, first_object};
-use crate::parts::{FileLists, ObjectWord, PartLists, SymbolRow, padded};
+use crate::parts::{FileLists, ObjectWord, PartLists, SymbolRow};
 use aout_core::{File, Header, Reloc, Symbol};
+use link_maps::padded;
 use std::alloc::{AllocError, Global};
 
 /// Each word with its relocation word.

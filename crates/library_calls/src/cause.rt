@@ -142,6 +142,14 @@ impl From<Cause> for Refusal {
     }
 }
 
+impl From<AllocError> for Refusal {
+    ghost from_gives = { λ _ refusal. refusal ≡ record { cause = Memory; place = 0 } };
+
+    fn from(error: AllocError) -> Refusal {
+        Refusal::from(Cause::from(error))
+    }
+}
+
 impl From<link_session::Memory> for Refusal {
     ghost from_gives = { λ _ refusal. refusal ≡ record { cause = Memory; place = 0 } };
 

@@ -1,5 +1,6 @@
 //! Words as instructions: those of the text of a file, and words alone.
 ghost use Rattle.std.specs.Prelude.{◌≡◌, ◌≢◌, [], Ok, Err, IsErr, IsOk, IfOk, IfErr};
+ghost use Rattle.instructions.specs.declared.unix.Decoder.TheVariants.{Pdp11};
 ghost use Rattle.disassemblies.specs.Columns.{disassembly, plain_disassembly};
 ghost use Rattle.library_calls.specs.FileAnswers.{disassembled_in};
 ghost use Rattle.library_calls.specs.declared.cause.Cause.TheVariants.{Memory};
@@ -8,15 +9,16 @@ use crate::cause::Cause;
 use crate::first::first_file;
 use aout_core::File;
 use disassemblies::{put_disassembly, put_plain_disassembly};
+use instructions::Decoder;
 use std::alloc::{AllocError, Global};
 use texts::Text;
 
 /// The text of a file as instructions.
 fn disassembly_of(alloc: Global, file: &File) -> Result<Vec<u8>, AllocError>
-    ensures { IfOk result (λ text. text.items ≡ disassembly file.now) }
+    ensures { IfOk result (λ text. text.items ≡ disassembly Pdp11 file.now) }
 {
     let mut text = Text::new(alloc);
-    put_disassembly(&mut text, file);
+    put_disassembly(&mut text, Decoder::Pdp11, file);
     text.finish()
 }
 

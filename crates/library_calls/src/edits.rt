@@ -30,7 +30,7 @@ fn first_edit(alloc: Global, letter: u8, bytes: &[u8]) -> Result<(Edit, &[u8]), 
 }
 
 /// Appends the edit that a letter asks for, and returns the bytes after its object.
-fn take_edit<'a>(
+pub(crate) fn take_edit<'a>(
     alloc: Global,
     edits: &mut Vec<Edit>,
     letter: u8,

@@ -8,8 +8,9 @@ ghost use Rattle.library_calls.specs.declared.cause.Cause.TheVariants.{Memory};
 use crate::cause::{Cause, Refusal};
 use crate::file_calls::bytes_of;
 use crate::link_call::{LinkRequest, link_requested};
-use crate::parts::{ObjectBytes, padded};
+use crate::parts::ObjectBytes;
 use aout_core::Name;
+use link_maps::padded;
 use link_out::{Linked, Report};
 use std::alloc::{AllocError, Global};
 
@@ -65,7 +66,7 @@ fn entry_findings(alloc: Global, entry: &Option<Name>) -> Result<Vec<ReportedNam
 }
 
 /// What is reported of a link, in the order of its lines.
-fn all_findings(alloc: Global, report: &Report) -> Result<Vec<ReportedName>, AllocError>
+pub(crate) fn all_findings(alloc: Global, report: &Report) -> Result<Vec<ReportedName>, AllocError>
     ensures { IfOk result (λ found. found.items ≡ all_findings (report_names report.now)) }
 {
     let mut found = named(alloc, 1, &report.multiples)?;

@@ -15,6 +15,9 @@
 //! - `Program`: a linked file, its report and the status
 //! - `Found`, `ReportedName`: a linked file with its report as a list, and a name that is reported
 //! - `ObjectBytes`: the bytes of an object that is given apart
+//! - `RunResult`: what a link or a session of objects apart gives, its report as lines and as a list
+//! - `Mapped`, `MapHead`: the map of a link, and what becomes of it
+//! - `MapRecords`, `ObjectRecord`, `NameRecord`, `UseRecord`, `LimitRecord`: the records of a map
 //! - `Ran`, `Shown`, `Form`: what a session gives, the state that it shows, and in which form
 //! - `ObjectParts`, `PartLists`: the parts that an object is made of, and those that one is taken apart into
 //! - `FileLists`: the parts of any file
@@ -26,7 +29,9 @@
 //!
 //! - `link`, `link_each`: link objects, given one after another or apart
 //! - `link_findings`: links objects given apart, with the report as a list of names
-//! - `run_session`: makes edits, and links what they leave
+//! - `run_link`: links objects given apart, with the report in both forms
+//! - `run_session`, `run_session_of_parts`: make edits, and link what they leave
+//! - `map_link`: gives the map of a link of objects given apart
 //! - `show_session`: makes edits, and shows the state that they leave
 //! - `make`, `take_apart`: an object of its parts, and the parts of an object
 //! - `read_apart`: the parts of any file
@@ -42,13 +47,16 @@ mod apart;
 mod cause;
 mod disassembly;
 mod edits;
+mod edits_apart;
 mod file_calls;
 mod findings_call;
 mod first;
 mod link_call;
 mod make_call;
+mod map_call;
 mod parts;
 mod requests;
+mod run_call;
 mod session_call;
 mod state_call;
 mod taking;
@@ -59,7 +67,10 @@ pub use disassembly::{disassemble, disassemble_words};
 pub use file_calls::{check, list_symbols, show_sizes, strip};
 pub use findings_call::{Found, ReportedName, link_findings};
 pub use link_call::{LinkRequest, Program, link, link_each};
+pub use link_maps::{LimitRecord, MapRecords, NameRecord, ObjectRecord, UseRecord};
 pub use make_call::make;
+pub use map_call::{MapHead, Mapped, map_link};
 pub use parts::{FileLists, ObjectBytes, ObjectParts, ObjectWord, PartLists, SymbolRow};
+pub use run_call::{RunResult, run_link, run_session_of_parts};
 pub use session_call::{Ran, run_session};
 pub use state_call::{Form, Shown, show_session};

@@ -1,8 +1,5 @@
 //! An object by its parts.
-ghost use Rattle.std.specs.Prelude.{◌≡◌};
-ghost use Rattle.aout_core.specs.Names.{padded};
-
-use aout_core::{Header, Name};
+use aout_core::Header;
 
 /// A word of text or data, and its relocation word. (a.out(5))
 #[repr(C)]
@@ -57,14 +54,4 @@ pub struct PartLists {
 pub struct FileLists {
     pub header: Header,
     pub parts: PartLists,
-}
-
-/// A name in eight bytes, filled up with NULs.
-pub(crate) fn padded(name: &Name) -> [u8; 8]
-    ensures { result ≡ padded name.now }
-{
-    let text = name.as_bytes();
-    let mut bytes = [0; 8];
-    bytes[..text.len()].copy_from_slice(text);
-    bytes
 }

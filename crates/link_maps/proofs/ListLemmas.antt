@@ -13,6 +13,7 @@ use Rattle.aout_core.specs.declared.part.Part.TheVariants.{Text, Data}
 use Rattle.link_maps.specs.declared.references.Before.{Before}
 use Rattle.link_maps.specs.declared.references.ReferringWord.{ReferringWord}
 use Rattle.link_maps.specs.References.{is_external_kind, line_of, before_line, refers_to, reference_at, reference_by, references_in, references_of, references_to}
+use Rattle.instructions.specs.declared.unix.Decoder.TheVariants.{Unix}
 use Rattle.disassemblies.specs.Starts.{starts}
 use Rattle.link_maps.specs.Uses.{Use, use_by, uses_by, uses_in}
 use Rattle.link_maps.specs.internal.Lists.{lists_of, each_more, by_symbol, uses_with}
@@ -138,7 +139,7 @@ as_many starts o count vs are =
     ∙ each_length (λ n. references_to starts o n) 0 (replicate count []) ∙ length-replicate count []
 
 -- the uses in an object
-pub uses_put : (object : ℕ) (o : Contents) (found : List Bool) (vs : List (Vec ReferringWord Global)) (old new : List Use) → found ≡ starts o → lists_of vs ≡ by_symbol found o 0 (length o.symbols) →
+pub uses_put : (object : ℕ) (o : Contents) (found : List Bool) (vs : List (Vec ReferringWord Global)) (old new : List Use) → found ≡ starts Unix o → lists_of vs ≡ by_symbol found o 0 (length o.symbols) →
     new ≡ old ++ uses_with object o.symbols (lists_of vs) → new ≡ old ++ uses_in object o
 uses_put object o found vs old new begin are put =
     put ∙ ap (λ (us : List Use). old ++ us) (uses_listed object found o o.symbols (lists_of vs) are ∙ ap (λ (l : List Bool). uses_by object l o 0 o.symbols) begin)

@@ -3,4 +3,7 @@ pub mod References
 pub mod Uses
 pub mod Members
 pub mod Rows
+pub mod Records
+pub mod MapLimits
+pub mod Maps
 pub mod internal

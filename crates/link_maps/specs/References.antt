@@ -13,6 +13,7 @@ use Rattle.aout_core.specs.declared.reloc.Kind.TheVariants.{External}
 use Rattle.aout_core.specs.Contents.{Contents}
 use Rattle.aout_core.specs.Words.{plus}
 use Rattle.aout_core.specs.WellFormed.{segment_of, segment_number, kind_of, symbol_number}
+use Rattle.instructions.specs.declared.unix.Decoder.TheVariants.{Unix}
 use Rattle.disassemblies.specs.Lines.{line_text_in}
 use Rattle.disassemblies.specs.Starts.{line_start}
 use Rattle.link_session.specs.Starts.{own}
@@ -60,7 +61,7 @@ line_of starts Data offset = offset
 
 -- the text of a line of text
 abbrev pub text_of_line : Contents → Part → ℕ → List ℕ
-text_of_line o Text line = if nat_lt (line / 2) (length o.text_words) then line_text_in o (line / 2) else []
+text_of_line o Text line = if nat_lt (line / 2) (length o.text_words) then line_text_in Unix o (line / 2) else []
 text_of_line o Data line = []
 
 -- the label before a line

@@ -9,6 +9,7 @@ use Rattle.std.specs.Ordering.{nat_cmp, is_lt}
 use Rattle.aout_core.specs.declared.symbol.Symbol.{Symbol}
 use Rattle.aout_core.specs.Contents.{Contents}
 use Rattle.aout_core.specs.WellFormed.{is_external, masked_type}
+use Rattle.instructions.specs.declared.unix.Decoder.TheVariants.{Unix}
 use Rattle.disassemblies.specs.Starts.{starts}
 use Rattle.link_session.specs.declared.state.State.TheVariants.{Wanted}
 use Rattle.link_out.specs.function.Reports.{is_missing}
@@ -35,7 +36,7 @@ uses_by object starts o number [] = []
 uses_by object starts o number (s ∷ ss) = use_by object starts o number s ++ uses_by object starts o (number + 1) ss
 
 abbrev pub uses_in : ℕ → Contents → List Use
-uses_in object o = uses_by object (starts o) o 0 o.symbols
+uses_in object o = uses_by object (starts Unix o) o 0 o.symbols
 
 -- the uses in these objects, of which the first has this number
 abbrev pub uses_from : ℕ → List Contents → List Use

@@ -20,18 +20,26 @@
 
 mod gather;
 mod labels;
+mod limit_records;
 mod map;
+mod map_records;
 mod members;
+mod name_records;
 mod names;
 mod outcome;
 mod places;
+mod records;
 mod references;
 mod uses;
 
+pub use limit_records::LimitRecord;
 pub use map::{LinkMap, map_of};
+pub use map_records::{MapRecords, records_of};
 pub use members::{Left, Member, Objects, Refused};
+pub use name_records::NameRecord;
 pub use names::{stays_undefined, telling};
 pub use outcome::{Outcome, largest_number, row_of};
 pub use places::Places;
+pub use records::{ObjectRecord, UseRecord, padded};
 pub use references::{Before, ReferringWord, put_line_of};
 pub use uses::Use;

@@ -1,5 +1,5 @@
 //! The objects of a link: those that a session takes, and those that are left if it refuses one.
-ghost use Rattle.std.specs.Prelude.{◌≡◌, ◌++◌, ◌∷◌, [], None, is_some, if◌then◌else◌, option_copied, slice_get, IfOk, OnOk};
+ghost use Rattle.std.specs.Prelude.{◌≡◌, ◌++◌, ◌∷◌, [], None, is_some, if◌then◌else◌, option_copied, slice_get, IfOk, IsOk, OnOk};
 ghost use Rattle.aout_core.specs.WellFormed.{first_of};
 ghost use Rattle.link_session.specs.Labelled.{objects};
 ghost use Rattle.link_session.specs.Limits.{refusal};
@@ -93,6 +93,7 @@ impl Objects {
     pub fn new(alloc: Global, forced: &Forced) -> Result<Objects, AllocError>
         ensures session { IfOk result (λ objects. objects.session ≡ nothing_kept forced.now) }
         ensures refused { IfOk result (λ objects. objects.refused ≡ None) }
+        ensures none { forced.now ≡ [] → IsOk result }
     {
         match Session::with_forced(alloc, forced) {
             Ok(session) => Ok(Objects {

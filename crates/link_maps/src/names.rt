@@ -24,7 +24,7 @@ impl Use {
     }
 }
 
-fn first_definition(uses: &[Use]) -> Option<usize>
+pub(crate) fn first_definition(uses: &[Use]) -> Option<usize>
     ensures { result ≡ position is_definition uses.now }
 {
     uses.iter().position(|used| used.is_definition())

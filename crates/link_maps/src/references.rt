@@ -11,6 +11,7 @@ ghost use Rattle.link_maps.specs.internal.Lists.{lists_of, each_more, by_symbol}
 use crate::labels::nearest;
 use aout_core::{File, Kind, Name, Part, Reloc, Symbol};
 use disassemblies::{NamedFile, line_start, put_line_text};
+use instructions::Decoder;
 use std::alloc::{AllocError, Global};
 use texts::Text;
 
@@ -106,7 +107,12 @@ pub fn put_line_of(text: &mut Text, named: &NamedFile<'_>, reference: &Referring
 {
     let place = usize::from(reference.line / 2);
     match reference.part {
-        Part::Text if place < named.file().text_words().len() => put_line_text(text, named, place),
+        Part::Text if place < named.file().text_words().len() => put_line_text(
+            text,
+            Decoder::Unix,
+            named,
+            place,
+        ),
         _ => {},
     }
 }

@@ -8,6 +8,7 @@ use crate::labels::labels_of;
 use crate::references::{Lined, ReferringWord, references_by_symbol};
 use aout_core::{File, Name, Segment, Symbol};
 use disassemblies::line_starts;
+use instructions::Decoder;
 use std::alloc::{AllocError, Global};
 use std::marker::Model;
 
@@ -106,7 +107,7 @@ pub(crate) fn put_uses(
 ) -> Result<(), AllocError>
     ensures { OnOk result (uses.new.items ≡ uses.old.items ++ uses_in object file.now) }
 {
-    let starts = line_starts(alloc, file)?;
+    let starts = line_starts(alloc, Decoder::Unix, file)?;
     let text_labels = labels_of(alloc, file.symbols(), Segment::TextSeg)?;
     let data_labels = labels_of(alloc, file.symbols(), Segment::DataSeg)?;
     let lined = Lined {

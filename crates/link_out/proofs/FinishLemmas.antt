@@ -1,33 +1,43 @@
 -- A link that no fault refuses.
-use Rattle.std.proofs.Common.{◌≡◌, ℕ, ◌+◌, ◌-◌, true, false, cond, List, [], map, length, ◌∙◌, ap, arith}
+use Rattle.std.proofs.Common.{◌≡◌, ℕ, ◌+◌, ◌-◌, ◌≤◌, true, false, cond, List, [], map, length, ◌∙◌, ap, refl, sym, subst, arith}
+use Rattle.std.specs.Prelude.{Result, Ok, Err, IsOk}
 use Rattle.std.specs.List.{AllByRecursion, list_any}
 use Rattle.std.proofs.lemmas.Bool.{or_parts}
 use Rattle.aout_core.specs.Contents.{Contents}
+use Rattle.aout_core.specs.WellFormed.{IsWellFormed}
 use Rattle.aout_core.specs.declared.symbol.Segment.{Segment}
 use Rattle.aout_core.specs.declared.symbol.Segment.TheVariants.{TextSeg, DataSeg, BssSeg}
 use Rattle.link_session.specs.declared.cell.Cell.{Cell}
 use Rattle.link_session.specs.Starts.{total}
-use Rattle.link_session.specs.Mentions.{mentions}
+use Rattle.link_session.specs.Labelled.{objects}
+use Rattle.link_session.specs.Undo.{Kept}
 use Rattle.link_session.specs.Image.{named_states}
 use Rattle.link_session.specs.Cells.{cells}
-use Rattle.link_session.specs.Sessions.{IsObject}
 use Rattle.link_session.proofs.AdditionLemmas.{well_formed}
 use Rattle.link_session.proofs.WellFormedLemmas.{objects_refer}
 use Rattle.tool_options.specs.Choices.{Choices}
 use Rattle.link_out.specs.Layouts.{Bases}
-use Rattle.link_out.specs.function.Plans.{Plan, plan, commons_laid}
+use Rattle.link_out.specs.function.Plans.{Plan, commons_laid}
 use Rattle.link_out.specs.function.Words.{final_words}
 use Rattle.link_out.specs.function.Finals.{Final}
 use Rattle.link_out.specs.internal.FromCells.{finals, word_of_cell, reloc_of_cell, is_far}
 use Rattle.link_out.specs.internal.Headers.{header_of}
 use Rattle.link_out.specs.internal.InOrder.{finals_from}
 use Rattle.link_out.specs.function.Tables.{table, final_relocs, has_far_in}
-use Rattle.link_out.specs.function.Reports.{entry_word}
-use Rattle.link_out.specs.function.Link.{linked_header, linked_file}
+use Rattle.link_out.specs.function.Reports.{entry_word, report_of}
+use Rattle.link_out.specs.function.Link.{Outcome, linked_header, linked_file, link_by, link}
 use Rattle.link_out.specs.internal.Passes.{IsPassed}
+use Rattle.link_out.specs.internal.Planned.{plan_in, objects_in, AreShort}
+use Rattle.link_out.specs.Outcomes.{IsLinkOf, outcome_of, report_names}
+use Rattle.link_out.specs.declared.plan.Plan as code
+use Rattle.link_out.specs.declared.linked.Linked.{Linked}
+use Rattle.link_out.specs.declared.linked.LinkFault.{LinkFault}
+use Rattle.link_out.specs.declared.linked.LinkFault.TheVariants.{Memory}
 use Rattle.link_out.proofs.InOrderLemmas.{finals-in_order}
 use Rattle.link_out.proofs.CellWordLemmas.{final_words-cells}
 use Rattle.link_out.proofs.CellRelocLemmas.{final_relocs-cells, has_far_in-cells}
+use Rattle.link_out.proofs.ObjectLemmas.{linked_object}
+use Rattle.link_out.proofs.OutcomeLemmas.{passed_link, refused_link}
 
 -- the parts of a file are those of the link
 pub linked_parts : (p : Plan) (os : List Contents) (c : Contents) → c.header ≡ linked_header p os → c.text_words ≡ final_words p TextSeg os → c.data_words ≡ final_words p DataSeg os →
@@ -42,17 +52,29 @@ linked_parts p os c header text datas text_reloc data_reloc symbols =
       symbols = symbols i;
     } in d
 
--- what is computed from the cells and the names in order is what the link has
-module _ (forced : List (List ℕ)) (os : List Contents) (o : Choices) where
+-- what is computed from the cells and the names in order is what the link of a plan has
+module _ (p : code.Plan) where
   abbrev planned : Plan
-  planned = plan forced os o
+  planned = plan_in p
 
-  pub names_planned : (b : Bases) → b ≡ planned.at → finals_from o b 0 (named_states (mentions forced os)) ≡ finals planned
-  names_planned b h = ap (λ (x : Bases). finals_from o x 0 (named_states (mentions forced os))) h ∙ finals-in_order planned
+  abbrev os : List Contents
+  os = objects_in p
 
-  pub header_planned : (b : Bases) (rows entry : ℕ) → b ≡ planned.at → rows ≡ length (table planned os) → entry ≡ entry_word planned o.entry → header_of o b rows entry ≡ linked_header planned os
-  header_planned b rows entry at many address =
-      (λ i. header_of o (at i) (many i) (address i)) ∙ (λ i. record (linked_header planned os) { data_size = of_data i; bss_size = of_bss i })
+  abbrev o : Choices
+  o = p.options.now
+
+  well : AllByRecursion IsWellFormed os
+  well = well_formed os p.good
+
+  -- what `finals_of` computes name by name
+  pub names_planned : finals_from o p.bases 0 (named_states planned.mentions) ≡ finals planned
+  names_planned = ap (λ (b : Bases). finals_from o b 0 (named_states planned.mentions)) p.at ∙ finals-in_order planned
+
+  -- the header that `Plan::header` writes
+  pub header_planned : (rows entry : ℕ) → rows ≡ length (table planned os) → entry ≡ entry_word planned o.entry →
+      header_of o p.bases rows entry ≡ linked_header planned os
+  header_planned rows entry many address =
+      (λ i. header_of o (p.at i) (many i) (address i)) ∙ (λ i. record (linked_header planned os) { data_size = of_data i; bss_size = of_bss i })
     where
       of_data : planned.at.data_end - planned.at.data_start ≡ total DataSeg os
       of_data = omega arith
@@ -60,28 +82,76 @@ module _ (forced : List (List ℕ)) (os : List Contents) (o : Choices) where
       of_bss : planned.at.bss_end - planned.at.data_end ≡ commons_laid o planned.mentions + total BssSeg os
       of_bss = omega arith
 
-  pub words_planned : (segment : Segment) (b : Bases) (names : List Final) (cs : List Cell) → AllByRecursion IsObject os → b ≡ planned.at → names ≡ finals planned → cs ≡ cells (mentions forced os) segment os →
-      map (word_of_cell b names segment) cs ≡ final_words planned segment os
-  words_planned segment b names cs h at named image =
-      (λ i. map (word_of_cell (at i) (named i) segment) (image i)) ∙ final_words-cells planned segment os (objects_refer forced segment os (well_formed os h))
+  -- what `words_of` computes cell by cell
+  pub words_planned : (segment : Segment) (names : List Final) (cs : List Cell) → names ≡ finals planned → cs ≡ cells planned.mentions segment os →
+      map (word_of_cell p.bases names segment) cs ≡ final_words planned segment os
+  words_planned segment names cs named image =
+      (λ i. map (word_of_cell (p.at i) (named i) segment) (image i))
+      ∙ final_words-cells planned segment os (objects_refer p.session.now.forced segment os well)
 
-  pub relocs_planned : (segment : Segment) (names : List Final) (locals : ℕ) (cs : List Cell) → AllByRecursion IsObject os → IsPassed planned os locals → names ≡ finals planned → cs ≡ cells (mentions forced os) segment os →
+  -- what `relocs_of` computes cell by cell
+  pub relocs_planned : (segment : Segment) (names : List Final) (locals : ℕ) (cs : List Cell) → IsPassed planned os locals →
+      names ≡ finals planned → cs ≡ cells planned.mentions segment os →
       cond o.relocatable (map (reloc_of_cell names locals) cs) [] ≡ cond o.relocatable (final_relocs planned os segment) []
-  relocs_planned segment names locals cs h passed named image =
+  relocs_planned segment names locals cs passed named image =
       (λ i. cond o.relocatable (map (reloc_of_cell (named i) (passed.count i)) (image i)) [])
-      ∙ ap (λ rs. cond o.relocatable rs []) (final_relocs-cells planned segment os (objects_refer forced segment os (well_formed os h)))
+      ∙ ap (λ rs. cond o.relocatable rs []) (final_relocs-cells planned segment os (objects_refer p.session.now.forced segment os well))
 
-  far_planned : (segment : Segment) (names : List Final) (locals : ℕ) (cs : List Cell) → AllByRecursion IsObject os → IsPassed planned os locals → names ≡ finals planned → cs ≡ cells (mentions forced os) segment os →
+  far_planned : (segment : Segment) (names : List Final) (locals : ℕ) (cs : List Cell) → IsPassed planned os locals →
+      names ≡ finals planned → cs ≡ cells planned.mentions segment os →
       list_any (λ (c : Cell). is_far names locals c.target) cs ≡ has_far_in planned os segment
-  far_planned segment names locals cs h passed named image =
-      (λ i. list_any (λ (c : Cell). is_far (named i) (passed.count i) c.target) (image i)) ∙ has_far_in-cells planned segment os (objects_refer forced segment os (well_formed os h))
+  far_planned segment names locals cs passed named image =
+      (λ i. list_any (λ (c : Cell). is_far (named i) (passed.count i) c.target) (image i))
+      ∙ has_far_in-cells planned segment os (objects_refer p.session.now.forced segment os well)
 
-  pub near_text : (names : List Final) (locals : ℕ) (cs : List Cell) → AllByRecursion IsObject os → IsPassed planned os locals → names ≡ finals planned → cs ≡ cells (mentions forced os) TextSeg os → o.relocatable ≡ true →
+  -- no word of text waits for a name whose number is too large
+  pub near_text : (names : List Final) (locals : ℕ) (cs : List Cell) → IsPassed planned os locals →
+      names ≡ finals planned → cs ≡ cells planned.mentions TextSeg os → o.relocatable ≡ true →
       list_any (λ (c : Cell). is_far names locals c.target) cs ≡ false
-  near_text names locals cs h passed named image kept =
-      far_planned TextSeg names locals cs h passed named image ∙ (or_parts (has_far_in planned os TextSeg) (has_far_in planned os DataSeg) (passed.near kept)).0
+  near_text names locals cs passed named image kept =
+      far_planned TextSeg names locals cs passed named image ∙ (or_parts (has_far_in planned os TextSeg) (has_far_in planned os DataSeg) (passed.near kept)).0
 
-  pub near_data : (names : List Final) (locals : ℕ) (cs : List Cell) → AllByRecursion IsObject os → IsPassed planned os locals → names ≡ finals planned → cs ≡ cells (mentions forced os) DataSeg os → o.relocatable ≡ true →
+  -- the same of data
+  pub near_data : (names : List Final) (locals : ℕ) (cs : List Cell) → IsPassed planned os locals →
+      names ≡ finals planned → cs ≡ cells planned.mentions DataSeg os → o.relocatable ≡ true →
       list_any (λ (c : Cell). is_far names locals c.target) cs ≡ false
-  near_data names locals cs h passed named image kept =
-      far_planned DataSeg names locals cs h passed named image ∙ (or_parts (has_far_in planned os TextSeg) (has_far_in planned os DataSeg) (passed.near kept)).1
+  near_data names locals cs passed named image kept =
+      far_planned DataSeg names locals cs passed named image ∙ (or_parts (has_far_in planned os TextSeg) (has_far_in planned os DataSeg) (passed.near kept)).1
+
+-- if the end of bss fits a word, the other ends do
+pub short_ends : (p : code.Plan) → p.bases.bss_end ≤ 65535 → AreShort p.bases
+short_ends p h = record { text = p.text; «data» = omega (arith, h, p.order.1); bss = h }
+
+-- the link that a plan in the code is of
+module _ (p : code.Plan) (s : Kept) (o : Choices) (session : p.session.now ≡ s) (options : p.options.now ≡ o) where
+  abbrev result : Result Outcome LinkFault
+  result = link s.forced (objects s.entries) o
+
+  by_plan : link_by (plan_in p) (objects_in p) ≡ result
+  by_plan = λ i. link (session i).forced (objects (session i).entries) (options i)
+
+  -- `finish` returns the fault that refuses the link
+  pub ends_refused : (r : Result Linked LinkFault) (fault : LinkFault) → r ≡ Err fault → link_by (plan_in p) (objects_in p) ≡ Err fault → IsLinkOf r result
+  ends_refused r fault is h =
+      subst (λ (x : Result Linked LinkFault). IsLinkOf x result) (sym is)
+      (subst (λ (x : Result Outcome LinkFault). IsLinkOf (Err fault) x) by_plan (refused_link (plan_in p) (objects_in p) fault h))
+
+  -- it returns `Memory` only for a link that there is
+  pub ends_without_memory : (r : Result Linked LinkFault) (locals : ℕ) → r ≡ Err Memory → IsPassed (plan_in p) (objects_in p) locals → IsLinkOf r result
+  ends_without_memory r locals is h =
+      subst (λ (x : Result Linked LinkFault). IsLinkOf x result) (sym is)
+      (subst (λ (x : Result Outcome LinkFault). IsOk x) (sym (passed_link (plan_in p) (objects_in p) locals h) ∙ by_plan) refl)
+
+  -- the file and the report that it returns are those of the link
+  pub ends_linked : (linked : Linked) (locals : ℕ) → IsPassed (plan_in p) (objects_in p) locals → linked.file ≡ linked_file (plan_in p) (objects_in p) →
+      report_names linked.report ≡ report_of (plan_in p) → result ≡ Ok (outcome_of linked)
+  ends_linked linked locals h file report =
+      sym by_plan
+      ∙ passed_link (plan_in p) (objects_in p) locals h
+      ∙ (λ i. let x : Outcome = record { file = sym file i; report = sym report i } in Ok x)
+
+  -- with relocation the file is an object
+  pub ends_object : (linked : Linked) → linked.file ≡ linked_file (plan_in p) (objects_in p) → o.relocatable ≡ true → IsWellFormed linked.file
+  ends_object linked file kept =
+      subst IsWellFormed (sym file)
+      (linked_object p.session.now.forced (objects_in p) p.options.now p.allowed (ap (λ (c : Choices). c.relocatable) options ∙ kept) (well_formed (objects_in p) p.good))

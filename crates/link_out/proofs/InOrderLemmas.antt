@@ -26,6 +26,7 @@ room-named : (ms : List Mention) (names : List (List ℕ)) → room_in (named_by
 room-named ms [] = refl
 room-named ms (n ∷ ns) = ap (λ (k : ℕ). common_size (state ms n) + k) (room-named ms ns) ∙ sym (sum_by-append (λ m. common_size (state ms m)) (n ∷ []) ns ∙ omega arith)
 
+-- the space of all commons, name by name
 pub room-commons : (ms : List Mention) → room_in (named_states ms) ≡ commons_total ms
 room-commons ms = room-named ms (names_by_first_mention ms)
 

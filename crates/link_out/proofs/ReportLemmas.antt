@@ -21,6 +21,7 @@ line_counts : (name text lines more : List ℕ) → 0 < length (name ++ text ++ 
 line_counts name text lines more =
     omega (arith, length-append (name ++ text ++ 10 ∷ [] ++ lines) more, length-append (name ++ text ++ 10 ∷ []) lines, length-append (name ++ text) (10 ∷ []))
 
+-- the status by the parts of the report
 pub status_by_silence : (f : ReportNames) → status_of f ≡ status (is_silent f)
 status_by_silence f = by_parts f.multiples f.reserved f.entry_bad f.undefined
   where
@@ -53,14 +54,17 @@ multiple_line : (names : List (List ℕ)) → flat_map (λ n. n ++ codes ": Mult
 multiple_line [] = refl
 multiple_line (n ∷ ns) = rw (multiple_line ns) (ap (λ l. l ++ multiple_lines ns) (sym (append_assoc n (codes ": Multiply defined") (10 ∷ []))))
 
+-- the lines of the two lists of names, as they are written one after the other
 pub both_multiple : (m r : List (List ℕ)) →
     flat_map (λ n. n ++ codes ": Multiply defined\n") m ++ flat_map (λ n. n ++ codes ": Multiply defined\n") r ≡ multiple_lines (m ++ r)
 both_multiple m r =
     rw (multiple_line m, multiple_line r) (sym (flat_map-append (λ n. line (n ++ codes ": Multiply defined")) m r))
 
+-- the line of an entry name
 pub entry_line : (name : List ℕ) → name ++ codes ": Entry point not in text\n" ≡ entry_lines (Some name)
 entry_line name = sym (append_assoc name (codes ": Entry point not in text") (10 ∷ []))
 
+-- the lines of undefined names, if there are any
 pub undefined_line : (names : List (List ℕ)) → (length names == 0) ≡ false → codes "Undefined:\n" ++ flat_map (λ n. n ++ codes "\n") names ≡ undefined_lines names
 undefined_line [] h = absurd (cc)
 undefined_line (n ∷ ns) h = refl

@@ -27,6 +27,7 @@ found_known ms name i h =
     ap (state_at (named_states ms)) (found_place (named_states ms) name i (h ∙ ap (position (bytes_eq name)) (sym (keys-named_states ms))))
     ∙ state_for-named_states ms name
 
+-- a name that no mention has is wanted at size 0
 pub missing_known : (ms : List Mention) (name : List ℕ) → None ≡ position (bytes_eq name) (names_by_first_mention ms) → Wanted 0 ≡ state ms name
 missing_known ms name h = missing_state (named_states ms) name (h ∙ ap (position (bytes_eq name)) (sym (keys-named_states ms))) ∙ state_for-named_states ms name
 
@@ -45,6 +46,7 @@ missing-named ms (n ∷ ns) = by_test (is_missing n (state ms n)) (missing-named
     by_test true h = ap (λ (l : List (List ℕ)). n ∷ l) h
     by_test false h = h
 
+-- undefined names, found name by name
 pub missing-in_order : (ms : List Mention) → missing_among (named_states ms) ≡ undefined_names ms
 missing-in_order ms = missing-named ms (names_by_first_mention ms)
 
@@ -65,6 +67,7 @@ among-place name (n ∷ ns) = by_test (bytes_eq name n) (among-place name ns)
         let longer : length ns + 1 ≡ length (n ∷ ns) = omega arith in
         h ∙ sym (one_more (place_of name ns) (length ns)) ∙ ap (λ k. nat_lt (place_of name ns + 1) k) longer
 
+-- the position of a name in a list, by whether it is among them
 pub position-place : (name : List ℕ) (names : List (List ℕ)) → position (bytes_eq name) names ≡ cond (is_among names name) (Some (place_of name names)) None
 position-place name names =
     ap (λ (k : ℕ). cond (nat_lt k (length names)) (Some k) None) (sym (is_position_or_len (place_of name) (bytes_eq name) refl (λ n ns. ap (λ (k : ℕ). cond (bytes_eq name n) 0 k) (omega arith)) names))
@@ -90,6 +93,7 @@ entry_at p fs name address same h = by_test (is_in_text p name) (h ∙ address-f
     by_test true e = (cc, refl)
     by_test false e = absurd (cc)
 
+-- an entry name that is not in text: the entry word is 0, and the name is reported
 pub entry_nowhere : (p : Plan) (fs : List Final) (name : List ℕ) → fs ≡ finals p → None ≡ text_address_at fs (position (bytes_eq name) (names_by_first_mention p.mentions)) →
     (0 ≡ entry_word p (Some name)) × (Some name ≡ entry_found_bad p (Some name))
 entry_nowhere p fs name same h = by_test (is_in_text p name) (h ∙ address-found p fs name same)

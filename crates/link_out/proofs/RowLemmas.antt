@@ -105,6 +105,7 @@ rows_none [] fs (inr h) = refl
 rows_none (e ∷ es) [] (inr h) = refl
 rows_none (e ∷ es) (f ∷ fs) (inr h) = absurd (omega arith)
 
+-- no row is left to be put if the names or their values are at an end
 pub rows_put : (es : Named) (fs : List Final) (all rows : List Symbol) → (es ≡ []) ⊎ (length fs ≡ 0) → all ≡ rows ++ rows_with es fs → rows ≡ all
 rows_put es fs all rows none so_far = sym (append-nil rows) ∙ ap (λ (l : List Symbol). rows ++ l) (sym (rows_none es fs none)) ∙ sym so_far
 
@@ -133,6 +134,7 @@ table_length p os keep count same others names =
     ∙ (λ i. length-local_rows p os i + length-map (names_by_first_mention p.mentions) (external_row p) i)
     ∙ (λ i. kept_count (same i) os + sym names i)
 
+-- the table is too long if and only if the kept locals and the externals are too many
 pub many_rows : (p : Plan) (os : List Contents) (keep : Keep) (count : ℕ) (r : Option ℕ) → p.choices.keep ≡ keep → (keep ≡ keeps.Nothing → ⊥) → count ≡ length (names_by_first_mention p.mentions) →
     (IsNone r ↔ IsTrue (nat_lt 5461 (kept_count keep os + count))) → (IsNone r ↔ IsTrue (nat_lt 5461 (length (table p os))))
 many_rows p os keep count r same others names h = subst (λ (n : ℕ). IsNone r ↔ IsTrue (nat_lt 5461 n)) (sym (table_length p os keep count same others names)) h
@@ -141,5 +143,6 @@ many_rows p os keep count r same others names h = subst (λ (n : ℕ). IsNone r 
 pub locals_counted : (p : Plan) (os : List Contents) (keep : Keep) (r : Option ℕ) → p.choices.keep ≡ keep → IfSome r (λ n. n ≡ kept_count keep os) → IfSome r (λ n. n ≡ length (local_rows p os))
 locals_counted p os keep r same h = subst (λ (m : ℕ). IfSome r (λ n. n ≡ m)) (sym (length-local_rows p os ∙ ap (λ (k : Keep). kept_count k os) same)) h
 
+-- a link that keeps no symbols has no locals
 pub none_counted : (p : Plan) (os : List Contents) (keep : Keep) → p.choices.keep ≡ keep → keep ≡ keeps.Nothing → 0 ≡ length (local_rows p os)
 none_counted p os keep same nothing = sym (length-local_rows p os ∙ ap (λ (k : Keep). kept_count k os) (same ∙ nothing) ∙ nothing_counted os)

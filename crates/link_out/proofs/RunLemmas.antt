@@ -36,6 +36,7 @@ added_done old new e fits h = record {
   answer = ap answer_by (sym fits);
 }
 
+-- a cause that is not want of memory is the limit that was passed
 pub limit_is : (r : Option AddFault) (cause : AddFault) → IsCause r cause → (cause ≡ Memory → ⊥) → r ≡ Some cause
 limit_is None cause h other = absurd (other h)
 limit_is (Some limit) cause h other = ap Some (sym h)
@@ -66,11 +67,13 @@ refused_done old new e cause h other same =
       answer = ap answer_by (sym limit);
     }
 
+-- the last of what is kept after an addition
 pub last_of-put_last : (es : List Labelled) (e : Labelled) → last_of (es ++ e ∷ []) ≡ Some e
 last_of-put_last [] e = refl
 last_of-put_last (d ∷ []) e = refl
 last_of-put_last (d ∷ (c ∷ es)) e = last_of-put_last (c ∷ es) e
 
+-- what is kept after an addition and a withdrawal
 pub without_last-put_last : (es : List Labelled) (e : Labelled) → without_last (es ++ e ∷ []) ≡ es
 without_last-put_last [] e = refl
 without_last-put_last (d ∷ []) e = refl
@@ -153,6 +156,7 @@ module _ (old new : Kept) (cs : List Change) (o : Choices) (replies : Option (Ve
   same_link : link new.forced (objects new.entries) o ≡ link old.forced (objects (survivors_from old.forced old.entries cs)) o
   same_link = λ i. link (done.forced i) (objects (done.kept i)) o
 
+  -- the run that ends with this link
   pub linked_last : (r : Result (Vec Reply Global × Linked) RunFault) → IsLinkedWith replies (link new.forced (objects new.entries) o) r → IsRunFrom old cs o r
   linked_last r h = by_link r (link old.forced (objects (survivors_from old.forced old.entries cs)) o) (subst (λ x. IsLinkedWith replies x r) same_link h)
     where
@@ -164,6 +168,7 @@ module _ (old new : Kept) (cs : List Change) (o : Choices) (replies : Option (Ve
       by_link (Err (faults.Link links.TooManySymbols)) x h = h
       by_link (Err (faults.Link links.SymbolNumber)) x h = h
 
+  -- the run that ends without memory for its link
   pub out_of_memory : (r : Result (Vec Reply Global × Linked) RunFault) → IsLinkedWith replies (link new.forced (objects new.entries) o) r → r ≡ Err faults.Memory → RunsOut old new cs o
   out_of_memory r h is = inr (record {
     kept = done.kept;

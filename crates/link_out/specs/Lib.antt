@@ -6,7 +6,6 @@ pub mod Layouts
 pub mod Outcomes
 pub mod Runs
 pub mod Steps
-pub mod relation
 pub mod function
 pub mod laws
 pub mod internal

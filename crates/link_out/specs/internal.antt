@@ -3,7 +3,9 @@ pub mod Entries
 pub mod FromCells
 pub mod Headers
 pub mod InOrder
+pub mod OneProof
 pub mod Passes
+pub mod Planned
 pub mod Reach
 pub mod Rows
 pub mod Replies

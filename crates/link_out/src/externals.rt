@@ -1,12 +1,11 @@
 //! The externals of a link, also of one that is refused.
 ghost use Rattle.std.specs.Prelude.{◌≡◌, ◌↔◌, ◌<◌, IfOk, IfSome, IsNone};
-ghost use Rattle.link_session.specs.Labelled.{objects};
-ghost use Rattle.link_out.specs.function.Plans.{plan};
+ghost use Rattle.link_out.specs.function.Plans.{plan_of};
 ghost use Rattle.link_out.specs.function.Tables.{external_rows};
 
 use crate::finals::finals_of;
-use crate::layout::link_bases;
 use crate::linker::LAST_ADDRESS;
+use crate::plan::Plan;
 use crate::table::put_externals;
 use aout_core::Symbol;
 use link_session::Session;
@@ -24,14 +23,14 @@ pub fn link_externals(
     session: &Session,
     options: &Options,
 ) -> Result<Option<Vec<Symbol>>, AllocError>
-    ensures rows { IfOk result (λ list. IfSome list (λ rows. rows.items ≡ external_rows (plan session.now.forced (objects session.now.entries) options.now))) }
-    ensures none { IfOk result (λ list. IsNone list ↔ (65535 < (plan session.now.forced (objects session.now.entries) options.now).at.bss_end)) }
+    ensures rows { IfOk result (λ list. IfSome list (λ rows. rows.items ≡ external_rows (plan_of session.now options.now))) }
+    ensures none { IfOk result (λ list. IsNone list ↔ (65535 < (plan_of session.now options.now).at.bss_end)) }
 {
-    let bases = link_bases(session, options);
-    if LAST_ADDRESS < bases.bss_end {
+    let plan = Plan::of(session, options);
+    if LAST_ADDRESS < plan.bases.bss_end {
         return Ok(None);
     }
-    let finals = finals_of(alloc, session, options, &bases)?;
+    let finals = finals_of(alloc, &plan)?;
     let mut rows = Vec::new(alloc);
     put_externals(&mut rows, session, &finals)?;
     Ok(Some(rows))

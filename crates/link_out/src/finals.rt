@@ -1,12 +1,13 @@
 //! What becomes of the external names.
 ghost use Rattle.std.specs.Prelude.{◌≡◌, ◌≤◌, ◌+◌, ◌*◌, ◌%◌, IfOk};
 ghost use Rattle.link_session.specs.Undo.{image_of};
-ghost use Rattle.link_out.specs.function.Finals.{bound_at, waiting};
+ghost use Rattle.link_out.specs.function.Finals.{bound_at, final_at, waiting};
 ghost use Rattle.link_out.specs.internal.FromCells.{finals};
-ghost use Rattle.link_out.specs.function.Finals.{final_at};
-ghost use Rattle.link_out.specs.internal.InOrder.{finals_from, plan_of};
+ghost use Rattle.link_out.specs.internal.InOrder.{finals_from};
+ghost use Rattle.link_out.specs.internal.Planned.{plan_in, AreShort};
 
 use crate::layout::{Bases, common_size};
+use crate::plan::Plan;
 use crate::reserved_names::reserved_or_waiting;
 use crate::words::base_word;
 use aout_core::{Name, Segment};
@@ -72,9 +73,7 @@ pub(crate) fn final_at(
     name: Name,
     state: State,
 ) -> Final
-    requires text { bases.now.text_end ≤ 65535 }
-    requires datas { bases.now.data_end ≤ 65535 }
-    requires bss { bases.now.bss_end ≤ 65535 }
+    requires short { AreShort bases.now }
     requires offset { offset ≤ 65535 * 65536 }
     ensures { result ≡ final_at options.now bases.now offset name state }
 {
@@ -91,17 +90,15 @@ pub(crate) fn final_at(
     }
 }
 
-/// What becomes of the externals, by first mention. An error: out of memory.
-pub(crate) fn finals_of(
+/// What becomes of a session's externals, by first mention. An error: out of memory.
+fn finals_in(
     alloc: Global,
     session: &Session,
     options: &Options,
     bases: &Bases,
 ) -> Result<Vec<Final>, AllocError>
-    requires text { bases.now.text_end ≤ 65535 }
-    requires datas { bases.now.data_end ≤ 65535 }
-    requires bss { bases.now.bss_end ≤ 65535 }
-    ensures { IfOk result (λ finals. finals.items ≡ finals_from options.now bases.now 0 (image_of session.now).externals) }
+    requires { AreShort bases.now }
+    ensures { IfOk result (λ names. names.items ≡ finals_from options.now bases.now 0 (image_of session.now).externals) }
 {
     let mut finals = Vec::with_capacity(alloc, session.external_count() as usize)?;
     let mut offset = 0;
@@ -110,4 +107,12 @@ pub(crate) fn finals_of(
         offset += common_size(state);
     }
     Ok(finals)
+}
+
+/// What becomes of the externals of a link. An error: out of memory.
+pub(crate) fn finals_of(alloc: Global, plan: &Plan<'_>) -> Result<Vec<Final>, AllocError>
+    requires { plan.now.bases.bss_end ≤ 65535 }
+    ensures { IfOk result (λ names. names.items ≡ finals (plan_in plan.now)) }
+{
+    finals_in(alloc, plan.session, plan.options, &plan.bases)
 }

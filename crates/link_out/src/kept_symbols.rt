@@ -2,13 +2,13 @@
 ghost use Rattle.std.specs.Prelude.{◌≡◌, ◌+◌, ◌↔◌, length, nat_lt, IfSome, IsNone, IsTrue};
 ghost use Rattle.link_session.specs.Labelled.{objects};
 ghost use Rattle.link_out.specs.KeptSymbols.{begins_with_l, keeps, is_kept_local};
-ghost use Rattle.link_out.specs.function.Tables.{local_rows, table};
-ghost use Rattle.link_out.specs.internal.InOrder.{plan_of};
+ghost use Rattle.link_out.specs.internal.Planned.{table_in, locals_in};
 ghost use Rattle.link_out.specs.internal.Rows.{count_in, kept_count};
 
+use crate::plan::Plan;
 use aout_core::{Name, Symbol};
-use link_session::{Entry, Session};
-use tool_options::{Keep, Options};
+use link_session::Entry;
+use tool_options::Keep;
 
 /// The most symbols of a table: one more, of 12 bytes each, would not fit the size in the header. (own choice)
 pub const MOST_ROWS: usize = 5461;
@@ -69,13 +69,13 @@ fn count_locals(entries: &[Entry], keep: Keep, externals: u16) -> Option<u16>
 }
 
 /// How many locals the table of a link has; `None` if the table would have more than 5,461 rows.
-pub(crate) fn locals_within(session: &Session, options: &Options) -> Option<u16>
-    ensures many { IsNone result ↔ IsTrue (nat_lt 5461 (length (table (plan_of session.now options.now) (objects session.now.entries)))) }
-    ensures count { IfSome result (λ n. n ≡ length (local_rows (plan_of session.now options.now) (objects session.now.entries))) }
+pub(crate) fn locals_within(plan: &Plan<'_>) -> Option<u16>
+    ensures many { IsNone result ↔ IsTrue (nat_lt 5461 (length (table_in plan.now))) }
+    ensures count { IfSome result (λ n. n ≡ length (locals_in plan.now)) }
 {
-    let keep = options.keep();
+    let keep = plan.options.keep();
     if keep == Keep::Nothing {
         return Some(0);
     }
-    count_locals(session.entries(), keep, session.external_count())
+    count_locals(plan.session.entries(), keep, plan.session.external_count())
 }

@@ -2,14 +2,13 @@
 ghost use Rattle.std.specs.Prelude.{◌≡◌, ◌≤◌, ◌*◌};
 ghost use Rattle.std.specs.List.{AllByRecursion};
 ghost use Rattle.link_session.specs.Labelled.{objects};
-ghost use Rattle.link_session.specs.Mentions.{mentions};
 ghost use Rattle.link_session.specs.Sessions.{IsObject};
 ghost use Rattle.link_session.specs.Starts.{total};
 ghost use Rattle.link_session.specs.Undo.{image_of};
 ghost use Rattle.aout_core.specs.declared.symbol.Segment.TheVariants.{TextSeg, DataSeg};
 ghost use Rattle.link_out.specs.Layouts.{bases, data_base};
-ghost use Rattle.link_out.specs.function.Plans.{common_size, commons_laid, plan};
-ghost use Rattle.link_out.specs.internal.InOrder.{room_in};
+ghost use Rattle.link_out.specs.function.Plans.{common_size, commons_laid, plan_of};
+ghost use Rattle.link_out.specs.internal.InOrder.{mentions_of, room_in};
 
 use aout_core::next_boundary;
 use link_session::{Session, State};
@@ -97,7 +96,7 @@ fn commons_total(session: &Session) -> u64
 
 /// The bytes of commons that are laid out.
 pub(crate) fn commons_laid(session: &Session, options: &Options) -> u64
-    ensures value { result ≡ commons_laid options.now (mentions session.now.forced (objects session.now.entries)) }
+    ensures value { result ≡ commons_laid options.now (mentions_of session.now) }
     ensures small { result ≤ 65535 * 65536 }
 {
     if options.lays_commons() {
@@ -128,7 +127,7 @@ pub(crate) fn data_size(session: &Session) -> u16
 /// Where the segments of a session's link lie, whether `finish` would link it or not: it refuses what ends after
 /// 65,535. (ld(1))
 pub fn link_bases(session: &Session, options: &Options) -> Bases
-    ensures value { result ≡ (plan session.now.forced (objects session.now.entries) options.now).at }
+    ensures value { result ≡ (plan_of session.now options.now).at }
     ensures text { result.text_end ≤ 65535 }
 {
     // for its contract: what the session keeps are objects, and it is within its limits

@@ -41,6 +41,7 @@ pub mod laws;
 mod layout;
 mod linked;
 mod linker;
+mod plan;
 mod reach;
 mod relocs;
 mod report;

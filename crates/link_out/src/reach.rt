@@ -1,16 +1,15 @@
 //! Whether relocation words can hold the numbers of the names that are waited for. This takes no memory.
 ghost use Rattle.std.specs.Prelude.{◌≡◌, true, length, slice_get};
 ghost use Rattle.std.specs.List.{list_any};
-ghost use Rattle.link_session.specs.Labelled.{objects};
 ghost use Rattle.link_session.specs.Undo.{image_of};
-ghost use Rattle.link_out.specs.internal.InOrder.{plan_of};
-ghost use Rattle.link_out.specs.function.Tables.{local_rows, has_far_word};
+ghost use Rattle.link_out.specs.function.Tables.{has_far_word};
+ghost use Rattle.link_out.specs.internal.Planned.{plan_in, objects_in, locals_in};
 ghost use Rattle.link_out.specs.internal.Reach.{kept_bound, kept_bound_of, is_out};
 
+use crate::plan::Plan;
 use crate::relocs::waits_far;
 use aout_core::Segment;
 use link_session::{Cell, Session, State, Target};
-use tool_options::Options;
 
 /// The segment that a name in this state is bound to in a file with relocation, if it is bound; `commons` tells
 /// whether commons are laid out.
@@ -57,14 +56,13 @@ fn is_any_out(session: &Session, commons: bool, locals: u16, cells: &[Cell]) -> 
 }
 
 /// Whether a file with relocation would need a symbol number over 4,095; `locals` rows come before the externals.
-pub(crate) fn has_far_word(session: &Session, options: &Options, locals: u16) -> bool
-    requires relocatable { options.now.relocatable ≡ true }
-    requires locals { locals ≡ length (local_rows (plan_of session.now options.now) (objects session.now.entries)) }
-    ensures { result ≡ has_far_word (plan_of session.now options.now) (objects session.now.entries) }
+pub(crate) fn has_far_word(plan: &Plan<'_>, locals: u16) -> bool
+    requires relocatable { plan.now.options.now.relocatable ≡ true }
+    requires locals { locals ≡ length (locals_in plan.now) }
+    ensures { result ≡ has_far_word (plan_in plan.now) (objects_in plan.now) }
 {
-    // for its contract: what the session keeps are objects, and it is within its limits
-    let _entries = session.entries();
-    let commons = options.lays_commons();
+    let session = plan.session;
+    let commons = plan.options.lays_commons();
     let in_text = is_any_out(session, commons, locals, session.text_cells());
     let in_data = is_any_out(session, commons, locals, session.data_cells());
     in_text || in_data

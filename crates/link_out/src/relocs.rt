@@ -1,13 +1,17 @@
 //! The relocation words of a linked file, from the cells of the merged image.
-ghost use Rattle.std.specs.Prelude.{◌≡◌, ◌≤◌, map, slice_get, IfOk, false};
-ghost use Rattle.std.specs.List.{list_any};
+ghost use Rattle.std.specs.Prelude.{◌≡◌, ◌≤◌, map, slice_get, IfOk, true, false};
 ghost use Rattle.link_out.specs.function.Tables.{name_bits, segment_bits, waits_far};
-ghost use Rattle.link_out.specs.internal.FromCells.{bound_of, is_far, reloc_of_cell, target_bits};
+ghost use Rattle.link_out.specs.internal.FromCells as from_cells;
+ghost use Rattle.link_out.specs.internal.FromCells.{bound_of, is_far, is_any_far, kept_relocs, reloc_of_cell, target_bits};
+ghost use Rattle.link_out.specs.internal.Passes.{IsPassed};
+ghost use Rattle.link_out.specs.internal.Planned.{plan_in, objects_in, AreRelocs};
 
 use crate::finals::Final;
+use crate::plan::Plan;
 use aout_core::{Reloc, Segment};
 use link_session::{Cell, Target};
 use std::alloc::{AllocError, Global};
+use tool_options::Options;
 
 /// The largest number of a symbol that a relocation word can hold. (a.out(5))
 pub const MOST_NUMBER: u32 = 4095;
@@ -85,13 +89,13 @@ fn reloc_of_cell(finals: &[Final], locals: u16, cell: Cell) -> Reloc
 
 /// The relocation words of the cells of a segment, none of which waits for a name whose number is too large; `locals`
 /// rows come before the externals. An error: out of memory.
-pub(crate) fn relocs_of_cells(
+fn relocs_of_cells(
     alloc: Global,
     cells: &[Cell],
     finals: &[Final],
     locals: u16,
 ) -> Result<Vec<Reloc>, AllocError>
-    requires { list_any (λ (c : Cell). is_far finals.now locals c.target) cells.now ≡ false }
+    requires { is_any_far finals.now locals cells.now ≡ false }
     ensures { IfOk result (λ relocs. relocs.items ≡ map (reloc_of_cell finals.now locals) cells.now) }
 {
     let mut relocs = Vec::with_capacity(alloc, cells.len())?;
@@ -99,4 +103,49 @@ pub(crate) fn relocs_of_cells(
         relocs.push(reloc_of_cell(finals, locals, *cell))?;
     }
     Ok(relocs)
+}
+
+/// The relocation words of the cells if relocation is kept, and else none. An error: out of memory.
+fn kept_relocs(
+    alloc: Global,
+    options: &Options,
+    cells: &[Cell],
+    finals: &[Final],
+    locals: u16,
+) -> Result<Vec<Reloc>, AllocError>
+    requires { options.now.relocatable ≡ true → is_any_far finals.now locals cells.now ≡ false }
+    ensures { IfOk result (λ relocs. relocs.items ≡ kept_relocs options.now finals.now locals cells.now) }
+{
+    if options.is_relocatable() {
+        relocs_of_cells(alloc, cells, finals, locals)
+    } else {
+        Ok(Vec::new(alloc))
+    }
+}
+
+/// The relocation words of a linked file.
+#[derive(Drop)]
+pub(crate) struct Relocs {
+    pub(crate) text_reloc: Vec<Reloc>,
+    pub(crate) data_reloc: Vec<Reloc>,
+}
+
+/// The relocation words of text and data, none unless relocation is kept; `locals` rows come before the externals.
+/// An error: out of memory.
+pub(crate) fn relocs_of(
+    alloc: Global,
+    plan: &Plan<'_>,
+    finals: &[Final],
+    locals: u16,
+) -> Result<Relocs, AllocError>
+    requires passed { IsPassed (plan_in plan.now) (objects_in plan.now) locals }
+    requires finals { finals.now ≡ from_cells.finals (plan_in plan.now) }
+    ensures { IfOk result (AreRelocs plan.now) }
+{
+    let text = plan.session.text_cells();
+    let data = plan.session.data_cells();
+    Ok(Relocs {
+        text_reloc: kept_relocs(alloc, plan.options, text, finals, locals)?,
+        data_reloc: kept_relocs(alloc, plan.options, data, finals, locals)?,
+    })
 }

@@ -6,16 +6,17 @@ ghost use Rattle.link_session.specs.Undo.{image_of};
 ghost use Rattle.link_out.specs.internal.FromCells as from_cells;
 ghost use Rattle.link_out.specs.internal.Entries.{text_address, text_address_at};
 ghost use Rattle.link_out.specs.function.Reports.{entry_word, entry_found_bad, report_of};
-ghost use Rattle.link_out.specs.internal.InOrder.{missing_among, plan_of};
+ghost use Rattle.link_out.specs.internal.InOrder.{missing_among};
+ghost use Rattle.link_out.specs.internal.Planned.{plan_in};
 ghost use Rattle.link_out.specs.Outcomes.{report_names};
 
 use crate::finals::Final;
 use crate::linked::Report;
+use crate::plan::Plan;
 use crate::reserved_names::{is_missing, reserved_taken};
 use aout_core::{Name, Segment};
 use link_session::Session;
 use std::alloc::{AllocError, Global};
-use tool_options::Options;
 
 /// The entry point of a program.
 #[derive(Clone, Copy)]
@@ -38,17 +39,13 @@ fn missing(alloc: Global, session: &Session) -> Result<Vec<Name>, AllocError>
 }
 
 /// The undefined names that are reported: none if relocation is kept. An error: out of memory.
-fn undefined_names(
-    alloc: Global,
-    session: &Session,
-    options: &Options,
-) -> Result<Vec<Name>, AllocError>
-    ensures { IfOk result (λ names. names.items ≡ (report_of (plan_of session.now options.now)).undefined) }
+fn undefined_names(alloc: Global, plan: &Plan<'_>) -> Result<Vec<Name>, AllocError>
+    ensures { IfOk result (λ names. names.items ≡ (report_of (plan_in plan.now)).undefined) }
 {
-    if options.is_relocatable() {
+    if plan.options.is_relocatable() {
         return Ok(Vec::new(alloc));
     }
-    missing(alloc, session)
+    missing(alloc, plan.session)
 }
 
 /// The address of a name that is bound to text.
@@ -70,18 +67,18 @@ fn address_in_text(session: &Session, finals: &[Final], name: &Name) -> Option<u
 }
 
 /// The entry point of a link.
-pub(crate) fn entry_point(session: &Session, options: &Options, finals: &[Final]) -> EntryPoint
-    requires { finals.now ≡ from_cells.finals (plan_of session.now options.now) }
-    ensures address { result.address ≡ entry_word (plan_of session.now options.now) options.now.entry }
-    ensures bad { result.bad ≡ entry_found_bad (plan_of session.now options.now) options.now.entry }
+pub(crate) fn entry_point(plan: &Plan<'_>, finals: &[Final]) -> EntryPoint
+    requires { finals.now ≡ from_cells.finals (plan_in plan.now) }
+    ensures address { result.address ≡ entry_word (plan_in plan.now) plan.now.options.now.entry }
+    ensures bad { result.bad ≡ entry_found_bad (plan_in plan.now) plan.now.options.now.entry }
 {
-    let Some(name) = options.entry() else {
+    let Some(name) = plan.options.entry() else {
         return EntryPoint {
             address: 0,
             bad: None,
         };
     };
-    match address_in_text(session, finals, &name) {
+    match address_in_text(plan.session, finals, &name) {
         Some(address) => EntryPoint { address, bad: None },
         None => EntryPoint {
             address: 0,
@@ -90,20 +87,19 @@ pub(crate) fn entry_point(session: &Session, options: &Options, finals: &[Final]
     }
 }
 
-/// The report of a link, with the name of an entry point that is not in text. An error: out of memory.
+/// The report of a link. An error: out of memory.
 pub(crate) fn report_of(
     alloc: Global,
-    session: &Session,
-    options: &Options,
-    entry_bad: Option<Name>,
+    plan: &Plan<'_>,
+    finals: &[Final],
 ) -> Result<Report, AllocError>
-    requires { entry_bad ≡ entry_found_bad (plan_of session.now options.now) options.now.entry }
-    ensures { IfOk result (λ report. report_names report ≡ report_of (plan_of session.now options.now)) }
+    requires { finals.now ≡ from_cells.finals (plan_in plan.now) }
+    ensures { IfOk result (λ report. report_names report ≡ report_of (plan_in plan.now)) }
 {
     Ok(Report {
-        multiples: session.multiples().to_vec(alloc)?,
-        reserved: reserved_taken(alloc, session)?,
-        entry_bad,
-        undefined: undefined_names(alloc, session, options)?,
+        multiples: plan.session.multiples().to_vec(alloc)?,
+        reserved: reserved_taken(alloc, plan.session)?,
+        entry_bad: entry_point(plan, finals).bad,
+        undefined: undefined_names(alloc, plan)?,
     })
 }

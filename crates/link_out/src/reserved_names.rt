@@ -1,14 +1,14 @@
 //! The names `_etext`, `_edata` and `_end`: what becomes of them, and which undefined names are others.
-ghost use Rattle.std.specs.Prelude.{◌≡◌, ◌≤◌, ◌++◌, ◌∷◌, [], bytes_eq, IfOk, OnOk};
+ghost use Rattle.std.specs.Prelude.{◌≡◌, ◌++◌, ◌∷◌, [], bytes_eq, IfOk, OnOk};
 ghost use Rattle.link_session.specs.Image.{state_at};
-ghost use Rattle.link_session.specs.Labelled.{objects};
 ghost use Rattle.tool_options.specs.NameLists.{is_among};
-ghost use Rattle.link_session.specs.Mentions.{mentions};
 ghost use Rattle.link_session.specs.States.{state};
 ghost use Rattle.link_session.specs.Undo.{image_of};
 ghost use Rattle.link_out.specs.ReservedNames.{reserved_names};
 ghost use Rattle.link_out.specs.function.Finals.{reserved_or_waiting};
 ghost use Rattle.link_out.specs.function.Reports.{is_undefined, is_missing, reserved_taken};
+ghost use Rattle.link_out.specs.internal.InOrder.{mentions_of};
+ghost use Rattle.link_out.specs.internal.Planned.{AreShort};
 ghost use Rattle.link_out.specs.internal.ReportParts.{taken_among};
 
 use crate::finals::{Final, bound_at, waiting};
@@ -26,9 +26,7 @@ fn is_named(name: &Name, text: &[u8]) -> bool
 
 /// What becomes of a name that nothing defines and that is not a common.
 pub(crate) fn reserved_or_waiting(bases: &Bases, name: Name) -> Final
-    requires text { bases.now.text_end ≤ 65535 }
-    requires datas { bases.now.data_end ≤ 65535 }
-    requires bss { bases.now.bss_end ≤ 65535 }
+    requires { AreShort bases.now }
     ensures { result ≡ reserved_or_waiting bases.now name }
 {
     if is_named(&name, b"_etext") {
@@ -64,7 +62,7 @@ fn known_at(session: &Session, index: u16) -> State
 
 /// What is known of a name; one that nothing mentions is wanted at size 0.
 fn state_of(session: &Session, name: &Name) -> State
-    ensures { result ≡ state (mentions session.now.forced (objects session.now.entries)) name.now }
+    ensures { result ≡ state (mentions_of session.now) name.now }
 {
     match session.find(name) {
         Some(index) => known_at(session, index),
@@ -74,7 +72,7 @@ fn state_of(session: &Session, name: &Name) -> State
 
 /// Appends a name if it is defined, or a common.
 fn put_if_taken(names: &mut Vec<Name>, session: &Session, name: Name) -> Result<(), AllocError>
-    ensures { OnOk result (names.new.items ≡ names.old.items ++ taken_among (mentions session.now.forced (objects session.now.entries)) (name ∷ [])) }
+    ensures { OnOk result (names.new.items ≡ names.old.items ++ taken_among (mentions_of session.now) (name ∷ [])) }
 {
     if !is_undefined(state_of(session, &name)) {
         names.push(name)?;
@@ -84,7 +82,7 @@ fn put_if_taken(names: &mut Vec<Name>, session: &Session, name: Name) -> Result<
 
 /// Those of the reserved names that the objects define, or make commons. An error: out of memory.
 pub(crate) fn reserved_taken(alloc: Global, session: &Session) -> Result<Vec<Name>, AllocError>
-    ensures { IfOk result (λ names. names.items ≡ reserved_taken (mentions session.now.forced (objects session.now.entries))) }
+    ensures { IfOk result (λ names. names.items ≡ reserved_taken (mentions_of session.now)) }
 {
     let mut names = Vec::new(alloc);
     put_if_taken(&mut names, session, Name::from_bytes(b"_etext"))?;

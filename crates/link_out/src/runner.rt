@@ -6,7 +6,7 @@ ghost use Rattle.link_session.specs.Edits.{addition, withdrawal, added, answer_t
 ghost use Rattle.link_session.specs.Labelled.{objects};
 ghost use Rattle.link_session.specs.Sessions.{labelled};
 ghost use Rattle.link_out.specs.declared.edit.RunFault.TheVariants as run_faults;
-ghost use Rattle.link_out.specs.function.Link.{link};
+ghost use Rattle.link_out.specs.function.Link.{link_of};
 ghost use Rattle.link_out.specs.Runs.{change_of, link_after, IsDone, IsRunOf};
 ghost use Rattle.link_out.specs.internal.Replies.{HasRoom, IsReplied, AreDone, StopsAmong, IsLinkedWith, IsRunFrom, RunsOut};
 
@@ -21,7 +21,7 @@ use tool_options::Options;
 /// Adds an object, or refuses it. An error: out of memory for an object that is within all limits.
 #[tactic(auto, using(crate::proofs::RunLemmas::by_edit))]
 fn add_or_refuse(session: &mut Session, label: String, object: Object) -> Result<Reply, AllocError>
-    ensures done { IfOk result (λ reply. IsDone session.old session.new (addition (labelled label object)) reply) }
+    ensures done { IfOk result (IsDone session.old session.new (addition (labelled label object))) }
     ensures within { IfErr result (λ _. refusal session.old.forced (objects session.old.entries) object ≡ None) }
     ensures same { IfErr result (λ _. session.new ≡ session.old) }
 {
@@ -87,7 +87,7 @@ fn replies_to(
     session: &mut Session,
     edits: Vec<Edit>,
 ) -> Result<Option<Vec<Reply>>, AllocError>
-    ensures done { IfOk result (λ replies. AreDone session.old session.new (map change_of edits.items) replies) }
+    ensures done { IfOk result (AreDone session.old session.new (map change_of edits.items)) }
     ensures stopped { IfErr result (λ _. StopsAmong session.old session.new (map change_of edits.items)) }
 {
     let mut replies = Vec::with_capacity(alloc, edits.len()).ok();
@@ -105,7 +105,7 @@ fn link_replied(
     options: &Options,
     replies: Option<Vec<Reply>>,
 ) -> Result<(Vec<Reply>, Linked), RunFault>
-    ensures value { IsLinkedWith replies (link session.now.forced (objects session.now.entries) options.now) result }
+    ensures value { IsLinkedWith replies (link_of session.now options.now) result }
     ensures object { options.now.relocatable ≡ true → IfOk result (λ run. IsWellFormed run.1.file) }
 {
     let linked = finish(alloc, session, options)?;

@@ -5,18 +5,18 @@ ghost use Rattle.link_session.specs.Starts.{no_starts};
 ghost use Rattle.link_session.specs.Undo.{image_of};
 ghost use Rattle.link_out.specs.function.Finals.{type_of};
 ghost use Rattle.link_out.specs.internal.FromCells as from_cells;
-ghost use Rattle.link_out.specs.function.Tables.{table};
-ghost use Rattle.link_out.specs.internal.InOrder.{plan_of};
+ghost use Rattle.link_out.specs.internal.Planned.{plan_in, table_in};
 ghost use Rattle.link_out.specs.internal.Rows.{moves_by, value_moved, symbol_moved, rows_in, rows_from, row_with, rows_with};
 
 use crate::finals::Final;
 use crate::kept_symbols::is_kept_local;
 use crate::layout::Bases;
+use crate::plan::Plan;
 use crate::words::base_word;
 use aout_core::{Name, Segment, Symbol};
 use link_session::{Entry, Session, Shifts, Starts};
 use std::alloc::{AllocError, Global};
-use tool_options::{Keep, Options};
+use tool_options::Keep;
 
 /// How far the segments of an object move, modulo 65,536.
 #[derive(Clone, Copy)]
@@ -138,20 +138,17 @@ pub(crate) fn put_externals(
 /// An error: out of memory.
 pub(crate) fn table(
     alloc: Global,
-    session: &Session,
-    options: &Options,
-    bases: &Bases,
+    plan: &Plan<'_>,
     finals: &[Final],
 ) -> Result<Vec<Symbol>, AllocError>
-    requires bases { bases.now ≡ (plan_of session.now options.now).at }
-    requires finals { finals.now ≡ from_cells.finals (plan_of session.now options.now) }
-    ensures { IfOk result (λ rows. rows.items ≡ table (plan_of session.now options.now) (objects session.now.entries)) }
+    requires { finals.now ≡ from_cells.finals (plan_in plan.now) }
+    ensures { IfOk result (λ rows. rows.items ≡ table_in plan.now) }
 {
-    let keep = options.keep();
+    let keep = plan.options.keep();
     if keep == Keep::Nothing {
         return Ok(Vec::new(alloc));
     }
-    let mut rows = kept_locals(alloc, session.entries(), keep, bases)?;
-    put_externals(&mut rows, session, finals)?;
+    let mut rows = kept_locals(alloc, plan.session.entries(), keep, &plan.bases)?;
+    put_externals(&mut rows, plan.session, finals)?;
     Ok(rows)
 }

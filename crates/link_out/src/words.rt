@@ -1,10 +1,13 @@
 //! The words of a linked file, from the cells of the merged image.
-ghost use Rattle.std.specs.Prelude.{◌≡◌, ◌%◌, map, slice_get, IfOk};
+ghost use Rattle.std.specs.Prelude.{◌≡◌, ◌%◌, length, map, slice_get, IfOk};
 ghost use Rattle.link_out.specs.Layouts.{base};
+ghost use Rattle.link_out.specs.internal.FromCells as from_cells;
 ghost use Rattle.link_out.specs.internal.FromCells.{address_of, target_base, word_of_cell};
+ghost use Rattle.link_out.specs.internal.Planned.{plan_in, AreWords};
 
 use crate::finals::Final;
 use crate::layout::Bases;
+use crate::plan::Plan;
 use aout_core::Segment;
 use link_session::{Cell, Target};
 use std::alloc::{AllocError, Global};
@@ -57,8 +60,18 @@ fn word_of_cell(bases: &Bases, finals: &[Final], segment: Segment, cell: Cell) -
         .wrapping_sub(start)
 }
 
+/// Fills in the words of the cells of a segment.
+fn fill_words(words: &mut [u16], cells: &[Cell], segment: Segment, bases: &Bases, finals: &[Final])
+    requires { length words.old ≡ length cells.now }
+    ensures { words.new ≡ map (word_of_cell bases.now finals.now segment) cells.now }
+{
+    for (n, cell) in cells.iter().enumerate() {
+        words[n] = word_of_cell(bases, finals, segment, *cell);
+    }
+}
+
 /// The words of the cells of a segment, text or data. An error: out of memory.
-pub(crate) fn words_of_cells(
+fn words_of_cells(
     alloc: Global,
     cells: &[Cell],
     segment: Segment,
@@ -67,9 +80,31 @@ pub(crate) fn words_of_cells(
 ) -> Result<Vec<u16>, AllocError>
     ensures { IfOk result (λ words. words.items ≡ map (word_of_cell bases.now finals.now segment) cells.now) }
 {
-    let mut words = Vec::with_capacity(alloc, cells.len())?;
-    for cell in cells {
-        words.push(word_of_cell(bases, finals, segment, *cell))?;
-    }
+    let mut words = vec![in alloc; 0u16; cells.len()]?;
+    fill_words(&mut words, cells, segment, bases, finals);
     Ok(words)
+}
+
+/// The words of a linked file.
+#[derive(Drop)]
+pub(crate) struct Words {
+    pub(crate) text_words: Vec<u16>,
+    pub(crate) data_words: Vec<u16>,
+}
+
+/// The words of text and data. An error: out of memory.
+pub(crate) fn words_of(
+    alloc: Global,
+    plan: &Plan<'_>,
+    finals: &[Final],
+) -> Result<Words, AllocError>
+    requires { finals.now ≡ from_cells.finals (plan_in plan.now) }
+    ensures { IfOk result (AreWords plan.now) }
+{
+    let text = plan.session.text_cells();
+    let data = plan.session.data_cells();
+    Ok(Words {
+        text_words: words_of_cells(alloc, text, Segment::TextSeg, &plan.bases, finals)?,
+        data_words: words_of_cells(alloc, data, Segment::DataSeg, &plan.bases, finals)?,
+    })
 }

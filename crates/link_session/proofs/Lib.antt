@@ -12,6 +12,7 @@ pub mod JournalLemmas
 pub mod BoundLemmas
 pub mod UpdateLemmas
 pub mod PlaceLemmas
+pub mod PlainLemmas
 pub mod PutBackLemmas
 pub mod MentionedLemmas
 pub mod LimitLemmas
@@ -35,6 +36,7 @@ pub mod DifferenceLemmas
 pub mod ChangedLemmas
 pub mod RestoreLemmas
 pub mod NamesLemmas
+pub mod EmptyChainLemmas
 pub mod CoverLemmas
 pub mod HeadLemmas
 pub mod HistoryLemmas
@@ -45,3 +47,5 @@ pub mod TakenBackLemmas
 pub mod PlacedLemmas
 pub mod PlacedCellLemmas
 pub mod ExternalLemmas
+pub mod AgreementLemmas
+pub mod NeighbourLemmas

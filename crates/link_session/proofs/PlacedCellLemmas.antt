@@ -1,6 +1,5 @@
--- The cells of an object by the places of its symbols: they are those by the names, and no more than its words.
-use Rattle.std.proofs.Common.{◌≡◌, ℕ, ◌+◌, ◌-◌, ◌≤◌, Bool, true, false, cond, List, [], ◌∷◌, ◌++◌, take, drop, length, Option, Some, None, refl, ◌∙◌, ap, arith, length-append}
-use Rattle.std.proofs.lemmas.List.{length-drop, length-take-le}
+-- The cells of an object by the places of its symbols: they are those by the names.
+use Rattle.std.proofs.Common.{◌≡◌, ℕ, ◌+◌, Bool, true, false, cond, List, [], ◌∷◌, ◌++◌, Option, Some, None, refl, ◌∙◌, ap}
 use Rattle.std.specs.Prelude.{slice_get, ⊤}
 use Rattle.std.specs.List.{AllByRecursion}
 use Rattle.aout_core.specs.declared.symbol.Symbol.{Symbol}
@@ -74,16 +73,3 @@ module _ (es : Named) (o : Contents) (shifts : Shifts) (own_shift : ℕ) (well :
 
   pub placed_datas : placed_cells es places shifts own_shift o.data_words o.data_reloc ≡ own_cells es o.symbols shifts own_shift o.data_words o.data_reloc
   placed_datas = ap (λ (ps : List ℕ). placed_cells es ps shifts own_shift o.data_words o.data_reloc) same ∙ cells-are es o.symbols shifts own_shift o.data_words o.data_reloc both.1
-
--- how many cells words make, and the last cells of a longer list
-pub placed_few : (es : Named) (places : List ℕ) (shifts : Shifts) (own_shift : ℕ) (ws : List ℕ) (rs : List Reloc) → length (placed_cells es places shifts own_shift ws rs) ≤ length ws
-placed_few es places shifts own_shift [] rs = omega arith
-placed_few es places shifts own_shift (w ∷ ws) [] = omega arith
-placed_few es places shifts own_shift (w ∷ ws) (r ∷ rs) = let rest = placed_few es places shifts own_shift ws rs in omega arith
-
-pub last_few : (old own all : List Cell) (kept n : ℕ) → all ≡ old ++ own → kept ≡ length old → length own ≤ n → length (take (length all - kept) (drop kept all)) ≤ n
-last_few old own all kept n e k few =
-    let left = length-drop kept all in
-    let taken = length-take-le (length all - kept) (drop kept all) (omega (arith, left)) in
-    let both = ap (λ (cs : List Cell). length cs) e ∙ length-append old own in
-    omega (arith, taken, both, k, few)

@@ -140,7 +140,7 @@ fn bind_name(
     }
 }
 
-/// Binds the chain of an external, if it is defined. After an error the marks bring back what was bound.
+/// Binds the chain of an external, if it has one and is defined. After an error the marks bring back what was bound.
 fn bind_defined(
     text_cells: &mut [Cell],
     data_cells: &mut [Cell],
@@ -156,6 +156,9 @@ fn bind_defined(
     ensures back { LeavesMarks text_cells.old data_cells.old heads.old text_cells.new data_cells.new heads.new marks.old.items marks.new.items }
     ensures few { OnOk result (NotesAwaited awaited.now text_cells.old data_cells.old text_cells.new data_cells.new marks.old.items marks.new.items) }
 {
+    if link_in(heads, awaited.place).is_none() {
+        return Ok(());
+    }
     match state_at(awaited.externals, awaited.place) {
         State::Defined(segment, offset) => {
             let chain = Chain {

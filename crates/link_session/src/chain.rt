@@ -1,5 +1,19 @@
 //! Chains of the cells that wait for one name: a head names the first, and beside each cell a link names the next.
-ghost use Rattle.std.specs.Prelude.{◌≡◌, ◌+◌, ◌<◌, ◌≤◌, ◌++◌, ◌∷◌, [], length, slice_index_or, slice_set, None, Some, vec_len, vec_capacity};
+//!
+//! So an object that defines the name binds these cells without a search of the image. Here cells 1 and 4 of text and
+//! then cell 0 of data were appended, and wait for external 2:
+//!
+//! ```text
+//!     heads[2] ──> data 0 ──> text 4 ──> text 1
+//!          link:   text 4     text 1     None
+//! ```
+//!
+//! - A cell that is appended comes first: it becomes the head, and its link is the old head.
+//! - A definition binds the cells of the chain in this order and marks each, and the head becomes `None`. The links of
+//!   the bound cells stay.
+//! - A withdrawal first takes the object's own cells out of the front, the last first. Then it puts the marks back, the
+//!   last first: each cell becomes the head again, and its link still names the cell after it.
+ghost use Rattle.std.specs.Prelude.{◌≡◌, ◌≤◌, length, slice_index_or, slice_set, None, Some, vec_capacity};
 ghost use Rattle.link_session.specs.internal.Chains.{link_at, head_for, with_head, unthreaded};
 ghost use Rattle.link_session.specs.internal.Threads.{grown_heads};
 
@@ -74,16 +88,14 @@ pub(crate) fn set_head(heads: &mut [Link], target: Target, link: Link)
     }
 }
 
-/// Puts a cell in front of the chain that it waits in, if it waits, and appends its link. There is room for the link.
-pub(crate) fn thread(links: &mut Vec<Link>, heads: &mut [Link], target: Target, place: Place)
-    requires { vec_len links.old < vec_capacity links.old }
-    ensures links { links.new.items ≡ links.old.items ++ head_for target heads.old ∷ [] }
+/// Puts a cell in front of the chain that it waits in, if it waits, and answers its link.
+pub(crate) fn thread(heads: &mut [Link], target: Target, place: Place) -> Link
+    ensures link { result ≡ head_for target heads.old }
     ensures heads { heads.new ≡ with_head target (Some place) heads.old }
-    ensures len { vec_len links.new ≡ vec_len links.old + 1 }
-    ensures capacity { vec_capacity links.old ≤ vec_capacity links.new }
 {
-    links.push_reserved(head_of(heads, target));
+    let link = head_of(heads, target);
     set_head(heads, target, Some(place));
+    link
 }
 
 /// Takes cells out of their chains again, the last first.

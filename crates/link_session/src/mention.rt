@@ -1,5 +1,5 @@
 //! The mentions of external names.
-ghost use Rattle.std.specs.Prelude.{◌≡◌, ◌+◌, ◌*◌, ◌^◌, ◌≤◌, ◌<◌, ◌++◌, ◌&&◌, ◌∷◌, [], cond, nat_lt, filter, length, vec_len, vec_capacity};
+ghost use Rattle.std.specs.Prelude.{◌≡◌, ◌+◌, ◌*◌, ◌^◌, ◌≤◌, ◌<◌, ◌++◌, ◌&&◌, ◌∷◌, [], cond, nat_lt, filter, length, vec_len, vec_capacity, IfSome, ℕ};
 ghost use Rattle.indexmap.specs.IndexMap.{spare};
 ghost use Rattle.aout_core.specs.Words.{plus};
 ghost use Rattle.aout_core.specs.WellFormed.{is_external, segment_of};
@@ -112,6 +112,20 @@ pub(crate) fn mention(externals: &mut Externals, name: Name, says: State)
     let _place = update(externals, name, says);
 }
 
+/// The place of a known name, if no more is said than that it is wanted: that changes nothing.
+fn plain_mention(externals: &Externals, claim: &Claim) -> Option<usize>
+    ensures place { IfSome result (λ place. place ≡ place_in externals.now.entries claim.now.name) }
+    ensures within { IfSome result (λ place. place < length externals.now.entries) }
+    ensures names { IfSome result (λ _. with_mention externals.now.entries (mention_of claim.now.name claim.now.says) ≡ externals.now.entries) }
+    ensures multiples { IfSome result (λ _. clash externals.now.entries (mention_of claim.now.name claim.now.says) ≡ []) }
+    ensures marks { IfSome result (λ _. (kept : ℕ) → state_mark kept externals.now.entries (mention_of claim.now.name claim.now.says) ≡ []) }
+{
+    match claim.says {
+        State::Wanted(0) => externals.get_index_of(&claim.name),
+        _ => None,
+    }
+}
+
 /// Enters an external symbol of an object, and answers the place of its name. There is room for it; `kept` names were
 /// there before the object.
 fn enter(
@@ -136,6 +150,9 @@ fn enter(
     ensures marks_len { vec_len marks.new ≤ vec_len marks.old + 1 }
     ensures marks_capacity { vec_capacity marks.old ≤ vec_capacity marks.new }
 {
+    if let Some(place) = plain_mention(externals, &claim) {
+        return place as u16;
+    }
     let Claim { name, says } = claim;
     let (place, was) = update(externals, name, says);
     note_state(marks, kept, place, was, says);

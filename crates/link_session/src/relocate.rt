@@ -1,5 +1,5 @@
 //! The cells of an object's own words, relocated.
-ghost use Rattle.std.specs.Prelude.{◌≡◌, ◌+◌, ◌≤◌, ◌++◌, ◌<◌, ◌*◌, length, slice_index_or, vec_len, vec_capacity};
+ghost use Rattle.std.specs.Prelude.{◌≡◌, ◌+◌, ◌≤◌, ◌++◌, ◌<◌, ◌*◌, ℕ, length, slice_index_or, slice_set, vec_len, vec_capacity, None, Some};
 ghost use Rattle.aout_core.specs.WellFormed.{kind_of, symbol_number};
 ghost use Rattle.link_session.specs.Starts.{no_starts, next_starts, shifts_at};
 ghost use Rattle.link_session.specs.Image.{state_at};
@@ -7,7 +7,7 @@ ghost use Rattle.link_session.specs.Cells.{name_target, offset_in, segment_targe
 ghost use Rattle.link_session.specs.internal.Fields.{image_in};
 ghost use Rattle.link_session.specs.internal.Additions.{next_shifts, no_place, placed_reference, placed_cell, place_at};
 ghost use Rattle.link_session.specs.Starts.{shift_by};
-ghost use Rattle.link_session.specs.internal.Chains.{threaded};
+ghost use Rattle.link_session.specs.internal.Chains.{head_for, with_head, threaded};
 ghost use Rattle.link_session.specs.internal.OwnWords.{own_placed, own_threaded};
 
 use crate::cell::{Cell, Target};
@@ -186,29 +186,44 @@ fn place_at(segment: Segment, index: u16) -> Place
     }
 }
 
-/// Appends the cells of an object's words. There is room for them.
-fn append_own(cells: &mut Vec<Cell>, scope: &Scope<'_>, own: &Words<'_>)
-    requires beside { length own.now.words.now ≡ length own.now.relocs.now }
-    requires room { vec_len cells.old + length own.now.words.now ≤ vec_capacity cells.old }
-    ensures { cells.new.items ≡ cells.old.items ++ own_placed scope.now own.now }
+/// Puts a cell in front of the chain that it waits in, and sets the link with this index. If it does not wait, the link stays
+/// as it is: it leads nowhere.
+fn link_cell(links: &mut [Link], index: usize, heads: &mut [Link], target: Target, place: Place)
+    requires within { index < length links.old }
+    requires unlinked { slice_index_or links.old index None ≡ None }
+    ensures links { links.new ≡ slice_set links.old index (head_for target heads.old) }
+    ensures heads { heads.new ≡ with_head target (Some place) heads.old }
 {
-    let own_shift = scope.shifts.of(own.segment);
-    for (i, word) in own.words.iter().enumerate() {
-        cells.push_reserved(own_cell(scope, own_shift, *word, own.relocs[i]));
+    if let Target::External(_) = target {
+        links[index] = thread(heads, target, place);
     }
 }
 
-/// Puts the last cells of a segment in front of the chains that they wait in, and appends their links. There is room
-/// for the links.
-fn thread_last(links: &mut Vec<Link>, heads: &mut [Link], cells: &[Cell], segment: Segment)
-    requires small { length links.old.items + length cells.now ≤ 65535 }
-    requires room { vec_len links.old + length cells.now ≤ vec_capacity links.old }
-    ensures links { links.new.items ≡ links.old.items ++ (threaded (place_at segment) (length links.old.items) cells.now heads.old).0 }
-    ensures heads { heads.new ≡ (threaded (place_at segment) (length links.old.items) cells.now heads.old).1 }
+/// Fills in the cells of an object's words, each in front of the chain that it waits in, and their links, which lead nowhere
+/// so far. So many cells of the segment come before them.
+fn fill_cells(
+    cells: &mut [Cell],
+    links: &mut [Link],
+    heads: &mut [Link],
+    before: usize,
+    scope: &Scope<'_>,
+    own: &Words<'_>,
+)
+    requires beside { length own.now.words.now ≡ length own.now.relocs.now }
+    requires cells { length cells.old ≡ length own.now.words.now }
+    requires links { length links.old ≡ length own.now.words.now }
+    requires unlinked { (k : ℕ) → slice_index_or links.old k None ≡ None }
+    requires small { before + length own.now.words.now ≤ 65535 }
+    ensures cells { cells.new ≡ own_placed scope.now own.now }
+    ensures links { links.new ≡ (threaded (place_at own.now.segment) before (own_placed scope.now own.now) heads.old).0 }
+    ensures heads { heads.new ≡ (threaded (place_at own.now.segment) before (own_placed scope.now own.now) heads.old).1 }
 {
-    for cell in cells {
-        let place = place_at(segment, links.len() as u16);
-        thread(links, heads, cell.target, place);
+    let own_shift = scope.shifts.of(own.segment);
+    for (i, word) in own.words.iter().enumerate() {
+        let cell = own_cell(scope, own_shift, *word, own.relocs[i]);
+        let place = place_at(own.segment, (before + i) as u16);
+        link_cell(links, i, heads, cell.target, place);
+        cells[i] = cell;
     }
 }
 
@@ -229,7 +244,21 @@ pub(crate) fn append_cells(
     ensures links { links.new.items ≡ links.old.items ++ (own_threaded own.now (own_placed scope.now own.now) links.old.items heads.old).0 }
     ensures heads { heads.new ≡ (own_threaded own.now (own_placed scope.now own.now) links.old.items heads.old).1 }
 {
+    let empty = Cell {
+        value: 0,
+        target: Target::Absolute,
+        pc: false,
+    };
     let kept = cells.len();
-    append_own(cells, scope, own);
-    thread_last(links, heads, &cells[kept..], own.segment);
+    let before = links.len();
+    cells.resize(kept + own.words.len(), empty).unwrap();
+    links.resize(before + own.words.len(), None).unwrap();
+    fill_cells(
+        &mut cells[kept..],
+        &mut links[before..],
+        heads,
+        before,
+        scope,
+        own,
+    );
 }

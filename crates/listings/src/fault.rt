@@ -28,7 +28,7 @@ pub(crate) enum Word {
     Unknown,
 }
 
-/// Why a line is wrong.
+/// Why a line of a listing is wrong. (own choice)
 #[derive(Clone, Copy, Debug, PartialEq, Eq, Error)]
 pub enum Reason {
     /// The line has no such column.
@@ -78,7 +78,7 @@ pub enum Reason {
     OddSize,
 }
 
-/// The first mistake of a listing; lines and columns are counted from 1.
+/// The first mistake of a listing. Lines are counted from 1, and so are columns, in bytes. (own choice)
 #[derive(Clone, Copy, Debug, PartialEq, Eq)]
 pub struct Fault {
     pub line: usize,
@@ -86,9 +86,10 @@ pub struct Fault {
     pub reason: Reason,
 }
 
-/// Why a listing was not read.
+/// Why a listing was not read. (own choice)
 #[derive(Clone, Copy, Debug, PartialEq, Eq)]
 pub enum ListingFault {
+    /// Memory ran out for the file.
     Memory,
     /// The first mistake.
     Wrong(Fault),

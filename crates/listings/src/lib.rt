@@ -1,4 +1,4 @@
-//! Writes a file as a listing, and reads a listing as the file that it came from.
+//! Writes an a.out file as a listing, which people can read and change, and makes the file of a listing.
 //!
 //! ```rust
 //! let Ok(text) = write_listing(alloc, file, &Nothing) else {
@@ -22,7 +22,16 @@
 //! - `laws`: reading the listing of a file gives that file
 //!
 //! A listing has the words of text and data with their addresses and relocation words, the size of bss, the symbols, and the
-//! words of the header that do not follow from these.
+//! words of the header that do not follow from these, all in octal. This is one of an object whose `_main` returns at once:
+//!
+//!     text
+//!     000000  000207     0
+//!     data
+//!     bss 0
+//!     symbols
+//!     0     _main      42  000000
+//!
+//! docs/OBJECTS.md has the whole form.
 #![tactic(auto)]
 
 mod columns;

@@ -8,6 +8,7 @@ ghost use Rattle.listings.specs.internal.Answers.{Fails, Found};
 use crate::fault::{Reason, RowFault};
 use aout_core::Name;
 use std::alloc::Global;
+use texts::is_printable;
 
 /// The number in a column.
 pub(crate) fn number_at(place: usize, column: &[u8]) -> Result<u16, RowFault>
@@ -45,7 +46,7 @@ fn take_byte(
         if byte == b'\\' {
             return Ok((3, 0));
         }
-        if byte > b' ' && byte < 127 {
+        if is_printable(byte) {
             bytes.push(byte)?;
             return Ok((0, 0));
         }

@@ -99,8 +99,10 @@ fn read_all(alloc: Global, text: &[u8]) -> Result<File, ListingFault>
     Ok(finish(draft))
 }
 
-/// The file that a listing says, or its first mistake. The listing of a file says that file, whatever is
-/// remarked in it.
+/// Makes the file of a listing. The listing that `write_listing` makes of a file gives that file, whatever is remarked in it.
+/// (own choice)
+///
+/// Errors: `Wrong` with the first mistake of the listing; `Memory` if memory runs out for the file.
 pub fn read_listing(alloc: Global, text: &[u8]) -> Result<File, ListingFault>
     ensures says { Says result (read text.now) }
     ensures again { (x : Remarks) (c : Contents) → AreRemarks x → IsSound c → text.now ≡ listing x c → Gives result c }

@@ -8,11 +8,12 @@ ghost use Rattle.listings.specs.Laws.{AreRemarks};
 use aout_core::{Part, Symbol};
 use texts::Text;
 
-/// What a listing says to people beside the file. Reading a listing skips it.
+/// What a listing says to people beside the file. `read_listing` skips it. A part is text or data, and a place in it is the
+/// index of a word. (own choice)
 pub trait Remark {
     ghost said: { Self → Remarks };
 
-    /// Appends the notes, a line each, which begins with a slash.
+    /// Appends the notes at the head of the listing, a line each, which begins with a slash.
     fn put_notes(&self, text: &mut Text)
         ensures { Puts text.old text.new (text_of (note_lines (said self.now).notes)) };
 

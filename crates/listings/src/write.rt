@@ -279,7 +279,9 @@ fn listing_of<R: Remark>(alloc: Global, file: &File, remarks: &R) -> Result<Vec<
     text.finish()
 }
 
-/// The listing of a file, with remarks. Whatever is remarked, reading the listing gives the file.
+/// Writes a file as a listing, with remarks. Whatever is remarked, reading the listing gives the file. (own choice)
+///
+/// Errors: `AllocError` if memory runs out for the text.
 pub fn write_listing<R: Remark>(
     alloc: Global,
     file: &File,

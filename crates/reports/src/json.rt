@@ -262,7 +262,7 @@ fn put_state_mark(text: &mut Text, session: &Session, index: u16, state: State)
     text.put("}}");
 }
 
-/// Appends where something was overwritten, and what stood there.
+/// Appends where something was overwritten, and what was there.
 fn put_mark(text: &mut Text, session: &Session, index: usize, mark: Mark)
     ensures { Puts text.old text.new (listed_mark (image_of session.now).externals index mark) }
 {

@@ -1,5 +1,5 @@
 //! A JSON text that is written value by value.
-ghost use Rattle.std.specs.Prelude.{◌≡◌, ◌++◌, false, codes, decimal, IfOk};
+ghost use Rattle.std.specs.Prelude.{◌≡◌, ◌++◌, true, false, codes, decimal, IfOk};
 ghost use Rattle.reports.specs.JsonTexts.{Becomes, bytes_string, list_end, list_start, nothing_written, object_end, object_start, separator, text_string, with_end, with_line_end, with_start, with_value};
 
 use crate::json::{put_json_bytes, put_json_text};
@@ -102,6 +102,20 @@ impl JsonWriter {
         self.start("\"");
         put_json_text(&mut self.text, key);
         self.text.put("\":");
+    }
+
+    /// Adds a number as the key of a member of an object; its value comes next.
+    pub fn put_number_key(&mut self, number: u64)
+        ensures { Becomes self.old self.new (λ json. with_start json (text_string (decimal number) ++ codes ":")) }
+    {
+        self.put_key(Buffer::new().format(number));
+    }
+
+    /// Cuts the text: memory ran out for something that belongs into it.
+    pub fn cut(&mut self)
+        ensures { self.new.is_cut ≡ true }
+    {
+        self.text.cut();
     }
 
     /// Begins a list.

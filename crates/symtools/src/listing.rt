@@ -15,9 +15,9 @@ use std::alloc::{AllocError, Global};
 use std::io::Write;
 use tool_options::NmOptions;
 
-/// Writes the symbols of each file that the options ask for, a line each as `line` has it, in the order that they ask
-/// for; the files stay in the order given. With several files, a line with the file's path and `:` stands above its
-/// lines, unless the options want the path before each line. (nm(1))
+/// Writes for each file, in the given order, the symbols that the options ask for, in the order that they ask for: for each
+/// symbol a line as `line` writes it. With several files, a line of the file's path and `:` comes before those of its
+/// symbols, unless the options want the path in each line. (nm(1))
 ///
 /// Errors: `Memory`, 1, if memory runs out for the symbols of a file; `Device`, 2, if the device failed, in
 /// this call or before it.

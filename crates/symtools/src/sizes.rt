@@ -12,7 +12,7 @@ use aout_core::{DeviceFault, File, Header, Wire};
 use std::io::Write;
 
 /// Writes a line for each file: the sizes of text, data and bss in bytes, and their sum in decimal and in octal, as
-/// `4+2+2 = 8b = 010b`; with several files, the file's path and `: ` come before it. (own choice)
+/// `4+2+2 = 8b = 010b`. With several files, the line begins with the file's path and `: `. (own choice)
 ///
 /// It takes no memory. Its only error is `Device`, 2: the device failed, in this call or before it.
 pub fn size<W: Write>(files: &[(String, File)], out: &mut Wire<W>) -> Result<(), ToolFault>

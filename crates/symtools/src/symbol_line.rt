@@ -9,8 +9,8 @@ use aout_core::{DeviceFault, Symbol, Wire};
 use std::io::Write;
 use texts::six_digits;
 
-/// Writes the nm line of one symbol, and a newline: value, space, letter, space, name. The value is six octal digits,
-/// or six blanks for the letters u and U. (nm(1))
+/// Writes the line of one symbol as nm does, with its newline: the value, a blank, the letter, a blank, the name. The value
+/// has six octal digits, or six blanks for the letters u and U. (nm(1))
 ///
 /// The letter is by the type word masked with 037: 0 with value 0 is `u` and with another value `c`, 1 is `a`, 2 `t`,
 /// 3 `d`, 4 `b`, 024 `r`, 037 `f`, any other `a`. It is upper case for an external symbol.

@@ -1,4 +1,4 @@
-//! Texts that grow, and numbers and names in them.
+//! Texts that grow, with numbers in octal and names as they print.
 //!
 //! A `Text` remembers whether memory ran out for it, so a function that only appends has no error. `finish` gives the bytes, or
 //! the error for all of them.
@@ -14,6 +14,16 @@
 //!     text.finish()
 //! }
 //! ```
+//!
+//! Types:
+//!
+//! - `Text`: bytes that grow
+//! - `OctalBuffer`: an array for a number in octal, without memory
+//!
+//! Functions:
+//!
+//! - `six_digits`, `three_digits`: the last octal digits of a number
+//! - `is_printable`: whether a byte of a name is shown as it is
 #![tactic(auto)]
 
 mod names;

@@ -1,10 +1,10 @@
-//! Names in bytes that print.
+//! Bytes of names as they print.
 ghost use Rattle.std.specs.Prelude.{◌≡◌, ◌∷◌};
 ghost use Rattle.texts.specs.Names.{escaped, is_printable};
 
 use crate::numbers::three_digits;
 
-/// Whether a byte prints, and is not a blank or a backslash. (own choice)
+/// Whether a byte of a name is shown as it is: it prints in ASCII, and is not a blank or a backslash. (own choice)
 pub fn is_printable(byte: u8) -> bool
     ensures { result ≡ is_printable byte }
 {

@@ -19,7 +19,7 @@ fn long_digit(number: u64) -> u8
     b'0' + (number % 8) as u8
 }
 
-/// The last six octal digits of a number.
+/// The last six octal digits of a number, which are all that a word has. (own choice)
 #[tactic(auto, unfolding(crate::specs::Numbers::six_digits))]
 pub fn six_digits(number: u32) -> [u8; 6]
     ensures { result ≡ six_digits number }
@@ -34,7 +34,7 @@ pub fn six_digits(number: u32) -> [u8; 6]
     ]
 }
 
-/// The last three octal digits of a number.
+/// The last three octal digits of a number, which are all that a byte has. (own choice)
 pub fn three_digits(number: u32) -> [u8; 3]
     ensures { result ≡ three_digits number }
 {
@@ -57,14 +57,14 @@ fn write_octal(number: u64, places: &mut [u8; MOST_DIGITS]) -> usize
     start
 }
 
-/// Room for the digits of a number.
+/// An array for the digits of a number. (own choice)
 #[derive(Clone, Copy)]
 pub struct OctalBuffer {
     places: [u8; MOST_DIGITS],
 }
 
 impl OctalBuffer {
-    /// Room for the digits of any number.
+    /// An array for any number.
     pub fn new() -> OctalBuffer {
         OctalBuffer {
             places: [b'0'; MOST_DIGITS],

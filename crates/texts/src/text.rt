@@ -110,7 +110,7 @@ impl Text {
         self.put_bytes(&escaped(byte));
     }
 
-    /// Puts a byte at the end as it prints.
+    /// Puts a byte of a name at the end: as it is if it is printable, and else as a backslash and three octal digits.
     pub fn put_printable_byte(&mut self, byte: u8)
         ensures { Puts self.old self.new (printable_byte byte) }
     {
@@ -121,7 +121,7 @@ impl Text {
         }
     }
 
-    /// Puts bytes at the end, each as it prints.
+    /// Puts bytes of a name at the end, each as `put_printable_byte` does.
     pub fn put_printable_bytes(&mut self, bytes: &[u8])
         ensures { Puts self.old self.new (printable_bytes bytes.now) }
     {
@@ -130,7 +130,7 @@ impl Text {
         }
     }
 
-    /// Puts a name at the end, each byte as it prints; an empty name as a NUL.
+    /// Puts a name at the end, each byte as `put_printable_byte` does. An empty name is `\000`, so that a column has something.
     pub fn put_printable_name(&mut self, name: &[u8])
         ensures { Puts self.old self.new (printable_name name.now) }
     {
@@ -150,7 +150,7 @@ impl Text {
         }
     }
 
-    /// Puts bytes at the end, at the left of a column of this width.
+    /// Puts bytes at the end, and then blanks up to this width. More bytes than that are not cut.
     pub fn put_at_left(&mut self, width: usize, bytes: &[u8])
         ensures { Puts self.old self.new (at_left width bytes.now) }
     {
@@ -158,7 +158,7 @@ impl Text {
         self.put_blanks(width.saturating_sub(bytes.len()));
     }
 
-    /// Puts bytes at the end, at the right of a column of this width.
+    /// Puts blanks at the end, so that with the bytes after them they have this width. More bytes than that are not cut.
     pub fn put_at_right(&mut self, width: usize, bytes: &[u8])
         ensures { Puts self.old self.new (at_right width bytes.now) }
     {

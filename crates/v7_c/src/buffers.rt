@@ -13,10 +13,10 @@ use library_calls::{
 };
 
 /// The fault if a buffer is too short.
-const NO_ROOM: u32 = 60;
+pub(crate) const NO_ROOM: u32 = 60;
 
 /// Writes bytes, or what else there is, at the beginning of a buffer.
-fn put<T: Copy>(items: &[T], buffer: &mut [T])
+pub(crate) fn put<T: Copy>(items: &[T], buffer: &mut [T])
     requires { length items.now ≤ length buffer.old }
     ensures { buffer.new ≡ put_in buffer.old items.now }
 {

@@ -5,6 +5,8 @@
 
 mod answer;
 mod buffers;
+mod map;
+mod run;
 
 ghost use Rattle.std.specs.Prelude.{◌≡◌, ◌≢◌, ◌⊎◌, [], Ok, Err, IsOk};
 ghost use Rattle.disassemblies.specs.Columns.{plain_disassembly};
@@ -15,6 +17,8 @@ ghost use Rattle.library_calls.specs.MemoryWanted.{HasBody, LinkMayRunOut, LinkO
 ghost use Rattle.library_calls.specs.ObjectParts.{file_for, made_of, parts_in, pieces, whole_in};
 ghost use Rattle.library_calls.specs.SessionAnswers.{session_in};
 ghost use Rattle.library_calls.specs.StateAnswers.{asked_in};
+ghost use Rattle.v7_c.specs.MapLeft.{LeavesMap};
+ghost use Rattle.v7_c.specs.RunLeft.{LeavesRun};
 ghost use Rattle.v7_c.specs.Left.{LeavesState, apart_left, counted_by, file_left, left, left_by, link_left, no_bytes, no_output, no_session, output_left, parts_left, ran_left, read_left, session_left};
 
 use crate::answer::{Answer, Counts, FileHeader};
@@ -22,6 +26,8 @@ use crate::buffers::{
     leave_bytes, leave_count, leave_file, leave_findings, leave_output, leave_parts, leave_session,
     leave_state,
 };
+use crate::map::MapAnswer;
+use crate::run::{Request, RunAnswer};
 use library_calls::{LinkRequest, ObjectBytes, ObjectParts, ObjectWord, ReportedName, SymbolRow};
 use std::alloc::Global;
 
@@ -205,6 +211,22 @@ pub extern "C" fn v7_link_findings(
     };
     let found = library_calls::link_findings(alloc, &request, objects);
     leave_findings(found, room, findings, answer)
+}
+
+/// Links objects or runs a session, by one request with one result.
+#[unsafe(no_mangle)]
+pub extern "C" fn v7_run(alloc: Global, request: &Request<'_>, answer: &mut RunAnswer<'_>) -> u32
+    ensures { LeavesRun request.now answer.old answer.new result }
+{
+    run::run(alloc, request, answer)
+}
+
+/// Gives the map of the link that a request asks for.
+#[unsafe(no_mangle)]
+pub extern "C" fn v7_map(alloc: Global, request: &Request<'_>, answer: &mut MapAnswer<'_>) -> u32
+    ensures { LeavesMap request.now answer.old answer.new result }
+{
+    map::map(alloc, request, answer)
 }
 
 /// Makes an object of its parts.

@@ -17,8 +17,9 @@ use Rattle.aout_core.specs.declared.part.Part.{Part}
 use Rattle.aout_core.specs.declared.part.Part.TheVariants as parts
 use Rattle.aout_core.specs.Addresses.{data_start_in, target}
 use Rattle.listings.specs.Listing.{Remarks}
-use Rattle.instructions.specs.Lines.{line_length}
-use Rattle.disassemblies.specs.Lines.{line_in, line_text_in}
+use Rattle.instructions.specs.declared.unix.Decoder.TheVariants.{Unix}
+use Rattle.instructions.specs.UnixLines.{unix_length}
+use Rattle.disassemblies.specs.Lines.{unix_line_in, line_text_in}
 use Rattle.disassemblies.specs.Labels.{label_lines}
 use Rattle.disassemblies.specs.Starts.{is_start}
 
@@ -69,7 +70,7 @@ reloc_said symbols at w (Some r) = word_said symbols at w r
 abbrev pub text_said : List Bool → Contents → ℕ → List ℕ
 text_said starts c i =
     if nat_lt i (length c.text_words)
-    then (if is_start starts i then line_text_in c i else reloc_said c.symbols (2 * i) (slice_index c.text_words i) (slice_get c.text_reloc i))
+    then (if is_start starts i then line_text_in Unix c i else reloc_said c.symbols (2 * i) (slice_index c.text_words i) (slice_get c.text_reloc i))
     else []
 
 abbrev pub data_said : Contents → ℕ → List ℕ
@@ -86,7 +87,7 @@ word_remark starts c parts.Data i = data_said c i
 abbrev pub labels_said : List Bool → Contents → ℕ → List (List ℕ)
 labels_said starts c i =
     if eqb i (length c.text_words) then label_lines c.symbols (2 * i) 0
-    else (if nat_lt i (length c.text_words) && is_start starts i then label_lines c.symbols (2 * i) (line_length (line_in c i)) else [])
+    else (if nat_lt i (length c.text_words) && is_start starts i then label_lines c.symbols (2 * i) (unix_length (unix_line_in Unix c i)) else [])
 
 abbrev pub labels_before : List Bool → Contents → Part → ℕ → List (List ℕ)
 labels_before starts c parts.Text i = labels_said starts c i

@@ -3,6 +3,7 @@ ghost use Rattle.std.specs.Prelude.{◌++◌, map};
 ghost use Rattle.texts.specs.Lines.{text_of};
 ghost use Rattle.texts.specs.Texts.{Puts};
 ghost use Rattle.listings.specs.Listing.{note_lines};
+ghost use Rattle.instructions.specs.declared.unix.Decoder.TheVariants.{Unix};
 ghost use Rattle.disassemblies.specs.Columns.{disassembly};
 ghost use Rattle.v7_explain.specs.Said.{printed};
 
@@ -12,17 +13,18 @@ use crate::source::{Source, as_object, bytes_at, file_in, put_kind_note, put_wro
 use aout_core::File;
 use disassemblies::put_disassembly;
 use findings::{Notes, wrong_words};
+use instructions::Decoder;
 use std::alloc::{AllocError, Global};
 use texts::Text;
 
 /// Appends the text of a file as instructions, with notes before it and findings after it.
 fn put_instructions(text: &mut Text, file: &File, notes: &Notes, findings: &Notes)
     ensures { Puts text.old text.new
-        (text_of (note_lines (map printed notes.now.lines)) ++ disassembly file.now
+        (text_of (note_lines (map printed notes.now.lines)) ++ disassembly Unix file.now
         ++ text_of (note_lines (map printed findings.now.lines))) }
 {
     put_lines(text, notes);
-    put_disassembly(text, file);
+    put_disassembly(text, Decoder::Unix, file);
     put_lines(text, findings);
 }
 

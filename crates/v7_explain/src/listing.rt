@@ -2,6 +2,7 @@
 ghost use Rattle.std.specs.Prelude.{◌≡◌, Ok, IfOk};
 ghost use Rattle.listings.specs.Listing.{listing};
 ghost use Rattle.listings.specs.Reading.{read};
+ghost use Rattle.instructions.specs.declared.unix.Decoder.TheVariants.{Unix};
 ghost use Rattle.disassemblies.specs.Starts.{starts};
 ghost use Rattle.v7_explain.specs.Said.{explained};
 
@@ -12,10 +13,12 @@ use crate::words::ListingWords;
 use aout_core::File;
 use disassemblies::{NamedFile, line_starts};
 use findings::{Notes, is_of_gnu, odd_of, put_findings, put_header, wrong_words};
+use instructions::Decoder;
 use listings::write_listing;
 use std::alloc::{AllocError, Global};
 use std::io::Write;
 use std::{fs, mem};
+use suspicions::suspicions_of;
 use texts::Text;
 
 /// The listing of a file, with notes before it and findings after it. Reading the listing gives the file.
@@ -25,10 +28,10 @@ fn listing_of(
     notes: &Notes,
     findings: &Notes,
 ) -> Result<Vec<u8>, AllocError>
-    ensures lists { IfOk result (λ v. v.items ≡ listing (explained (starts file.now) file.now notes.now.lines findings.now.lines) file.now) }
+    ensures lists { IfOk result (λ v. v.items ≡ listing (explained (starts Unix file.now) file.now notes.now.lines findings.now.lines) file.now) }
     ensures again { IfOk result (λ v. read v.items ≡ Ok file.now) }
 {
-    let starts = line_starts(alloc, file)?;
+    let starts = line_starts(alloc, Decoder::Unix, file)?;
     let named = NamedFile::new(alloc, file)?;
     let remarks = Explained {
         file: &named,
@@ -57,6 +60,7 @@ fn list_file(
     }
     let odd = odd_of(alloc, source.bytes, &file)?;
     put_findings(&mut findings, "odd", &odd);
+    put_findings(&mut findings, "odd", &suspicions_of(alloc, &file)?);
     if is_of_gnu(alloc, source.bytes, false) {
         findings.put(GNU_NOTE);
     }

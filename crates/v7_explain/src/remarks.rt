@@ -5,14 +5,16 @@ ghost use Rattle.texts.specs.Texts.{Puts};
 ghost use Rattle.aout_core.specs.Addresses.{data_start_in};
 ghost use Rattle.listings.specs.Listing.{remarked, note_lines};
 ghost use Rattle.findings.specs.Found.{Holds};
+ghost use Rattle.instructions.specs.declared.unix.Decoder.TheVariants.{Unix};
 ghost use Rattle.disassemblies.specs.Lines.{line_text_in};
 ghost use Rattle.disassemblies.specs.Labels.{label_lines};
 ghost use Rattle.v7_explain.specs.Said.{printed_byte, printed, is_plain, reloc_said, text_said, data_said, labels_said};
 
 use crate::words_in::put_word_text;
 use aout_core::{File, Part, Reloc, Symbol};
-use disassemblies::{NamedFile, is_start, line_in, put_labels, put_line_text};
+use disassemblies::{NamedFile, is_start, put_labels, put_line_text, unix_line_in};
 use findings::Notes;
+use instructions::Decoder;
 use listings::Remark;
 use std::alloc::Global;
 use symtools::letter;
@@ -171,17 +173,17 @@ fn data_spot(file: &File, place: usize) -> PlacedWord
 /// The instruction that begins at a place of the text.
 fn instruction_text(alloc: Global, file: &NamedFile<'_>, place: usize) -> Text
     requires { place < length file.now.text_words }
-    ensures { Holds result (line_text_in file.now place) }
+    ensures { Holds result (line_text_in Unix file.now place) }
 {
     let mut text = Text::new(alloc);
-    put_line_text(&mut text, file, place);
+    put_line_text(&mut text, Decoder::Unix, file, place);
     text
 }
 
 /// Appends the instruction that begins at a place of the text.
 fn put_instruction(text: &mut Text, file: &NamedFile<'_>, place: usize)
     requires { place < length file.now.text_words }
-    ensures { Puts text.old text.new (remarked (printed (line_text_in file.now place))) }
+    ensures { Puts text.old text.new (remarked (printed (line_text_in Unix file.now place))) }
 {
     let remark = instruction_text(text.allocator(), file, place);
     put_made(text, remark);
@@ -229,7 +231,7 @@ fn put_text_labels(x: &Explained<'_>, text: &mut Text, place: usize)
         return put_line_labels(text, x.file, place, 0);
     }
     if place < end && is_start(x.starts, place) {
-        let length = line_in(x.file.file(), place).length() as u8;
+        let length = unix_line_in(Decoder::Unix, x.file.file(), place).length() as u8;
         put_line_labels(text, x.file, place, length);
     }
 }

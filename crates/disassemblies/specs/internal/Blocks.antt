@@ -1,6 +1,6 @@
 -- Which symbols of a table have values in one block, in the order of the table.
 --
--- A block is 16 values, the first of them a multiple of 16, or 8 less than one. Blocks share so many buckets.
+-- A block is 32 values, the first of them a multiple of 32, or 16 less than one. Blocks share so many buckets.
 use Rattle.std.specs.Prelude.{◌≡◌, ℕ, suc, ◌+◌, ◌/◌, ◌%◌, ◌≤◌, eqb, if◌then◌else◌, List, [], ◌∷◌, ◌++◌, drop, slice_get}
 use Rattle.std.specs.List.{flat_map}
 use Rattle.std.specs.Option.{ForSome}
@@ -8,7 +8,7 @@ use Rattle.aout_core.specs.declared.symbol.Symbol.{Symbol}
 
 -- the block of a value
 abbrev pub block : ℕ → ℕ → ℕ
-block shift value = (value + shift) / 16
+block shift value = (value + shift) / 32
 
 -- the bucket of a symbol
 abbrev pub bucket_of : ℕ → ℕ → Symbol → ℕ

@@ -4,13 +4,13 @@ use Rattle.link_session.specs.Edits.{Change, kept_after, answer_to, survivors_fr
 use Rattle.link_session.specs.Labelled.{objects}
 use Rattle.link_session.specs.Undo.{Kept, IsJournal}
 use Rattle.tool_options.specs.Choices.{Choices}
-use Rattle.link_out.specs.function.Link.{link}
+use Rattle.link_out.specs.function.Link.{Outcome, link}
 use Rattle.link_out.specs.Steps.{and_then, refused_as}
 use Rattle.library_calls.specs.declared.cause.Cause.{Cause}
 use Rattle.library_calls.specs.declared.cause.Cause.TheVariants.{NotLinked}
 use Rattle.library_calls.specs.declared.state_call.Form.{Form}
-use Rattle.library_calls.specs.LinkAnswers.{output_of}
-use Rattle.library_calls.specs.SessionAnswers.{SessionOutput, output_with, reply_number}
+use Rattle.library_calls.specs.RunAnswers.{RunOutput, run_output}
+use Rattle.library_calls.specs.SessionAnswers.{SessionOutput, reply_number, session_output}
 use Rattle.library_calls.specs.StateAnswers.{encoded_in}
 
 -- an edit was made, and the number replies to it
@@ -30,6 +30,12 @@ pub record ShowsFrom (form : Form) (s : Kept) (state : List ℕ) : Type 0 where
   pub undoes : IsJournal s.forced (objects s.entries) s.journal
   pub encoded : state ≡ encoded_in form s
 
--- the link of what edits left, with the replies to them
+-- the link of what edits left, with the replies to them, given in some form
+abbrev pub edited : {A : Type 0} → (List ℕ → Outcome → A) → Kept → Choices → List ℕ → Result A Cause
+edited give s o numbers = and_then (refused_as NotLinked (link s.forced (objects s.entries) o)) (λ x. Ok (give numbers x))
+
 abbrev pub edited_link : Kept → Choices → List ℕ → Result SessionOutput Cause
-edited_link s o numbers = and_then (refused_as NotLinked (link s.forced (objects s.entries) o)) (λ x. Ok (output_with numbers (output_of x)))
+edited_link s o numbers = edited session_output s o numbers
+
+abbrev pub edited_run : Kept → Choices → List ℕ → Result RunOutput Cause
+edited_run s o numbers = edited run_output s o numbers

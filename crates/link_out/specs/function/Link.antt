@@ -5,6 +5,8 @@ use Rattle.std.specs.Prelude.{ℕ, ◌+◌, ◌*◌, cond, ◌&&◌, if◌then�
 use Rattle.aout_core.specs.declared.symbol.Segment.TheVariants.{TextSeg, DataSeg, BssSeg}
 use Rattle.aout_core.specs.declared.header.Header.{Header}
 use Rattle.aout_core.specs.Contents.{Contents}
+use Rattle.link_session.specs.Labelled.{objects}
+use Rattle.link_session.specs.Undo.{Kept}
 use Rattle.link_session.specs.Starts.{total}
 use Rattle.link_out.specs.declared.linked.LinkFault.{LinkFault}
 use Rattle.link_out.specs.declared.linked.LinkFault.TheVariants.{DoesNotFit, TooManySymbols, SymbolNumber}
@@ -47,3 +49,7 @@ link_by p os =
 
 abbrev pub link : List (List ℕ) → List Contents → Choices → Result Outcome LinkFault
 link forced os o = link_by (plan forced os o) os
+
+-- the link of what a session keeps
+abbrev pub link_of : Kept → Choices → Result Outcome LinkFault
+link_of s o = link s.forced (objects s.entries) o

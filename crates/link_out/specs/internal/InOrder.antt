@@ -1,17 +1,18 @@
 -- Commons, final names and undefined names as they follow from the names in order.
 use Rattle.std.specs.Prelude.{ℕ, ◌+◌, List, [], ◌∷◌, map, filter}
 use Rattle.link_session.specs.Labelled.{objects}
+use Rattle.link_session.specs.Mentions.{Mention, mentions}
 use Rattle.link_session.specs.Image.{Named}
 use Rattle.link_session.specs.Undo.{Kept}
 use Rattle.tool_options.specs.Choices.{Choices}
 use Rattle.link_out.specs.Layouts.{Bases}
-use Rattle.link_out.specs.function.Plans.{Plan, plan, common_size}
+use Rattle.link_out.specs.function.Plans.{common_size}
 use Rattle.link_out.specs.function.Finals.{Final, final_at}
 use Rattle.link_out.specs.function.Reports.{is_missing}
 
--- what a link of what a session keeps is computed from
-abbrev pub plan_of : Kept → Choices → Plan
-plan_of s o = plan s.forced (objects s.entries) o
+-- what the objects of a session, and its forced names, say of names
+abbrev pub mentions_of : Kept → List Mention
+mentions_of s = mentions s.forced (objects s.entries)
 
 -- what becomes of names, with so many bytes of commons before them
 abbrev pub finals_from : Choices → Bases → ℕ → Named → List Final

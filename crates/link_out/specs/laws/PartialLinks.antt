@@ -4,10 +4,16 @@
 -- have kept.
 use Rattle.std.specs.Prelude.{◌≡◌, ℕ, true, false, List, [], ◌∷◌, ◌++◌, None, Result, Ok, Err}
 use Rattle.std.specs.List.{AllByRecursion}
+use Rattle.aout_core.specs.declared.symbol.Segment.{Segment}
+use Rattle.aout_core.specs.declared.symbol.Segment.TheVariants.{TextSeg, DataSeg, BssSeg}
 use Rattle.aout_core.specs.Contents.{Contents}
+use Rattle.aout_core.specs.Words.{plus}
 use Rattle.aout_core.specs.WellFormed.{IsWellFormed}
+use Rattle.link_session.specs.declared.state.State.TheVariants.{Defined}
+use Rattle.link_session.specs.Starts.{total}
 use Rattle.link_session.specs.Mentions.{mentions}
-use Rattle.link_session.specs.States.{multiple_names}
+use Rattle.link_session.specs.States.{first_definition, multiple_names, state}
+use Rattle.tool_options.specs.NameLists.{is_among}
 use Rattle.link_out.specs.declared.linked.LinkFault.{LinkFault}
 use Rattle.tool_options.specs.declared.options.Keep.{Keep}
 use Rattle.tool_options.specs.Choices.{Choices, option_fault}
@@ -29,6 +35,27 @@ pub record IsPartialLink (forced : List (List ℕ)) (os : List Contents) (o : Ch
 abbrev pub without_multiples : Result Outcome LinkFault → Result Outcome LinkFault
 without_multiples (Err fault) = Err fault
 without_multiples (Ok x) = Ok (record x { report = record x.report { multiples = [] } })
+
+-- these names are among those
+abbrev pub IsPart : List (List ℕ) → List (List ℕ) → Type 0
+IsPart own forced = (name : List ℕ) → is_among own name ≡ true → is_among forced name ≡ true
+
+-- an offset after the same segment of these objects
+abbrev pub offset_after : List Contents → Segment → ℕ → ℕ
+offset_after before TextSeg offset = plus (total TextSeg before) offset
+offset_after before DataSeg offset = plus (total DataSeg before) offset
+offset_after before BssSeg offset = plus (total BssSeg before) offset
+offset_after before _ offset = plus 0 offset
+
+-- each definition of these objects is that of its name among all objects too, moved after those before them
+abbrev pub DefinitionsStand : List (List ℕ) → List Contents → List Contents → List Contents → Type 0
+DefinitionsStand forced before os after =
+    (name : List ℕ) (segment : Segment) (offset : ℕ) → state (mentions [] os) name ≡ Defined segment offset → state (mentions forced (before ++ (os ++ after))) name ≡ Defined segment (offset_after before segment offset)
+
+-- the objects define no name that is multiply defined among all
+abbrev pub DefinesNoMultiple : List (List ℕ) → List Contents → List Contents → List Contents → Type 0
+DefinesNoMultiple forced before os after =
+    (name : List ℕ) → is_among (multiple_names (mentions forced (before ++ (os ++ after)))) name ≡ true → first_definition (mentions [] os) name ≡ None
 
 -- the file of a link with relocation is an object
 abbrev pub PartialIsObject : Type 0

@@ -7,9 +7,10 @@ use Rattle.aout_core.specs.Contents.{Contents}
 use Rattle.aout_core.specs.declared.part.Part.{Part}
 use Rattle.aout_core.specs.declared.part.Part.TheVariants as parts
 use Rattle.listings.specs.Laws.{IsLine, IsLabel, AreRemarks}
-use Rattle.instructions.specs.Lines.{line_length}
-use Rattle.instructions.proofs.LineLemmas.{length_from}
-use Rattle.disassemblies.specs.Lines.{line_in}
+use Rattle.instructions.specs.declared.unix.Decoder.TheVariants.{Unix}
+use Rattle.instructions.specs.UnixLines.{unix_length}
+use Rattle.disassemblies.specs.Lines.{unix_line_in}
+use Rattle.disassemblies.proofs.StartLemmas.{length_in}
 use Rattle.disassemblies.specs.Labels.{label_lines}
 use Rattle.disassemblies.specs.Starts.{is_start}
 use Rattle.v7_explain.specs.internal.SilentLabels.{are_labels}
@@ -33,9 +34,10 @@ printed_lines [] = tt
 printed_lines (l ∷ ls) = (printed_line l, printed_lines ls)
 
 labels_by : (c : Contents) (i : ℕ) (last first : Bool) →
-    AllByRecursion IsLabel (if last then label_lines c.symbols (2 * i) 0 else (if first then label_lines c.symbols (2 * i) (line_length (line_in c i)) else []))
+    AllByRecursion IsLabel (if last then label_lines c.symbols (2 * i) 0
+    else (if first then label_lines c.symbols (2 * i) (unix_length (unix_line_in Unix c i)) else []))
 labels_by c i true first = are_labels c.symbols (2 * i) 0 (omega arith)
-labels_by c i false true = are_labels c.symbols (2 * i) (line_length (line_in c i)) (length_from (line_in c i)).1
+labels_by c i false true = are_labels c.symbols (2 * i) (unix_length (unix_line_in Unix c i)) (length_in Unix c i).1
 labels_by c i false false = tt
 
 labels_are : (starts : List Bool) (c : Contents) (p : Part) (i : ℕ) → AllByRecursion IsLabel (labels_before starts c p i)

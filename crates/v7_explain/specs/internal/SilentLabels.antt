@@ -164,22 +164,22 @@ and_last : (a c : Bool) → (a && c) ≡ true → c ≡ true
 and_last true c h = h
 and_last false c h = absurd cc
 
-within_short : (address length : ℕ) (s : Symbol) → length ≤ 3 → is_within address length s ≡ true → s.value - address < 0o200000
+within_short : (address length : ℕ) (s : Symbol) → length ≤ 5 → is_within address length s ≡ true → s.value - address < 0o200000
 within_short address length s small h =
     let test : nat_lt s.value (address + 2 * length) ≡ true = and_last (eqb (masked_type s) 2 && nat_lt address s.value) (nat_lt s.value (address + 2 * length)) h in
     let near : s.value < address + 2 * length = grind (arith, nat_tests) in
     omega arith
 
-within_by : (address length : ℕ) (s : Symbol) (t : Bool) → length ≤ 3 → is_within address length s ≡ t →
+within_by : (address length : ℕ) (s : Symbol) (t : Bool) → length ≤ 5 → is_within address length s ≡ t →
     AllByRecursion IsLabel (if t then (assembly_name s.name ++ (codes " = .+" ++ octal (s.value - address))) ∷ [] else [])
 within_by address length s true small e = (within_label (assembly_name s.name) (s.value - address) (within_short address length s small e) (name_is s.name), tt)
 within_by address length s false small e = tt
 
-all_within : (address length : ℕ) (symbols : List Symbol) → length ≤ 3 → AllByRecursion IsLabel (flat_map (λ s. label_within address length s) symbols)
+all_within : (address length : ℕ) (symbols : List Symbol) → length ≤ 5 → AllByRecursion IsLabel (flat_map (λ s. label_within address length s) symbols)
 all_within address length [] small = tt
 all_within address length (s ∷ ss) small =
     labels_append (label_within address length s) (flat_map (λ s. label_within address length s) ss) (within_by address length s (is_within address length s) small refl) (all_within address length ss small)
 
-pub are_labels : (symbols : List Symbol) (address length : ℕ) → length ≤ 3 → AllByRecursion IsLabel (label_lines symbols address length)
+pub are_labels : (symbols : List Symbol) (address length : ℕ) → length ≤ 5 → AllByRecursion IsLabel (label_lines symbols address length)
 are_labels symbols address length small =
     labels_append (flat_map (λ s. label_at address s) symbols) (flat_map (λ s. label_within address length s) symbols) (all_at address symbols) (all_within address length symbols small)

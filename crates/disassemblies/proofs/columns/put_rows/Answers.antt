@@ -1,7 +1,7 @@
 use Rattle.std.proofs.Common.{◌≡◌, ℕ, List, ◌+◌, ◌*◌, ◌<◌, ◌≤◌, ◌++◌, length, ◌∙◌, ap, arith, rules}
 use Rattle.aout_core.specs.Contents.{Contents}
-use Rattle.instructions.specs.Lines.{line_length}
-use Rattle.disassemblies.specs.Lines.{line_in}
+use Rattle.instructions.specs.UnixLines.{unix_length}
+use Rattle.disassemblies.specs.Lines.{unix_line_in}
 use Rattle.disassemblies.specs.Columns.{labelled_row, disassembly}
 use Rattle.disassemblies.specs.Labels.{labels}
 use Rattle.disassemblies.proofs.StartLemmas.{line_more, end_more}
@@ -10,16 +10,18 @@ use Rattle.disassemblies.proofs.columns.put_rows.Goals as goal
 pub loop-place-preserved : goal.loop-place-preserved
 loop-place-preserved c =
     let file = c.args.file.now in
-    let count : c.length-count.result ≡ line_length (line_in file c.loop-place.place) = c.length-count.ensures ∙ ap line_length c.line_in.ensures.line in
+    let d = c.args.decoder in
+    let count : c.length-count.result ≡ unix_length (unix_line_in d file c.loop-place.place) =
+    c.length-count.ensures ∙ ap unix_length c.unix_line_in.ensures.line in
     let inside : c.loop-place.place < length file.text_words = search rules in
     let fits : c.loop-place.place + c.length-count.result ≤ length file.text_words = search rules in (
       λ whole.
           let put = c.put_labelled_row.ensures whole in
           let so_far = c.loop-place.invariant.0 put.0 in (
             so_far.0,
-            line_more file (λ place n. labelled_row file place n) (labels file.symbols (2 * length file.text_words) 0) (c.args.text.now.bytes ++ disassembly file) c.loop-place.text.bytes c.put_labelled_row.new.text.bytes
+            line_more c.args.decoder file (λ place n. labelled_row c.args.decoder file place n) (labels file.symbols (2 * length file.text_words) 0) (c.args.text.now.bytes ++ disassembly c.args.decoder file) c.loop-place.text.bytes c.put_labelled_row.new.text.bytes
                 c.loop-place.place c.length-count.result inside count
-                (put.1 ∙ ap (λ (f : Contents). c.loop-place.text.bytes ++ labelled_row f c.loop-place.place c.length-count.result) c.requires)
+                (put.1 ∙ ap (λ (f : Contents). c.loop-place.text.bytes ++ labelled_row c.args.decoder f c.loop-place.place c.length-count.result) c.requires)
                 so_far.1,
           ),
       fits,
@@ -35,6 +37,6 @@ returns c =
     let put = c.put_end_labels.ensures whole in
     let so_far = c.loop-place.invariant.0 put.0 in (
       so_far.0,
-      end_more file (λ place n. labelled_row file place n) end_labels (c.args.text.now.bytes ++ disassembly file) c.loop-place.text.bytes c.put_end_labels.new.text.bytes
+      end_more c.args.decoder file (λ place n. labelled_row c.args.decoder file place n) end_labels (c.args.text.now.bytes ++ disassembly c.args.decoder file) c.loop-place.text.bytes c.put_end_labels.new.text.bytes
           c.loop-place.place end (put.1 ∙ ap (λ (f : Contents). c.loop-place.text.bytes ++ labels f.symbols (2 * length f.text_words) 0) c.requires) so_far.1,
     )

@@ -1,7 +1,7 @@
 use Rattle.std.proofs.Common.{◌≡◌, [], ◌+◌, ◌<◌, ◌≤◌, length, sym, ◌∙◌, ap, arith, rules}
 use Rattle.std.proofs.lemmas.List.{append-nil}
-use Rattle.instructions.specs.Lines.{line_length}
-use Rattle.disassemblies.specs.Lines.{line_in}
+use Rattle.instructions.specs.UnixLines.{unix_length}
+use Rattle.disassemblies.specs.Lines.{unix_line_in}
 use Rattle.disassemblies.specs.Starts.{start, starts}
 use Rattle.disassemblies.proofs.StartLemmas.{line_more, end_more}
 use Rattle.disassemblies.proofs.starts.line_starts.Goals as goal
@@ -9,10 +9,12 @@ use Rattle.disassemblies.proofs.starts.line_starts.Goals as goal
 pub loop-place-preserved : goal.loop-place-preserved
 loop-place-preserved c =
     let file = c.args.file.now in
-    let count : c.length-count.result ≡ line_length (line_in file c.loop-place.place) = c.length-count.ensures ∙ ap line_length c.line_in.ensures.line in
+    let d = c.args.decoder in
+    let count : c.length-count.result ≡ unix_length (unix_line_in d file c.loop-place.place) =
+    c.length-count.ensures ∙ ap unix_length c.unix_line_in.ensures.line in
     let inside : c.loop-place.place < length file.text_words = search rules in
     let fits : c.loop-place.place + c.length-count.result ≤ length file.text_words = search rules in (
-      line_more file (λ place n. start n) [] (starts file) c.loop-place.starts.items c.put_start.new.starts.items c.loop-place.place c.length-count.result
+      line_more d file (λ place n. start n) [] (starts d file) c.loop-place.starts.items c.put_start.new.starts.items c.loop-place.place c.length-count.result
           inside count c.in_ok-put_start.ensures c.loop-place.invariant.0,
       fits,
       c.loop-place.invariant.2,
@@ -22,4 +24,4 @@ pub returns : goal.returns
 returns c =
     let file = c.args.file.now in
     let end : c.loop-place.place ≡ length file.text_words = omega (arith, c.loop-place.invariant.1, c.loop-place.invariant.2) in
-    end_more file (λ place n. start n) [] (starts file) c.loop-place.starts.items c.loop-place.starts.items c.loop-place.place end (sym (append-nil c.loop-place.starts.items)) c.loop-place.invariant.0
+    end_more c.args.decoder file (λ place n. start n) [] (starts c.args.decoder file) c.loop-place.starts.items c.loop-place.starts.items c.loop-place.place end (sym (append-nil c.loop-place.starts.items)) c.loop-place.invariant.0

@@ -1,10 +1,8 @@
 use Rattle.std.proofs.Common.{◌≡◌, ◌∙◌, ◌++◌}
-use Rattle.link_session.specs.Labelled.{objects}
 use Rattle.link_session.specs.Undo.{image_of}
 use Rattle.link_out.specs.internal.FromCells as from_cells
-use Rattle.link_out.specs.internal.InOrder.{plan_of}
+use Rattle.link_out.specs.function.Plans.{plan_of}
 use Rattle.link_out.specs.internal.Rows.{rows_with}
-use Rattle.link_out.proofs.FinishLemmas.{names_planned}
 use Rattle.link_out.proofs.RowLemmas.{rows_planned}
 use Rattle.link_out.proofs.externals.link_externals.Goals as goal
 
@@ -13,7 +11,8 @@ returns-clause-rows c =
     let s = c.args.session.now in
     let o = c.args.options.now in
     let names = (image_of s).externals in
-    let finals : c.deref.result.now ≡ from_cells.finals (plan_of s o) = c.deref.ensures.value ∙ c.in_ok-finals.ensures ∙ names_planned s.forced (objects s.entries) o c.link_bases-bases.result c.link_bases-bases.ensures.value in
+    let finals : c.deref.result.now ≡ from_cells.finals (plan_of s o) =
+    c.deref.ensures.value ∙ c.in_ok-finals.ensures ∙ (λ i. from_cells.finals (plan_of (c.of-plan.ensures.session i) (c.of-plan.ensures.options i))) in
     c.in_ok-put_externals.ensures
     ∙ (λ i. c.new-rows.ensures.items i ++ rows_with names (finals i))
     ∙ rows_planned (plan_of s o)

@@ -1,27 +1,26 @@
 use Rattle.std.proofs.Common.{◌≡◌, rules, ◌∙◌, sym}
 use Rattle.std.proofs.lemmas.List.{length-map}
-use Rattle.link_session.specs.Labelled.{objects}
 use Rattle.link_session.specs.Mentions.{names_by_first_mention}
 use Rattle.tool_options.specs.declared.options.Keep.TheVariants as keeps
-use Rattle.link_out.specs.internal.InOrder.{plan_of}
+use Rattle.link_out.specs.internal.Planned.{plan_in, objects_in}
 use Rattle.link_out.proofs.RowLemmas.{many_rows, locals_counted, none_counted}
 use Rattle.link_out.proofs.kept_symbols.locals_within.Goals as goal
 
 pub returns-then-eq-clause-count : goal.returns-then-eq-clause-count
 returns-then-eq-clause-count c =
     let nothing : c.keep-keep.result ≡ keeps.Nothing = search rules in
-    none_counted (plan_of c.args.session.now c.args.options.now) (objects c.args.session.now.entries) c.keep-keep.result (sym c.keep-keep.ensures.value) nothing
+    none_counted (plan_in c.args.plan.now) (objects_in c.args.plan.now) c.keep-keep.result (sym c.keep-keep.ensures.value) nothing
 
 pub returns-clause-many : goal.returns-clause-many
 returns-clause-many c =
-    let p = plan_of c.args.session.now c.args.options.now in
+    let p = plan_in c.args.plan.now in
     let others : c.keep-keep.result ≡ keeps.Nothing → ⊥ = search rules in
     let h = c.count_locals.ensures.many in
-    many_rows p (objects c.args.session.now.entries) c.keep-keep.result c.external_count.result c.count_locals.result (sym c.keep-keep.ensures.value) others
+    many_rows p (objects_in c.args.plan.now) c.keep-keep.result c.external_count.result c.count_locals.result (sym c.keep-keep.ensures.value) others
     (c.external_count.ensures ∙ length-map (names_by_first_mention p.mentions) _)
     (rw c.entries.ensures.value at h)
 
 pub returns-clause-count : goal.returns-clause-count
 returns-clause-count c =
     let h = c.count_locals.ensures.count in
-    locals_counted (plan_of c.args.session.now c.args.options.now) (objects c.args.session.now.entries) c.keep-keep.result c.count_locals.result (sym c.keep-keep.ensures.value) (rw c.entries.ensures.value at h)
+    locals_counted (plan_in c.args.plan.now) (objects_in c.args.plan.now) c.keep-keep.result c.count_locals.result (sym c.keep-keep.ensures.value) (rw c.entries.ensures.value at h)

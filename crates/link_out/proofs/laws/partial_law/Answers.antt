@@ -1,4 +1,4 @@
-use Rattle.link_out.proofs.PartialTheorem.{relocatable_is_object, partial_stands_alone, partial_stands_among}
+use Rattle.link_out.proofs.partial_links.PartialTheorem.{relocatable_is_object, partial_stands_alone, partial_stands_among}
 use Rattle.link_out.proofs.laws.partial_law.Goals as goal
 
 pub returns-clause-object : goal.returns-clause-object

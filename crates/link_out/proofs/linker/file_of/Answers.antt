@@ -1,20 +1,32 @@
-use Rattle.std.proofs.Common.{◌∙◌, sym, subst}
+use Rattle.std.proofs.Common.{◌≡◌, ℕ, ◌≤◌, ◌∙◌, length, ap, sym, subst, rules}
 use Rattle.aout_core.specs.Contents.{Fits}
-use Rattle.aout_core.specs.WellFormed.{IsWellFormed}
-use Rattle.link_session.specs.Labelled.{objects}
-use Rattle.link_session.proofs.AdditionLemmas.{well_formed}
-use Rattle.link_out.specs.internal.InOrder.{plan_of}
+use Rattle.link_out.specs.function.Tables.{table}
+use Rattle.link_out.specs.internal.Planned.{plan_in, objects_in}
+use Rattle.link_out.proofs.FinishLemmas.{header_planned, linked_parts}
 use Rattle.link_out.proofs.FitLemmas.{linked_fits}
-use Rattle.link_out.proofs.ObjectLemmas.{linked_object}
 use Rattle.link_out.proofs.linker.file_of.Goals as goal
+
+pub header-requires-clause-rows : goal.header-requires-clause-rows
+header-requires-clause-rows c =
+    let len : c.len.result ≡ length c.args.symbols.items = search rules in
+    subst (λ (n : ℕ). n ≤ 5461) (sym (len ∙ ap (λ rs. length rs) c.requires.symbols)) c.requires.few
 
 pub from_parts-requires : goal.from_parts-requires
 from_parts-requires c =
-    let s = c.args.session.now in
-    subst Fits (sym c.in_ok-parts.ensures) (linked_fits (plan_of s c.args.options.now) (objects s.entries) c.entries-objects.ensures.objects)
+    let p = c.args.plan.now in
+    let len : c.len.result ≡ length c.args.symbols.items = search rules in
+    let rows : c.len.result ≡ length (table (plan_in p) (objects_in p)) = len ∙ ap (λ rs. length rs) c.requires.symbols in
+    subst Fits (sym (linked_parts (plan_in p) (objects_in p) _
+    (c.header.ensures ∙ header_planned p c.len.result c.entry_point.result.address rows c.entry_point.ensures.address)
+    c.requires.words.text c.requires.words.data c.requires.relocs.text c.requires.relocs.data c.requires.symbols))
+    (linked_fits (plan_in p) (objects_in p) p.good)
 
-pub returns-clause-object : goal.returns-clause-object
-returns-clause-object c = λ kept.
-    let s = c.args.session.now in
-    let os = objects s.entries in
-    subst IsWellFormed (sym (c.from_parts.ensures ∙ c.in_ok-parts.ensures)) (linked_object s.forced os c.args.options.now c.requires.passed.allowed kept (well_formed os c.entries-objects.ensures.objects))
+pub returns : goal.returns
+returns c =
+    let p = c.args.plan.now in
+    let len : c.len.result ≡ length c.args.symbols.items = search rules in
+    let rows : c.len.result ≡ length (table (plan_in p) (objects_in p)) = len ∙ ap (λ rs. length rs) c.requires.symbols in
+    c.from_parts.ensures
+    ∙ linked_parts (plan_in p) (objects_in p) _
+    (c.header.ensures ∙ header_planned p c.len.result c.entry_point.result.address rows c.entry_point.ensures.address)
+    c.requires.words.text c.requires.words.data c.requires.relocs.text c.requires.relocs.data c.requires.symbols

@@ -1,24 +1,23 @@
 use Rattle.std.proofs.Common.{◌≡◌, ◌∙◌, ◌||◌, Bool, ap, sym}
-use Rattle.link_session.specs.Labelled.{objects}
-use Rattle.link_out.specs.internal.InOrder.{plan_of}
+use Rattle.link_out.specs.internal.Planned.{plan_in, objects_in}
 use Rattle.link_out.specs.function.Tables.{has_far_word}
 use Rattle.link_out.proofs.ReachLemmas.{far_word}
 use Rattle.link_out.proofs.reach.has_far_word.Goals as goal
 
 pub returns-then-in_text : goal.returns-then-in_text
 returns-then-in_text c =
-    let s = c.args.session.now in
-    let far : (c.is_any_out-in_text.result || c.is_any_out-in_data.result) ≡ has_far_word (plan_of s c.args.options.now) (objects s.entries) =
-    far_word s.forced (objects s.entries) c.args.options.now c.args.locals c.text_cells.result.now c.data_cells.result.now c.lays_commons-commons.result c.is_any_out-in_text.result c.is_any_out-in_data.result
-    c.requires.relocatable c.requires.locals c.entries-entries.ensures.objects c.lays_commons-commons.ensures c.text_cells.ensures.value c.data_cells.ensures.value
+    let p = c.args.plan.now in
+    let far : (c.is_any_out-in_text.result || c.is_any_out-in_data.result) ≡ has_far_word (plan_in p) (objects_in p) =
+    far_word p.session.now.forced (objects_in p) p.options.now c.args.locals c.text_cells.result.now c.data_cells.result.now c.lays_commons-commons.result c.is_any_out-in_text.result c.is_any_out-in_data.result
+    c.requires.relocatable c.requires.locals p.good c.lays_commons-commons.ensures c.text_cells.ensures.value c.data_cells.ensures.value
     c.is_any_out-in_text.ensures c.is_any_out-in_data.ensures in
     c.if-in_text.true ∙ ap (λ (x : Bool). x || c.is_any_out-in_data.result) (sym c.if-in_text.true) ∙ far
 
 pub returns-else-in_text : goal.returns-else-in_text
 returns-else-in_text c =
-    let s = c.args.session.now in
-    let far : (c.is_any_out-in_text.result || c.is_any_out-in_data.result) ≡ has_far_word (plan_of s c.args.options.now) (objects s.entries) =
-    far_word s.forced (objects s.entries) c.args.options.now c.args.locals c.text_cells.result.now c.data_cells.result.now c.lays_commons-commons.result c.is_any_out-in_text.result c.is_any_out-in_data.result
-    c.requires.relocatable c.requires.locals c.entries-entries.ensures.objects c.lays_commons-commons.ensures c.text_cells.ensures.value c.data_cells.ensures.value
+    let p = c.args.plan.now in
+    let far : (c.is_any_out-in_text.result || c.is_any_out-in_data.result) ≡ has_far_word (plan_in p) (objects_in p) =
+    far_word p.session.now.forced (objects_in p) p.options.now c.args.locals c.text_cells.result.now c.data_cells.result.now c.lays_commons-commons.result c.is_any_out-in_text.result c.is_any_out-in_data.result
+    c.requires.relocatable c.requires.locals p.good c.lays_commons-commons.ensures c.text_cells.ensures.value c.data_cells.ensures.value
     c.is_any_out-in_text.ensures c.is_any_out-in_data.ensures in
     ap (λ (x : Bool). x || c.is_any_out-in_data.result) (sym c.if-in_text.false) ∙ far

@@ -8,7 +8,8 @@ use Rattle.link_out.proofs.report.undefined_names.Goals as goal
 
 pub returns : goal.returns
 returns c =
-    let ms = mentions c.args.session.now.forced (objects c.args.session.now.entries) in
+    let s = c.args.plan.now.session.now in
+    let ms = mentions s.forced (objects s.entries) in
     IfOk-weaker c.missing.result _ _
     (λ names h. h ∙ missing-in_order ms ∙ ap (λ t. cond t [] (undefined_names ms)) (sym c.if-is_relocatable.false ∙ c.is_relocatable.ensures))
     c.missing.ensures

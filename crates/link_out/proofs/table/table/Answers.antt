@@ -6,21 +6,21 @@ use Rattle.link_session.specs.Undo.{image_of}
 use Rattle.tool_options.specs.declared.options.Keep.TheVariants as keeps
 use Rattle.link_out.specs.function.Finals.{Final}
 use Rattle.link_out.specs.function.Tables.{local_rows, external_rows}
-use Rattle.link_out.specs.internal.InOrder.{plan_of}
+use Rattle.link_out.specs.internal.Planned.{plan_in, objects_in}
 use Rattle.link_out.specs.internal.Rows.{rows_from, rows_with}
 use Rattle.link_out.proofs.RowLemmas.{rows_from-local_rows, rows_planned, table_whole}
 use Rattle.link_out.proofs.table.table.Goals as goal
 
 pub returns : goal.returns
 returns c =
-    let s = c.args.session.now in
-    let os = objects s.entries in
-    let p = plan_of s c.args.options.now in
+    let p = c.args.plan.now in
+    let os = objects_in p in
+    let names = (image_of p.session.now).externals in
     let rows = c.in_ok-rows.rows.items in
     let others : c.keep-keep.result ≡ keeps.Nothing → ⊥ = search rules in
-    let locals : rows ≡ local_rows p os =
+    let locals : rows ≡ local_rows (plan_in p) os =
     c.in_ok-rows.ensures
-    ∙ (λ i. rows_from (c.requires.bases i) (c.keep-keep.ensures.value i) no_starts (objects (c.entries.ensures.value i)))
-    ∙ rows_from-local_rows p os in
-    let externals : rows_with (image_of s).externals c.args.finals.now ≡ external_rows p = ap (λ (l : List Final). rows_with (image_of s).externals l) c.requires.finals ∙ rows_planned p in
-    table_whole p os c.keep-keep.result rows c.put_externals.new.rows.items (sym c.keep-keep.ensures.value) others locals (c.in_ok-put_externals.ensures ∙ ap (λ (l : List Symbol). rows ++ l) externals)
+    ∙ (λ i. rows_from (p.at i) (c.keep-keep.ensures.value i) no_starts (objects (c.entries.ensures.value i)))
+    ∙ rows_from-local_rows (plan_in p) os in
+    let externals : rows_with names c.args.finals.now ≡ external_rows (plan_in p) = ap (λ (l : List Final). rows_with names l) c.requires ∙ rows_planned (plan_in p) in
+    table_whole (plan_in p) os c.keep-keep.result rows c.put_externals.new.rows.items (sym c.keep-keep.ensures.value) others locals (c.in_ok-put_externals.ensures ∙ ap (λ (l : List Symbol). rows ++ l) externals)

@@ -1,0 +1,79 @@
+-- What holds of each row of the table of calls: by its name it is found again.
+use Rattle.std.proofs.Common.{◌≡◌, ℕ, ◌≤◌, Bool, true, false, eqb, nat_lt, Option, Some, None, List, [], ◌∷◌, ◌++◌, slice_index, refl, subst, cond, arith}
+use Rattle.std.specs.Prelude.{IfSome}
+use Rattle.std.proofs.lemmas.Bool.Decides.{Decides-eqb}
+use Rattle.std.specs.List.{find}
+use Rattle.instructions.specs.declared.call_table.CallRow.{CallRow}
+use Rattle.instructions.specs.declared.unix.Decoder.{Decoder}
+use Rattle.instructions.specs.declared.unix.Decoder.TheVariants as decoders
+use Rattle.instructions.specs.declared.call_table.TheConstants.{CALLS}
+use Rattle.instructions.specs.CallNames.{call_name}
+use Rattle.instructions.specs.Calls.{system_calls}
+use Rattle.instructions.specs.Rows.{begins, row_of}
+use Rattle.instructions.specs.UnixLines.{call_word, call_of, call_by}
+use Rattle.instructions.specs.UnixLaws.{AreMadeBySys}
+use Rattle.instructions.specs.internal.CallSearch.{call_in}
+use Rattle.instructions.proofs.SplitLemmas.{free}
+use Rattle.instructions.proofs.TableLemmas.{same_text}
+
+-- the call of a name
+unfoldable pub call_named : List ℕ → Option CallRow
+call_named name = find (λ c. same_text (call_name c.call) name) system_calls
+
+pub record SoundCall (c : CallRow) : Type 0 where
+  pub small : c.words ≤ 4
+  pub letter : (rest : List ℕ) → nat_lt (slice_index (call_name c.call ++ rest) 0) 58 ≡ false
+  pub name : free 59 (call_name c.call) ≡ true
+  pub again : call_named (call_name c.call) ≡ Some c
+
+abbrev Each : List CallRow → Type 0
+Each [] = Unit {0}
+Each (c ∷ calls) = SoundCall c × Each calls
+
+each_sound : Each system_calls
+unfolding call_named
+each_sound = (record { small = omega arith; letter = λ rest. refl; name = refl; again = refl }, (record { small = omega arith; letter = λ rest. refl; name = refl; again = refl }, (record { small = omega arith; letter = λ rest. refl; name = refl; again = refl }, (record { small = omega arith; letter = λ rest. refl; name = refl; again = refl }, (record { small = omega arith; letter = λ rest. refl; name = refl; again = refl }, (record { small = omega arith; letter = λ rest. refl; name = refl; again = refl }, (record { small = omega arith; letter = λ rest. refl; name = refl; again = refl }, (record { small = omega arith; letter = λ rest. refl; name = refl; again = refl }, (record { small = omega arith; letter = λ rest. refl; name = refl; again = refl }, (record { small = omega arith; letter = λ rest. refl; name = refl; again = refl }, (record { small = omega arith; letter = λ rest. refl; name = refl; again = refl }, (record { small = omega arith; letter = λ rest. refl; name = refl; again = refl }, (record { small = omega arith; letter = λ rest. refl; name = refl; again = refl }, (record { small = omega arith; letter = λ rest. refl; name = refl; again = refl }, (record { small = omega arith; letter = λ rest. refl; name = refl; again = refl }, (record { small = omega arith; letter = λ rest. refl; name = refl; again = refl }, (record { small = omega arith; letter = λ rest. refl; name = refl; again = refl }, (record { small = omega arith; letter = λ rest. refl; name = refl; again = refl }, (record { small = omega arith; letter = λ rest. refl; name = refl; again = refl }, (record { small = omega arith; letter = λ rest. refl; name = refl; again = refl }, (record { small = omega arith; letter = λ rest. refl; name = refl; again = refl }, (record { small = omega arith; letter = λ rest. refl; name = refl; again = refl }, (record { small = omega arith; letter = λ rest. refl; name = refl; again = refl }, (record { small = omega arith; letter = λ rest. refl; name = refl; again = refl }, (record { small = omega arith; letter = λ rest. refl; name = refl; again = refl }, (record { small = omega arith; letter = λ rest. refl; name = refl; again = refl }, (record { small = omega arith; letter = λ rest. refl; name = refl; again = refl }, (record { small = omega arith; letter = λ rest. refl; name = refl; again = refl }, (record { small = omega arith; letter = λ rest. refl; name = refl; again = refl }, (record { small = omega arith; letter = λ rest. refl; name = refl; again = refl }, (record { small = omega arith; letter = λ rest. refl; name = refl; again = refl }, (record { small = omega arith; letter = λ rest. refl; name = refl; again = refl }, (record { small = omega arith; letter = λ rest. refl; name = refl; again = refl }, (record { small = omega arith; letter = λ rest. refl; name = refl; again = refl }, (record { small = omega arith; letter = λ rest. refl; name = refl; again = refl }, (record { small = omega arith; letter = λ rest. refl; name = refl; again = refl }, (record { small = omega arith; letter = λ rest. refl; name = refl; again = refl }, (record { small = omega arith; letter = λ rest. refl; name = refl; again = refl }, (record { small = omega arith; letter = λ rest. refl; name = refl; again = refl }, (record { small = omega arith; letter = λ rest. refl; name = refl; again = refl }, (record { small = omega arith; letter = λ rest. refl; name = refl; again = refl }, (record { small = omega arith; letter = λ rest. refl; name = refl; again = refl }, (record { small = omega arith; letter = λ rest. refl; name = refl; again = refl }, (record { small = omega arith; letter = λ rest. refl; name = refl; again = refl }, (record { small = omega arith; letter = λ rest. refl; name = refl; again = refl }, (record { small = omega arith; letter = λ rest. refl; name = refl; again = refl }, (record { small = omega arith; letter = λ rest. refl; name = refl; again = refl }, (record { small = omega arith; letter = λ rest. refl; name = refl; again = refl }, (record { small = omega arith; letter = λ rest. refl; name = refl; again = refl }, (record { small = omega arith; letter = λ rest. refl; name = refl; again = refl }, (record { small = omega arith; letter = λ rest. refl; name = refl; again = refl }, (record { small = omega arith; letter = λ rest. refl; name = refl; again = refl }, (record { small = omega arith; letter = λ rest. refl; name = refl; again = refl }, tt)))))))))))))))))))))))))))))))))))))))))))))))))))))
+
+sound_at : (c d : CallRow) (b : Bool) (rest : Option CallRow) → SoundCall c → (rest ≡ Some d → SoundCall d) → cond b (Some c) rest ≡ Some d → SoundCall d
+sound_at c d true rest s later e = let same : c ≡ d = cc in subst SoundCall same s
+sound_at c d false rest s later e = later e
+
+sound_found : (p : CallRow → Bool) (calls : List CallRow) (d : CallRow) → Each calls → find p calls ≡ Some d → SoundCall d
+sound_found p [] d s e = absurd cc
+sound_found p (c ∷ calls) d s e = sound_at c d (p c) (find p calls) s.0 (sound_found p calls d s.1) e
+
+word_at : (w : ℕ) (c d : CallRow) (b : Bool) (rest : Option CallRow) → eqb (call_word c) w ≡ b → (rest ≡ Some d → call_word d ≡ w) →
+    cond b (Some c) rest ≡ Some d → call_word d ≡ w
+word_at w c d true rest t later e = let same : c ≡ d = cc in subst (λ (x : CallRow). call_word x ≡ w) same ((Decides-eqb (call_word c) w).0 t)
+word_at w c d false rest t later e = later e
+
+word_found : (w : ℕ) (calls : List CallRow) (d : CallRow) → find (λ c. eqb (call_word c) w) calls ≡ Some d → call_word d ≡ w
+word_found w [] d e = absurd cc
+word_found w (c ∷ calls) d e = word_at w c d (eqb (call_word c) w) (find (λ c. eqb (call_word c) w) calls) refl (word_found w calls d) e
+
+-- the call that a decoder finds is one of the table, and has the word
+pub call_sound : (d : Decoder) (w : ℕ) (c : CallRow) → call_by d w ≡ Some c → SoundCall c
+unfolding call_of
+call_sound decoders.Pdp11 w c e = absurd cc
+call_sound decoders.Unix w c e = sound_found (λ c. eqb (call_word c) w) system_calls c each_sound e
+
+pub call_has_word : (d : Decoder) (w : ℕ) (c : CallRow) → call_by d w ≡ Some c → call_word c ≡ w
+unfolding call_of
+call_has_word decoders.Pdp11 w c e = absurd cc
+call_has_word decoders.Unix w c e = word_found w system_calls c e
+
+small_by : (w : ℕ) (o : Option CallRow) → call_of w ≡ o → IfSome o (λ c. c.words ≤ 4)
+small_by w None e = tt
+small_by w (Some c) e = (call_sound decoders.Unix w c e).small
+
+pub call_small : (w : ℕ) → IfSome (call_of w) (λ c. c.words ≤ 4)
+call_small w = small_by w (call_of w) refl
+
+-- a call that is found in the table of the code is found in the definition's
+pub calls_found : (w : ℕ) (o : Option CallRow) → o ≡ call_in CALLS w → o ≡ call_of w
+unfolding call_of
+calls_found w o e = e
+
+pub each_made_by_sys : AreMadeBySys system_calls
+unfolding row_of begins
+each_made_by_sys = refl

@@ -1,0 +1,12 @@
+use Rattle.std.proofs.Common.{◌≤◌, Option, sym, subst}
+use Rattle.std.specs.Prelude.{IfSome}
+use Rattle.instructions.specs.declared.call_table.CallRow.{CallRow}
+use Rattle.instructions.proofs.CallLemmas.{calls_found, call_small}
+use Rattle.instructions.proofs.unix.call_of.Goals as goal
+
+pub returns-clause-value : goal.returns-clause-value
+returns-clause-value c = calls_found c.args.word c.call_in.result c.call_in.ensures
+
+pub returns-clause-small : goal.returns-clause-small
+returns-clause-small c =
+    subst (λ (o : Option CallRow). IfSome o (λ r. r.words ≤ 4)) (sym (calls_found c.args.word c.call_in.result c.call_in.ensures)) (call_small c.args.word)

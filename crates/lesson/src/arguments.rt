@@ -1,0 +1,106 @@
+//! The arguments of the program.
+use anyhow::{Result, anyhow};
+use aout_core::{Shown, shown_by};
+use std::{env, io};
+
+const USAGE: &str =
+    "usage: v7-lesson [-n STEP] FILE..., or v7-lesson -p FOLDER [-q QUESTIONS] FILE... >PAGE";
+
+/// How the program is called, as `--help` shows it.
+pub(crate) const SYNOPSIS: &str = "usage: v7-lesson [-n STEP] FILE...
+       v7-lesson -p FOLDER [-q QUESTIONS] FILE... >PAGE
+       v7-lesson --help | --version
+";
+
+/// What the arguments ask for. The files are the paths of objects, at least one.
+#[derive(Clone, Copy)]
+pub(crate) enum Call<'a> {
+    /// How the program is called, or its version.
+    Show(Shown),
+    /// The steps of a session as text: all, or the one of this number, from 1.
+    Steps {
+        step: Option<usize>,
+        files: &'a [String],
+    },
+    /// The page, with the scripts and styles of a folder, and with the lessons of a file, if it is given.
+    Page {
+        folder: &'a str,
+        questions: Option<&'a str>,
+        files: &'a [String],
+    },
+}
+
+/// The arguments after the program's name.
+pub(crate) fn arguments_given(rt: &HostRuntime) -> Result<Vec<String>> {
+    let given = match env::args(rt) {
+        Ok(given) => given,
+        Err(error) => match error.kind() {
+            io::ErrorKind::OutOfMemory => return Err(anyhow!("no memory")),
+            _ => return Err(anyhow!("{USAGE}")),
+        },
+    };
+    let mut arguments = Vec::new(rt.alloc());
+    for argument in given.skip(1) {
+        arguments.push(argument)?;
+    }
+    Ok(arguments)
+}
+
+/// These files, if there is one.
+fn at_least_one(files: &[String]) -> Option<&[String]> {
+    if files.is_empty() { None } else { Some(files) }
+}
+
+/// The call with the arguments after `-n`: the number of a step, from 1, and files.
+fn step_call(arguments: &[String]) -> Option<Call<'_>> {
+    let (step, files) = arguments.split_first()?;
+    match step.as_str().parse::<usize>() {
+        Ok(0) | Err(_) => None,
+        Ok(step) => Some(Call::Steps {
+            step: Some(step),
+            files: at_least_one(files)?,
+        }),
+    }
+}
+
+/// The call with the arguments after `-p`: a folder, the file of the lessons if `-q` is before it, and files.
+fn page_call(arguments: &[String]) -> Option<Call<'_>> {
+    let (folder, rest) = arguments.split_first()?;
+    let (questions, files) = match rest {
+        [option, rest @ ..] if option.as_str() == "-q" => {
+            let (questions, files) = rest.split_first()?;
+            (Some(questions.as_str()), files)
+        }
+        _ => (None, rest),
+    };
+    Some(Call::Page {
+        folder: folder.as_str(),
+        questions,
+        files: at_least_one(files)?,
+    })
+}
+
+/// What arguments ask for. An option comes first, and an argument after it that begins with a hyphen is a file.
+fn call_of(arguments: &[String]) -> Option<Call<'_>> {
+    let (first, rest) = arguments.split_first()?;
+    if let Some(shown) = shown_by(first.as_str()) {
+        return Some(Call::Show(shown));
+    }
+    match first.as_str() {
+        "-n" => step_call(rest),
+        "-p" => page_call(rest),
+        word if word.starts_with('-') => None,
+        _ => Some(Call::Steps {
+            step: None,
+            files: arguments,
+        }),
+    }
+}
+
+/// What arguments ask for, or how the program is called.
+pub(crate) fn called(arguments: &[String]) -> Result<Call<'_>> {
+    match call_of(arguments) {
+        Some(call) => Ok(call),
+        None => Err(anyhow!("{USAGE}")),
+    }
+}

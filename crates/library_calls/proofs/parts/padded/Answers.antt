@@ -1,9 +1,0 @@
-use Rattle.std.proofs.Common.{ℕ, List, ◌++◌, length, drop, replicate, ap, ◌∙◌}
-use Rattle.aout_core.specs.Names.{padded}
-use Rattle.library_calls.proofs.PartLemmas.{padded_name}
-use Rattle.library_calls.proofs.parts.padded.Goals as goal
-
-pub returns : goal.returns
-returns c =
-    let text = c.as_bytes-text.result.now in
-    ap (λ (l : List ℕ). l ++ drop (length text) (replicate 8 0)) c.copy_from_slice.ensures.after ∙ padded_name text c.as_bytes-text.ensures.short ∙ ap padded c.as_bytes-text.ensures.value

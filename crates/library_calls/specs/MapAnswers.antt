@@ -1,0 +1,181 @@
+-- What the map of a link says, of objects whose bytes are apart. (own choice)
+use Rattle.std.specs.Prelude.{◌≡◌, ◌≢◌, ◌⊎◌, ℕ, ◌+◌, is_some, if◌then◌else◌, List, [], ◌∷◌, ◌++◌, length, Option, Some, None, Result, Ok, Err, IsOk, IsOkAnd}
+use Rattle.aout_core.specs.Contents.{Contents}
+use Rattle.aout_core.specs.Names.{padded}
+use Rattle.aout_core.specs.WellFormed.{first_of}
+use Rattle.link_session.specs.declared.entry.AddFault.{AddFault}
+use Rattle.link_session.specs.Labelled.{objects}
+use Rattle.link_session.specs.Limits.{refusal}
+use Rattle.tool_options.specs.Choices.{Choices}
+use Rattle.link_out.specs.declared.linked.Linked.{Linked}
+use Rattle.link_out.specs.declared.linked.LinkFault.{LinkFault}
+use Rattle.link_out.specs.Layouts.{Bases}
+use Rattle.link_out.specs.Outcomes.{outcome_of}
+use Rattle.link_out.specs.function.Reports.{status_of}
+use Rattle.link_out.specs.Steps.{and_then}
+use Rattle.link_maps.specs.declared.map.LinkMap.{LinkMap}
+use Rattle.link_maps.specs.declared.members.Objects.{Objects}
+use Rattle.link_maps.specs.declared.outcome.Outcome.{Outcome}
+use Rattle.link_maps.specs.Maps.{AreRecords, IsMapOf}
+use Rattle.link_maps.specs.Members.{all_of, cause_of}
+use Rattle.link_maps.specs.Records.{bit, no_label}
+use Rattle.library_calls.specs.declared.cause.Cause.{Cause}
+use Rattle.library_calls.specs.declared.cause.Cause.TheVariants.{NotAdded, NotLinked}
+use Rattle.library_calls.specs.declared.cause.Refusal.{Refusal}
+use Rattle.library_calls.specs.declared.map_call.MapHead.{MapHead}
+use Rattle.library_calls.specs.declared.map_call.Mapped.{Mapped}
+use Rattle.library_calls.specs.Causes.{at, number_of}
+use Rattle.library_calls.specs.FileAnswers.{object_in}
+use Rattle.library_calls.specs.LinkAnswers.{with_each_of}
+use Rattle.library_calls.specs.LinkRequests.{choices_in, forced_in}
+use Rattle.library_calls.specs.MemoryWanted.{MayRunOutInEachOf}
+
+-- the objects with the one that the bytes begin with, whether a session takes it or not
+abbrev pub with_read : List Contents → List ℕ → Result (List Contents) Cause
+with_read os bytes = and_then (object_in bytes) (λ o. Ok (os ++ o ∷ []))
+
+-- the objects that these parts begin with, or why one of them has none
+abbrev pub objects_each : List (List ℕ) → Result (List Contents) Refusal
+objects_each parts = with_each_of with_read [] parts
+
+-- what a session takes of objects: those that it keeps, and why it refuses the first that it does not keep. It takes none after that
+pub record Taking : Type 0 where
+  pub kept : List Contents
+  pub cause : Option AddFault
+
+abbrev pub take_next : List (List ℕ) → Taking → Contents → Taking
+take_next forced t c = record {
+  kept = if is_some (first_of t.cause (refusal forced t.kept c)) then t.kept else t.kept ++ c ∷ [];
+  cause = first_of t.cause (refusal forced t.kept c);
+}
+
+abbrev pub take_all : List (List ℕ) → Taking → List Contents → Taking
+take_all forced t [] = t
+take_all forced t (c ∷ cs) = take_all forced (take_next forced t c) cs
+
+abbrev pub nothing_taken : Taking
+nothing_taken = record { kept = []; cause = None }
+
+abbrev pub taking_of : Objects → Taking
+taking_of all = record { kept = objects all.session.entries; cause = cause_of all.refused }
+
+-- these objects, with what a session takes of them
+pub record AreTaken (forced : List (List ℕ)) (os : List Contents) (all : Objects) : Type 0 where
+  pub are : objects (all_of all) ≡ os
+  pub names : all.session.forced ≡ forced
+  pub taken : taking_of all ≡ take_all forced nothing_taken os
+
+-- ---- what becomes of the link
+
+abbrev pub no_head : MapHead
+no_head = record {
+  text_end = 0;
+  data_start = 0;
+  data_end = 0;
+  bss_start = 0;
+  bss_end = 0;
+  place = 0;
+  fault = 0;
+  state = 0;
+  magic = 0;
+  entry_point = 0;
+  entry_name = no_label;
+}
+
+abbrev pub refused_head : AddFault → ℕ → MapHead
+refused_head cause place = record {
+  text_end = 0;
+  data_start = 0;
+  data_end = 0;
+  bss_start = 0;
+  bss_end = 0;
+  place = place;
+  fault = number_of (NotAdded cause);
+  state = 0;
+  magic = 0;
+  entry_point = 0;
+  entry_name = no_label;
+}
+
+abbrev pub name_or_none : Option (List ℕ) → List ℕ
+name_or_none None = no_label
+name_or_none (Some name) = padded name
+
+-- 1 for a link that has something to report, 2 for an entry point that is not in text
+abbrev pub made_head : Bases → Linked → MapHead
+made_head b l = record {
+  text_end = b.text_end;
+  data_start = b.data_start;
+  data_end = b.data_end;
+  bss_start = b.bss_start;
+  bss_end = b.bss_end;
+  place = 0;
+  fault = 0;
+  state = status_of (outcome_of l).report + bit (is_some l.report.entry_bad) 2;
+  magic = l.file.header.magic;
+  entry_point = l.file.header.entry_point;
+  entry_name = name_or_none l.report.entry_bad;
+}
+
+-- where segments lie, and a fault
+abbrev pub placed_head : Bases → ℕ → MapHead
+placed_head b fault = record {
+  text_end = b.text_end;
+  data_start = b.data_start;
+  data_end = b.data_end;
+  bss_start = b.bss_start;
+  bss_end = b.bss_end;
+  place = 0;
+  fault = fault;
+  state = 0;
+  magic = 0;
+  entry_point = 0;
+  entry_name = no_label;
+}
+
+abbrev pub linked_head : Bases → Result Linked LinkFault → MapHead
+linked_head b (Ok l) = made_head b l
+linked_head b (Err fault) = placed_head b (number_of (NotLinked fault))
+
+abbrev pub outcome_head : Option Outcome → MapHead
+outcome_head None = no_head
+outcome_head (Some x) = linked_head x.bases x.linked
+
+abbrev pub head_by : Option AddFault → ℕ → Option Outcome → MapHead
+head_by (Some cause) place outcome = refused_head cause place
+head_by None place outcome = outcome_head outcome
+
+-- a map of the link of these objects
+pub record IsMapped (forced : List (List ℕ)) (o : Choices) (os : List Contents) (m : Mapped) : Type 0 where
+  pub all : Objects
+  pub map : LinkMap
+  pub taken : AreTaken forced os all
+  pub is_map : IsMapOf all forced o map
+  pub records : AreRecords all o map m.records
+  pub head : m.head ≡ head_by (cause_of all.refused) (length all.session.entries) map.outcome
+
+-- the options, then the forced names, then the objects: the first refusal, or what the map is of
+pub record MapOf : Type 0 where
+  pub choices : Choices
+  pub forced : List (List ℕ)
+  pub objects : List Contents
+
+abbrev pub map_asked : ℕ → List ℕ → List ℕ → List (List ℕ) → Result MapOf Refusal
+map_asked bits entry forced parts =
+    and_then (at 0 (choices_in bits entry))
+    (λ o. and_then (forced_in forced) (λ names. and_then (objects_each parts) (λ os. Ok (record { choices = o; forced = names; objects = os }))))
+
+abbrev pub IsMapAnswer : Result MapOf Refusal → Mapped → Type 0
+IsMapAnswer (Ok asked) m = IsMapped asked.forced asked.choices asked.objects m
+IsMapAnswer (Err r) m = ⊥
+
+-- ---- memory
+
+-- memory may run out for forced names, for an object, or for the map of all of them
+abbrev pub MayRunOutInMap : List (List ℕ) → List (List ℕ) → ℕ → Type 0
+MayRunOutInMap forced parts place =
+    ((place ≡ 0) × ((forced ≢ []) ⊎ IsOk (objects_each parts))) ⊎ MayRunOutInEachOf with_read [] parts place
+
+-- not before the options and the forced names are accepted
+abbrev pub MapMayRunOut : ℕ → List ℕ → List ℕ → List (List ℕ) → ℕ → Type 0
+MapMayRunOut bits entry forced parts place = IsOk (choices_in bits entry) × IsOkAnd (forced_in forced) (λ names. MayRunOutInMap names parts place)

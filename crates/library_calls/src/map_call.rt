@@ -1,0 +1,188 @@
+//! The map of a link of objects whose bytes are apart, as records.
+ghost use Rattle.std.specs.Prelude.{◌≡◌, ◌≢◌, ◌⊎◌, ℕ, List, length, Ok, Err, IfOk, IfErr, IsOk};
+ghost use Rattle.link_session.specs.Labelled.{objects};
+ghost use Rattle.link_maps.specs.Members.{all_of, cause_of};
+ghost use Rattle.library_calls.specs.LinkAnswers.{each_of};
+ghost use Rattle.library_calls.specs.MapAnswers.{AreTaken, IsMapAnswer, IsMapped, MapMayRunOut, MayRunOutInMap, head_by, linked_head, made_head, map_asked, objects_each, placed_head, with_read};
+ghost use Rattle.library_calls.specs.MemoryWanted.{HasBody};
+ghost use Rattle.library_calls.specs.declared.cause.Cause.TheVariants.{Memory};
+
+use crate::cause::{Cause, Refusal};
+use crate::first::first_object;
+use crate::link_call::LinkRequest;
+use crate::parts::ObjectBytes;
+use crate::requests::{forced_names, tool_options};
+use link_maps::{LinkMap, MapRecords, Objects, Outcome, map_of, padded, records_of};
+use link_out::{Bases, Linked, Options};
+use link_session::Forced;
+use std::alloc::{AllocError, Global};
+
+/// What becomes of a link, and where its segments lie.
+#[repr(C)]
+#[derive(Clone, Copy, Debug, PartialEq, Eq)]
+pub struct MapHead {
+    /// The end of text, and the beginnings and ends of data and bss; 0 if an object is refused.
+    pub text_end: u64,
+    pub data_start: u64,
+    pub data_end: u64,
+    pub bss_start: u64,
+    pub bss_end: u64,
+    /// The number of the object that is refused.
+    pub place: usize,
+    /// 0 if the link is made; else why it is refused, or the object.
+    pub fault: u32,
+    /// 1 if a link that is made has something to report, and 2 if its entry point is not in text.
+    pub state: u32,
+    /// The first word of the file.
+    pub magic: u16,
+    /// The address of the entry point.
+    pub entry_point: u16,
+    /// The name of an entry point that is not in text, filled up with NULs.
+    pub entry_name: [u8; 8],
+}
+
+/// The map of a link: what becomes of it, and its records.
+#[derive(Drop)]
+pub struct Mapped {
+    pub head: MapHead,
+    pub records: MapRecords,
+}
+
+/// Takes the object that the bytes begin with, without a label.
+fn take_read(alloc: Global, all: &mut Objects, bytes: &[u8]) -> Result<(), Cause>
+    ensures read { IfOk result (λ _. with_read (objects (all_of all.old)) bytes.now ≡ Ok (objects (all_of all.new))) }
+    ensures taken { IfOk result (λ _. (forced : List (List ℕ)) → AreTaken forced (objects (all_of all.old)) all.old → AreTaken forced (objects (all_of all.new)) all.new) }
+    ensures err { IfErr result (λ cause. cause ≢ Memory → with_read (objects (all_of all.old)) bytes.now ≡ Err cause) }
+    ensures memory { IfErr result (λ cause. cause ≡ Memory → HasBody bytes.now ⊎ IsOk (with_read (objects (all_of all.old)) bytes.now)) }
+{
+    let (object, _) = first_object(alloc, bytes)?;
+    all.take(alloc, String::new(alloc), object)?;
+    Ok(())
+}
+
+/// The objects that the parts begin with.
+fn objects_of(alloc: Global, parts: &[ObjectBytes<'_>], forced: &Forced) -> Result<Objects, Refusal>
+    ensures read { IfOk result (λ all. objects_each (each_of parts.now) ≡ Ok (objects (all_of all))) }
+    ensures taken { IfOk result (λ all. AreTaken forced.now (objects (all_of all)) all) }
+    ensures err { IfErr result (λ r. r.cause ≢ Memory → objects_each (each_of parts.now) ≡ Err r) }
+    ensures memory { IfErr result (λ r. r.cause ≡ Memory → MayRunOutInMap forced.now (each_of parts.now) r.place) }
+{
+    let mut all = Objects::new(alloc, forced)?;
+    for (place, part) in parts.iter().enumerate() {
+        match take_read(alloc, &mut all, part.bytes) {
+            Ok(()) => {}
+            Err(cause) => return Err(Refusal { cause, place }),
+        }
+    }
+    Ok(all)
+}
+
+const NOTHING: MapHead = MapHead {
+    text_end: 0,
+    data_start: 0,
+    data_end: 0,
+    bss_start: 0,
+    bss_end: 0,
+    place: 0,
+    fault: 0,
+    state: 0,
+    magic: 0,
+    entry_point: 0,
+    entry_name: [0; 8],
+};
+
+/// The head of a link that is made, beside where its segments lie.
+fn made_head(bases: &Bases, linked: &Linked) -> MapHead
+    ensures { result ≡ made_head bases.now linked.now }
+{
+    let header = linked.file.header();
+    let (entry_bit, entry_name) = match &linked.report.entry_bad {
+        Some(name) => (2, padded(name)),
+        None => (0, [0; 8]),
+    };
+    MapHead {
+        state: u32::from(linked.report.status()) + entry_bit,
+        magic: header.magic,
+        entry_point: header.entry_point,
+        entry_name,
+        ..placed_head(bases, 0)
+    }
+}
+
+/// The head of a link all of whose objects are taken, without what a link that is made has.
+fn placed_head(bases: &Bases, fault: u32) -> MapHead
+    ensures { result ≡ placed_head bases.now fault }
+{
+    MapHead {
+        text_end: bases.text_end,
+        data_start: bases.data_start,
+        data_end: bases.data_end,
+        bss_start: bases.bss_start,
+        bss_end: bases.bss_end,
+        fault,
+        ..NOTHING
+    }
+}
+
+/// The head of a link all of whose objects are taken.
+fn outcome_head(outcome: &Outcome) -> MapHead
+    ensures { result ≡ linked_head outcome.now.bases outcome.now.linked }
+{
+    match &outcome.linked {
+        Ok(linked) => made_head(&outcome.bases, linked),
+        Err(fault) => placed_head(&outcome.bases, Cause::NotLinked(*fault).number()),
+    }
+}
+
+/// What becomes of the link of a map.
+fn head_of(map: &LinkMap, all: &Objects) -> MapHead
+    ensures { result ≡ head_by (cause_of all.now.refused) (length all.now.session.entries) map.now.outcome }
+{
+    match &all.refused {
+        Some(refused) => MapHead {
+            fault: Cause::NotAdded(refused.cause).number(),
+            place: all.session.entries().len(),
+            ..NOTHING
+        },
+        None => match &map.outcome {
+            Some(outcome) => outcome_head(outcome),
+            None => NOTHING,
+        },
+    }
+}
+
+/// The map of these objects.
+fn map_objects(
+    alloc: Global,
+    all: &Objects,
+    forced: &Forced,
+    options: &Options,
+) -> Result<Mapped, AllocError>
+    ensures { IfOk result (λ m. AreTaken forced.now (objects (all_of all.now)) all.now → IsMapped forced.now options.now (objects (all_of all.now)) m) }
+{
+    let map = map_of(alloc, all, forced, options)?;
+    let records = records_of(alloc, &map, all, options)?;
+    Ok(Mapped {
+        head: head_of(&map, all),
+        records,
+    })
+}
+
+/// The map of the link of the object that each of the parts begins with, in their order. A link that is refused has one too. (own
+/// choice)
+///
+/// Errors: those of `link_each` but for 31 to 43, which are in the map.
+pub fn map_link(
+    alloc: Global,
+    request: &LinkRequest<'_>,
+    parts: &[ObjectBytes<'_>],
+) -> Result<Mapped, Refusal>
+    ensures ok { IfOk result (λ m. IsMapAnswer (map_asked request.now.options request.now.entry.now request.now.forced.now (each_of parts.now)) m) }
+    ensures err { IfErr result (λ r. r.cause ≢ Memory → map_asked request.now.options request.now.entry.now request.now.forced.now (each_of parts.now) ≡ Err r) }
+    ensures memory { IfErr result (λ r. r.cause ≡ Memory → MapMayRunOut request.now.options request.now.entry.now request.now.forced.now (each_of parts.now) r.place) }
+{
+    let options = tool_options(request.options, request.entry)?;
+    let forced = forced_names(request.forced)?;
+    let all = objects_of(alloc, parts, &forced)?;
+    Ok(map_objects(alloc, &all, &forced, &options)?)
+}

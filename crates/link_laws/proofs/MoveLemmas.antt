@@ -1,0 +1,45 @@
+-- How far the segments of objects are moved.
+use Rattle.std.proofs.Common.{◌≡◌, ℕ, ◌+◌, ◌-◌, List, refl, sym, ◌∙◌, ap, arith}
+use Rattle.aout_core.specs.declared.symbol.Segment.{Segment}
+use Rattle.aout_core.specs.declared.symbol.Segment.TheVariants.{Undefined, Absolute, TextSeg, DataSeg, BssSeg, Other}
+use Rattle.aout_core.specs.Contents.{Contents}
+use Rattle.aout_core.specs.Words.{plus, minus}
+use Rattle.link_session.specs.Starts.{total, own}
+use Rattle.link_session.specs.Mentions.{mentions}
+use Rattle.tool_options.specs.declared.options.Layout.{Layout}
+use Rattle.tool_options.specs.declared.options.Layout.TheVariants.{Plain, Pure, Split}
+use Rattle.tool_options.specs.Choices.{Choices}
+use Rattle.link_out.specs.Layouts.{data_base, magic_of}
+use Rattle.link_out.specs.function.Plans.{plan, commons_laid}
+use Rattle.link_out.specs.function.Words.{move}
+use Rattle.link_out.specs.function.Link.{linked_file}
+use Rattle.aout_core.specs.Addresses.{data_start, data_start_in}
+use Rattle.link_laws.specs.relation.Relocated.{base_in, move_in}
+
+sum_moved : (b t n : ℕ) → plus b (minus t n) ≡ minus (b + t) n
+sum_moved b t n = omega arith
+
+-- what is left of a sum
+pub rest_back : (c t : ℕ) → (c + t) - t ≡ c
+rest_back c t = omega arith
+
+-- data begins where the magic of the layout says
+pub data_begun : (layout : Layout) (t : ℕ) → data_base layout t ≡ data_start (magic_of layout) t
+data_begun Plain t = refl
+data_begun Pure t = refl
+data_begun Split t = refl
+
+-- how far a segment moves, by the header of the linked file
+pub move_by_header : (forced : List (List ℕ)) (os : List Contents) (o : Choices) (before : List Contents) (k : Contents) (segment : Segment) →
+    move (plan forced os o).at before k segment ≡ move_in (linked_file (plan forced os o) os).header os before k segment
+move_by_header forced os o before k Undefined = refl
+move_by_header forced os o before k Absolute = refl
+move_by_header forced os o before k Other = refl
+move_by_header forced os o before k TextSeg = sum_moved 0 (total TextSeg before) 0
+move_by_header forced os o before k DataSeg =
+    ap (λ (b : ℕ). plus b (minus (total DataSeg before) (own k DataSeg))) (data_begun o.layout (total TextSeg os))
+    ∙ sum_moved (data_start_in (linked_file (plan forced os o) os).header) (total DataSeg before) (own k DataSeg)
+move_by_header forced os o before k BssSeg =
+    let c = commons_laid o (mentions forced os) in
+    (λ i. plus (data_begun o.layout (total TextSeg os) i + total DataSeg os + sym (rest_back c (total BssSeg os)) i) (minus (total BssSeg before) (own k BssSeg)))
+    ∙ sum_moved (base_in (linked_file (plan forced os o) os).header (total BssSeg os) BssSeg) (total BssSeg before) (own k BssSeg)

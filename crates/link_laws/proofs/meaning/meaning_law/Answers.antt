@@ -1,0 +1,46 @@
+use Rattle.link_laws.proofs.RelocatedLemmas.{words_relocated, objects_fill}
+use Rattle.link_laws.proofs.DefinedLemmas.{definitions_hold}
+use Rattle.link_laws.proofs.SaidLemmas.{multiples_differ}
+use Rattle.link_laws.proofs.UndefinedLemmas.{names_have_addresses, missing_have_no_address}
+use Rattle.link_laws.proofs.ExternalLemmas.{entries_stand_once}
+use Rattle.link_laws.proofs.CommonLemmas.{commons_have_room, commons_lie_apart}
+use Rattle.link_laws.proofs.EntryPointLemmas.{entry_is_found}
+use Rattle.link_out.proofs.partial_links.PartialTheorem.{may_be_added}
+use Rattle.link_laws.proofs.LayoutLemmas.{layouts_differ}
+use Rattle.link_laws.proofs.meaning.meaning_law.Goals as goal
+
+pub returns-clause-words : goal.returns-clause-words
+returns-clause-words c = words_relocated
+
+pub returns-clause-fill : goal.returns-clause-fill
+returns-clause-fill c = objects_fill
+
+pub returns-clause-definitions : goal.returns-clause-definitions
+returns-clause-definitions c = definitions_hold
+
+pub returns-clause-multiples : goal.returns-clause-multiples
+returns-clause-multiples c = multiples_differ
+
+pub returns-clause-names : goal.returns-clause-names
+returns-clause-names c = names_have_addresses
+
+pub returns-clause-once : goal.returns-clause-once
+returns-clause-once c = entries_stand_once
+
+pub returns-clause-room : goal.returns-clause-room
+returns-clause-room c = commons_have_room
+
+pub returns-clause-apart : goal.returns-clause-apart
+returns-clause-apart c = commons_lie_apart
+
+pub returns-clause-entry : goal.returns-clause-entry
+returns-clause-entry c = entry_is_found
+
+pub returns-clause-missing : goal.returns-clause-missing
+returns-clause-missing c = missing_have_no_address
+
+pub returns-clause-added : goal.returns-clause-added
+returns-clause-added c = may_be_added
+
+pub returns-clause-layouts : goal.returns-clause-layouts
+returns-clause-layouts c = layouts_differ

@@ -1,0 +1,12 @@
+use Rattle.link_laws.proofs.LinkedTheorem.{linked_exactly, linked_once}
+use Rattle.link_laws.proofs.RefusalLemmas.{refused_exactly}
+use Rattle.link_laws.proofs.relation.linking_law.Goals as goal
+
+pub returns-clause-exactly : goal.returns-clause-exactly
+returns-clause-exactly c = linked_exactly
+
+pub returns-clause-once : goal.returns-clause-once
+returns-clause-once c = linked_once
+
+pub returns-clause-refused : goal.returns-clause-refused
+returns-clause-refused c = refused_exactly

@@ -1,0 +1,58 @@
+-- What linking is: when a file and a report come of objects, forced names and options, by all these alone. (ld(1))
+--
+-- This relation is what a reader has to believe of the link. It says of a linked file, part by part, that it holds the objects'
+-- words, relocated, what its symbol table has, row by row, that with relocation each word still has its relocation word, its
+-- entry point, and what is reported. `LinkedExactly` and `LinkedOnce` tie it to the function `link`: both are proved.
+use Rattle.std.specs.Prelude.{◌≡◌, ◌↔◌, ℕ, ◌+◌, ◌*◌, ◌≤◌, true, cond, List, ◌++◌, map, length, Ok}
+use Rattle.std.specs.List.{AllByRecursion}
+use Rattle.aout_core.specs.declared.symbol.Symbol.{Symbol}
+use Rattle.aout_core.specs.declared.symbol.Segment.TheVariants.{TextSeg, DataSeg, BssSeg}
+use Rattle.aout_core.specs.Contents.{Contents}
+use Rattle.link_session.specs.Starts.{total}
+use Rattle.link_session.specs.Sessions.{IsObject}
+use Rattle.link_session.specs.Mentions.{mentions, externals}
+use Rattle.tool_options.specs.Choices.{Choices}
+use Rattle.link_out.specs.Layouts.{magic_of}
+use Rattle.link_out.specs.KeptSymbols.{rows_kept}
+use Rattle.link_out.specs.Results.{Outcome}
+use Rattle.link_out.specs.function.Link.{link}
+use Rattle.aout_core.specs.Addresses.{data_start_in}
+use Rattle.link_laws.specs.relation.Relocated.{base_in, HoldsObjects, IsEntry}
+pub use Rattle.link_laws.specs.relation.LinkedTable.{shown, undefined_row, row_for, room_for, AreRows, moved_value_in, moved_local_in, moved_locals_in}
+pub use Rattle.link_laws.specs.relation.LinkedWords.{AreRelocated, row_bits, IsNamedBy, AreBits, IsKept, AreKept}
+pub use Rattle.link_laws.specs.relation.Reported.{ArePicked, IsOther, IsReported}
+
+-- the header but for the sizes of the segments and the entry point, and what a file may hold at most
+pub record HasHeader (o : Choices) (file : Contents) : Type 0 where
+  pub magic : file.header.magic ≡ magic_of o.layout
+  pub symbol_size : file.header.symbol_size ≡ 12 * length file.symbols
+  pub unused : file.header.unused ≡ 0
+  pub flag : file.header.flag ≡ cond o.relocatable 0 1
+  pub short : data_start_in file.header + file.header.data_size + file.header.bss_size ≤ 65535
+  pub few : length file.symbols ≤ 5461
+
+-- the file and the report are what linking these objects gives; the rows are those of the externals, which the table has
+-- after the locals that are kept
+pub record IsLinkedFrom (forced : List (List ℕ)) (os : List Contents) (o : Choices) (x : Outcome) : Type 0 where
+  pub rows : List Symbol
+  pub holds : HoldsObjects x.file os
+  pub header : HasHeader o x.file
+  pub names : map (λ s. s.name) rows ≡ externals forced os
+  pub are_rows : AreRows x.file.header (total BssSeg os) o (mentions forced os) (data_start_in x.file.header + x.file.header.data_size) rows (base_in x.file.header (total BssSeg os) BssSeg)
+  pub table : x.file.symbols ≡ rows_kept o.keep (moved_locals_in x.file.header os o ++ rows)
+  pub text : AreRelocated x.file rows os TextSeg
+  pub «data» : AreRelocated x.file rows os DataSeg
+  pub text_relocs : 2 * length x.file.text_reloc ≡ cond o.relocatable (total TextSeg os) 0
+  pub data_relocs : 2 * length x.file.data_reloc ≡ cond o.relocatable (total DataSeg os) 0
+  pub text_kept : o.relocatable ≡ true → AreKept x.file rows (length (moved_locals_in x.file.header os o)) os TextSeg
+  pub data_kept : o.relocatable ≡ true → AreKept x.file rows (length (moved_locals_in x.file.header os o)) os DataSeg
+  pub entry : IsEntry rows o.entry x.file.header.entry_point x.report.entry_bad
+  pub report : IsReported forced os o x
+
+-- there is a link if and only if the relation holds
+abbrev pub LinkedExactly : Type 0
+LinkedExactly = (forced : List (List ℕ)) (os : List Contents) (o : Choices) (x : Outcome) → AllByRecursion IsObject os → (link forced os o ≡ Ok x) ↔ IsLinkedFrom forced os o x
+
+-- at most one file and report come of the same objects and options
+abbrev pub LinkedOnce : Type 0
+LinkedOnce = (forced : List (List ℕ)) (os : List Contents) (o : Choices) (x y : Outcome) → AllByRecursion IsObject os → IsLinkedFrom forced os o x → IsLinkedFrom forced os o y → x ≡ y

@@ -1,0 +1,82 @@
+-- When a link is refused, and for what, by the objects, the forced names and the options alone. (own choice)
+--
+-- An address has 16 bits, also the one where bss ends, so that is at most 65,535. A header has 16 bits for the bytes of the
+-- table, which are 12 for a symbol, so a table has at most 5,461 symbols. A relocation word has 12 bits for the number of a
+-- symbol.
+use Rattle.std.specs.Prelude.{◌≡◌, ◌↔◌, ℕ, ◌+◌, ◌<◌, ◌≤◌, ◌⊎◌, true, false, List, [], ◌∷◌, ◌++◌, filter, length, Some, Err, slice_get}
+use Rattle.std.specs.List.{flat_map, AllByRecursion}
+use Rattle.aout_core.specs.declared.symbol.Symbol.{Symbol}
+use Rattle.aout_core.specs.declared.symbol.Segment.{Segment}
+use Rattle.aout_core.specs.declared.symbol.Segment.TheVariants.{TextSeg, DataSeg, BssSeg}
+use Rattle.aout_core.specs.declared.reloc.Reloc.{Reloc}
+use Rattle.aout_core.specs.declared.reloc.Kind.TheVariants.{External}
+use Rattle.aout_core.specs.Contents.{Contents}
+use Rattle.aout_core.specs.WellFormed.{kind_of, symbol_number}
+use Rattle.link_session.specs.declared.state.State.{State}
+use Rattle.link_session.specs.Starts.{total}
+use Rattle.link_session.specs.Sessions.{IsObject}
+use Rattle.link_session.specs.Mentions.{Mention, mentions, externals, place_of}
+use Rattle.link_session.specs.Cells.{segment_words, segment_relocs}
+use Rattle.link_out.specs.declared.linked.LinkFault.{LinkFault}
+use Rattle.link_out.specs.declared.linked.LinkFault.TheVariants.{DoesNotFit, TooManySymbols, SymbolNumber, Memory}
+use Rattle.tool_options.specs.declared.options.Keep.{Keep}
+use Rattle.tool_options.specs.declared.options.Keep.TheVariants.{Nothing}
+use Rattle.tool_options.specs.Choices.{Choices, lays_commons}
+use Rattle.link_out.specs.Layouts.{data_base}
+use Rattle.link_laws.specs.relation.NameStates.{HasState, IsWanted}
+use Rattle.link_out.specs.KeptSymbols.{is_kept_local}
+use Rattle.link_laws.specs.relation.LinkedTable.{room_for}
+use Rattle.link_out.specs.function.Link.{link}
+
+-- the commons among these names take so many bytes
+abbrev pub CommonsTake : Choices → List Mention → List (List ℕ) → ℕ → Type 0
+CommonsTake o ms [] room = room ≡ 0
+CommonsTake o ms (n ∷ ns) room = (st : State) × HasState ms n st × ((rest : ℕ) × (room ≡ room_for o st + rest) × CommonsTake o ms ns rest)
+
+-- bss ends there: after the objects' text and data, the commons, and the objects' bss
+pub record EndsAt (forced : List (List ℕ)) (os : List Contents) (o : Choices) (end : ℕ) : Type 0 where
+  pub commons : ℕ
+  pub take : CommonsTake o (mentions forced os) (externals forced os) commons
+  pub is : end ≡ data_base o.layout (total TextSeg os) + total DataSeg os + commons + total BssSeg os
+
+abbrev pub kept_locals : Choices → List Contents → List Symbol
+kept_locals o os = flat_map (λ (k : Contents). filter (is_kept_local o.keep) k.symbols) os
+
+-- how many symbols the table has of so many locals and externals
+abbrev pub entries : Keep → ℕ → ℕ
+entries Nothing count = 0
+entries _ count = count
+
+abbrev pub entry_count : List (List ℕ) → List Contents → Choices → ℕ
+entry_count forced os o = entries o.keep (length (kept_locals o os) + length (externals forced os))
+
+-- a word refers to a name that a link with relocation does not bind, and whose number in the table would be over this one
+pub record HasFarWord (number : ℕ) (forced : List (List ℕ)) (os : List Contents) (o : Choices) : Type 0 where
+  pub before : List Contents
+  pub k : Contents
+  pub after : List Contents
+  pub all : os ≡ before ++ k ∷ after
+  pub segment : Segment
+  pub i : ℕ
+  pub w : ℕ
+  pub r : Reloc
+  pub word : slice_get (segment_words segment k) i ≡ Some w
+  pub reloc : slice_get (segment_relocs segment k) i ≡ Some r
+  pub kind : kind_of r ≡ Some External
+  pub symbol : Symbol
+  pub named : slice_get k.symbols (symbol_number r) ≡ Some symbol
+  pub size : ℕ
+  pub wanted : IsWanted (mentions forced os) symbol.name size
+  pub waits : (size ≡ 0) ⊎ (lays_commons o ≡ false)
+  pub far : number < length (kept_locals o os) + place_of symbol.name (externals forced os)
+
+-- the first of these that applies: the end is over 65,535, there are more than 5,461 symbols, or a number is too large
+abbrev pub IsRefused : List (List ℕ) → List Contents → Choices → LinkFault → Type 0
+IsRefused forced os o DoesNotFit = (end : ℕ) × EndsAt forced os o end × (65535 < end)
+IsRefused forced os o TooManySymbols = (end : ℕ) × EndsAt forced os o end × (end ≤ 65535) × (5461 < entry_count forced os o)
+IsRefused forced os o SymbolNumber = (end : ℕ) × EndsAt forced os o end × (end ≤ 65535) × (entry_count forced os o ≤ 5461) × (o.relocatable ≡ true) × HasFarWord 4095 forced os o
+IsRefused forced os o Memory = ⊥
+
+-- the function `link` gives a fault if and only if the link is refused for it
+abbrev pub RefusedExactly : Type 0
+RefusedExactly = (forced : List (List ℕ)) (os : List Contents) (o : Choices) (fault : LinkFault) → AllByRecursion IsObject os → (link forced os o ≡ Err fault) ↔ IsRefused forced os o fault

@@ -1,0 +1,27 @@
+-- The map of the link of some objects. (own choice)
+use Rattle.std.specs.Prelude.{◌≡◌, not, is_some, ℕ, List, map, IfSome}
+use Rattle.link_session.specs.Labelled.{objects}
+use Rattle.tool_options.specs.Choices.{Choices}
+use Rattle.link_maps.specs.declared.map.LinkMap.{LinkMap}
+use Rattle.link_maps.specs.declared.map_records.MapRecords.{MapRecords}
+use Rattle.link_maps.specs.declared.members.Objects.{Objects}
+use Rattle.link_maps.specs.Members.{all_of, first_places, member_of, places_from}
+use Rattle.link_maps.specs.MapLimits.{map_limits}
+use Rattle.link_maps.specs.Records.{by_name, knowledge_of, object_records, record_of, records_from}
+use Rattle.link_maps.specs.Rows.{IsOutcome, bases_of}
+use Rattle.link_maps.specs.Uses.{uses_in_order}
+
+-- a map of these objects, what `map_of` gives
+pub record IsMapOf (all : Objects) (forced : List (List ℕ)) (o : Choices) (m : LinkMap) : Type 0 where
+  pub members : m.members.items ≡ map member_of (all_of all)
+  pub places : m.places.items ≡ places_from (first_places (bases_of m.outcome)) (map member_of (all_of all))
+  pub uses : m.uses.items ≡ uses_in_order forced (objects (all_of all))
+  pub made : is_some m.outcome ≡ not (is_some all.refused)
+  pub outcome : IfSome m.outcome (λ x. IsOutcome x all.session o)
+
+-- the records of a map
+pub record AreRecords (all : Objects) (o : Choices) (m : LinkMap) (r : MapRecords) : Type 0 where
+  pub objects : r.objects.items ≡ object_records m.members.items m.places.items
+  pub names : r.names.items ≡ map (record_of (knowledge_of m.outcome all.session)) (by_name m.uses.items)
+  pub uses : r.uses.items ≡ records_from m.places.items 0 (by_name m.uses.items)
+  pub limits : r.limits.items ≡ map_limits o.relocatable all.session m.members.items m.outcome

@@ -1,0 +1,197 @@
+//! The names of a map as records.
+ghost use Rattle.std.specs.Prelude.{◌≡◌, map, position, IfOk};
+ghost use Rattle.tool_options.specs.NameLists.{is_among};
+ghost use Rattle.link_maps.specs.internal.Known.{knowledge};
+ghost use Rattle.link_maps.specs.Records.{after, bit, by_name, definer, first_user, is_multiple_in, is_user, name_state, next_definer, object_at, record_of, record_with, row_among, symbol_shown, type_shown, value_shown};
+
+use crate::names::{first_definition, stays_undefined, telling};
+use crate::outcome::row_of;
+use crate::records::{number_or_none, padded, uses_of_name};
+use crate::uses::Use;
+use aout_core::{Name, Symbol};
+use link_session::Session;
+use std::alloc::{AllocError, Global};
+
+/// A name.
+#[repr(C)]
+#[derive(Clone, Copy, Debug, PartialEq, Eq)]
+pub struct NameRecord {
+    /// The name, filled up with NULs.
+    pub name: [u8; 8],
+    /// The number of the object that defines it first; the largest number if none does.
+    pub definer: usize,
+    /// The number of the object that defines it next, likewise.
+    pub next_definer: usize,
+    /// The number of the first object with a symbol of the name that does not define it, likewise.
+    pub user: usize,
+    /// 1 if the table of the link has it, so that its value is that of the link; and 2 if it stays undefined, and 4 if it is multiply defined.
+    pub state: u32,
+    /// The type word of its symbol.
+    pub type_bits: u16,
+    /// The value of its symbol.
+    pub value: u16,
+}
+
+/// What a link knows of names.
+#[derive(Clone, Copy)]
+pub(crate) struct Known<'a> {
+    pub(crate) session: &'a Session,
+    /// The rows of its externals by first mention, if it fits.
+    pub(crate) rows: Option<&'a [Symbol]>,
+    /// The names of the linker that are defined or common.
+    pub(crate) reserved: &'a [Name],
+}
+
+/// The object of the use at a place.
+fn object_at(uses: &[Use], place: Option<usize>) -> usize
+    ensures { result ≡ object_at uses.now place }
+{
+    let Some(place) = place else {
+        return number_or_none(None);
+    };
+    match uses.get(place) {
+        Some(used) => number_or_none(used.object),
+        None => number_or_none(None),
+    }
+}
+
+/// The object of the first definition.
+fn definer(uses: &[Use]) -> usize
+    ensures { result ≡ definer uses.now }
+{
+    object_at(uses, first_definition(uses))
+}
+
+/// The uses after one at a place.
+fn after(uses: &[Use], place: Option<usize>) -> &[Use]
+    ensures { result.now ≡ after uses.now place }
+{
+    match place {
+        Some(place) if place < uses.len() => &uses[place + 1..],
+        _ => &[],
+    }
+}
+
+/// The object of the definition after the first one.
+fn next_definer(uses: &[Use]) -> usize
+    ensures { result ≡ next_definer uses.now }
+{
+    definer(after(uses, first_definition(uses)))
+}
+
+fn is_user(used: &Use) -> bool
+    ensures { result ≡ is_user used.now }
+{
+    used.object.is_some() && !used.is_definition()
+}
+
+/// The place of the first symbol of an object that does not define the name.
+fn user_place(uses: &[Use]) -> Option<usize>
+    ensures { result ≡ position is_user uses.now }
+{
+    uses.iter().position(|used| is_user(used))
+}
+
+/// The first object that has a symbol of the name and does not define it.
+fn first_user(uses: &[Use]) -> usize
+    ensures { result ≡ first_user uses.now }
+{
+    object_at(uses, user_place(uses))
+}
+
+fn symbol_shown(row: &Option<Symbol>, uses: &[Use]) -> Option<Symbol>
+    ensures { result ≡ symbol_shown row.now uses.now }
+{
+    match row {
+        Some(row) => Some(*row),
+        None => telling(uses),
+    }
+}
+
+fn type_shown(symbol: &Option<Symbol>) -> u16
+    ensures { result ≡ type_shown symbol.now }
+{
+    match symbol {
+        Some(symbol) => symbol.type_bits,
+        None => 0,
+    }
+}
+
+fn value_shown(symbol: &Option<Symbol>) -> u16
+    ensures { result ≡ value_shown symbol.now }
+{
+    match symbol {
+        Some(symbol) => symbol.value,
+        None => 0,
+    }
+}
+
+fn is_in(names: &[Name], name: &Name) -> bool
+    ensures { result ≡ is_among names.now name.now }
+{
+    names.iter().any(|one| one == name)
+}
+
+fn bit(is_set: bool, number: u32) -> u32
+    ensures { result ≡ bit is_set number }
+{
+    if is_set { number } else { 0 }
+}
+
+fn name_state(is_placed: bool, is_multiple: bool, uses: &[Use]) -> u32
+    ensures { result ≡ name_state is_placed is_multiple uses.now }
+{
+    bit(is_placed, 1) + (bit(stays_undefined(uses), 2) + bit(is_multiple, 4))
+}
+
+/// The row of a name, if it has one.
+fn row_among(known: &Known<'_>, name: &Name) -> Option<Symbol>
+    ensures { result ≡ row_among (knowledge known.now).rows known.now.session.now name.now }
+{
+    match known.rows {
+        Some(rows) => row_of(known.session, rows, name),
+        None => None,
+    }
+}
+
+fn is_multiple(known: &Known<'_>, name: &Name) -> bool
+    ensures { result ≡ is_multiple_in (knowledge known.now) name.now }
+{
+    is_in(known.session.multiples(), name) || is_in(known.reserved, name)
+}
+
+/// The record of the name of some uses.
+fn name_record(known: &Known<'_>, name: &Name, uses: &[Use]) -> NameRecord
+    ensures { result ≡ record_with (knowledge known.now) uses.now name.now }
+{
+    let row = row_among(known, name);
+    let is_placed = row.is_some();
+    let symbol = symbol_shown(&row, uses);
+    NameRecord {
+        name: padded(name),
+        definer: definer(uses),
+        next_definer: next_definer(uses),
+        user: first_user(uses),
+        state: name_state(is_placed, is_multiple(known, name), uses),
+        type_bits: type_shown(&symbol),
+        value: value_shown(&symbol),
+    }
+}
+
+/// The names, from uses in the order of their names. An error: out of memory.
+pub(crate) fn name_records(
+    alloc: Global,
+    known: &Known<'_>,
+    uses: &[Use],
+) -> Result<Vec<NameRecord>, AllocError>
+    ensures { IfOk result (λ records. records.items ≡ map (record_of (knowledge known.now)) (by_name uses.now)) }
+{
+    let mut records = Vec::new(alloc);
+    let mut rest = uses;
+    while let Some(first) = rest.first() {
+        let (named, after) = rest.split_at(uses_of_name(rest));
+        records.push(name_record(known, &first.symbol.name, named))?;
+        rest = after;
+    }
+    Ok(records)
+}

@@ -1,0 +1,272 @@
+//! The map of a link as lists of records that have no lists of their own: objects, and the uses of names.
+ghost use Rattle.std.specs.Prelude.{◌≡◌, ◌++◌, ◌<◌, ◌≤◌, length, map, IfOk, OnOk};
+ghost use Rattle.std.specs.List.{flat_map};
+ghost use Rattle.aout_core.specs.Names.{padded};
+ghost use Rattle.link_maps.specs.Records.{beyond_label, by_name, is_same_name, label_shown, number_or_none, object_record, object_records, places_in, records_from, use_kind, use_record, use_records, uses_of_name, word_kind, word_record};
+
+use crate::members::Member;
+use crate::places::Places;
+use crate::references::{Before, ReferringWord};
+use crate::uses::Use;
+use aout_core::{Name, Part};
+use std::alloc::{AllocError, Global};
+
+/// An object: where its segments begin, and their sizes in bytes; and how many symbols it has.
+#[repr(C)]
+#[derive(Clone, Copy, Debug, PartialEq, Eq)]
+pub struct ObjectRecord {
+    pub text: u64,
+    pub data: u64,
+    pub bss: u64,
+    pub symbols: usize,
+    pub text_size: u16,
+    pub data_size: u16,
+    pub bss_size: u16,
+}
+
+/// A use of a name, or a word that refers to it.
+#[repr(C)]
+#[derive(Clone, Copy, Debug, PartialEq, Eq)]
+pub struct UseRecord {
+    /// The address of a word, in the program.
+    pub address: u64,
+    /// The number of the object; the largest number for a forced name.
+    pub object: usize,
+    /// The number of the name.
+    pub name: usize,
+    /// The label before the line of a word, filled up with NULs.
+    pub label: [u8; 8],
+    /// 1 for a definition, 2 for a common, 3 for another symbol, 4 for a forced name, 5 for a word of text, and 6 for a word of data.
+    pub kind: u32,
+    /// The place of a word in its part, in bytes; else the value of the symbol.
+    pub offset: u16,
+    /// The place at which the line of a word begins.
+    pub line: u16,
+    /// How many bytes after its label a line begins.
+    pub beyond: u16,
+    /// 1 if there is a label before the line of a word.
+    pub is_labelled: u16,
+}
+
+/// A name in eight bytes, filled up with NULs.
+pub fn padded(name: &Name) -> [u8; 8]
+    ensures { result ≡ padded name.now }
+{
+    let text = name.as_bytes();
+    let mut bytes = [0; 8];
+    bytes[..text.len()].copy_from_slice(text);
+    bytes
+}
+
+/// The number of an object, or the largest number.
+pub(crate) fn number_or_none(object: Option<usize>) -> usize
+    ensures { result ≡ number_or_none object }
+{
+    match object {
+        Some(number) => number,
+        None => usize::MAX,
+    }
+}
+
+fn object_record(member: &Member, at: &Places) -> ObjectRecord
+    ensures { result ≡ object_record member.now at.now }
+{
+    ObjectRecord {
+        text: at.text,
+        data: at.data,
+        bss: at.bss,
+        symbols: member.symbols,
+        text_size: member.header.text_size,
+        data_size: member.header.data_size,
+        bss_size: member.header.bss_size,
+    }
+}
+
+/// The objects. An error: out of memory.
+pub(crate) fn object_records(
+    alloc: Global,
+    members: &[Member],
+    places: &[Places],
+) -> Result<Vec<ObjectRecord>, AllocError>
+    ensures { IfOk result (λ records. records.items ≡ object_records members.now places.now) }
+{
+    members
+        .iter()
+        .zip(places)
+        .map(|(member, at)| object_record(member, at))
+        .collect(alloc)
+}
+
+fn use_kind(used: &Use) -> u32
+    ensures { result ≡ use_kind used.now }
+{
+    if used.object.is_none() {
+        4
+    } else if used.is_definition() {
+        1
+    } else if used.is_common() {
+        2
+    } else {
+        3
+    }
+}
+
+fn use_record(number: usize, used: &Use) -> UseRecord
+    ensures { result ≡ use_record number used.now }
+{
+    UseRecord {
+        address: 0,
+        object: number_or_none(used.object),
+        name: number,
+        label: [0; 8],
+        kind: use_kind(used),
+        offset: used.symbol.value,
+        line: 0,
+        beyond: 0,
+        is_labelled: 0,
+    }
+}
+
+fn word_kind(part: Part) -> u32
+    ensures { result ≡ word_kind part }
+{
+    match part {
+        Part::Text => 5,
+        Part::Data => 6,
+    }
+}
+
+fn label_shown(before: &Option<Before>) -> [u8; 8]
+    ensures { result ≡ label_shown before.now }
+{
+    match before {
+        Some(before) => padded(&before.name),
+        None => [0; 8],
+    }
+}
+
+fn beyond_label(before: &Option<Before>) -> u16
+    ensures { result ≡ beyond_label before.now }
+{
+    match before {
+        Some(before) => before.bytes,
+        None => 0,
+    }
+}
+
+/// A word that refers to a name, in an object whose segments begin there.
+fn word_record(at: &Places, object: usize, number: usize, word: &ReferringWord) -> UseRecord
+    ensures { result ≡ word_record at.now object number word.now }
+{
+    UseRecord {
+        address: at.address(word.part, word.offset),
+        object,
+        name: number,
+        label: label_shown(&word.before),
+        kind: word_kind(word.part),
+        offset: word.offset,
+        line: word.line,
+        beyond: beyond_label(&word.before),
+        is_labelled: u16::from(word.before.is_some()),
+    }
+}
+
+/// Where the segments of an object begin.
+fn places_in(places: &[Places], object: Option<usize>) -> Places
+    ensures { result ≡ places_in places.now object }
+{
+    let none = Places {
+        text: 0,
+        data: 0,
+        bss: 0,
+    };
+    match object {
+        Some(number) => *places.get(number).unwrap_or(&none),
+        None => none,
+    }
+}
+
+/// Appends the words that refer to a symbol.
+fn put_words(
+    records: &mut Vec<UseRecord>,
+    at: &Places,
+    number: usize,
+    used: &Use,
+) -> Result<(), AllocError>
+    ensures { OnOk result (records.new.items ≡ records.old.items ++ map (word_record at.now (number_or_none used.now.object) number) used.now.references) }
+{
+    let object = number_or_none(used.object);
+    for word in &used.references {
+        records.push(word_record(at, object, number, word))?;
+    }
+    Ok(())
+}
+
+/// Appends a use, and the words that refer to its symbol.
+fn put_use(
+    records: &mut Vec<UseRecord>,
+    places: &[Places],
+    number: usize,
+    used: &Use,
+) -> Result<(), AllocError>
+    ensures { OnOk result (records.new.items ≡ records.old.items ++ use_records places.now number used.now) }
+{
+    records.push(use_record(number, used))?;
+    let at = places_in(places, used.object);
+    put_words(records, &at, number, used)
+}
+
+/// Appends the uses of a name.
+fn put_uses(
+    records: &mut Vec<UseRecord>,
+    places: &[Places],
+    number: usize,
+    uses: &[Use],
+) -> Result<(), AllocError>
+    ensures { OnOk result (records.new.items ≡ records.old.items ++ flat_map (use_records places.now number) uses.now) }
+{
+    for used in uses {
+        put_use(records, places, number, used)?;
+    }
+    Ok(())
+}
+
+fn is_same_name(one: &Use, other: &Use) -> bool
+    ensures { result ≡ is_same_name one.now other.now }
+{
+    one.symbol.name == other.symbol.name
+}
+
+/// How many uses are of the name of the first one.
+pub(crate) fn uses_of_name(uses: &[Use]) -> usize
+    requires { 0 < length uses.now }
+    ensures value { result ≡ uses_of_name uses.now }
+    ensures some { 0 < result }
+    ensures within { result ≤ length uses.now }
+{
+    let mut last = 0;
+    while last + 1 < uses.len() && is_same_name(&uses[last], &uses[last + 1]) {
+        last += 1;
+    }
+    last + 1
+}
+
+/// The uses of all names, from uses in the order of their names. An error: out of memory.
+pub(crate) fn use_records(
+    alloc: Global,
+    places: &[Places],
+    uses: &[Use],
+) -> Result<Vec<UseRecord>, AllocError>
+    ensures { IfOk result (λ records. records.items ≡ records_from places.now 0 (by_name uses.now)) }
+{
+    let mut records = Vec::new(alloc);
+    let mut number = 0;
+    let mut rest = uses;
+    while !rest.is_empty() {
+        let (named, after) = rest.split_at(uses_of_name(rest));
+        put_uses(&mut records, places, number, named)?;
+        number += 1;
+        rest = after;
+    }
+    Ok(records)
+}

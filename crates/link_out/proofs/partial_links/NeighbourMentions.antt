@@ -1,0 +1,124 @@
+-- The mentions, names and states of a partial link among neighbours.
+use Rattle.std.proofs.Common.{◌≡◌, ℕ, Bool, true, false, List, [], ◌∷◌, ◌++◌, map, Option, refl, sym, ◌∙◌, ap, append-nil, arith}
+use Rattle.std.specs.Prelude.{bytes_eq}
+use Rattle.std.proofs.lemmas.List.{map-id}
+use Rattle.aout_core.specs.declared.symbol.Segment.TheVariants.{Undefined, Absolute, TextSeg, DataSeg, BssSeg, Other}
+use Rattle.aout_core.specs.Contents.{Contents}
+use Rattle.link_session.specs.declared.state.State.{State}
+use Rattle.link_session.specs.declared.state.State.TheVariants.{Defined, Wanted}
+use Rattle.tool_options.specs.NameLists.{new_names}
+use Rattle.link_session.specs.Mentions.{Mention, mentions_in, mentions, forced_mention, names_of, names_by_first_mention}
+use Rattle.link_session.specs.States.{state}
+use Rattle.link_session.specs.internal.Updates.{updated_state}
+use Rattle.link_session.proofs.MentionLemmas.{mentions-append, names_of-append, names_of-map}
+use Rattle.link_session.proofs.StateLemmas.{state-append}
+use Rattle.tool_options.specs.declared.options.Keep.{Keep}
+use Rattle.link_out.proofs.partial_links.PartialLemmas.{partial_file}
+use Rattle.link_out.proofs.partial_links.PartialNames.{HasTable, told, told_alone, told_state, said_once}
+use Rattle.link_session.proofs.NeighbourLemmas.{AreAsLong, as_long_append, as_long_self, blocks_same, blocks-append, mentions_in_same, mentions_after, raised, raise, mentions_in_raised, mentions_after-raised, names_of_raised, forced_front, names_of_forced, names_told_once}
+
+pub state_raised : (bs : List Contents) (ms : List Mention) (name : List ℕ) → state (map (raise bs) ms) name ≡ raised bs (state ms name)
+state_raised bs [] name = refl
+state_raised bs (m ∷ ms) name =
+    state-append (raise bs m ∷ []) (map (raise bs) ms) name
+    ∙ (λ i. updated_state (one (bytes_eq name m.name) m.says i) (state_raised bs ms name i))
+    ∙ both (state (m ∷ []) name) (state ms name)
+    ∙ ap (λ (s : State). raised bs s) (sym (state-append (m ∷ []) ms name))
+  where
+    one : (t : Bool) (s : State) → said_once t (raised bs s) ≡ raised bs (said_once t s)
+    one true (Defined segment offset) = refl
+    one true (Wanted size) = refl
+    one false s = refl
+
+    both : (a b : State) → updated_state (raised bs a) (raised bs b) ≡ raised bs (updated_state a b)
+    both (Defined segment offset) b = refl
+    both (Wanted size) (Defined segment offset) = refl
+    both (Wanted size) (Wanted more) = refl
+
+names_of_told : (ms : List Mention) (ns : List (List ℕ)) → names_of (map (told ms) ns) ≡ ns
+names_of_told ms ns = names_of-map (told ms) (λ n. n) (λ n. refl) ns ∙ map-id ns
+
+module _ (forced : List (List ℕ)) (bs os cs : List Contents) (keep : Keep) (entry : Option (List ℕ)) (has : HasTable forced os keep entry) where
+  abbrev m : Contents
+  m = partial_file forced os keep entry
+
+  -- a partial link is as long as its objects
+  pub partial_as_long : AreAsLong (m ∷ []) os
+  partial_as_long Undefined = refl
+  partial_as_long Absolute = refl
+  partial_as_long Other = refl
+  partial_as_long TextSeg = omega arith
+  partial_as_long DataSeg = omega arith
+  partial_as_long BssSeg = omega arith
+
+  -- the mentions before, in and after the objects
+  abbrev pub front_said : List Mention
+  front_said = map forced_mention forced ++ mentions_after [] bs
+
+  abbrev pub whole_said : List Mention
+  whole_said = mentions_after bs os
+
+  abbrev pub partial_said : List Mention
+  partial_said = mentions_in bs m
+
+  abbrev pub back_said : List Mention
+  back_said = mentions_after (bs ++ os) cs
+
+  -- the mentions of all objects, in three parts
+  pub mentions_of_whole : mentions forced (bs ++ (os ++ cs)) ≡ front_said ++ (whole_said ++ back_said)
+  mentions_of_whole = mentions-append forced bs (os ++ cs)
+      ∙ ap (λ (ms : List Mention). front_said ++ ms) (blocks-append mentions_in bs os cs)
+
+  pub mentions_of_part : mentions forced (bs ++ m ∷ cs) ≡ front_said ++ (partial_said ++ back_said)
+  mentions_of_part = mentions-append forced bs (m ∷ cs)
+      ∙ ap (λ (ms : List Mention). front_said ++ (partial_said ++ ms)) (blocks_same mentions_in mentions_in_same (bs ++ m ∷ []) (bs ++ os) cs (as_long_append bs bs (m ∷ []) os (as_long_self bs) partial_as_long))
+
+  -- what the partial link tells after the others
+  pub told_after : partial_said ≡ map (raise bs) (map (told (mentions forced os)) (names_by_first_mention (mentions forced os)))
+  told_after = ap (λ (es : List Contents). mentions_in es m) (sym (append-nil bs)) ∙ mentions_in_raised bs [] m ∙ ap (λ (ms : List Mention). map (raise bs) ms) (told_alone forced os keep entry has)
+
+  -- the state of a name among the objects alone, and after others
+  pub state_alone : (name : List ℕ) → state (mentions forced os) name ≡ state (mentions_after [] os) name
+  state_alone name = forced_front forced (mentions_after [] os) name
+
+  -- the state of a name among the objects, after others
+  pub state_after : (name : List ℕ) → state whole_said name ≡ raised bs (state (mentions forced os) name)
+  state_after name = ap (λ (ms : List Mention). state ms name) (mentions_after-raised bs os) ∙ state_raised bs (mentions_after [] os) name ∙ ap (λ (s : State). raised bs s) (sym (state_alone name))
+
+  pub state_partial : (name : List ℕ) → state partial_said name ≡ state whole_said name
+  state_partial name =
+      ap (λ (ms : List Mention). state ms name) told_after
+      ∙ state_raised bs (map (told (mentions forced os)) (names_by_first_mention (mentions forced os))) name
+      ∙ ap (λ (s : State). raised bs s) (told_state (mentions forced os) name)
+      ∙ sym (state_after name)
+
+  -- every name has the same state
+  pub states_same : (name : List ℕ) → state (mentions forced (bs ++ m ∷ cs)) name ≡ state (mentions forced (bs ++ (os ++ cs))) name
+  states_same name =
+      ap (λ (ms : List Mention). state ms name) mentions_of_part
+      ∙ state-append front_said (partial_said ++ back_said) name
+      ∙ ap (λ (s : State). updated_state (state front_said name) s) (state-append partial_said back_said name ∙ ap (λ (s : State). updated_state s (state back_said name)) (state_partial name) ∙ sym (state-append whole_said back_said name))
+      ∙ sym (state-append front_said (whole_said ++ back_said) name)
+      ∙ ap (λ (ms : List Mention). state ms name) (sym mentions_of_whole)
+
+  -- the names are the same, in the same order
+  pub names_same : names_by_first_mention (mentions forced (bs ++ m ∷ cs)) ≡ names_by_first_mention (mentions forced (bs ++ (os ++ cs)))
+  names_same =
+      let B = names_of (mentions_after [] bs) in
+      let O = names_of (mentions_after [] os) in
+      let C = names_of back_said in
+      let fore : names_of front_said ≡ forced ++ B = names_of-append (map forced_mention forced) (mentions_after [] bs) ∙ ap (λ (ns : List (List ℕ)). ns ++ B) (names_of_forced forced) in
+      let own : names_by_first_mention (mentions forced os) ≡ new_names [] (forced ++ O) =
+      ap (λ (ns : List (List ℕ)). new_names [] ns) (names_of-append (map forced_mention forced) (mentions_after [] os) ∙ ap (λ (ns : List (List ℕ)). ns ++ O) (names_of_forced forced)) in
+      let told : names_of partial_said ≡ new_names [] (forced ++ O) =
+      ap names_of told_after ∙ names_of_raised bs (map (told (mentions forced os)) (names_by_first_mention (mentions forced os))) ∙ names_of_told (mentions forced os) (names_by_first_mention (mentions forced os)) ∙ own in
+      let whole : names_of whole_said ≡ O = ap names_of (mentions_after-raised bs os) ∙ names_of_raised bs (mentions_after [] os) in
+      let part_names : names_of (front_said ++ (partial_said ++ back_said)) ≡ (forced ++ B) ++ (new_names [] (forced ++ O) ++ C) =
+      names_of-append front_said (partial_said ++ back_said) ∙ (λ i. fore i ++ names_of-append partial_said back_said i) ∙ ap (λ (ns : List (List ℕ)). (forced ++ B) ++ (ns ++ C)) told in
+      let whole_names : names_of (front_said ++ (whole_said ++ back_said)) ≡ (forced ++ B) ++ (O ++ C) =
+      names_of-append front_said (whole_said ++ back_said) ∙ (λ i. fore i ++ names_of-append whole_said back_said i) ∙ ap (λ (ns : List (List ℕ)). (forced ++ B) ++ (ns ++ C)) whole in
+      ap names_by_first_mention mentions_of_part
+      ∙ ap (λ (ns : List (List ℕ)). new_names [] ns) part_names
+      ∙ names_told_once forced B O C
+      ∙ ap (λ (ns : List (List ℕ)). new_names [] ns) (sym whole_names)
+      ∙ ap names_by_first_mention (sym mentions_of_whole)

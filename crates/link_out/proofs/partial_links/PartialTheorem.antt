@@ -1,0 +1,48 @@
+-- The file of a link with relocation is an object, and stands for its objects under the forced names that it was linked with.
+use Rattle.std.proofs.Common.{◌≡◌, ℕ, true, false, List, [], ◌∷◌, ◌++◌, None, sym, ◌∙◌, ap, subst}
+use Rattle.std.specs.Prelude.{Ok}
+use Rattle.std.specs.List.{AllByRecursion}
+use Rattle.aout_core.specs.Contents.{Contents, Fits}
+use Rattle.aout_core.specs.WellFormed.{IsWellFormed}
+use Rattle.link_session.specs.Sessions.{IsObject}
+use Rattle.tool_options.specs.NameLists.{is_among}
+use Rattle.link_session.specs.Mentions.{mentions}
+use Rattle.link_session.specs.States.{multiple_names}
+use Rattle.link_session.proofs.ListLemmas.{all_map}
+use Rattle.tool_options.specs.Choices.{Choices, option_fault}
+use Rattle.link_out.specs.function.Plans.{plan}
+use Rattle.link_out.specs.function.Link.{Outcome, link}
+use Rattle.link_out.specs.laws.PartialLinks.{KeepsNoMore, IsPartialLink, without_multiples, DefinesNoMultiple}
+use Rattle.link_out.proofs.OutcomeLemmas.{made_file}
+use Rattle.link_out.proofs.FitLemmas.{linked_fits}
+use Rattle.link_out.proofs.ObjectLemmas.{linked_object}
+use Rattle.link_out.proofs.partial_links.PartialAmong.{stands_always}
+use Rattle.link_out.proofs.partial_links.PartialMultiples.{stands_among_others}
+
+-- the file of a link with relocation, with or without laid commons, is an object
+pub relocatable_is_object : (forced : List (List ℕ)) (os : List Contents) (o : Choices) (x : Outcome) → AllByRecursion IsWellFormed os →
+    option_fault o.layout o.relocatable o.keep ≡ None → o.relocatable ≡ true → link forced os o ≡ Ok x → IsWellFormed x.file
+relocatable_is_object forced os o x good allowed r linked = subst (λ (c : Contents). IsWellFormed c) (made_file (plan forced os o) os x linked) (linked_object forced os o allowed r good)
+
+-- it may be added to a session
+pub may_be_added : (forced : List (List ℕ)) (os : List Contents) (o : Choices) (x : Outcome) → AllByRecursion IsObject os →
+    option_fault o.layout o.relocatable o.keep ≡ None → o.relocatable ≡ true → link forced os o ≡ Ok x → IsObject x.file
+may_be_added forced os o x good allowed r linked = record {
+  fits = subst (λ (f : Contents). Fits f) (made_file (plan forced os o) os x linked) (linked_fits (plan forced os o) os good);
+  well = relocatable_is_object forced os o x (all_map IsObject IsWellFormed (λ k h. h.well) os good) allowed r linked;
+}
+
+-- alone: the same file or the same refusal, and reports that differ at most in the multiples
+pub partial_stands_alone : (forced : List (List ℕ)) (os : List Contents) (by o : Choices) (x : Outcome) → AllByRecursion IsWellFormed os → IsPartialLink forced os by x → KeepsNoMore o.keep by.keep →
+    without_multiples (link forced (x.file ∷ []) o) ≡ without_multiples (link forced os o)
+partial_stands_alone forced os by o x good p less = stands_always forced forced os by o x good p less (λ name e. e)
+
+-- among others, where no name is multiply defined: the same file and report, or the same refusal
+pub partial_stands_among : (forced : List (List ℕ)) (bs os cs : List Contents) (by o : Choices) (x : Outcome) → AllByRecursion IsWellFormed bs → AllByRecursion IsWellFormed os → AllByRecursion IsWellFormed cs →
+    IsPartialLink forced os by x → KeepsNoMore o.keep by.keep → multiple_names (mentions forced (bs ++ (os ++ cs))) ≡ [] →
+    link forced (bs ++ x.file ∷ cs) o ≡ link forced (bs ++ (os ++ cs)) o
+partial_stands_among forced bs os cs by o x good_bs good_os good_cs p less single =
+    stands_among_others forced forced bs os cs by o x good_bs good_os good_cs p less (λ name e. e) none
+  where
+    none : DefinesNoMultiple forced bs os cs
+    none name e = absurd (let bad : false ≡ true = ap (λ (ns : List (List ℕ)). is_among ns name) (sym single) ∙ e in cc)

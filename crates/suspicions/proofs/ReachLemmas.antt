@@ -1,0 +1,269 @@
+-- The places that are found are those that are reached: each is, and none is missed, since there are no more than words of text.
+use Rattle.std.proofs.Common.{◌≡◌, ℕ, zero, suc, ◌+◌, ◌/◌, ◌%◌, ◌<◌, ◌≤◌, Option, Some, None, refl, sym, ap, ◌∙◌, inl, inr, arith, append_assoc}
+use Rattle.std.specs.Prelude.{Bool, true, false, not, ◌&&◌, ◌||◌, eqb, nat_lt, if◌then◌else◌, List, [], ◌∷◌, ◌++◌, length, map, slice_index}
+use Rattle.std.specs.List.{list_any, IsDistinct}
+use Rattle.std.proofs.lemmas.Bool.{cases_eq, eq-eqb, ne_eqb, eqb-true, ltb-true, ltb-false, lt-ltb, not-true, or_cases, and_parts, and_from}
+use Rattle.std.proofs.lemmas.List.{get_or_append_left, append-nil}
+use Rattle.std.proofs.lemmas.List.Folds.{list_any-append, list_any_at}
+use Rattle.std.proofs.lemmas.Cmp.{nat_eq_equiv}
+use Rattle.std.proofs.lemmas.Map.Keys.{IsDistinct-push}
+use Rattle.std.proofs.lemmas.Map.Steps.{length-le_from_distinct_below}
+use Rattle.aout_core.specs.Contents.{Contents}
+use Rattle.suspicions.specs.Reached.{leads_to, is_new, visited, visited_all, named, spread, reached, is_reached}
+use Rattle.suspicions.specs.ReachedLaw.{is_place, IsReached, Named, Led, ReachedLaw}
+
+abbrev has : ℕ → List ℕ → Bool
+has p found = list_any (eqb p) found
+
+or-false : (b : Bool) → (b || false) ≡ b
+or-false true = refl
+or-false false = refl
+
+or-true : (b : Bool) → (b || true) ≡ true
+or-true true = refl
+or-true false = refl
+
+-- with one place more, if a test holds
+same_place : (even below there : Bool) (p : ℕ) (found : List ℕ) → has p found ≡ there →
+    has p (if even && (below && not there) then found ++ p ∷ [] else found) ≡ (there || ((even && true) && below))
+same_place true true true p found e = e
+same_place true true false p found e =
+    list_any-append (eqb p) found (p ∷ []) ∙ ap (λ (b : Bool). b || (eqb p p || false)) e ∙ ap (λ (b : Bool). b || false) (eq-eqb p p refl)
+same_place true false true p found e = e
+same_place true false false p found e = e
+same_place false below true p found e = e
+same_place false below false p found e = e
+
+other_place : (new : Bool) (p k : ℕ) (found : List ℕ) → eqb p k ≡ false → has p (if new then found ++ k ∷ [] else found) ≡ has p found
+other_place true p k found e =
+    list_any-append (eqb p) found (k ∷ []) ∙ ap (λ (b : Bool). has p found || (b || false)) e ∙ or-false (has p found)
+other_place false p k found e = refl
+
+none_more : (even below there : Bool) → (there || ((even && false) && below)) ≡ there
+none_more true below there = or-false there
+none_more false below there = or-false there
+
+-- a place has been found after an address if it had been before, or if it has the address
+visited_has : (n p : ℕ) (found : List ℕ) (o : Option ℕ) → has p (visited n found o) ≡ (has p found || (is_place p o && nat_lt p n))
+visited_has n p found None = sym (or-false (has p found))
+visited_has n p found (Some a) = elim (cases_eq (a / 2) p) [
+  | inl e ↦ ap (λ (k : ℕ). has p (if eqb (a % 2) 0 && (nat_lt k n && not (has k found)) then found ++ k ∷ [] else found)) e
+      ∙ same_place (eqb (a % 2) 0) (nat_lt p n) (has p found) p found refl
+      ∙ ap (λ (b : Bool). has p found || ((eqb (a % 2) 0 && b) && nat_lt p n)) (sym (eq-eqb (a / 2) p e))
+  | inr e ↦ other_place (is_new n found a) p (a / 2) found (ne_eqb p (a / 2) (λ h. e (sym h)))
+      ∙ sym (none_more (eqb (a % 2) 0) (nat_lt p n) (has p found))
+      ∙ ap (λ (b : Bool). has p found || ((eqb (a % 2) 0 && b) && nat_lt p n)) (sym (ne_eqb (a / 2) p e))
+]
+
+in_either : (a h l b : Bool) → ((a || (h && b)) || (l && b)) ≡ (a || ((h || l) && b))
+in_either true h l b = refl
+in_either false true l true = refl
+in_either false true true false = refl
+in_either false true false false = refl
+in_either false false l b = refl
+
+visited_all_has : (n p : ℕ) (found : List ℕ) (os : List (Option ℕ)) →
+    has p (visited_all n found os) ≡ (has p found || (list_any (is_place p) os && nat_lt p n))
+visited_all_has n p found [] = sym (or-false (has p found))
+visited_all_has n p found (o ∷ os) =
+    visited_all_has n p (visited n found o) os
+    ∙ ap (λ (b : Bool). b || (list_any (is_place p) os && nat_lt p n)) (visited_has n p found o)
+    ∙ in_either (has p found) (is_place p o) (list_any (is_place p) os) (nat_lt p n)
+
+-- a place to which one of the addresses leads has been found
+visited_led : (n p : ℕ) (found : List ℕ) (os : List (Option ℕ)) → list_any (is_place p) os ≡ true → p < n → has p (visited_all n found os) ≡ true
+visited_led n p found os led below =
+    visited_all_has n p found os
+    ∙ ap (λ (b : Bool). has p found || b) (and_from (list_any (is_place p) os) (nat_lt p n) led (lt-ltb p n below))
+    ∙ or-true (has p found)
+
+-- each place that is found is reached
+
+abbrev AreReached : Contents → List ℕ → Type 0
+AreReached c found = (p : ℕ) → has p found ≡ true → IsReached c p
+
+more_reached : (c : Contents) (found : List ℕ) (os : List (Option ℕ)) → AreReached c found →
+    ((p : ℕ) → p < length c.text_words → list_any (is_place p) os ≡ true → IsReached c p) → AreReached c (visited_all (length c.text_words) found os)
+more_reached c found os before led p e =
+    let n : ℕ = length c.text_words in
+    elim (or_cases (has p found) (list_any (is_place p) os && nat_lt p n) (sym (visited_all_has n p found os) ∙ e)) [
+      | inl h ↦ before p h
+      | inr h ↦ let both : (list_any (is_place p) os ≡ true) × (nat_lt p n ≡ true) = and_parts (list_any (is_place p) os) (nat_lt p n) h in
+          led p (ltb-true p n both.1) both.0
+    ]
+
+member_at : (found : List ℕ) (next : ℕ) → next < length found → has (slice_index found next) found ≡ true
+member_at found next h = list_any_at (eqb (slice_index found next)) found next 0 h (eq-eqb (slice_index found next) (slice_index found next) refl)
+
+spread_reached : (c : Contents) (more next : ℕ) (found : List ℕ) → AreReached c found → AreReached c (spread c more next found)
+spread_reached c zero next found before = before
+spread_reached c (suc more) next found before =
+    by (nat_lt next (length found)) refl
+    (λ h. spread_reached c more (next + 1) (visited_all (length c.text_words) found (leads_to c (slice_index found next))) h)
+  where
+    by : (t : Bool) → nat_lt next (length found) ≡ t →
+        (AreReached c (visited_all (length c.text_words) found (leads_to c (slice_index found next))) →
+        AreReached c (spread c more (next + 1) (visited_all (length c.text_words) found (leads_to c (slice_index found next))))) →
+        AreReached c (if t then spread c more (next + 1) (visited_all (length c.text_words) found (leads_to c (slice_index found next))) else found)
+    by true e later = later (more_reached c found (leads_to c (slice_index found next)) before
+        (λ p below led. Led (slice_index found next) p (before (slice_index found next) (member_at found next (ltb-true next (length found) e))) below led))
+    by false e later = before
+
+none_found : (c : Contents) → AreReached c []
+none_found c p e = absurd cc
+
+only_reached : (c : Contents) (p : ℕ) → is_reached c p ≡ true → IsReached c p
+only_reached c =
+    let n : ℕ = length c.text_words in
+    spread_reached c n 0 (visited_all n [] (map (named c) c.symbols))
+    (more_reached c [] (map (named c) c.symbols) (none_found c) (λ p below led. Named p below led))
+
+-- no place that is reached is missed
+
+abbrev Grows : List ℕ → List ℕ → Type 0
+Grows old new = (more : List ℕ) × (new ≡ old ++ more)
+
+grows_by : (old : List ℕ) → Grows old old
+grows_by old = ([], sym (append-nil old))
+
+grows_twice : (a b c : List ℕ) → Grows a b → Grows b c → Grows a c
+grows_twice a b c (x, e) (y, h) = (x ++ y, h ∙ ap (λ (l : List ℕ). l ++ y) e ∙ append_assoc a x y)
+
+visited_grows : (n : ℕ) (found : List ℕ) (o : Option ℕ) → Grows found (visited n found o)
+visited_grows n found None = grows_by found
+visited_grows n found (Some a) = by (is_new n found a)
+  where
+    by : (t : Bool) → Grows found (if t then found ++ a / 2 ∷ [] else found)
+    by true = (a / 2 ∷ [], refl)
+    by false = grows_by found
+
+visited_all_grows : (n : ℕ) (found : List ℕ) (os : List (Option ℕ)) → Grows found (visited_all n found os)
+visited_all_grows n found [] = grows_by found
+visited_all_grows n found (o ∷ os) =
+    grows_twice found (visited n found o) (visited_all n (visited n found o) os) (visited_grows n found o) (visited_all_grows n (visited n found o) os)
+
+grown_has : (p : ℕ) (old new : List ℕ) → Grows old new → has p old ≡ true → has p new ≡ true
+grown_has p old new (more, e) h =
+    ap (has p) e ∙ list_any-append (eqb p) old more ∙ ap (λ (b : Bool). b || has p more) h
+
+grown_at : (old new : List ℕ) (j : ℕ) → Grows old new → j < length old → slice_index new j ≡ slice_index old j
+grown_at old new j (more, e) h = ap (λ (l : List ℕ). slice_index l j) e ∙ get_or_append_left old more 0 j h
+
+place_of_member : (p : ℕ) (xs : List ℕ) → has p xs ≡ true → (j : ℕ) × (j < length xs) × (slice_index xs j ≡ p)
+place_of_member p [] e = absurd cc
+place_of_member p (x ∷ xs) e = elim (or_cases (eqb p x) (has p xs) e) [
+  | inl h ↦ (0, omega arith, sym (eqb-true p x h))
+  | inr h ↦ let (j, below, is) = place_of_member p xs h in (suc j, omega arith, is)
+]
+
+visited_distinct : (n : ℕ) (found : List ℕ) (o : Option ℕ) → IsDistinct eqb found → IsDistinct eqb (visited n found o)
+visited_distinct n found None d = d
+visited_distinct n found (Some a) d = by (is_new n found a) refl
+  where
+    by : (t : Bool) → is_new n found a ≡ t → IsDistinct eqb (if t then found ++ a / 2 ∷ [] else found)
+    by true e =
+        let new : not (has (a / 2) found) ≡ true =
+        (and_parts (nat_lt (a / 2) n) (not (has (a / 2) found)) (and_parts (eqb (a % 2) 0) (nat_lt (a / 2) n && not (has (a / 2) found)) e).1).1 in
+        IsDistinct-push nat_eq_equiv found (a / 2) d (not-true (has (a / 2) found) new)
+    by false e = d
+
+visited_all_distinct : (n : ℕ) (found : List ℕ) (os : List (Option ℕ)) → IsDistinct eqb found → IsDistinct eqb (visited_all n found os)
+visited_all_distinct n found [] d = d
+visited_all_distinct n found (o ∷ os) d = visited_all_distinct n (visited n found o) os (visited_distinct n found o d)
+
+visited_all_below : (n : ℕ) (found : List ℕ) (os : List (Option ℕ)) → ((p : ℕ) → has p found ≡ true → p < n) →
+    (p : ℕ) → has p (visited_all n found os) ≡ true → p < n
+visited_all_below n found os before p e =
+    elim (or_cases (has p found) (list_any (is_place p) os && nat_lt p n) (sym (visited_all_has n p found os) ∙ e)) [
+      | inl h ↦ before p h
+      | inr h ↦ ltb-true p n (and_parts (list_any (is_place p) os) (nat_lt p n) h).1
+    ]
+
+-- of the places that have been found, each before the next one has led to those that it leads to
+record Whole (c : Contents) (next : ℕ) (found : List ℕ) : Type 0 where
+  distinct : IsDistinct eqb found
+  below : (p : ℕ) → has p found ≡ true → p < length c.text_words
+  done : (j p : ℕ) → j < next → j < length found → p < length c.text_words → list_any (is_place p) (leads_to c (slice_index found j)) ≡ true →
+      has p found ≡ true
+
+next_whole : (c : Contents) (next : ℕ) (found : List ℕ) → Whole c next found → next < length found →
+    Whole c (next + 1) (visited_all (length c.text_words) found (leads_to c (slice_index found next)))
+next_whole c next found w inside =
+    let n : ℕ = length c.text_words in
+    let os : List (Option ℕ) = leads_to c (slice_index found next) in
+    let new : List ℕ = visited_all n found os in
+    let grows : Grows found new = visited_all_grows n found os in record {
+      distinct = visited_all_distinct n found os w.distinct;
+      below = visited_all_below n found os w.below;
+      done = λ j p before there below led. elim (cases_eq j next) [
+        | inl e ↦
+            let early : j < length found = omega arith in
+            let same : slice_index new j ≡ slice_index found next = grown_at found new j grows early ∙ ap (slice_index found) e in
+            visited_led n p found os (sym (ap (λ (k : ℕ). list_any (is_place p) (leads_to c k)) same) ∙ led) below
+        | inr e ↦
+            let earlier : j < next = omega arith in
+            let early : j < length found = omega arith in
+            grown_has p found new grows
+            (w.done j p earlier early below (sym (ap (λ (k : ℕ). list_any (is_place p) (leads_to c k)) (grown_at found new j grows early)) ∙ led))
+      ];
+    }
+
+abbrev IsClosed : Contents → List ℕ → Type 0
+IsClosed c found = (q p : ℕ) → has q found ≡ true → p < length c.text_words → list_any (is_place p) (leads_to c q) ≡ true → has p found ≡ true
+
+whole_closed : (c : Contents) (next : ℕ) (found : List ℕ) → Whole c next found → length found ≤ next → IsClosed c found
+whole_closed c next found w all q p member below led =
+    let (j, inside, is) = place_of_member q found member in
+    w.done j p (omega arith) inside below (ap (λ (k : ℕ). list_any (is_place p) (leads_to c k)) is ∙ led)
+
+spread_closed : (c : Contents) (more next : ℕ) (found : List ℕ) → Whole c next found → length c.text_words ≤ more + next →
+    IsClosed c (spread c more next found)
+spread_closed c zero next found w enough =
+    let few : length found ≤ length c.text_words = length-le_from_distinct_below found (length c.text_words) w.distinct w.below in
+    whole_closed c next found w (omega arith)
+spread_closed c (suc more) next found w enough =
+    by (nat_lt next (length found)) refl
+    (λ h. spread_closed c more (next + 1) (visited_all (length c.text_words) found (leads_to c (slice_index found next))) h (omega arith))
+  where
+    by : (t : Bool) → nat_lt next (length found) ≡ t →
+        (Whole c (next + 1) (visited_all (length c.text_words) found (leads_to c (slice_index found next))) →
+        IsClosed c (spread c more (next + 1) (visited_all (length c.text_words) found (leads_to c (slice_index found next))))) →
+        IsClosed c (if t then spread c more (next + 1) (visited_all (length c.text_words) found (leads_to c (slice_index found next))) else found)
+    by true e later = later (next_whole c next found w (ltb-true next (length found) e))
+    by false e later = whole_closed c next found w (ltb-false next (length found) e)
+
+spread_grows : (c : Contents) (more next : ℕ) (found : List ℕ) → Grows found (spread c more next found)
+spread_grows c zero next found = grows_by found
+spread_grows c (suc more) next found =
+    by (nat_lt next (length found)) (spread_grows c more (next + 1) (visited_all (length c.text_words) found (leads_to c (slice_index found next))))
+  where
+    by : (t : Bool) → Grows (visited_all (length c.text_words) found (leads_to c (slice_index found next)))
+        (spread c more (next + 1) (visited_all (length c.text_words) found (leads_to c (slice_index found next)))) →
+        Grows found (if t then spread c more (next + 1) (visited_all (length c.text_words) found (leads_to c (slice_index found next))) else found)
+    by true later =
+        let os : List (Option ℕ) = leads_to c (slice_index found next) in
+        let new : List ℕ = visited_all (length c.text_words) found os in
+        grows_twice found new (spread c more (next + 1) new) (visited_all_grows (length c.text_words) found os) later
+    by false later = grows_by found
+
+-- where the search begins
+abbrev begun : Contents → List ℕ
+begun c = visited_all (length c.text_words) [] (map (named c) c.symbols)
+
+begun_whole : (c : Contents) → Whole c 0 (begun c)
+unfolding IsDistinct
+begun_whole c = record {
+  distinct = visited_all_distinct (length c.text_words) [] (map (named c) c.symbols) tt;
+  below = visited_all_below (length c.text_words) [] (map (named c) c.symbols) (λ p e. absurd cc);
+  done = λ j p before there below led. absurd (omega arith);
+}
+
+none_missed : (c : Contents) (p : ℕ) → IsReached c p → is_reached c p ≡ true
+none_missed c p (Named place below led) =
+    grown_has place (begun c) (reached c) (spread_grows c (length c.text_words) 0 (begun c))
+    (visited_led (length c.text_words) place [] (map (named c) c.symbols) led below)
+none_missed c p (Led from place r below led) =
+    spread_closed c (length c.text_words) 0 (begun c) (begun_whole c) (omega arith) from place (none_missed c from r) below led
+
+pub reached_places : ReachedLaw
+reached_places c p = (only_reached c p, none_missed c p)

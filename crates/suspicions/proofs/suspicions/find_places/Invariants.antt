@@ -1,0 +1,9 @@
+use Rattle.std.proofs.Common.{◌≡◌, ◌++◌, drop, false}
+use Rattle.suspicions.specs.Suspicions.{suspicious_words, suspicions}
+use Rattle.suspicions.proofs.suspicions.find_places.Given as goal
+
+-- the findings so far, and those of the places that are left
+abbrev pub invariant-loop-place : goal.invariant-loop-place
+invariant-loop-place l =
+    l.findings.is_cut ≡ false → (l.initial.findings.is_cut ≡ false)
+    × (l.findings.found ++ suspicious_words l.marked.file.now l.place (drop l.place l.words) ≡ l.initial.findings.found ++ suspicions l.marked.file.now)

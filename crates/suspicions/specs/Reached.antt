@@ -1,0 +1,134 @@
+-- Which places of a text are reached, if its symbols name instructions. (the handbook of the PDP-11/70; section 2 of the Unix
+-- Programmer's Manual, Seventh Edition; what counts as reached: own choice)
+--
+-- A place counts the words of the text. It is reached if a symbol of text has its address, unless its word is relocated, as in a table of
+-- addresses that has a name. It is reached too if the line at a place that is reached goes on with it, branches to it, or jumps or
+-- calls there within the text.
+use Rattle.std.specs.Prelude.{ℕ, zero, suc, ◌+◌, ◌*◌, ◌/◌, ◌%◌, Bool, true, false, not, ◌&&◌, ◌||◌, eqb, nat_lt, if◌then◌else◌}
+use Rattle.std.specs.Prelude.{List, [], ◌∷◌, ◌++◌, length, map, slice_get, slice_index, Option, Some, None}
+use Rattle.std.specs.List.{list_any}
+use Rattle.aout_core.specs.declared.symbol.Symbol.{Symbol}
+use Rattle.aout_core.specs.declared.symbol.Segment.TheVariants.{TextSeg}
+use Rattle.aout_core.specs.declared.reloc.Reloc.{Reloc}
+use Rattle.aout_core.specs.Words.{plus}
+use Rattle.aout_core.specs.Contents.{Contents}
+use Rattle.aout_core.specs.WellFormed.{masked_type, segment_number}
+use Rattle.instructions.specs.declared.operation.Operation.{Operation}
+use Rattle.instructions.specs.declared.operation.Operation.TheVariants as operations
+use Rattle.instructions.specs.declared.mode.Addressing.{Addressing}
+use Rattle.instructions.specs.declared.mode.Addressing.TheVariants as ways
+use Rattle.instructions.specs.declared.operand.Operand.{Operand}
+use Rattle.instructions.specs.declared.operand.Operand.TheVariants.{General, Forward, Backward}
+use Rattle.instructions.specs.declared.instruction.Instruction.{Instruction}
+use Rattle.instructions.specs.declared.line.Line.TheVariants.{Plain, Decoded}
+use Rattle.instructions.specs.declared.call.SystemCall.{SystemCall}
+use Rattle.instructions.specs.declared.call.SystemCall.TheVariants as calls
+use Rattle.instructions.specs.declared.unix.Decoder.TheVariants.{Unix}
+use Rattle.instructions.specs.declared.unix.UnixLine.{UnixLine}
+use Rattle.instructions.specs.declared.unix.UnixLine.TheVariants.{Machine, Call}
+use Rattle.instructions.specs.Modes.{addressing}
+use Rattle.instructions.specs.Instructions.{jumps, word_count_of}
+use Rattle.instructions.specs.Relocated.{is_relocated}
+use Rattle.instructions.specs.Texts.{number, branch_target, branch_back_target}
+use Rattle.instructions.specs.UnixLines.{unix_length}
+use Rattle.disassemblies.specs.Lines.{unix_line_in}
+
+-- the line after it is not reached from it
+abbrev pub ends : Operation → Bool
+ends operations.Br = true
+ends operations.Jmp = true
+ends operations.Rts = true
+ends operations.Rti = true
+ends operations.Rtt = true
+ends operations.Halt = true
+ends operations.Mark = true
+ends _ = false
+
+-- the call returns to the line after it
+abbrev pub returns : SystemCall → Bool
+returns calls.Exit = false
+returns _ = true
+
+abbrev pub goes_on : UnixLine → Bool
+goes_on (Machine (Plain w)) = false
+goes_on (Machine (Decoded i a b)) = not (ends i.row.operation)
+goes_on (Call c) = returns c.call
+
+-- the address after the line at a place, if it goes on there
+abbrev pub next_of : ℕ → UnixLine → Option ℕ
+next_of place line = if goes_on line then Some (2 * (place + unix_length line)) else None
+
+-- the address that a branch at an address goes to
+abbrev pub branch_of : ℕ → Option Operand → Option ℕ
+branch_of address (Some (Forward v)) = Some (branch_target address v)
+branch_of address (Some (Backward v)) = Some (branch_back_target address v)
+branch_of address _ = None
+
+-- by its relocation word, if it has one, a word from the pc stays within the text
+abbrev pub is_own_distance : Option Reloc → Bool
+is_own_distance None = true
+is_own_distance (Some r) = eqb (r.0 % 0o20) 0 || eqb (r.0 % 0o20) 3
+
+-- a word is an address of the text
+abbrev pub is_own_address : Option Reloc → Bool
+is_own_address None = true
+is_own_address (Some r) = eqb (r.0 % 0o20) 2
+
+-- the address that a jump or a call goes to by its operand word; next is the address after the word
+abbrev pub jump_by : Option Reloc → ℕ → ℕ → Option Addressing → Option ℕ
+jump_by r next n (Some ways.Relative) = if is_own_distance r then Some (plus n next) else None
+jump_by r next n (Some ways.Absolute) = if is_own_address r then Some n else None
+jump_by r next n _ = None
+
+-- the address that an operand at a place leads to, if the instruction jumps or calls
+abbrev pub jump_of : Contents → ℕ → Option Operand → Option ℕ → Option ℕ
+jump_of c place (Some (General m r)) word = jump_by (slice_get c.text_reloc place) (2 * place + 2) (number word) (addressing m r)
+jump_of c place _ word = None
+
+abbrev pub jump : Contents → Operation → ℕ → Option Operand → Option ℕ → Option ℕ
+jump c operation place x word = if jumps operation then jump_of c place x word else None
+
+-- the addresses to which the line at a place may lead
+abbrev pub leads_by : Contents → ℕ → UnixLine → List (Option ℕ)
+leads_by c place (Machine (Decoded i a b)) =
+    next_of place (Machine (Decoded i a b))
+    ∷ branch_of (2 * place) i.first
+    ∷ branch_of (2 * place) i.second
+    ∷ jump c i.row.operation (place + 1) i.first a
+    ∷ jump c i.row.operation (place + 1 + word_count_of i.first) i.second b
+    ∷ []
+leads_by c place line = next_of place line ∷ []
+
+abbrev pub leads_to : Contents → ℕ → List (Option ℕ)
+leads_to c place = leads_by c place (unix_line_in Unix c place)
+
+-- an address of a text of so many words is new if none of its words has been found at it
+abbrev pub is_new : ℕ → List ℕ → ℕ → Bool
+is_new count found address = eqb (address % 2) 0 && (nat_lt (address / 2) count && not (list_any (eqb (address / 2)) found))
+
+-- the places that have been found, after an address
+abbrev pub visited : ℕ → List ℕ → Option ℕ → List ℕ
+visited count found None = found
+visited count found (Some a) = if is_new count found a then found ++ a / 2 ∷ [] else found
+
+abbrev pub visited_all : ℕ → List ℕ → List (Option ℕ) → List ℕ
+visited_all count found [] = found
+visited_all count found (a ∷ rest) = visited_all count (visited count found a) rest
+
+-- the address of a symbol of text, if the word there is not relocated
+abbrev pub named : Contents → Symbol → Option ℕ
+named c s =
+    if eqb (masked_type s) (segment_number TextSeg) && not (is_relocated (slice_get c.text_reloc (s.value / 2))) then Some s.value else None
+
+-- one place after another leads to more; at most so many
+abbrev pub spread : Contents → ℕ → ℕ → List ℕ → List ℕ
+spread c zero next found = found
+spread c (suc more) next found =
+    if nat_lt next (length found) then spread c more (next + 1) (visited_all (length c.text_words) found (leads_to c (slice_index found next))) else found
+
+-- the places that are reached, in the order in which they are found
+abbrev pub reached : Contents → List ℕ
+reached c = spread c (length c.text_words) 0 (visited_all (length c.text_words) [] (map (named c) c.symbols))
+
+abbrev pub is_reached : Contents → ℕ → Bool
+is_reached c place = list_any (eqb place) (reached c)

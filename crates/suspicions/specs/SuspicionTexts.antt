@@ -1,0 +1,26 @@
+-- The texts of what is suspicious, with its addresses. (own choice)
+use Rattle.std.specs.Prelude.{ℕ, ◌*◌, Bool, true, false, List, ◌++◌, codes}
+use Rattle.aout_core.specs.Contents.{Contents}
+use Rattle.texts.specs.Numbers.{six_digits}
+use Rattle.findings.specs.Texts.{instruction_text}
+
+-- of a line that is reached it is sure that it is an instruction
+abbrev pub doubt_text : Bool → List ℕ
+doubt_text true = codes ""
+doubt_text false = codes ", if this is an instruction"
+
+-- the word at an address is relocated, and begins a line
+unfoldable pub relocated_first_text : ℕ → Bool → List ℕ
+relocated_first_text address is_sure = codes "the first word of the instruction at " ++ six_digits address ++ codes " is relocated" ++ doubt_text is_sure
+
+abbrev pub bit_text : Bool → List ℕ
+bit_text true = codes " is set, and its operand does not count from the pc"
+bit_text false = codes " is not set, and its operand counts from the pc"
+
+-- the operand word at an address has a pc bit, which is set or not
+unfoldable pub pc_bit_text : ℕ → Bool → Bool → List ℕ
+pc_bit_text address is_set is_sure = codes "the pc bit of the word at " ++ six_digits address ++ bit_text is_set ++ doubt_text is_sure
+
+-- the same of a word of the line at a place
+abbrev pub pc_bit_in : Contents → ℕ → ℕ → Bool → Bool → List ℕ
+pc_bit_in c start place is_set is_sure = pc_bit_text (2 * place) is_set is_sure ++ instruction_text c start

@@ -1,0 +1,97 @@
+-- What is suspicious in the text of an object, if its words are instructions. (a.out(5), the handbook of the PDP-11/70; what is
+-- suspicious: own choice)
+--
+-- No instruction begins with a word that is relocated, and an operand word that is relocated has the pc bit exactly if its operand counts
+-- from the pc. This is looked at wherever a line begins and at each place that is reached, in the order of the places. It is sure at a
+-- place that is reached. Any other line may be of data: there a relocated word counts if it would begin an instruction whose last
+-- word is an operand word that is not relocated.
+use Rattle.std.specs.Prelude.{ℕ, ◌+◌, ◌-◌, ◌*◌, Bool, true, false, not, ◌&&◌, ◌||◌, nat_lt, List, [], ◌∷◌, ◌++◌, slice_get, Option, Some, None}
+use Rattle.aout_core.specs.declared.reloc.Reloc.{Reloc}
+use Rattle.aout_core.specs.Contents.{Contents}
+use Rattle.aout_core.specs.Encoding.{relocation_at}
+use Rattle.aout_core.specs.WellFormed.{is_pc_relative}
+use Rattle.instructions.specs.declared.mode.Addressing.{Addressing}
+use Rattle.instructions.specs.declared.mode.Addressing.TheVariants as ways
+use Rattle.instructions.specs.declared.operand.Operand.{Operand}
+use Rattle.instructions.specs.declared.operand.Operand.TheVariants.{General}
+use Rattle.instructions.specs.declared.line.Line.TheVariants.{Plain, Decoded}
+use Rattle.instructions.specs.declared.unix.Decoder.TheVariants.{Unix}
+use Rattle.instructions.specs.declared.unix.UnixLine.{UnixLine}
+use Rattle.instructions.specs.declared.unix.UnixLine.TheVariants.{Machine, Call}
+use Rattle.instructions.specs.Modes.{addressing}
+use Rattle.instructions.specs.Instructions.{word_count_of}
+use Rattle.instructions.specs.Lines.{line_at, line_length}
+use Rattle.instructions.specs.Relocated.{is_relocated}
+use Rattle.disassemblies.specs.Lines.{unix_line_in}
+use Rattle.disassemblies.specs.Starts.{starts, is_start}
+use Rattle.findings.specs.declared.finding.FindingKind.TheVariants.{RelocatedFirstWord, UnsuitablePcBit}
+use Rattle.findings.specs.Found.{Found, found_if}
+use Rattle.suspicions.specs.Reached.{is_reached}
+use Rattle.suspicions.specs.SuspicionTexts.{relocated_first_text, pc_bit_in}
+
+abbrev pub counts_from_pc : Addressing → Bool
+counts_from_pc ways.Relative = true
+counts_from_pc ways.RelativeDeferred = true
+counts_from_pc _ = false
+
+-- the byte of the file at which the relocation word of a word of text is
+abbrev pub reloc_place : Contents → ℕ → ℕ
+reloc_place c place = relocation_at c.header + 2 * place
+
+-- without its relocation the word at a place would begin an instruction of so many words, the last of them an operand word that is not
+-- relocated
+abbrev pub begins_words : Contents → ℕ → ℕ → Bool
+begins_words c place n = nat_lt 1 n && not (is_relocated (slice_get c.text_reloc (place + n - 1)))
+
+abbrev pub may_begin : Contents → ℕ → Bool
+may_begin c place = begins_words c place (line_length (line_at c.text_words place))
+
+-- a plain word at a place
+abbrev pub suspicious_first : Contents → Bool → ℕ → List Found
+suspicious_first c is_sure place =
+    found_if (is_relocated (slice_get c.text_reloc place) && (is_sure || may_begin c place)) (reloc_place c place) RelocatedFirstWord
+    (relocated_first_text (2 * place) is_sure)
+
+-- the pc bit says something else than the mode
+abbrev pub differ : Bool → Bool → Bool
+differ true b = not b
+differ false b = b
+
+-- the operand word at a place, of the line at start, with this relocation word, if the file has relocation
+abbrev pub suspicious_bit : Contents → Bool → ℕ → ℕ → Addressing → Option Reloc → List Found
+suspicious_bit c is_sure start place a None = []
+suspicious_bit c is_sure start place a (Some r) =
+    found_if (is_relocated (Some r) && differ (is_pc_relative r) (counts_from_pc a)) (reloc_place c place) UnsuitablePcBit
+    (pc_bit_in c start place (is_pc_relative r) is_sure)
+
+abbrev pub suspicious_by : Contents → Bool → ℕ → ℕ → Option Addressing → List Found
+suspicious_by c is_sure start place None = []
+suspicious_by c is_sure start place (Some a) = suspicious_bit c is_sure start place a (slice_get c.text_reloc place)
+
+abbrev pub suspicious_operand : Contents → Bool → ℕ → ℕ → Option Operand → List Found
+suspicious_operand c is_sure start place (Some (General m r)) = suspicious_by c is_sure start place (addressing m r)
+suspicious_operand c is_sure start place _ = []
+
+-- the line at a place
+abbrev pub suspicious_line : Contents → Bool → ℕ → UnixLine → List Found
+suspicious_line c is_sure place (Machine (Plain w)) = suspicious_first c is_sure place
+suspicious_line c is_sure place (Machine (Decoded i a b)) =
+    suspicious_operand c is_sure place (place + 1) i.first ++ suspicious_operand c is_sure place (place + 1 + word_count_of i.first) i.second
+suspicious_line c is_sure place (Call k) = []
+
+abbrev pub suspicious_at : Contents → Bool → ℕ → List Found
+suspicious_at c is_sure place = suspicious_line c is_sure place (unix_line_in Unix c place)
+
+-- what is suspicious at a place, if it is reached or begins a line
+abbrev pub suspicious_place : Contents → Bool → Bool → ℕ → List Found
+suspicious_place c true begins place = suspicious_at c true place
+suspicious_place c false true place = suspicious_at c false place
+suspicious_place c false false place = []
+
+-- from a place on
+abbrev pub suspicious_words : Contents → ℕ → List ℕ → List Found
+suspicious_words c place [] = []
+suspicious_words c place (w ∷ ws) = suspicious_place c (is_reached c place) (is_start (starts Unix c) place) place ++ suspicious_words c (place + 1) ws
+
+abbrev pub suspicions : Contents → List Found
+suspicions c = suspicious_words c 0 c.text_words

@@ -1,0 +1,11 @@
+-- Marks of the places that have been found.
+use Rattle.std.specs.Prelude.{◌≡◌, ℕ, ◌/◌, ◌%◌, Bool, false, not, ◌&&◌, eqb, nat_lt, List, length, get_or}
+use Rattle.std.specs.List.{list_any}
+
+-- the marks say which places have been found
+abbrev pub AreMarks : List Bool → List ℕ → Type 0
+AreMarks marks found = (i : ℕ) → get_or marks i false ≡ list_any (eqb i) found
+
+-- a word that is not marked has this address
+abbrev pub is_unmarked : List Bool → ℕ → Bool
+is_unmarked marks address = eqb (address % 2) 0 && (nat_lt (address / 2) (length marks) && not (get_or marks (address / 2) false))

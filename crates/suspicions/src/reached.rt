@@ -1,0 +1,184 @@
+//! The places that are reached.
+ghost use Rattle.std.specs.Prelude.{◌≡◌, ◌<◌, ◌+◌, ◌++◌, ◌∷◌, [], ℕ, false, length, map, get_or, IfOk, OnOk};
+ghost use Rattle.instructions.specs.UnixLines.{unix_length};
+ghost use Rattle.instructions.specs.declared.line.Line.TheVariants.{Decoded};
+ghost use Rattle.instructions.specs.declared.unix.UnixLine.TheVariants.{Machine};
+ghost use Rattle.suspicions.specs.Reached.{leads_by, leads_to, visited, visited_all, named, spread, reached, is_reached};
+ghost use Rattle.suspicions.specs.internal.Marks.{AreMarks, is_unmarked};
+
+use crate::leads::{branch_of, jump, next_of};
+use aout_core::{File, Segment, Symbol};
+use disassemblies::unix_line_in;
+use instructions::{Decoder, Instruction, Line, UnixLine, is_relocated};
+use std::alloc::{AllocError, Global};
+
+/// Whether a place is marked.
+pub(crate) fn is_marked(marks: &[bool], place: usize) -> bool
+    ensures { result ≡ get_or marks.now place false }
+{
+    place < marks.len() && marks[place]
+}
+
+/// Whether a word that is not marked has an address.
+fn is_unmarked(marks: &[bool], address: u16) -> bool
+    ensures { result ≡ is_unmarked marks.now address }
+{
+    let place = usize::from(address / 2);
+    address % 2 == 0 && place < marks.len() && !is_marked(marks, place)
+}
+
+/// Notes a place.
+fn note(marks: &mut [bool], found: &mut Vec<usize>, place: usize) -> Result<(), AllocError>
+    requires inside { place < length marks.old }
+    requires marks { AreMarks marks.old found.old.items }
+    ensures found { OnOk result (found.new.items ≡ found.old.items ++ place ∷ []) }
+    ensures marks { OnOk result (AreMarks marks.new found.new.items) }
+    ensures same { length marks.new ≡ length marks.old }
+{
+    found.push(place)?;
+    marks[place] = true;
+    Ok(())
+}
+
+/// Notes the place of an address, if it is new.
+fn visit(marks: &mut [bool], found: &mut Vec<usize>, address: Option<u16>) -> Result<(), AllocError>
+    requires { AreMarks marks.old found.old.items }
+    ensures found { OnOk result (found.new.items ≡ visited (length marks.old) found.old.items address) }
+    ensures marks { OnOk result (AreMarks marks.new found.new.items) }
+    ensures same { length marks.new ≡ length marks.old }
+{
+    match address {
+        Some(address) if is_unmarked(marks, address) => {
+            note(marks, found, usize::from(address / 2))
+        }
+        _ => Ok(()),
+    }
+}
+
+/// Notes the places of these addresses.
+fn visit_all(
+    marks: &mut [bool],
+    found: &mut Vec<usize>,
+    addresses: &[Option<u16>],
+) -> Result<(), AllocError>
+    requires { AreMarks marks.old found.old.items }
+    ensures found { OnOk result (found.new.items ≡ visited_all (length marks.old) found.old.items addresses.now) }
+    ensures marks { OnOk result (AreMarks marks.new found.new.items) }
+    ensures same { length marks.new ≡ length marks.old }
+{
+    for address in addresses {
+        visit(marks, found, *address)?;
+    }
+    Ok(())
+}
+
+/// The address of a symbol of text, if the word there is not relocated: it may be one of a table of addresses.
+fn named(file: &File, symbol: &Symbol) -> Option<u16>
+    ensures { result ≡ named file.now symbol.now }
+{
+    let reloc = file
+        .text_reloc()
+        .get(usize::from(symbol.value / 2))
+        .copied();
+    if symbol.type_bits % 0o40 == Segment::TextSeg.number() && !is_relocated(reloc) {
+        Some(symbol.value)
+    } else {
+        None
+    }
+}
+
+/// Notes the places that symbols name.
+fn visit_symbols(
+    marks: &mut [bool],
+    found: &mut Vec<usize>,
+    file: &File,
+    symbols: &[Symbol],
+) -> Result<(), AllocError>
+    requires { AreMarks marks.old found.old.items }
+    ensures found { OnOk result (found.new.items ≡ visited_all (length marks.old) found.old.items (map (named file.now) symbols.now)) }
+    ensures marks { OnOk result (AreMarks marks.new found.new.items) }
+    ensures same { length marks.new ≡ length marks.old }
+{
+    for symbol in symbols {
+        visit(marks, found, named(file, symbol))?;
+    }
+    Ok(())
+}
+
+/// The addresses to which an instruction at a place may lead.
+fn decoded_leads(
+    file: &File,
+    place: usize,
+    instruction: Instruction,
+    word: Option<u16>,
+    other: Option<u16>,
+) -> [Option<u16>; 5]
+    requires { place + unix_length (Machine (Decoded instruction word other)) < 32768 }
+    ensures { result ≡ leads_by file.now place (Machine (Decoded instruction word other)) }
+{
+    let line = UnixLine::Machine(Line::Decoded(instruction, word, other));
+    let address = (2 * place) as u16;
+    let operation = instruction.row.operation;
+    let later = place + 1 + instruction.words_before_second();
+    [
+        next_of(place, &line),
+        branch_of(address, instruction.first),
+        branch_of(address, instruction.second),
+        jump(file, operation, place + 1, instruction.first, word),
+        jump(file, operation, later, instruction.second, other),
+    ]
+}
+
+/// Notes the places to which the line at a place may lead.
+fn visit_leads(
+    marks: &mut [bool],
+    found: &mut Vec<usize>,
+    file: &File,
+    place: usize,
+) -> Result<(), AllocError>
+    requires inside { place < length file.now.text_words }
+    requires marks { AreMarks marks.old found.old.items }
+    ensures found { OnOk result (found.new.items ≡ visited_all (length marks.old) found.old.items (leads_to file.now place)) }
+    ensures marks { OnOk result (AreMarks marks.new found.new.items) }
+    ensures same { length marks.new ≡ length marks.old }
+{
+    let _words = file.text_words();
+    let line = unix_line_in(Decoder::Unix, file, place);
+    match line {
+        UnixLine::Machine(Line::Decoded(instruction, word, other)) => visit_all(
+            marks,
+            found,
+            &decoded_leads(file, place, instruction, word, other),
+        ),
+        UnixLine::Machine(Line::Plain(_)) => visit_all(marks, found, &[next_of(place, &line)]),
+        UnixLine::Call(_) => visit_all(marks, found, &[next_of(place, &line)]),
+    }
+}
+
+/// Notes the places to which the places lead that have been found, and so on.
+fn spread(marks: &mut [bool], found: &mut Vec<usize>, file: &File) -> Result<(), AllocError>
+    requires all { length marks.old ≡ length file.now.text_words }
+    requires marks { AreMarks marks.old found.old.items }
+    ensures found { OnOk result (found.new.items ≡ spread file.now (length file.now.text_words) 0 found.old.items) }
+    ensures marks { OnOk result (AreMarks marks.new found.new.items) }
+{
+    for next in 0..file.text_words().len() {
+        if next >= found.len() {
+            return Ok(());
+        }
+        let place = found[next];
+        visit_leads(marks, found, file, place)?;
+    }
+    Ok(())
+}
+
+/// For each word of a file's text, whether it is reached. An error: out of memory. (own choice)
+pub fn reached_places(alloc: Global, file: &File) -> Result<Vec<bool>, AllocError>
+    ensures { IfOk result (λ marks. (place : ℕ) → get_or marks.items place false ≡ is_reached file.now place) }
+{
+    let mut marks = vec![in alloc; false; file.text_words().len()]?;
+    let mut found = Vec::new(alloc);
+    visit_symbols(&mut marks, &mut found, file, file.symbols())?;
+    spread(&mut marks, &mut found, file)?;
+    Ok(marks)
+}

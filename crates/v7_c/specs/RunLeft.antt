@@ -1,0 +1,165 @@
+-- What v7_run is asked for, what it leaves in the result of its caller, and its status. (own choice)
+--
+-- A request and a result begin with their sizes in bytes. A caller may have smaller ones, without the last fields: a link whose
+-- report is wanted as lines alone does without these, and they are left alone.
+use Rattle.std.specs.Prelude.{◌≡◌, ◌≢◌, ◌⊎◌, ℕ, Bool, true, ◌||◌, ◌&&◌, not, eqb, nat_lt, nat_le, if◌then◌else◌, List, [], length, Result, Ok, Err}
+use Rattle.library_calls.specs.declared.cause.Cause.TheVariants.{Memory, NoOption}
+use Rattle.library_calls.specs.declared.cause.Refusal.{Refusal}
+use Rattle.library_calls.specs.declared.findings_call.ReportedName.{ReportedName}
+use Rattle.library_calls.specs.declared.run_call.RunResult.{RunResult}
+use Rattle.library_calls.specs.Causes.{number_of, word_of}
+use Rattle.library_calls.specs.FileAnswers.{has_bit}
+use Rattle.library_calls.specs.LinkAnswers.{each_of}
+use Rattle.library_calls.specs.MemoryWanted.{LinkOfEachMayRunOut}
+use Rattle.library_calls.specs.RunAnswers.{RunOutput, SessionOfPartsMayRunOut, link_run, results_of, session_run}
+use Rattle.v7_c.specs.Left.{put_in}
+use Rattle.v7_c.specs.declared.run.Output.{Output}
+use Rattle.v7_c.specs.declared.run.Request.{Request}
+use Rattle.v7_c.specs.declared.run.RunAnswer.{RunAnswer}
+
+-- ---- what is asked for
+
+-- whether the last fields are needed: of mode 1, a session, the edits, and of bit 2 of what is wanted, the report as a list
+abbrev pub needs_more : Request → Bool
+needs_more q = eqb q.mode 1 || has_bit q.wants 2
+
+-- the sizes of request and result, the mode and what is wanted are known
+abbrev pub is_known : Request → ℕ → Bool
+is_known q size =
+    nat_le 72 q.size && (nat_le 72 size && (nat_le q.mode 1 && (nat_le q.wants 3 && (not (needs_more q) || (nat_le 88 q.size && nat_le 120 size)))))
+
+-- what the library gives, to a caller with a result of this size
+abbrev pub run_in : Request → ℕ → Result RunOutput Refusal
+run_in q size =
+    if is_known q size
+    then (if eqb q.mode 0 then link_run q.options q.entry.now q.forced.now (each_of q.objects.now)
+    else session_run q.options q.entry.now q.forced.now q.edits.now (each_of q.objects.now))
+    else Err (record { cause = NoOption; place = 0 })
+
+-- memory may run out, at this place
+abbrev pub RunMayRunOut : Request → ℕ → ℕ → Type 0
+RunMayRunOut q size place =
+    (is_known q size ≡ true)
+    × (((q.mode ≡ 0) × LinkOfEachMayRunOut q.options q.entry.now q.forced.now (each_of q.objects.now) place)
+    ⊎ ((q.mode ≢ 0) × SessionOfPartsMayRunOut q.options q.entry.now q.forced.now q.edits.now (each_of q.objects.now) place))
+
+-- an answer is what the library gives, or that memory ran out where it may
+abbrev pub IsAnswer : Request → ℕ → Result RunOutput Refusal → Type 0
+IsAnswer q size (Ok x) = run_in q size ≡ Ok x
+IsAnswer q size (Err r) = (r.cause ≢ Memory → run_in q size ≡ Err r) × (r.cause ≡ Memory → RunMayRunOut q size r.place)
+
+abbrev pub results_or : Result RunResult Refusal → Result RunOutput Refusal
+results_or (Ok given) = Ok (results_of given)
+results_or (Err r) = Err r
+
+-- what is wanted of what there is: 1, the report as lines; 2, as a list
+abbrev pub wanted : ℕ → RunOutput → RunOutput
+wanted wants x = record {
+  status = x.status;
+  replies = x.replies;
+  file = x.file;
+  report = if has_bit wants 1 then x.report else [];
+  findings = if has_bit wants 2 then x.findings else [];
+}
+
+-- ---- what is left
+
+-- the status, and what is in the result
+pub record RunLeft : Type 0 where
+  pub status : ℕ
+  pub size : ℕ
+  pub fault : ℕ
+  pub word : ℕ
+  pub place : ℕ
+  pub file_size : ℕ
+  pub report_size : ℕ
+  pub file : List ℕ
+  pub report : List ℕ
+  pub finding_count : ℕ
+  pub reply_count : ℕ
+  pub findings : List ReportedName
+  pub replies : List ℕ
+
+abbrev pub left_in : ℕ → RunAnswer → RunLeft
+left_in status x = record {
+  status = status;
+  size = x.size;
+  fault = x.fault;
+  word = x.word;
+  place = x.place;
+  file_size = x.file_size;
+  report_size = x.report_size;
+  file = x.file.now;
+  report = x.report.now;
+  finding_count = x.finding_count;
+  reply_count = x.reply_count;
+  findings = x.findings.now;
+  replies = x.replies.now;
+}
+
+abbrev pub output_in : Output → RunOutput
+output_in o = record { status = o.status; replies = o.replies.now; file = o.file.now; report = o.report.now; findings = o.findings.now }
+
+-- a result of this size has all fields
+abbrev pub has_more : ℕ → Bool
+has_more size = nat_le 120 size
+
+-- a status and a fault, with the sizes of what there is
+abbrev pub answered : ℕ → ℕ → ℕ → ℕ → RunOutput → RunLeft → RunLeft
+answered status fault word place x l = record {
+  status = status;
+  size = l.size;
+  fault = fault;
+  word = word;
+  place = place;
+  file_size = length x.file;
+  report_size = length x.report;
+  file = l.file;
+  report = l.report;
+  finding_count = if has_more l.size then length x.findings else l.finding_count;
+  reply_count = if has_more l.size then length x.replies else l.reply_count;
+  findings = l.findings;
+  replies = l.replies;
+}
+
+-- what there is at the beginning of each buffer
+abbrev pub filled : RunOutput → RunLeft → RunLeft
+filled x l = record {
+  status = l.status;
+  size = l.size;
+  fault = l.fault;
+  word = l.word;
+  place = l.place;
+  file_size = l.file_size;
+  report_size = l.report_size;
+  file = put_in l.file x.file;
+  report = put_in l.report x.report;
+  finding_count = l.finding_count;
+  reply_count = l.reply_count;
+  findings = if has_more l.size then put_in l.findings x.findings else l.findings;
+  replies = if has_more l.size then put_in l.replies x.replies else l.replies;
+}
+
+-- a buffer is too short
+abbrev pub is_short : RunOutput → RunLeft → Bool
+is_short x l =
+    nat_lt (length l.file) (length x.file) || (nat_lt (length l.report) (length x.report)
+    || (has_more l.size && (nat_lt (length l.findings) (length x.findings) || nat_lt (length l.replies) (length x.replies))))
+
+-- all of it, or nothing
+abbrev pub output_left : RunOutput → RunLeft → RunLeft
+output_left x l = if is_short x l then answered 2 60 0 0 x l else answered x.status 0 0 0 x (filled x l)
+
+abbrev pub nothing : RunOutput
+nothing = record { status = 2; replies = []; file = []; report = []; findings = [] }
+
+-- what is left of an answer, in a result that was so
+abbrev pub answer_left : ℕ → Result RunOutput Refusal → RunLeft → RunLeft
+answer_left wants (Err r) l = answered 2 (number_of r.cause) (word_of r.cause) r.place nothing l
+answer_left wants (Ok x) l = output_left (wanted wants x) l
+
+-- a status, and a result before and after the call
+pub record LeavesRun (q : Request) (old new : RunAnswer) (status : ℕ) : Type 0 where
+  pub answer : Result RunOutput Refusal
+  pub given : IsAnswer q old.size answer
+  pub is : left_in status new ≡ answer_left q.wants answer (left_in 0 old)

@@ -1,0 +1,260 @@
+/* v7_run beside the other calls: for random lists of objects, some of them cut or with bytes after them, it must give what v7_link_list
+ * and v7_link_findings give, and for random edits what v7_session gives, with the same fault, place and word. A caller whose structs
+ * are shorter, with nothing readable after them, gets the same link. Buffers for what is not wanted, and all buffers after a fault,
+ * stay as they were.
+ *
+ * usage: runs COUNT OBJECT...       the objects that the lists are made of */
+#define _DEFAULT_SOURCE
+#include <stddef.h>
+#include <stdio.h>
+#include <stdlib.h>
+#include <string.h>
+#include <sys/mman.h>
+#include <unistd.h>
+
+#include "v7.h"
+
+enum { ROOM = 1 << 16, FEW = 64, OBJECTS = 6, EDITS = 9, FILL = 0xa5 };
+
+/* a request and a result of the first form, as a caller has them that knows no more */
+enum { SHORT_REQUEST = offsetof(struct v7_request, edits), SHORT_RESULT = offsetof(struct v7_result, finding_count) };
+
+struct given {
+    uint32_t status;
+    struct v7_result result;
+    unsigned char file[ROOM], report[ROOM], replies[FEW];
+    struct v7_finding findings[FEW];
+};
+
+static struct v7_slice known[16];
+static size_t known_count;
+static unsigned failures;
+static uint64_t dice = 7;
+
+static size_t below(size_t n)
+{
+    dice = dice * 6364136223846793005u + 1442695040888963407u;
+    return (size_t)(dice >> 33) % n;
+}
+
+static void check(int is_right, const char *what, unsigned number)
+{
+    if (!is_right && failures++ < 10)
+        printf("run %u: %s\n", number, what);
+}
+
+static int is_filled(const void *room, size_t from, size_t size)
+{
+    const unsigned char *at = room;
+
+    for (; from < size; from++)
+        if (at[from] != FILL)
+            return 0;
+    return 1;
+}
+
+static int read_known(const char *path)
+{
+    static unsigned char bytes[ROOM];
+    FILE *file = fopen(path, "rb");
+    size_t size;
+    unsigned char *copy;
+
+    if (!file || known_count == sizeof known / sizeof *known)
+        return 0;
+    size = fread(bytes, 1, sizeof bytes, file);
+    fclose(file);
+    if (!(copy = malloc(size)))
+        return 0;
+    memcpy(copy, bytes, size);
+    known[known_count].bytes = copy;
+    known[known_count++].size = size;
+    return 1;
+}
+
+static void ask(struct given *to, struct v7_request *request, size_t room)
+{
+    memset(to, FILL, sizeof *to);
+    memset(&to->result, 0, sizeof to->result);
+    request->size = sizeof *request;
+    to->result.size = sizeof to->result;
+    to->result.file = to->file;
+    to->result.file_room = room;
+    to->result.report = to->report;
+    to->result.report_room = ROOM;
+    to->result.findings = to->findings;
+    to->result.finding_room = FEW;
+    to->result.replies = to->replies;
+    to->result.reply_room = FEW;
+    to->status = v7_run(request, &to->result);
+}
+
+/* nothing of a buffer is written beyond what there is */
+static int is_clean(const struct given *g)
+{
+    size_t there = g->result.fault == 0;
+
+    return is_filled(g->file, there * g->result.file_size, ROOM) && is_filled(g->report, there * g->result.report_size, ROOM) &&
+           is_filled(g->replies, there * g->result.reply_count, FEW) &&
+           is_filled(g->findings, there * g->result.finding_count * sizeof *g->findings, sizeof g->findings);
+}
+
+static int same_answer(const struct v7_result *r, const struct v7_answer *a)
+{
+    return r->fault == a->fault && r->word == a->word && r->place == a->place && r->file_size == a->size;
+}
+
+/* a copy at the end of a page, after which nothing can be read */
+static void *at_the_end(const void *what, size_t size, size_t page)
+{
+    unsigned char *pages = mmap(0, 2 * page, PROT_READ | PROT_WRITE, MAP_PRIVATE | MAP_ANONYMOUS, -1, 0);
+
+    if (pages == MAP_FAILED || mprotect(pages + page, page, PROT_NONE) != 0)
+        exit(3);
+    memcpy(pages + page - size, what, size);
+    return pages + page - size;
+}
+
+/* the link by shorter structs */
+static void try_short(const struct v7_request *request, const struct given *wanted, unsigned number)
+{
+    static struct given got;
+    size_t page = (size_t)sysconf(_SC_PAGESIZE);
+    struct v7_request *asked = at_the_end(request, SHORT_REQUEST, page);
+    struct v7_result *result;
+
+    memset(&got, FILL, sizeof got);
+    got.result = wanted->result;
+    got.result.file = got.file;
+    got.result.report = got.report;
+    result = at_the_end(&got.result, SHORT_RESULT, page);
+    asked->size = SHORT_REQUEST;
+    asked->wants = V7_REPORT;
+    result->size = SHORT_RESULT;
+    got.status = v7_run(asked, result);
+    check(got.status == wanted->status && memcmp(&result->fault, &wanted->result.fault, offsetof(struct v7_result, file) - offsetof(struct v7_result, fault)) == 0 &&
+              memcmp(got.file, wanted->file, ROOM) == 0 && memcmp(got.report, wanted->report, ROOM) == 0,
+          "another link by shorter structs", number);
+    asked->wants = V7_FINDINGS;
+    check(v7_run(asked, result) == 2 && result->fault == V7_NO_OPTION && result->file_size == 0, "findings by shorter structs", number);
+    asked->wants = V7_REPORT;
+    asked->mode = V7_SESSION;
+    check(v7_run(asked, result) == 2 && result->fault == V7_NO_OPTION, "a session by shorter structs", number);
+    asked->mode = V7_LINK;
+    asked->size = SHORT_REQUEST - 1;
+    check(v7_run(asked, result) == 2 && result->fault == V7_NO_OPTION, "a request that is too short", number);
+    munmap((unsigned char *)asked - (page - SHORT_REQUEST), 2 * page);
+    munmap((unsigned char *)result - (page - SHORT_RESULT), 2 * page);
+}
+
+static void try_link(struct v7_request *request, unsigned number)
+{
+    static struct given got, plain;
+    struct v7_answer answer;
+    static unsigned char file[ROOM], report[ROOM];
+    static struct v7_finding findings[FEW];
+    uint32_t status;
+
+    request->mode = V7_LINK;
+    request->wants = V7_REPORT | V7_FINDINGS;
+    ask(&got, request, ROOM);
+    status = v7_link_list(request->options, request->entry.bytes, request->entry.size, request->forced.bytes, request->forced.size,
+                          request->objects, request->object_count, file, ROOM, report, ROOM, &answer);
+    check(status == got.status && same_answer(&got.result, &answer) && got.result.report_size == answer.report_size && is_clean(&got) &&
+              (answer.fault || (memcmp(file, got.file, answer.size) == 0 && memcmp(report, got.report, answer.report_size) == 0)),
+          "another link than v7_link_list", number);
+    v7_link_findings(request->options, request->entry.bytes, request->entry.size, request->forced.bytes, request->forced.size,
+                     request->objects, request->object_count, file, ROOM, findings, FEW, &answer);
+    check(same_answer(&got.result, &answer) && got.result.finding_count == answer.report_size && got.result.reply_count == 0 &&
+              (answer.fault || memcmp(findings, got.findings, answer.report_size * sizeof *findings) == 0),
+          "other findings than v7_link_findings", number);
+    request->wants = V7_REPORT;
+    ask(&plain, request, ROOM);
+    check(plain.result.finding_count == 0 && is_filled(plain.findings, 0, sizeof plain.findings) && memcmp(plain.file, got.file, ROOM) == 0,
+          "findings that are not wanted", number);
+    try_short(request, &plain, number);
+    if (got.result.fault == 0) {
+        ask(&plain, request, got.result.file_size - 1);
+        check(plain.status == 2 && plain.result.fault == V7_NO_ROOM && plain.result.file_size == got.result.file_size && is_clean(&plain),
+              "a buffer that is too small", number);
+    }
+    request->wants = 4;
+    ask(&plain, request, ROOM);
+    check(plain.status == 2 && plain.result.fault == V7_NO_OPTION && plain.result.file_size == 0 && is_clean(&plain), "an unknown want", number);
+}
+
+static void try_session(struct v7_request *request, size_t cut, unsigned number)
+{
+    static struct given got;
+    static unsigned char joined[OBJECTS * ROOM], file[ROOM], report[ROOM], replies[FEW], edits[EDITS];
+    struct v7_answer answer;
+    size_t size = 0, added = 0, edit, count = below(EDITS + 1), i;
+    uint32_t status;
+
+    for (i = 0; i < count; i++)
+        added += (edits[i] = below(3) ? V7_ADD : V7_WITHDRAW) == V7_ADD;
+    request->mode = V7_SESSION;
+    request->wants = V7_REPORT | V7_FINDINGS;
+    request->edits.bytes = edits;
+    request->edits.size = count;
+    ask(&got, request, ROOM);
+    check(is_clean(&got), "a buffer is written beyond its end", number);
+    if (cut < added && cut < request->object_count) {
+        /* the edit that adds the object which is cut */
+        for (edit = 0, i = 0; edits[edit] != V7_ADD || i < cut; edit++)
+            i += edits[edit] == V7_ADD;
+        check(got.status == 2 && (got.result.fault == V7_TRUNCATED || got.result.fault == V7_SHORT_HEADER) && got.result.place == edit,
+              "a cut object is not refused in a session", number);
+        return;
+    }
+    for (i = 0; i < request->object_count && i < cut; i++) {
+        if (v7_check(request->objects[i].bytes, request->objects[i].size, &answer) != 0)
+            break;
+        memcpy(joined + size, request->objects[i].bytes, answer.size);
+        size += answer.size;
+    }
+    status = v7_session(request->options, request->entry.bytes, request->entry.size, request->forced.bytes, request->forced.size, edits, count,
+                        joined, size, replies, FEW, file, ROOM, report, ROOM, &answer);
+    check(status == got.status && same_answer(&got.result, &answer) && got.result.report_size == answer.report_size &&
+              (answer.fault || (got.result.reply_count == count && memcmp(file, got.file, answer.size) == 0 &&
+                                memcmp(report, got.report, answer.report_size) == 0 && memcmp(replies, got.replies, count) == 0)),
+          "another session than v7_session", number);
+}
+
+int main(int argc, char **argv)
+{
+    static const uint32_t options[] = {0, 0, 0, V7_RELOCATABLE, V7_STRIP, V7_EXTERNALS, V7_PURE, V7_SPLIT, V7_RELOCATABLE | V7_STRIP, 128};
+    static unsigned char names[16] = "_x\0\0\0\0\0\0_half";
+    unsigned number, runs = argc > 1 ? (unsigned)atoi(argv[1]) : 0;
+    int i;
+
+    for (i = 2; i < argc; i++)
+        if (!read_known(argv[i])) {
+            perror(argv[i]);
+            return 2;
+        }
+    for (number = 0; number < runs; number++) {
+        struct v7_slice objects[OBJECTS];
+        struct v7_request request = {0, 0, 0, 0, {0, 0}, {0, 0}, objects, 0, {0, 0}};
+        size_t cut;
+
+        request.options = options[below(sizeof options / sizeof *options)];
+        request.object_count = below(OBJECTS + 1);
+        request.entry.bytes = names;
+        request.entry.size = below(2) * 2;
+        request.forced.bytes = names;
+        request.forced.size = below(3) * 8;
+        for (i = 0; (size_t)i < request.object_count; i++)
+            objects[i] = known[below(known_count)];
+        cut = below(2) ? below(OBJECTS) : OBJECTS;
+        if (cut < request.object_count)
+            objects[cut].size -= 2 * (1 + below(3));
+        else
+            cut = OBJECTS;
+        try_link(&request, number);
+        if (request.options < 128 && request.options != (V7_RELOCATABLE | V7_STRIP))
+            try_session(&request, cut, number);
+    }
+    printf("%u runs, %u differ\n", number, failures);
+    return failures != 0;
+}
