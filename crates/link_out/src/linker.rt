@@ -1,4 +1,7 @@
-//! The link of what a session keeps, pass by pass.
+//! The driver of the linker: `finish` makes a file of what a session keeps, one pass a line.
+//!
+//! `Session::add` of `link_session` did the rest before, object by object: it merged the segments and resolved the names. So
+//! an undefined or a multiply defined name is not an error here. It is reported, and the file is made all the same.
 ghost use Rattle.std.specs.Prelude.{◌≡◌, ◌≤◌, true, length, IfOk, IfErr, Ok, Err};
 ghost use Rattle.aout_core.specs.WellFormed.{IsWellFormed};
 ghost use Rattle.link_out.specs.function.Link.{link_of, linked_file};
@@ -21,31 +24,40 @@ use link_session::Session;
 use std::alloc::Global;
 use tool_options::Options;
 
-/// The last address that a word can hold: the end of bss may not pass it. (own choice)
+/// The most that the end of bss may be. It is the address after the last byte of bss and the value of `_end`, so it has to
+/// fit a word. (own choice)
 pub const LAST_ADDRESS: u64 = 65_535;
 
-/// The link of the objects that a session keeps: the file, and what is reported of it. With relocation the file is an
-/// object, which can be linked again. The session is only read. (ld(1) and a.out(5); the limits are an own choice)
+/// The link of the objects that a session keeps: the file, and what is reported of it. If the options keep relocation
+/// (`-r`), the file is an object, which can be linked again. The session is only read. (ld(1) and a.out(5); the limits
+/// are an own choice)
 ///
-/// Errors, the first that applies: `DoesNotFit`, 1, if the end of bss would pass 65,535; `TooManySymbols`, 2,
-/// if more than 5,461 symbols would be written; `SymbolNumber`, 3, if a relocation word would need a number
+/// Errors, the first that applies: `DoesNotFit`, 1, if the end of bss would exceed 65,535; `TooManySymbols`, 2,
+/// if more than 5,461 symbols would be written; `SymbolNumber`, 3, if a relocation word would need the number of a symbol
 /// over 4,095; `Memory`, 4, if memory runs out for file and report.
 pub fn finish(alloc: Global, session: &Session, options: &Options) -> Result<Linked, LinkFault>
     ensures value { IsLinkOf result (link_of session.now options.now) }
     ensures object { options.now.relocatable ≡ true → IfOk result (λ linked. IsWellFormed linked.file) }
 {
+    // the layout: where each segment begins, with the commons before bss
     let plan = Plan::of(session, options);
+    // first, so that no refusal depends on memory, and each address and number below fits its bits
     let locals = limits_passed(&plan)?;
+    // the address of each external, if it has one: of its definition, of its common, or of a reserved name such as `_end`
     let finals = finals_of(alloc, &plan)?;
     let words = words_of(alloc, &plan, &finals)?;
+    // empty without `-r`; externals are numbered after the locals
     let relocs = relocs_of(alloc, &plan, &finals, locals)?;
+    // the symbol table: the locals that are kept, then the externals
     let symbols = table(alloc, &plan, &finals)?;
+    // multiply defined, reserved and undefined names, and an entry name that is not in text
     let report = report_of(alloc, &plan, &finals)?;
     let file = file_of(&plan, &finals, words, relocs, symbols);
     Ok(Linked { file, report })
 }
 
-/// How many locals the table of a link has, or the first fault that refuses it. This takes no memory.
+/// Checks the limits of the format: the first fault, or how many locals the table has if no limit is exceeded. With `-r`
+/// the latter is also the number of the first external. This takes no memory.
 fn limits_passed(plan: &Plan<'_>) -> Result<u16, LinkFault>
     ensures passed { IfOk result (IsPassed (plan_in plan.now) (objects_in plan.now)) }
     ensures short { IfOk result (λ _. plan.now.bases.bss_end ≤ 65535) }
@@ -57,13 +69,14 @@ fn limits_passed(plan: &Plan<'_>) -> Result<u16, LinkFault>
     let Some(locals) = locals_within(plan) else {
         return Err(LinkFault::TooManySymbols);
     };
+    // far: its symbol has a number that does not fit the 12 bits of a relocation word
     if plan.options.is_relocatable() && has_far_word(plan, locals) {
         return Err(LinkFault::SymbolNumber);
     }
     Ok(locals)
 }
 
-/// The file of these words, relocation words and symbols.
+/// The file of these words, relocation words and symbols, with the header and its entry point.
 fn file_of(
     plan: &Plan<'_>,
     finals: &[Final],
