@@ -1,9 +1,9 @@
-//! Theorems about links and commands; `link_laws` has those of links alone. They name definitions, and no code.
+//! Theorems about links and commands; `link_laws` has those about links alone. They are about definitions, and not about code.
 //!
-//! - `links`: which byte is at which address when a program is loaded, what its instructions find there, and how lists, sizes and
-//!   the order of the objects agree with a link
-//! - `frames`: what a link keeps where one object is replaced by another
-//! - `commands`: what a file holds that one command stored and a later one opens
+//! - `links`: which byte is at which address of a loaded program, what its instructions find there, what nm and size show of it,
+//!   and what the order of the objects changes
+//! - `frames`: what a link keeps if one object is replaced by another
+//! - `commands`: `ld -r` and then `ld`, or `ld` and then `strip`, give what one `ld` gives
 #![tactic(auto)]
 
 pub mod commands;
