@@ -90,7 +90,7 @@ crates/v7_c/out/libv7_c.a: crates.txt $(shell find $(LIBRARY_CRATES) -name out -
 	touch $@
 
 # the libraries, the header, what pkg-config reads, the manual page, and the documents that the header cites; no program is needed
-LIBRARY_DOCUMENTS := docs/LIBRARY.md docs/LINK.md docs/FORMAT.md
+LIBRARY_DOCUMENTS := docs/LIBRARY.md docs/LINK.md docs/FORMAT.md docs/OBJECTS.md
 install-lib: lib
 	mkdir -p $(DESTDIR)$(LIBDIR)/pkgconfig $(DESTDIR)$(INCLUDEDIR) $(SHARE)/man/man3 $(SHARE)/doc/v7/docs
 	cp build/libv7.a build/$(SOFILE) $(DESTDIR)$(LIBDIR)

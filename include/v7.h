@@ -1,5 +1,5 @@
 /* libv7: the linker, nm, size, strip and the disassembler of v7, for C. v7(3) shows it in use; docs/LINK.md has the rules of a
- * link, and docs/FORMAT.md the format: `make install-lib` puts both below share/doc/v7, and the package for Debian below
+ * link, and docs/FORMAT.md the format: `make install-lib` puts them below share/doc/v7, and the package for Debian below
  * /usr/share/doc/libv7-dev. The header needs C99, or C++98 with <stdint.h>.
  *
  * Each call takes bytes and gives bytes, and keeps nothing for the next call. An object or a file is the bytes of an a.out

@@ -30,7 +30,7 @@ PAGES = {"lesson.html": ("examples", ["main.o", "twice.o", "k.o", "l.o", "double
          "program.html": ("examples/total", ["total.o", "say.o", "console.o", "low.o", "limit.o"])}
 DOCUMENTS = ["CHANGES.md", "CONTRIBUTING.md", "docs", "examples"]
 # what libv7-dev has of the documents: what v7.h cites, and what shows how to call the library
-LIBRARY_DOCUMENTS = ["docs/LIBRARY.md", "docs/LINK.md", "docs/FORMAT.md"]
+LIBRARY_DOCUMENTS = ["docs/LIBRARY.md", "docs/LINK.md", "docs/FORMAT.md", "docs/OBJECTS.md"]
 LIBDIR = "usr/lib/x86_64-linux-gnu"
 TRIAL = "This is a trial: nothing was checked when these packages were made. Do not publish them.\n"
 

@@ -1,7 +1,7 @@
 #!/usr/bin/env python3
 """Compares include/v7.h with the declarations of the code and with the module of Python: each struct's fields by name, place and size,
-each constant, and each call's parameters. The places in C are those of the compiler `cc`. Each kind of difference is made once in a
-copy of a text to see that it is found."""
+each constant, and each call's parameters. The places in C are those of the compiler `cc`. The documents that the header cites have to be
+installed with it. Each kind of difference is made once in a copy of a text to see that it is found."""
 import ctypes
 import glob
 import importlib.util
@@ -291,6 +291,16 @@ def compare_python(header, enums, python):
         yield "the kinds of findings differ in Python"
 
 
+# --- the documents
+
+def compare_documents(header):
+    """The documents that the header cites and that are not installed with it, by make or by a package."""
+    for place, lists in (("Makefile", r"LIBRARY_DOCUMENTS := (.*)"), ("packaging/dist.py", r"LIBRARY_DOCUMENTS = \[(.*)\]")):
+        installed = re.findall(r"docs/\w+\.md", re.search(lists, read(os.path.join(TOP, place)))[1])
+        for cited in sorted(set(re.findall(r"docs/\w+\.md", header)) - set(installed)):
+            yield f"v7.h cites {cited}, which LIBRARY_DOCUMENTS of {place} lacks"
+
+
 # --- all of it
 
 def compare(header, texts, python):
@@ -302,7 +312,7 @@ def compare(header, texts, python):
         of_code, of_python = places_in_code(texts, names.get(struct, struct), in_c[struct]), places_in_python(python, struct)
         faults += [f"struct {struct}: {in_c[struct]} in C, and {of} in {where}" for where, of in (("the code", of_code), ("Python", of_python))
                    if of != in_c[struct]]
-    return faults + [*compare_constants(header, enums), *compare_python(header, enums, python)]
+    return faults + [*compare_constants(header, enums), *compare_python(header, enums, python), *compare_documents(header)]
 
 
 # what is changed, of the header or of the code, to see that it is found: a field, its place, its type; a constant; a call
@@ -317,6 +327,7 @@ PLANTED = [
     ("v7.h", "V7_VERSION_NUMBER 0x000400", "V7_VERSION_NUMBER 0x000401"),
     ("v7.h", "uint32_t v7_version(void);", ""),
     ("v7.h", "v7_check(const unsigned char *bytes", "v7_check(unsigned char *bytes"),
+    ("v7.h", "docs/OBJECTS.md", "docs/TRUST.md"),
     ("v7_c/src/answer.rt", "    pub place: usize,", "    pub place: u32,"),
     ("library_calls/src/parts.rt", "    pub type_bits: u16,", "    pub kind: u16,"),
     ("v7_c/src/lib.rt", "    bss: u32,\n    symbols: &[SymbolRow],", "    symbols: &[SymbolRow],\n    bss: u32,"),

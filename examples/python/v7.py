@@ -574,7 +574,9 @@ def _map(status: int, given: _Map) -> Map:
     segments = (head.text_end, head.data_start, head.data_end, head.bss_start, head.bss_end)
     objects = [MapObject(*(getattr(row, name) for name in MapObject._fields)) for row in given.objects[: given.object_count]]
     names = [
-        MapName(_name(row.name), *map(_number_or_none, (row.definer, row.next_definer, row.user)), row.state, row.type, row.value)
+        MapName(
+            _name(row.name), _number_or_none(row.definer), _number_or_none(row.next_definer), _number_or_none(row.user), row.state, row.type, row.value
+        )
         for row in given.names[: given.name_count]
     ]
     uses = [
