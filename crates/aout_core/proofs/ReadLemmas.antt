@@ -125,11 +125,11 @@ read_after (Err Truncated) bytes (Some rest) left h t good body =
 read_after (Err Device) bytes (Some rest) left h t good body = (tt, tt)
 
 -- the same where the reader may not tell its bytes
-pub refused_if_told : (e : ReadFault) (old left : Option (List ℕ)) → IsHeaderRead old left (Err e) → IfSome old (λ bytes. IsReadOf (Err e) bytes × LeavesAfter (Err e) bytes left)
-refused_if_told e None left r = tt
-refused_if_told e (Some bytes) left r = refused_header e bytes left r
+pub refused_if_known : (e : ReadFault) (old left : Option (List ℕ)) → IsHeaderRead old left (Err e) → IfSome old (λ bytes. IsReadOf (Err e) bytes × LeavesAfter (Err e) bytes left)
+refused_if_known e None left r = tt
+refused_if_known e (Some bytes) left r = refused_header e bytes left r
 
-pub read_if_told : (r : Result Contents ReadFault) (old mid left : Option (List ℕ)) (h : Header) → TakesHeader old mid h → IsFileHeader h → IsBodyRead h mid left r →
+pub read_if_known : (r : Result Contents ReadFault) (old mid left : Option (List ℕ)) (h : Header) → TakesHeader old mid h → IsFileHeader h → IsBodyRead h mid left r →
     IfSome old (λ bytes. IsReadOf r bytes × LeavesAfter r bytes left)
-read_if_told r None mid left h t good body = tt
-read_if_told r (Some bytes) mid left h t good body = read_after r bytes mid left h t good body
+read_if_known r None mid left h t good body = tt
+read_if_known r (Some bytes) mid left h t good body = read_after r bytes mid left h t good body

@@ -131,7 +131,7 @@ impl Item for Symbol {
 /// Appends the first `count` items that the bytes encode. There is room for them.
 fn read_items<T: Item>(bytes: &[u8], count: usize, items: &mut Vec<T>)
     requires within { T.WIDTH * count ≤ length bytes.now }
-    requires room { vec_len items.old + count ≤ vec_capacity items.old }
+    requires reserved { vec_len items.old + count ≤ vec_capacity items.old }
     ensures items { items.new.items ≡ items.old.items ++ row_in T.item_in T.WIDTH count bytes.now }
     ensures len { vec_len items.new ≡ vec_len items.old + count }
     ensures capacity { vec_capacity items.old ≤ vec_capacity items.new }
@@ -146,7 +146,7 @@ fn take_waiting<T: Item>(most: usize, items: &mut Vec<T>, incoming: &mut Incomin
     requires { vec_len items.old + most ≤ vec_capacity items.old }
     ensures most { result ≤ most }
     ensures value { (reader : Option (List ℕ)) → TakesRow T.item_in T.WIDTH result incoming.old reader incoming.new reader items.old.items items.new.items }
-    ensures room { vec_len items.new + (most - result) ≤ vec_capacity items.new }
+    ensures reserved { vec_len items.new + (most - result) ≤ vec_capacity items.new }
 {
     let count = (incoming.waiting().len() / T::WIDTH).min(most);
     read_items(incoming.waiting(), count, items);
@@ -176,7 +176,7 @@ pub(crate) fn take_items<T: Item, R: Read>(
     wire: &mut Wire<R>,
 ) -> Result<(), ReadFault>
     requires works { wire.old.has_failed ≡ false }
-    requires room { vec_len items.old + count ≤ vec_capacity items.old }
+    requires reserved { vec_len items.old + count ≤ vec_capacity items.old }
     requires within { T.WIDTH * count ≤ awaited incoming.old }
     ensures device { (result ≡ Err ReadFault.Device) ↔ IsTrue wire.new.has_failed }
     ensures value { OnOk result (TakesAll T.item_in T.WIDTH count R.remaining incoming.old wire.old.device incoming.new wire.new.device items.old items.new) }

@@ -32,7 +32,7 @@
 //! - `is_magic`: whether a file may begin with a word
 //! - `data_start`, `next_boundary`: where data begins, and the next multiple of 020000
 //! - `pc_target`: what a word refers to that is relative to the pc
-//! - `read_all`: all bytes at a path
+//! - `read_all`, `read_bytes`: all bytes at a path, and all that a reader gives
 //! - `shown_by`, `show`: what an argument asks a program to show of itself; shows it
 //!
 //! Modules:
@@ -79,6 +79,6 @@ pub use reloc::{Kind, Reloc};
 pub use shown::{Shown, VERSION, show, shown_by};
 pub use strip::strip_file;
 pub use symbol::{Segment, Symbol};
-pub use whole::{FileFault, read_all};
+pub use whole::{FileFault, read_all, read_bytes};
 pub use wire::{BufferedWrite, DeviceFault, Wire};
 pub use writer::write_file;

@@ -3,7 +3,7 @@ ghost use Rattle.std.specs.Prelude.{◌≡◌, ◌↔◌, ◌<◌, false, IfOk, 
 ghost use Rattle.aout_core.specs.Contents.{has_whole_sizes};
 ghost use Rattle.aout_core.specs.Parts.{contents_of};
 ghost use Rattle.aout_core.specs.Encoding.{file_length};
-ghost use Rattle.aout_core.specs.internal.ReadParts.{HasNoItems, HasRoom, IsBodyRead, IsHeaderRead, TakesBody};
+ghost use Rattle.aout_core.specs.internal.ReadParts.{HasNoItems, HasCapacity, IsBodyRead, IsHeaderRead, TakesBody};
 ghost use Rattle.aout_core.specs.Reading.{IsFileHeader, IsReadOf, LeavesAfter};
 
 use crate::file::{File, Parts, ReadFault, has_whole_sizes, is_magic};
@@ -15,9 +15,9 @@ use std::alloc::{AllocError, Global};
 use std::io::Read;
 
 /// Makes room in the lists of parts for what their header announces.
-fn make_room(parts: &mut Parts) -> Result<(), AllocError>
+fn reserve_lists(parts: &mut Parts) -> Result<(), AllocError>
     requires { HasNoItems parts.old }
-    ensures room { IfOk result (λ _. HasRoom parts.old.header parts.new) }
+    ensures reserved { IfOk result (λ _. HasCapacity parts.old.header parts.new) }
     ensures announced { OnErr result (16 < file_length parts.old.header) }
 {
     let text = parts.header.text_size as usize;
@@ -33,8 +33,8 @@ fn make_room(parts: &mut Parts) -> Result<(), AllocError>
 }
 
 /// Empty parts with room for what the header announces.
-fn parts_with_room(alloc: Global, header: Header) -> Result<Parts, AllocError>
-    ensures room { IfOk result (HasRoom header) }
+fn parts_with_capacity(alloc: Global, header: Header) -> Result<Parts, AllocError>
+    ensures reserved { IfOk result (HasCapacity header) }
     ensures announced { OnErr result (16 < file_length header) }
 {
     let mut parts = Parts {
@@ -45,14 +45,14 @@ fn parts_with_room(alloc: Global, header: Header) -> Result<Parts, AllocError>
         data_reloc: Vec::new(alloc),
         symbols: Vec::new(alloc),
     };
-    make_room(&mut parts)?;
+    reserve_lists(&mut parts)?;
     Ok(parts)
 }
 
 /// Fills the lists of the parts, in their order.
 fn read_lists<R: Read>(parts: &mut Parts, wire: &mut Wire<R>) -> Result<(), ReadFault>
     requires works { wire.old.has_failed ≡ false }
-    requires room { HasRoom parts.old.header parts.old }
+    requires reserved { HasCapacity parts.old.header parts.old }
     requires sizes { IsTrue (has_whole_sizes parts.old.header) }
     ensures device { (result ≡ Err ReadFault.Device) ↔ IsTrue wire.new.has_failed }
     ensures value { IfOk result (λ _. TakesBody parts.old.header (R.remaining wire.old.device) (R.remaining wire.new.device) (contents_of parts.new)) }
@@ -107,7 +107,7 @@ fn read_body<R: Read>(alloc: Global, header: Header, wire: &mut Wire<R>) -> Resu
     ensures device { (result ≡ Err ReadFault.Device) ↔ IsTrue wire.new.has_failed }
     ensures value { IsBodyRead header (R.remaining wire.old.device) (R.remaining wire.new.device) result }
 {
-    let mut parts = parts_with_room(alloc, header)?;
+    let mut parts = parts_with_capacity(alloc, header)?;
     read_lists(&mut parts, wire)?;
     Ok(File::from_parts(parts))
 }

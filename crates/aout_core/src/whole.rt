@@ -1,5 +1,8 @@
-//! Files that are read whole. No contract can say what a file gives, so these lines are to be read.
-use std::alloc::AllocGlobal;
+//! Files that are read whole. No contract can say what a file gives, so `read_all` is to be read.
+ghost use Rattle.std.specs.Prelude.{◌≡◌, ◌⊎◌, IfErr, IfOk, IfSome};
+ghost use Rattle.aout_core.specs.declared.whole.FileFault.TheVariants.{Failed, Memory};
+
+use std::alloc::{AllocGlobal, Global};
 use std::io::Read;
 use std::rt::Runtime;
 use std::{fs, io};
@@ -17,17 +20,27 @@ pub enum FileFault {
     Memory,
 }
 
+/// All bytes that a reader still gives. (own choice)
+///
+/// Errors: `Memory` if memory runs out for them; `Failed` if the reader fails.
+pub fn read_bytes<R: Read>(alloc: Global, source: &mut R) -> Result<Vec<u8>, FileFault>
+    ensures ok { IfOk result (λ bytes. IfSome (R.remaining source.old) (λ all. bytes.items ≡ all)) }
+    ensures err { IfErr result (λ fault. (fault ≡ Failed) ⊎ (fault ≡ Memory)) }
+{
+    let mut bytes = Vec::new(alloc);
+    match source.read_to_end(&mut bytes) {
+        Ok(_) => Ok(bytes),
+        Err(error) if error.kind() == io::ErrorKind::OutOfMemory => Err(FileFault::Memory),
+        Err(_) => Err(FileFault::Failed),
+    }
+}
+
 /// All bytes of the file at a path. (own choice)
+///
+/// Errors: `NotOpened` if it can't be opened; `Failed` and `Memory` as of `read_bytes`.
 pub fn read_all<H: Runtime + AllocGlobal>(rt: &H, path: &str) -> Result<Vec<u8>, FileFault> {
     let Ok(mut file) = fs::open(rt, path) else {
         return Err(FileFault::NotOpened);
     };
-    let mut bytes = Vec::new(rt.alloc());
-    match file.read_to_end(&mut bytes) {
-        Ok(_) => Ok(bytes),
-        Err(error) => match error.kind() {
-            io::ErrorKind::OutOfMemory => Err(FileFault::Memory),
-            _ => Err(FileFault::Failed),
-        },
-    }
+    read_bytes(rt.alloc(), &mut file)
 }

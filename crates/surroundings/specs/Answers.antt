@@ -21,8 +21,8 @@ abbrev pub failed_at : List ℕ → List ℕ → List ℕ → Answer
 failed_at program path text = only_errors (fault_line program path text) 2
 
 -- a fault has this answer, or memory ran out for it
-abbrev pub Tells : Fault → Answer → Type 0
-Tells fault answer = (fault ≡ Answered answer) ⊎ (fault ≡ Memory)
+abbrev pub HasAnswer : Fault → Answer → Type 0
+HasAnswer fault answer = (fault ≡ Answered answer) ⊎ (fault ≡ Memory)
 
 -- how a program is called, as the answer to arguments that ask for nothing
 abbrev pub says_usage : List ℕ → Answer
@@ -60,12 +60,12 @@ answer_in program (Err fault) = fault_answer program fault
 abbrev pub Checks : Option Answer → Result (Unit {0}) Fault → Type 0
 Checks found (Ok x) = found ≡ None
 Checks None (Err fault) = fault ≡ Memory
-Checks (Some answer) (Err fault) = Tells fault answer
+Checks (Some answer) (Err fault) = HasAnswer fault answer
 
 -- a step has this fault, or memory ran out for it
 abbrev pub Faults : {A : Type 0} → Result A Answer → Fault → Type 0
 Faults (Ok x) fault = fault ≡ Memory
-Faults (Err answer) fault = Tells fault answer
+Faults (Err answer) fault = HasAnswer fault answer
 
 -- ---- what goes out
 
@@ -79,5 +79,5 @@ status_unless failed answer = if failed then 2 else answer.status
 -- the answer went out, but for what a device did not take
 pub record Gives {W E : Type 0} (contents : W → Option (List ℕ)) (error_contents : E → Option (List ℕ)) (program : List ℕ) (answer : Answer) (output new_output : Latched W) (error new_error : Latched E) (status : ℕ) : Type 0 where
   pub written : PutsUnless new_output.has_failed (contents output.device) (contents new_output.device) answer.output
-  pub told : PutsUnless new_error.has_failed (error_contents error.device) (error_contents new_error.device) (errors_unless program new_output.has_failed answer)
+  pub reported : PutsUnless new_error.has_failed (error_contents error.device) (error_contents new_error.device) (errors_unless program new_output.has_failed answer)
   pub ends : status ≡ status_unless new_output.has_failed answer

@@ -2,7 +2,7 @@
 ghost use Rattle.std.specs.Prelude.{◌≡◌, ◌++◌, [], false, map, string_bytes, IfOk};
 ghost use Rattle.aout_core.specs.Wires.{Writes};
 ghost use Rattle.surroundings.specs.declared.answer.Fault.TheVariants.{Memory};
-ghost use Rattle.surroundings.specs.Answers.{Gives, Tells, answer_in, errors_unless, failed_at, fault_answer, only_errors, says_usage, shown_by, shown_in, shows, status_unless};
+ghost use Rattle.surroundings.specs.Answers.{Gives, HasAnswer, answer_in, errors_unless, failed_at, fault_answer, only_errors, says_usage, shown_by, shown_in, shows, status_unless};
 
 use crate::outputs::Outputs;
 use aout_core::{DeviceFault, Shown, VERSION, Wire};
@@ -82,7 +82,7 @@ fn answer_at(alloc: Global, program: &str, path: &str, text: &str) -> Result<Ans
 
 /// The fault in which a program says a text of a path: `PROGRAM: PATH: TEXT`, with the status 2. (own choice)
 pub fn fault_at(alloc: Global, program: &str, path: &str, text: &str) -> Fault
-    ensures { Tells result (failed_at program.now path.now text.now) }
+    ensures { HasAnswer result (failed_at program.now path.now text.now) }
 {
     match answer_at(alloc, program, path, text) {
         Ok(answer) => Fault::Answered(answer),

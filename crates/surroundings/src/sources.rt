@@ -5,10 +5,8 @@ ghost use Rattle.surroundings.specs.internal.Readings.{ReadsNot};
 
 use crate::answer::{Fault, fault_at};
 use crate::office::Office;
-use aout_core::FileFault;
+use aout_core::{FileFault, read_bytes};
 use std::alloc::Global;
-use std::io;
-use std::io::Read;
 
 /// All bytes of the file at a path.
 fn bytes_at<O: Office>(alloc: Global, office: &mut O, path: &str) -> Result<Vec<u8>, FileFault>
@@ -18,12 +16,7 @@ fn bytes_at<O: Office>(alloc: Global, office: &mut O, path: &str) -> Result<Vec<
     let Some(mut source) = office.open(path) else {
         return Err(FileFault::NotOpened);
     };
-    let mut bytes = Vec::new(alloc);
-    match source.read_to_end(&mut bytes) {
-        Ok(_) => Ok(bytes),
-        Err(error) if error.kind() == io::ErrorKind::OutOfMemory => Err(FileFault::Memory),
-        Err(_) => Err(FileFault::Failed),
-    }
+    read_bytes(alloc, &mut source)
 }
 
 /// All bytes of the file at a path, for a program of this name; or the line that it can't be opened or read. (own choice)

@@ -9,7 +9,7 @@ use Rattle.aout_core.specs.declared.shown.Shown.{Shown}
 use Rattle.listings.specs.Reading.{read}
 use Rattle.listings.specs.declared.fault.Fault.{Fault as Mistake}
 use Rattle.surroundings.specs.Answer.{Answer}
-use Rattle.surroundings.specs.Answers.{Checks, Faults, Gives, Tells, answer_in, failed_at, only_errors, says_usage, shown_in, shows}
+use Rattle.surroundings.specs.Answers.{Checks, Faults, Gives, HasAnswer, answer_in, failed_at, only_errors, says_usage, shown_in, shows}
 use Rattle.surroundings.specs.Events.{History, Extends, Surroundings, stored}
 use Rattle.surroundings.specs.Paths.{is_input}
 use Rattle.surroundings.specs.Sources.{EndsReading, ReadsAt, stored_text}
@@ -55,7 +55,7 @@ file_of path (Err mistake) = Err (only_errors (mistake_line path mistake) 1)
 abbrev pub AnswersStored : List ℕ → Option (List ℕ) → Result Answer Fault → Type 0
 AnswersStored to None result = result ≡ Ok (only_errors [] 0)
 AnswersStored to (Some why) (Ok answer) = ⊥
-AnswersStored to (Some why) (Err fault) = Tells fault (failed_at program to why)
+AnswersStored to (Some why) (Err fault) = HasAnswer fault (failed_at program to why)
 
 -- a file is stored, or it can't be; or there was no memory for the answer before
 abbrev pub IsStoring : List ℕ → Contents → History → History → Result Answer Fault → Type 0

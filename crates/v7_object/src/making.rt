@@ -1,7 +1,7 @@
 //! The file of a listing. It is written only if the listing has no mistake.
 ghost use Rattle.std.specs.Prelude.{◌≡◌, ◌∷◌, [], IfErr, IfOk, Ok};
 ghost use Rattle.listings.specs.Reading.{read};
-ghost use Rattle.surroundings.specs.Answers.{Checks, Faults, Tells, failed_at, only_errors};
+ghost use Rattle.surroundings.specs.Answers.{Checks, Faults, HasAnswer, failed_at, only_errors};
 ghost use Rattle.v7_object.specs.Lines.{mistake_line, program};
 ghost use Rattle.v7_object.specs.Runs.{IsMaking, IsStoring, file_of, path_answer};
 

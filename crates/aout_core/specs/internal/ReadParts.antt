@@ -62,7 +62,7 @@ pub record HasNoItems (p : Parts) : Type 0 where
   pub symbols : vec_capacity p.symbols ≡ 0
 
 -- parts under this header whose lists are empty and have room for exactly what it announces
-pub record HasRoom (h : Header) (p : Parts) : Type 0 where
+pub record HasCapacity (h : Header) (p : Parts) : Type 0 where
   pub header : p.header ≡ h
   pub no_text : p.text_words.items ≡ []
   pub no_data : p.data_words.items ≡ []

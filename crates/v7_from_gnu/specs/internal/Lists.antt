@@ -3,7 +3,7 @@ use Rattle.std.specs.declared.alloc.Global.{Global}
 use Rattle.std.specs.Prelude.{◌≡◌, ◌≢◌, ◌⊎◌, ℕ, List, map, Result, Ok, Err, Vec}
 use Rattle.gnu_objects.specs.declared.refusal.Refusal.{Refusal}
 use Rattle.gnu_objects.specs.declared.refusal.Refusal.TheVariants as refusals
-use Rattle.surroundings.specs.Answers.{Tells}
+use Rattle.surroundings.specs.Answers.{HasAnswer}
 use Rattle.surroundings.specs.declared.answer.Fault.{Fault}
 use Rattle.surroundings.specs.declared.answer.Fault.TheVariants.{Memory}
 use Rattle.v7_from_gnu.specs.Converting.{refusal_answer}
@@ -21,4 +21,4 @@ plain_inputs jobs = map plain (map (λ (job : Job). job.from) jobs)
 
 -- a file is refused, or memory ran out
 abbrev pub RefusedAs : Source → Refusal → Fault → Type 0
-RefusedAs source refusal fault = (fault ≡ Memory) ⊎ ((refusal ≢ refusals.Memory) × Tells fault (refusal_answer source refusal))
+RefusedAs source refusal fault = (fault ≡ Memory) ⊎ ((refusal ≢ refusals.Memory) × HasAnswer fault (refusal_answer source refusal))

@@ -24,7 +24,7 @@ loop-item-init g c =
 
 pub loop-item-preserved : goal.loop-item-preserved
 loop-item-preserved g c =
-    let (left, can, ends, wide, size, so_far, count, room) = c.loop-item.invariant in
+    let (left, can, ends, wide, size, so_far, count, reserved) = c.loop-item.invariant in
     let steps = c.in-Some.ensures.steps in
     let pushed : c.push_reserved.new.self.items ≡ c.loop-item.items.items ++ c.from_slice.result ∷ [] = search rules in
     let more : vec_len c.push_reserved.new.self ≡ vec_len c.loop-item.items + 1 = search rules in
@@ -42,7 +42,7 @@ loop-item-preserved g c =
 
 pub returns-clause-items : goal.returns-clause-items
 returns-clause-items g c =
-    let (left, can, ends, wide, size, so_far, count, room) = c.loop-item.invariant in
+    let (left, can, ends, wide, size, so_far, count, reserved) = c.loop-item.invariant in
     let rest = chunks_exact_rest c.loop-item.item-iterator in
     let short : length rest < g.T.Item.WIDTH = subst (λ n. length rest < n) wide c.in-None.ensures.steps.1.0 in
     all_read g.T.Item.item_in g.T.Item.WIDTH left rest _ _ (none_left g.T.Item.WIDTH left rest size short) so_far
