@@ -26,7 +26,7 @@ first-digit base n d small is =
 
 pub next-digit : (place base rest d : ℕ) (done : List ℕ) → 1 ≤ place → 0 < base → base ≤ rest → rest / base % base < 10 → d ≡ 48 + rest / base % base
     → digits_left place base rest done ≡ digits_left (place - 1) base (rest / base) (d ∷ done)
-next-digit place base rest d done room positive more small is =
+next-digit place base rest d done capacity positive more small is =
     let test = not-zero (rest / base) (le-div 1 rest base positive (omega arith)) in
     let fuel : 58 + place ≡ suc (58 + (place - 1)) = omega arith in
     cond-false _ _ _ test ∙ ap (λ k. digits_onto k base false (rest / base) done) fuel
@@ -40,6 +40,6 @@ place-left zero base rest more short = absurd (omega (arith, power-more base 0 �
 place-left (suc place) base rest more short = omega arith
 
 pub fewer-digits : (place base rest : ℕ) → 1 ≤ place → 0 < base → rest < base ^ (place + 1) → rest / base < base ^ (place - 1 + 1)
-fewer-digits place base rest room positive short =
+fewer-digits place base rest capacity positive short =
     let same : place - 1 + 1 ≡ place = omega arith in
     subst (λ k. rest / base < base ^ k) (sym same) (div_below rest base (base ^ place) positive (subst (λ b. rest < b) (power-more base place) short))

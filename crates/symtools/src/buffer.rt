@@ -5,12 +5,12 @@ ghost use Rattle.std.specs.Fmt.{digits};
 use std::marker::Model;
 
 /// How many bytes a line may have.
-pub(crate) const LINE_ROOM: usize = 64;
+pub(crate) const LINE_CAPACITY: usize = 64;
 
 /// The bytes of a line that is being made, in an array. Contracts see it as the list of its bytes.
 #[derive(Drop)]
 pub(crate) struct LineBuffer {
-    bytes: [u8; LINE_ROOM],
+    bytes: [u8; LINE_CAPACITY],
     len: usize,
 }
 
@@ -20,31 +20,31 @@ impl Model for LineBuffer {
     ghost Value = { List ℕ };
 
     ghost use Rattle.std.specs.Prelude.{◌≤◌, take};
-    ghost use Rattle.symtools.specs.declared.buffer.TheConstants.{LINE_ROOM};
+    ghost use Rattle.symtools.specs.declared.buffer.TheConstants.{LINE_CAPACITY};
 
     ghost view = { λ a. take a.len a.bytes };
 
-    ghost invariant = { λ a. a.len ≤ LINE_ROOM };
+    ghost invariant = { λ a. a.len ≤ LINE_CAPACITY };
 }
 
 impl LineBuffer {
     ghost use Rattle.std.specs.Prelude.{◌≡◌, ◌+◌, ◌^◌, ◌<◌, ◌≤◌, ◌++◌, [], false, length};
     ghost use Rattle.std.specs.Fmt.{digits};
-    ghost use Rattle.symtools.specs.declared.buffer.TheConstants.{LINE_ROOM};
+    ghost use Rattle.symtools.specs.declared.buffer.TheConstants.{LINE_CAPACITY};
 
     /// A line of no bytes.
     pub(crate) fn new() -> LineBuffer
         ensures { result ≡ [] }
     {
         LineBuffer {
-            bytes: [0; LINE_ROOM],
+            bytes: [0; LINE_CAPACITY],
             len: 0,
         }
     }
 
     /// Appends bytes.
     pub(crate) fn push(&mut self, more: &[u8])
-        requires { length self.old + length more.now ≤ LINE_ROOM }
+        requires { length self.old + length more.now ≤ LINE_CAPACITY }
         ensures value { self.new ≡ self.old ++ more.now }
         ensures len { length self.new ≡ length self.old + length more.now }
     {
@@ -57,7 +57,7 @@ impl LineBuffer {
     pub(crate) fn push_number(&mut self, number: u32, base: u32)
         requires base { (2 ≤ base) × (base ≤ 10) }
         requires short { number < base ^ 6 }
-        requires room { length self.old + 6 ≤ LINE_ROOM }
+        requires capacity { length self.old + 6 ≤ LINE_CAPACITY }
         ensures value { self.new ≡ self.old ++ digits base false number }
         ensures len { length self.new ≤ length self.old + 6 }
     {

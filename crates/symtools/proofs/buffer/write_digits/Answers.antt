@@ -20,14 +20,14 @@ loop-rest-preserved c =
     let base = c.args.base in
     let rest = c.loop-rest.rest in
     let d = c.digit-in-loop-rest.result in
-    let room = place-left start base rest (search rules) c.loop-rest.invariant.2 in
+    let capacity = place-left start base rest (search rules) c.loop-rest.invariant.2 in
     let long : length c.loop-rest.places ≡ 6 = c.loop-rest.invariant.0 in
     let same : start - 1 + 1 ≡ start = omega arith in
     let set : drop (start - 1) (slice_set c.loop-rest.places (start - 1) d) ≡ d ∷ drop start c.loop-rest.places =
     drop-set c.loop-rest.places (start - 1) d (omega arith) ∙ ap (λ n. d ∷ drop n c.loop-rest.places) same in (
       search rules,
       omega arith,
-      fewer-digits start base rest room (search rules) c.loop-rest.invariant.2,
-      c.loop-rest.invariant.3 ∙ next-digit start base rest d _ room (search rules) (search rules) (search rules) c.digit-in-loop-rest.ensures
+      fewer-digits start base rest capacity (search rules) c.loop-rest.invariant.2,
+      c.loop-rest.invariant.3 ∙ next-digit start base rest d _ capacity (search rules) (search rules) (search rules) c.digit-in-loop-rest.ensures
           ∙ ap (digits_left (start - 1) base (rest / base)) (sym set),
     )
