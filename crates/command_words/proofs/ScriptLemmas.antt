@@ -82,10 +82,10 @@ given_long n l ls few long =
 
 -- ---- the same of a reader that tells its bytes
 
-pub told_map : (old new : Option (List ℕ)) (P Q : List ℕ → List ℕ → Type 0) → ((bytes left : List ℕ) → P bytes left → Q bytes left) → WhereKnown old new P → WhereKnown old new Q
-told_map None new P Q f h = tt
-told_map (Some bytes) None P Q f h = absurd h
-told_map (Some bytes) (Some left) P Q f h = f bytes left h
+pub known_map : (old new : Option (List ℕ)) (P Q : List ℕ → List ℕ → Type 0) → ((bytes left : List ℕ) → P bytes left → Q bytes left) → WhereKnown old new P → WhereKnown old new Q
+known_map None new P Q f h = tt
+known_map (Some bytes) None P Q f h = absurd h
+known_map (Some bytes) (Some left) P Q f h = f bytes left h
 
 long_lines : (n : ℕ) (front rest : List ℕ) → n < 1000000 → 4096 < length front → HasNone front → given_after n (lines_in (front ++ rest)) ≡ ends_with_fault long_line
 long_lines n [] rest few long h = absurd (omega arith)
@@ -93,21 +93,21 @@ long_lines n (x ∷ front) rest few long h =
     let (more, others, same) = starts_line x front rest h in
     ap (given_after n) same ∙ given_long n (x ∷ (front ++ more)) others few (omega (arith, length-append front more))
 
-pub long_told : (n : ℕ) (old new : Option (List ℕ)) (line : List ℕ) (b : ℕ) → n < 1000000 → length line ≡ 4096 → HasNone (line ++ b ∷ []) → Consumes old new (line ++ b ∷ []) →
+pub long_known : (n : ℕ) (old new : Option (List ℕ)) (line : List ℕ) (b : ℕ) → n < 1000000 → length line ≡ 4096 → HasNone (line ++ b ∷ []) → Consumes old new (line ++ b ∷ []) →
     WhereKnown old new (λ bytes left. IsStopOf n bytes left stops.LongLine)
-long_told n None new line b few long none taken = tt
-long_told n (Some bytes) None line b few long none taken = absurd taken
-long_told n (Some bytes) (Some left) line b few long none taken =
+long_known n None new line b few long none taken = tt
+long_known n (Some bytes) None line b few long none taken = absurd taken
+long_known n (Some bytes) (Some left) line b few long none taken =
     let size : length (line ++ b ∷ []) ≡ 4097 = length-append line (b ∷ []) ∙ ap (λ (k : ℕ). k + 1) long in (
       sym (ap (drop 4097) taken ∙ drop_at (line ++ b ∷ []) left 4097 size),
       ap (λ (x : List ℕ). given_after n (lines_in x)) taken ∙ long_lines n (line ++ b ∷ []) left few (omega (arith, size)) none,
     )
 
-pub line_told : (n : ℕ) (old new : Option (List ℕ)) (line : List ℕ) → n < 1000000 → length line ≤ 4096 → HasNone line → Consumes old new (line ++ 10 ∷ []) →
+pub line_known : (n : ℕ) (old new : Option (List ℕ)) (line : List ℕ) → n < 1000000 → length line ≤ 4096 → HasNone line → Consumes old new (line ++ 10 ∷ []) →
     WhereKnown old new (λ bytes left. IsTakenOf n bytes left line (Ok false))
-line_told n None new line few short none taken = tt
-line_told n (Some bytes) None line few short none taken = absurd taken
-line_told n (Some bytes) (Some left) line few short none taken =
+line_known n None new line few short none taken = tt
+line_known n (Some bytes) None line few short none taken = absurd taken
+line_known n (Some bytes) (Some left) line few short none taken =
     let whole : bytes ≡ line ++ 10 ∷ left = taken ∙ append_assoc line (10 ∷ []) left in (
       (
         sym (ap after_line whole ∙ after_whole_line line left none),
@@ -120,11 +120,11 @@ last_lines : (n : ℕ) (line : List ℕ) → n < 1000000 → length line ≤ 409
 last_lines n [] few short some none = absurd (some refl)
 last_lines n (x ∷ line) few short some none = ap (given_after n) (lines_of_last x line none) ∙ given_line n (x ∷ line) [] few short
 
-pub last_told : (n : ℕ) (old new : Option (List ℕ)) (line : List ℕ) → n < 1000000 → length line ≤ 4096 → (length line ≡ 0 → ⊥) → HasNone line → Consumes old new line → IsAtEnd new →
+pub last_known : (n : ℕ) (old new : Option (List ℕ)) (line : List ℕ) → n < 1000000 → length line ≤ 4096 → (length line ≡ 0 → ⊥) → HasNone line → Consumes old new line → IsAtEnd new →
     WhereKnown old new (λ bytes left. IsTakenOf n bytes left line (Ok true))
-last_told n None new line few short some none taken end = tt
-last_told n (Some bytes) None line few short some none taken end = absurd taken
-last_told n (Some bytes) (Some left) line few short some none taken end =
+last_known n None new line few short some none taken end = tt
+last_known n (Some bytes) None line few short some none taken end = absurd taken
+last_known n (Some bytes) (Some left) line few short some none taken end =
     let whole : bytes ≡ line = taken ∙ ap (λ (l : List ℕ). line ++ l) end ∙ append-nil line in (
       (
         end ∙ sym (ap after_line whole ∙ after_last_line line none),
@@ -141,10 +141,10 @@ line_answered n settled line is_last it bytes left same last h =
     ((h.0.0, h.0.1 ∙ ap (λ a. and_given a (given_after (n + 1) (lines_in left))) (sym same)), (λ some. h.1.0 (last.0 some), λ none. last.1 (h.1.1 none)))
 
 -- no memory for the line that was taken
-pub lost_told : (n : ℕ) (old new : Option (List ℕ)) (settled : Option Stop) (line : List ℕ) (is_last : Bool) → NamesPath (asked line) →
+pub lost_known : (n : ℕ) (old new : Option (List ℕ)) (settled : Option Stop) (line : List ℕ) (is_last : Bool) → NamesPath (asked line) →
     WhereKnown old new (λ bytes left. IsTakenOf n bytes left line (Ok is_last)) → WhereKnown old new (λ bytes left. IsNextOf n bytes left settled (Err stops.Memory))
-lost_told n old new settled line is_last named =
-    told_map old new (λ bytes left. IsTakenOf n bytes left line (Ok is_last)) (λ bytes left. IsNextOf n bytes left settled (Err stops.Memory)) (λ bytes left h. (asked line, named, h.0))
+lost_known n old new settled line is_last named =
+    known_map old new (λ bytes left. IsTakenOf n bytes left line (Ok is_last)) (λ bytes left. IsNextOf n bytes left settled (Err stops.Memory)) (λ bytes left h. (asked line, named, h.0))
 
 -- why there is no further line
 stops_next : (n : ℕ) (settled : Option Stop) (stop : Stop) (bytes left : List ℕ) → IsStopOf n bytes left stop → IsNextOf n bytes left settled (Err stop)
@@ -154,10 +154,10 @@ stops_next n settled stops.ManyLines bytes left h = h
 stops_next n settled stops.ReadFailed bytes left h = h
 stops_next n settled stops.Memory bytes left h = absurd h
 
-pub stop_told : (n : ℕ) (old new : Option (List ℕ)) (settled : Option Stop) (stop : Stop) → WhereKnown old new (λ bytes left. IsStopOf n bytes left stop) →
+pub stop_known : (n : ℕ) (old new : Option (List ℕ)) (settled : Option Stop) (stop : Stop) → WhereKnown old new (λ bytes left. IsStopOf n bytes left stop) →
     WhereKnown old new (λ bytes left. IsNextOf n bytes left settled (Err stop))
-stop_told n old new settled stop =
-    told_map old new (λ bytes left. IsStopOf n bytes left stop) (λ bytes left. IsNextOf n bytes left settled (Err stop)) (stops_next n settled stop)
+stop_known n old new settled stop =
+    known_map old new (λ bytes left. IsStopOf n bytes left stop) (λ bytes left. IsNextOf n bytes left settled (Err stop)) (stops_next n settled stop)
 
 -- the answer is that the reader failed exactly where the stop is
 pub failed_as : {P : Type 0} (stop : Stop) → (stop ≡ stops.ReadFailed ↔ P) → ((let answer : Answer = Err stop in answer) ≡ Err stops.ReadFailed ↔ P)

@@ -112,4 +112,4 @@ pub record GivesNext {R : Type 0} (remaining : R → Option (List ℕ)) (old new
   pub latched : IsTrue old.wire.has_failed → new.wire ≡ old.wire
   pub count : new.line_count ≡ old.line_count + lines_of answer
   pub bound : new.line_count ≤ 1000000
-  pub unasked : NeedsNoMore old.line_count old.held → new.wire ≡ old.wire
+  pub untouched : NeedsNoMore old.line_count old.held → new.wire ≡ old.wire

@@ -43,7 +43,7 @@ impl<R: Read> BlockReader<R> {
         ensures latched { IsTrue self.old.wire.has_failed → (self.new ≡ self.old) }
         ensures byte { IfOk result (λ o. IfSome o (λ b.
             Consumes (unread R.remaining self.old.held self.old.wire) (unread R.remaining self.new.held self.new.wire) (b ∷ []))) }
-        ensures unasked { (self.old.held ≡ [] → ⊥) → self.new.wire ≡ self.old.wire }
+        ensures untouched { (self.old.held ≡ [] → ⊥) → self.new.wire ≡ self.old.wire }
         ensures held { IfOk result (λ o. IfSome o (λ b. (self.old.held ≡ [] → ⊥) → self.old.held ≡ b ∷ self.new.held)) }
         ensures end { IfOk result (λ o. IfNone o (
             Consumes (unread R.remaining self.old.held self.old.wire) (unread R.remaining self.new.held self.new.wire) []

@@ -63,7 +63,7 @@ impl<W: Write> Write for BlockWriter<W> {
         ensures bound { WritesAtMost result buf.now }
         ensures bytes { WriteAppends (append_known (W.contents self.old.device) self.old.waiting)
             (append_known (W.contents self.new.device) self.new.waiting) result buf.now }
-        ensures room { length self.old.waiting < BLOCK_SIZE → result ≡ Ok (min (length buf.now) (BLOCK_SIZE - length self.old.waiting)) }
+        ensures space { length self.old.waiting < BLOCK_SIZE → result ≡ Ok (min (length buf.now) (BLOCK_SIZE - length self.old.waiting)) }
         ensures unsent { length self.old.waiting < BLOCK_SIZE → self.new.device ≡ self.old.device }
         ensures taken { length self.old.waiting < BLOCK_SIZE → self.new.waiting ≡ self.old.waiting ++ take (BLOCK_SIZE - length self.old.waiting) buf.now }
         ensures kept { IfErr result (λ _. self.new.waiting ≡ self.old.waiting) }

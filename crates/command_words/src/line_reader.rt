@@ -42,11 +42,11 @@ pub enum Stop {
 /// Takes a line with its newline, and keeps it without; of one over `LINE_LIMIT` bytes it takes a byte more than that.
 fn read_line<R: Read>(reader: &mut BlockReader<R>, line: &mut Vec<u8>) -> Ending
     requires { LINE_LIMIT ≤ vec_capacity line.old }
-    ensures room { LINE_LIMIT ≤ vec_capacity line.new }
+    ensures space { LINE_LIMIT ≤ vec_capacity line.new }
     ensures failed { (result ≡ Ending.Failed) ↔ IsTrue reader.new.wire.has_failed }
     ensures latched { IsTrue reader.old.wire.has_failed → (reader.new ≡ reader.old) }
     ensures ends { EndsLine result (unread R.remaining reader.old.held reader.old.wire) (unread R.remaining reader.new.held reader.new.wire) line.new.items }
-    ensures unasked { HasLine reader.old.held → reader.new.wire ≡ reader.old.wire }
+    ensures untouched { HasLine reader.old.held → reader.new.wire ≡ reader.old.wire }
     ensures long { result ≡ Ending.Long → vec_len line.new ≡ LINE_LIMIT }
     ensures short { vec_len line.new ≤ LINE_LIMIT }
 {
@@ -76,7 +76,7 @@ fn stop_at_limit<R: Read>(reader: &mut BlockReader<R>) -> Stop
     ensures latched { IsTrue reader.old.wire.has_failed → (reader.new ≡ reader.old) }
     ensures value { WhereKnown (unread R.remaining reader.old.held reader.old.wire) (unread R.remaining reader.new.held reader.new.wire)
         (λ bytes left. IsStopOf 1000000 bytes left result) }
-    ensures unasked { (reader.old.held ≡ [] → ⊥) → reader.new.wire ≡ reader.old.wire }
+    ensures untouched { (reader.old.held ≡ [] → ⊥) → reader.new.wire ≡ reader.old.wire }
 {
     match reader.next_byte() {
         Ok(Some(_)) => Stop::ManyLines,
@@ -91,16 +91,16 @@ fn take_line<R: Read>(
     line: &mut Vec<u8>,
     line_count: u32,
 ) -> Result<bool, Stop>
-    requires room { LINE_LIMIT ≤ vec_capacity line.old }
+    requires space { LINE_LIMIT ≤ vec_capacity line.old }
     requires few { line_count ≤ LINES_LIMIT }
-    ensures room { LINE_LIMIT ≤ vec_capacity line.new }
+    ensures space { LINE_LIMIT ≤ vec_capacity line.new }
     ensures few { IfOk result (λ _. line_count + 1 ≤ LINES_LIMIT) }
     ensures failed { IfErr result (λ stop. (stop ≡ Stop.ReadFailed) ↔ IsTrue reader.new.wire.has_failed) }
     ensures works { IfOk result (λ _. IsTrue reader.new.wire.has_failed → ⊥) }
     ensures latched { IsTrue reader.old.wire.has_failed → (reader.new ≡ reader.old) }
     ensures value { WhereKnown (unread R.remaining reader.old.held reader.old.wire) (unread R.remaining reader.new.held reader.new.wire)
         (λ bytes left. IsTakenOf line_count bytes left line.new.items result) }
-    ensures unasked { NeedsNoMore line_count reader.old.held → reader.new.wire ≡ reader.old.wire }
+    ensures untouched { NeedsNoMore line_count reader.old.held → reader.new.wire ≡ reader.old.wire }
 {
     if line_count == LINES_LIMIT {
         return Err(stop_at_limit(reader));

@@ -37,7 +37,7 @@ fn path_after<'a>(word: &str, line: &'a str) -> Option<&'a str>
 /// What a line that is UTF-8 asks for. Memory is taken for a path alone.
 fn asked_in(alloc: Global, line: &str) -> Result<Line, AllocError>
     ensures value { IfOk result (λ it. asked_by it ≡ asked line.now) }
-    ensures room { IfErr result (λ _. NamesPath (asked line.now)) }
+    ensures memory { IfErr result (λ _. NamesPath (asked line.now)) }
 {
     if let Some(path) = path_after("add ", line) {
         return Ok(Line::Add(String::from_str(alloc, path)?));
@@ -58,7 +58,7 @@ impl Line {
     /// What the bytes of a line, without its newline, ask for. Memory is taken for a path alone.
     pub(crate) fn from_bytes(alloc: Global, bytes: &[u8]) -> Result<Line, AllocError>
         ensures value { IfOk result (λ line. asked_by line ≡ asked bytes.now) }
-        ensures room { IfErr result (λ _. NamesPath (asked bytes.now)) }
+        ensures memory { IfErr result (λ _. NamesPath (asked bytes.now)) }
     {
         match str::from_utf8(bytes) {
             Ok(line) => asked_in(alloc, line),

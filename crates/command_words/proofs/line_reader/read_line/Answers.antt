@@ -5,7 +5,7 @@ use Rattle.command_words.proofs.line_reader.read_line.Goals as goal
 
 pub loop-preserved : goal.loop-preserved
 loop-preserved g c =
-    let (unlatched, count, room, none, taken, held) = c.loop.invariant in
+    let (unlatched, count, space, none, taken, held) = c.loop.invariant in
     let pushed : c.push.new.self.items ≡ c.loop.line.items ++ c.in-Ok-Some.byte ∷ [] = search rules in
     let one = rw c.in-Ok-Some.field-0-is at c.in-Ok-Some.ensures.byte in
     let next = rw c.in-Ok-Some.field-0-is at c.in-Ok-Some.ensures.held in (
@@ -18,76 +18,76 @@ loop-preserved g c =
           let (split, same) = held whole in
           let more = goes_on c.args.reader.now.held c.loop.line.items c.loop.reader.held none split whole in (
             split ∙ ap (λ l. c.loop.line.items ++ l) (next more) ∙ sym (append_assoc c.loop.line.items (c.in-Ok-Some.byte ∷ []) c.next_byte.new.self.held) ∙ ap (λ l. l ++ c.next_byte.new.self.held) (sym pushed),
-            c.in-Ok-Some.ensures.unasked more ∙ same,
+            c.in-Ok-Some.ensures.untouched more ∙ same,
           ),
     )
 
 pub returns-in-Ok-Some-eq10-clause-ends : goal.returns-in-Ok-Some-eq10-clause-ends
 returns-in-Ok-Some-eq10-clause-ends g c =
-    let (unlatched, count, room, none, taken, held) = c.loop.invariant in
+    let (unlatched, count, space, none, taken, held) = c.loop.invariant in
     let one = rw (c.in-Ok-Some-eq10.field-0-is, c.in-Ok-Some-eq10.field-0-0-test) at c.in-Ok-Some-eq10.ensures.byte in (none, Consumes-trans _ _ _ _ _ taken one)
 
-pub returns-in-Ok-Some-eq10-clause-unasked : goal.returns-in-Ok-Some-eq10-clause-unasked
-returns-in-Ok-Some-eq10-clause-unasked g c =
-    let (unlatched, count, room, none, taken, held) = c.loop.invariant in
-    not_asked c.args.reader.now.held c.loop.line.items c.loop.reader.held none held c.in-Ok-Some-eq10.ensures.unasked
+pub returns-in-Ok-Some-eq10-clause-untouched : goal.returns-in-Ok-Some-eq10-clause-untouched
+returns-in-Ok-Some-eq10-clause-untouched g c =
+    let (unlatched, count, space, none, taken, held) = c.loop.invariant in
+    not_asked c.args.reader.now.held c.loop.line.items c.loop.reader.held none held c.in-Ok-Some-eq10.ensures.untouched
 
 pub returns-in-Ok-None-clause-ends : goal.returns-in-Ok-None-clause-ends
 returns-in-Ok-None-clause-ends g c =
-    let (unlatched, count, room, none, taken, held) = c.loop.invariant in
+    let (unlatched, count, space, none, taken, held) = c.loop.invariant in
     taken_to_end _ _ _ c.loop.line.items none taken (rw c.in-Ok-None.field-0-is at c.in-Ok-None.ensures.end)
 
-pub returns-in-Ok-None-clause-unasked : goal.returns-in-Ok-None-clause-unasked
-returns-in-Ok-None-clause-unasked g c =
-    let (unlatched, count, room, none, taken, held) = c.loop.invariant in
-    not_asked c.args.reader.now.held c.loop.line.items c.loop.reader.held none held c.in-Ok-None.ensures.unasked
+pub returns-in-Ok-None-clause-untouched : goal.returns-in-Ok-None-clause-untouched
+returns-in-Ok-None-clause-untouched g c =
+    let (unlatched, count, space, none, taken, held) = c.loop.invariant in
+    not_asked c.args.reader.now.held c.loop.line.items c.loop.reader.held none held c.in-Ok-None.ensures.untouched
 
 pub returns-in-Err-clause-failed : goal.returns-in-Err-clause-failed
 returns-in-Err-clause-failed g c = (λ _. c.in-Err.ensures.fault.0 refl, λ _. refl)
 
 pub returns-in-Err-clause-ends : goal.returns-in-Err-clause-ends
 returns-in-Err-clause-ends g c =
-    let (unlatched, count, room, none, taken, held) = c.loop.invariant in
+    let (unlatched, count, space, none, taken, held) = c.loop.invariant in
     (none, Consumes-kept _ _ _ _ taken c.in-Err.ensures.kept)
 
-pub returns-in-Err-clause-unasked : goal.returns-in-Err-clause-unasked
-returns-in-Err-clause-unasked g c =
-    let (unlatched, count, room, none, taken, held) = c.loop.invariant in
-    not_asked c.args.reader.now.held c.loop.line.items c.loop.reader.held none held c.in-Err.ensures.unasked
+pub returns-in-Err-clause-untouched : goal.returns-in-Err-clause-untouched
+returns-in-Err-clause-untouched g c =
+    let (unlatched, count, space, none, taken, held) = c.loop.invariant in
+    not_asked c.args.reader.now.held c.loop.line.items c.loop.reader.held none held c.in-Err.ensures.untouched
 
 pub returns-in-Ok-Some-next_byte-clause-ends : goal.returns-in-Ok-Some-next_byte-clause-ends
 returns-in-Ok-Some-next_byte-clause-ends g c =
-    let (unlatched, count, room, none, taken, held) = c.loop.invariant in
+    let (unlatched, count, space, none, taken, held) = c.loop.invariant in
     let one = rw c.in-Ok-Some-next_byte.field-0-is at c.in-Ok-Some-next_byte.ensures.byte in (
       c.in-Ok-Some-next_byte.field-0-0,
       has_none_push c.loop.line.items c.in-Ok-Some-next_byte.field-0-0 none c.in-Ok-Some-next_byte.field-0-0-test.1,
       Consumes-trans _ _ _ _ _ taken one,
     )
 
-pub returns-in-Ok-Some-next_byte-clause-unasked : goal.returns-in-Ok-Some-next_byte-clause-unasked
-returns-in-Ok-Some-next_byte-clause-unasked g c =
-    let (unlatched, count, room, none, taken, held) = c.loop.invariant in
-    not_asked c.args.reader.now.held c.loop.line.items c.loop.reader.held none held c.in-Ok-Some-next_byte.ensures.unasked
+pub returns-in-Ok-Some-next_byte-clause-untouched : goal.returns-in-Ok-Some-next_byte-clause-untouched
+returns-in-Ok-Some-next_byte-clause-untouched g c =
+    let (unlatched, count, space, none, taken, held) = c.loop.invariant in
+    not_asked c.args.reader.now.held c.loop.line.items c.loop.reader.held none held c.in-Ok-Some-next_byte.ensures.untouched
 
 pub returns-in-Ok-None-next_byte-clause-ends : goal.returns-in-Ok-None-next_byte-clause-ends
 returns-in-Ok-None-next_byte-clause-ends g c =
-    let (unlatched, count, room, none, taken, held) = c.loop.invariant in
+    let (unlatched, count, space, none, taken, held) = c.loop.invariant in
     taken_to_end _ _ _ c.loop.line.items none taken (rw c.in-Ok-None-next_byte.field-0-is at c.in-Ok-None-next_byte.ensures.end)
 
-pub returns-in-Ok-None-next_byte-clause-unasked : goal.returns-in-Ok-None-next_byte-clause-unasked
-returns-in-Ok-None-next_byte-clause-unasked g c =
-    let (unlatched, count, room, none, taken, held) = c.loop.invariant in
-    not_asked c.args.reader.now.held c.loop.line.items c.loop.reader.held none held c.in-Ok-None-next_byte.ensures.unasked
+pub returns-in-Ok-None-next_byte-clause-untouched : goal.returns-in-Ok-None-next_byte-clause-untouched
+returns-in-Ok-None-next_byte-clause-untouched g c =
+    let (unlatched, count, space, none, taken, held) = c.loop.invariant in
+    not_asked c.args.reader.now.held c.loop.line.items c.loop.reader.held none held c.in-Ok-None-next_byte.ensures.untouched
 
 pub returns-in-Err-next_byte-clause-failed : goal.returns-in-Err-next_byte-clause-failed
 returns-in-Err-next_byte-clause-failed g c = (λ _. c.in-Err-next_byte.ensures.fault.0 refl, λ _. refl)
 
 pub returns-in-Err-next_byte-clause-ends : goal.returns-in-Err-next_byte-clause-ends
 returns-in-Err-next_byte-clause-ends g c =
-    let (unlatched, count, room, none, taken, held) = c.loop.invariant in
+    let (unlatched, count, space, none, taken, held) = c.loop.invariant in
     (none, Consumes-kept _ _ _ _ taken c.in-Err-next_byte.ensures.kept)
 
-pub returns-in-Err-next_byte-clause-unasked : goal.returns-in-Err-next_byte-clause-unasked
-returns-in-Err-next_byte-clause-unasked g c =
-    let (unlatched, count, room, none, taken, held) = c.loop.invariant in
-    not_asked c.args.reader.now.held c.loop.line.items c.loop.reader.held none held c.in-Err-next_byte.ensures.unasked
+pub returns-in-Err-next_byte-clause-untouched : goal.returns-in-Err-next_byte-clause-untouched
+returns-in-Err-next_byte-clause-untouched g c =
+    let (unlatched, count, space, none, taken, held) = c.loop.invariant in
+    not_asked c.args.reader.now.held c.loop.line.items c.loop.reader.held none held c.in-Err-next_byte.ensures.untouched

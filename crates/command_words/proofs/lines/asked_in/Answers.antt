@@ -5,12 +5,12 @@ use Rattle.command_words.specs.ScriptAnswers.{NamesPath}
 use Rattle.command_words.proofs.AskedLemmas.{where_err, asked_add, asked_withdraw, asked_externals, asked_undefined, asked_link}
 use Rattle.command_words.proofs.lines.asked_in.Goals as goal
 
-pub returns-in_err-from_str-clause-room : goal.returns-in_err-from_str-clause-room
-returns-in_err-from_str-clause-room c =
+pub returns-in_err-from_str-clause-memory : goal.returns-in_err-from_str-clause-memory
+returns-in_err-from_str-clause-memory c =
     where_err c.from_residual.result (NamesPath (asked c.args.line.now)) (subst NamesPath (sym (asked_add c.args.line.now c.utf8.line c.in-Some.ensures.0)) tt)
 
-pub returns-in_err-from_str-in-Some-path_after-clause-room : goal.returns-in_err-from_str-in-Some-path_after-clause-room
-returns-in_err-from_str-in-Some-path_after-clause-room c =
+pub returns-in_err-from_str-in-Some-path_after-clause-memory : goal.returns-in_err-from_str-in-Some-path_after-clause-memory
+returns-in_err-from_str-in-Some-path_after-clause-memory c =
     let no_withdraw : c.args.line.now ≡ codes "withdraw" → ⊥ = search rules in
     let no_externals : c.args.line.now ≡ codes "externals" → ⊥ = search rules in
     let no_undefined : c.args.line.now ≡ codes "undefined" → ⊥ = search rules in
