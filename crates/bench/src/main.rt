@@ -155,7 +155,7 @@ fn words(rt: &HostRuntime) -> io::Result<Vec<String>> {
 }
 
 /// Adds and withdraws an object of this kind so many times, after so many others.
-fn repeat_as_told(rt: &HostRuntime, kind: &str, objects: &str, times: &str) -> Result<()> {
+fn repeat_as_asked(rt: &HostRuntime, kind: &str, objects: &str, times: &str) -> Result<()> {
     let objects = objects.parse::<u16>()?;
     let size = Size { objects, ..FULL };
     repeat(rt, size, kind, times.parse::<u32>()?)
@@ -177,7 +177,7 @@ fn main(rt: HostRuntime) -> Result<()> {
     match words.as_slice() {
         [] => run_small(&rt),
         [word] if word.as_str() == "full" => run_full(&rt),
-        [kind, objects, times] => repeat_as_told(&rt, kind, objects, times),
+        [kind, objects, times] => repeat_as_asked(&rt, kind, objects, times),
         _ => Err(anyhow!("usage: bench [full | referring OBJECTS TIMES | defining OBJECTS TIMES]")),
     }
 }

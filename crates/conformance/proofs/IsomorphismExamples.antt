@@ -230,8 +230,8 @@ WordsDiffer found = (forced : List (List ℕ)) (os ps : List Contents) (o : Choi
     minus (found (address_at y.file ps (of_object (to number) segment (2 * i))) r other) (found (address_at x.file os (of_object number segment (2 * i))) r word)
     ≡ minus (address_to y.file ps (moved_target to target)) (address_to x.file os target)
 
-words_as_they_stand : WordsDiffer (λ address r word. word) → ⊥
-words_as_they_stand law =
+words_unchanged : WordsDiffer (λ address r word. word) → ⊥
+words_unchanged law =
     different 65522 65526 refl
     (law [] main_first twice_first plain Plain one other two_orders all_good all_kept refl refl exchange exchange exchanges 0 main_o refl TextSeg 3 0o177770 (record { 0 = 0o31 }) refl refl
     (to_place (of_object 1 TextSeg 0)) (entry _twice 0o40 0, (refl, in_forward)) (entry _twice 0o40 0, (refl, in_back)) 2 0o177764 (record { low = refl; high = refl }) (record { low = refl; high = refl }))

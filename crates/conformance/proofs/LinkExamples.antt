@@ -193,8 +193,8 @@ symbol_number_too_large_x = refl
 many_names_many : relocs_of (link [] (object [] [] [] [] 0 (replicate 5462 (sym L1 0o02 0)) ∷ []) plain) ≡ Err TooManySymbols
 many_names_many = refl
 
-many_names_room : relocs_of (link [] (object [] [] [] [] 0 (replicate 5461 (sym L1 0o02 0)) ∷ []) plain) ≡ Ok []
-many_names_room = refl
+many_names_fit : relocs_of (link [] (object [] [] [] [] 0 (replicate 5461 (sym L1 0o02 0)) ∷ []) plain) ≡ Ok []
+many_names_fit = refl
 
 forced_undefined : ld_u (_z ∷ []) (c_o ∷ d_o ∷ []) plain ≡ Ok (7 ∷ 1 ∷ 8 ∷ 0 ∷ 0 ∷ 0 ∷ 0 ∷ 0 ∷ 36 ∷ 0 ∷ 0 ∷ 0 ∷ 0 ∷ 0 ∷ 1 ∷ 0 ∷ 247 ∷ 9 ∷ 2 ∷ 0 ∷ 160 ∷ 0 ∷ 135 ∷ 0 ∷ 76 ∷ 49 ∷ 0 ∷ 0 ∷ 0 ∷ 0 ∷ 0 ∷ 0 ∷ 2 ∷ 0 ∷ 0 ∷ 0 ∷ 95 ∷ 122 ∷ 0 ∷ 0 ∷ 0 ∷ 0 ∷ 0 ∷ 0 ∷ 32 ∷ 0 ∷ 0 ∷ 0 ∷ 95 ∷ 102 ∷ 0 ∷ 0 ∷ 0 ∷ 0 ∷ 0 ∷ 0 ∷ 34 ∷ 0 ∷ 6 ∷ 0 ∷ [], (85 ∷ 110 ∷ 100 ∷ 101 ∷ 102 ∷ 105 ∷ 110 ∷ 101 ∷ 100 ∷ 58 ∷ 10 ∷ 95 ∷ 122 ∷ 10 ∷ [], 1))
 forced_undefined = refl

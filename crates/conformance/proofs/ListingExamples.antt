@@ -82,8 +82,8 @@ unfolding digits
 listed_sizes = refl
 
 -- by the law alone
-told_undefined : UndefinedAreListed → IsPermutation (names_by nm_u (link_of (g_o ∷ c_o ∷ []) plain)) (_g ∷ _f ∷ [])
-told_undefined law = law [] (g_o ∷ c_o ∷ []) plain (link_of (g_o ∷ c_o ∷ []) plain) all_kept refl refl nm_u refl (inr refl)
+undefined_listed : UndefinedAreListed → IsPermutation (names_by nm_u (link_of (g_o ∷ c_o ∷ []) plain)) (_g ∷ _f ∷ [])
+undefined_listed law = law [] (g_o ∷ c_o ∷ []) plain (link_of (g_o ∷ c_o ∷ []) plain) all_kept refl refl nm_u refl (inr refl)
 
 -- the names that nm lists are those that are reported undefined, where this is so
 abbrev UndefinedListedWhere : (List Contents → Choices → NmOptions → Type 0) → Type 0
@@ -140,8 +140,8 @@ law_of_undefined_lines : UndefinedLines → UndefinedWritten KeepsAndBinds both_
 law_of_undefined_lines law forced os o x h linked n path by_u = law forced os o x h.0 h.1 linked n path by_u
 
 -- by the law alone
-told_lines : UndefinedLines → nm_text nm_up ((path, (link_of (g_o ∷ local_o ∷ []) plain).file) ∷ []) ≡ codes "       u L1\n       U _g\n"
-told_lines law = law [] (g_o ∷ local_o ∷ []) plain (link_of (g_o ∷ local_o ∷ []) plain) all_kept refl refl nm_up path refl
+lines_listed : UndefinedLines → nm_text nm_up ((path, (link_of (g_o ∷ local_o ∷ []) plain).file) ∷ []) ≡ codes "       u L1\n       U _g\n"
+lines_listed law = law [] (g_o ∷ local_o ∷ []) plain (link_of (g_o ∷ local_o ∷ []) plain) all_kept refl refl nm_up path refl
 
 other_text : (xs ys : List ℕ) → eqb (sum_by (λ b. b) xs) (sum_by (λ b. b) ys) ≡ false → xs ≡ ys → ⊥
 other_text xs ys apart e = counts (λ (text : List ℕ). sum_by (λ b. b) text) xs ys apart e
@@ -199,9 +199,9 @@ two_rows : entry _g 0o40 0 ∷ entry _f 0o40 0 ∷ [] ≡ two_linked.rows
 two_rows = ap (λ ss. drop 1 ss) two_linked.table
 
 -- by the law and the relation
-told_rows : RowLines → nm_text nm ((path, (link_of (g_o ∷ c_o ∷ []) plain).file) ∷ []) ≡ codes "000000 t L1\n       U _f\n       U _g\n"
+rows_listed : RowLines → nm_text nm ((path, (link_of (g_o ∷ c_o ∷ []) plain).file) ∷ []) ≡ codes "000000 t L1\n       U _f\n       U _g\n"
 unfolding six_digits
-told_rows law =
+rows_listed law =
     of_rows nm (both_arranged nm (entry L1 0o02 0 ∷ [])) (entry _g 0o40 0 ∷ entry _f 0o40 0 ∷ []) two_linked.rows two_rows (nm_text nm ((path, (link_of (g_o ∷ c_o ∷ []) plain).file) ∷ []))
     (law [] (g_o ∷ c_o ∷ []) plain (link_of (g_o ∷ c_o ∷ []) plain) all_kept two_linked nm path refl)
 

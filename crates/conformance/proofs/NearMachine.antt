@@ -183,14 +183,14 @@ abbrev NothingBut : (List Contents → Type 0) → (ℕ → ℕ → Type 0) → 
 NothingBut AreSo Lies = (forced : List (List ℕ)) (os : List Contents) (o : Choices) (x : Outcome) → AreSo os → link forced os o ≡ Ok x → (space : Space) (address byte : ℕ) → core x.file space address ≡ Some byte →
     IsBeside Lies x.file.header os space address ⊎ ((is_in x.file.header space BssSeg address ≡ true) × (byte ≡ 0))
 
-abbrev LiesInWord : ℕ → ℕ → Type 0
-LiesInWord address start = (address ≡ start) ⊎ (address ≡ start + 1)
+abbrev IsInWord : ℕ → ℕ → Type 0
+IsInWord address start = (address ≡ start) ⊎ (address ≡ start + 1)
 
-law_of_nothing : NothingElse → NothingBut (AllByRecursion IsObject) LiesInWord
+law_of_nothing : NothingElse → NothingBut (AllByRecursion IsObject) IsInWord
 law_of_nothing law forced os o x good linked space address byte e = by_either (law forced os o x good linked space address byte e)
   where
     by_either : IsOfWord x.file.header os space address ⊎ ((is_in x.file.header space BssSeg address ≡ true) × (byte ≡ 0)) →
-        IsBeside LiesInWord x.file.header os space address ⊎ ((is_in x.file.header space BssSeg address ≡ true) × (byte ≡ 0))
+        IsBeside IsInWord x.file.header os space address ⊎ ((is_in x.file.header space BssSeg address ≡ true) × (byte ≡ 0))
     by_either (inl h) = inl (record { before = h.before; k = h.k; after = h.after; all = h.all; segment = h.segment; «in» = h.«in»; i = h.i; w = h.w; word = h.word; at = h.at })
     by_either (inr h) = inr h
 
@@ -231,14 +231,14 @@ words_one_byte_on law =
     absurd (omega arith)
 
 -- 8 bytes of text are announced before `d.o`, and none are there
-nothing_beside_others : NothingBut (λ os. Unit {0}) LiesInWord → ⊥
+nothing_beside_others : NothingBut (λ os. Unit {0}) IsInWord → ⊥
 nothing_beside_others law = by_either 160 (law [] (no_object ∷ d_o ∷ []) plain (outcome (no_object ∷ d_o ∷ []) plain) tt refl of_instructions 0 160 refl)
   where
     h : Header
     h = (file_of (no_object ∷ d_o ∷ []) plain).header
 
     Lies : List Contents → Contents → Type 0
-    Lies before k = (segment : Segment) (i w : ℕ) → slice_get (segment_words segment k) i ≡ Some w → LiesInWord 0 (base_in h (total BssSeg (no_object ∷ d_o ∷ [])) segment + total segment before + 2 * i) → ⊥
+    Lies before k = (segment : Segment) (i w : ℕ) → slice_get (segment_words segment k) i ≡ Some w → IsInWord 0 (base_in h (total BssSeg (no_object ∷ d_o ∷ [])) segment + total segment before + 2 * i) → ⊥
 
     in_first : Lies [] no_object
     in_first TextSeg i w e at = cc
@@ -257,7 +257,7 @@ nothing_beside_others law = by_either 160 (law [] (no_object ∷ d_o ∷ []) pla
     in_second Absolute i w e at = cc
     in_second Other i w e at = cc
 
-    by_either : (byte : ℕ) → IsBeside LiesInWord h (no_object ∷ d_o ∷ []) of_instructions 0 ⊎ ((is_in h of_instructions BssSeg 0 ≡ true) × (byte ≡ 0)) → ⊥
+    by_either : (byte : ℕ) → IsBeside IsInWord h (no_object ∷ d_o ∷ []) of_instructions 0 ⊎ ((is_in h of_instructions BssSeg 0 ≡ true) × (byte ≡ 0)) → ⊥
     by_either byte (inl b) = one_of_two Lies no_object d_o in_first in_second b.before b.k b.after b.all b.segment b.i b.w b.word b.at
     by_either byte (inr b) = let bad : false ≡ true = b.0 in cc
 
@@ -419,7 +419,7 @@ absolute_moved law =
 record Mentions (c : Contents) (name : List ℕ) (segment : Segment) (n : ℕ) : Type 0 where
   number : ℕ
   symbol : Symbol
-  stands : slice_get c.symbols number ≡ Some symbol
+  found : slice_get c.symbols number ≡ Some symbol
   outer : is_external symbol ≡ true
   names : symbol.name ≡ name
   is : segment_of symbol ≡ segment
@@ -432,7 +432,7 @@ calls_of_references law =
     let f : Contents = file_of os plain in
     let h = law [] os plain (outcome os plain) (c_good, (as_object (text_and wanted) refl refl refl refl refl refl refl refl, tt)) all_kept refl refl
     [] c_o (text_and wanted ∷ []) refl (c_o ∷ []) (text_and wanted) [] refl TextSeg Undefined 1 10 _f c_calls
-    (record { number = 0; symbol = wanted; stands = refl; outer = refl; names = refl; is = refl; value = refl }) of_data refl in
+    (record { number = 0; symbol = wanted; found = refl; outer = refl; names = refl; is = refl; value = refl }) of_data refl in
     let at : h.address ≡ 2 = h.place.sum in
     let word : h.word ≡ 2 + 256 * 0 = word_is 2 0 h.word (ap (λ (a : ℕ). core f of_instructions a) (sym at) ∙ h.stands.low) (ap (λ (a : ℕ). core f of_instructions (a + 1)) (sym at) ∙ h.stands.high) in
     let target : h.target ≡ 10 = h.there.sum in

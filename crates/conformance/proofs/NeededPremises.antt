@@ -118,10 +118,10 @@ missing_without_table law =
     let bad : None ≡ Some h.0 = h.1 in
     absurd (cc)
 
--- room of commons, where none are laid out
-room_of_waiting : ((forced : List (List ℕ)) (os : List Contents) (o : Choices) (x : Outcome) → o.keep ≢ Nothing → link forced os o ≡ Ok x →
+-- the sizes of commons, where none are laid out
+size_of_waiting : ((forced : List (List ℕ)) (os : List Contents) (o : Choices) (x : Outcome) → o.keep ≢ Nothing → link forced os o ≡ Ok x →
     (name : List ℕ) (size : ℕ) → IsCommon forced os name size → HasRoom x.file os name size) → ⊥
-room_of_waiting law =
+size_of_waiting law =
     let h = law [] (x4_o ∷ []) relocatable (link_of (x4_o ∷ []) relocatable) all_kept refl _x 4 (record { wanted = only_wanted _x 4; sized = refl }) in
     let found : Some (entry _x 32 4) ≡ Some h.row = h.found in
     let same : entry _x 32 4 ≡ h.row = cc in

@@ -2,7 +2,7 @@
 use crate::links::{in_memory, link};
 use aout_core::samples::{A_O, B_O, Failing, TestReader, TestWriter};
 use aout_core::{File, ObjectFault, ReadFault, Wire};
-use fixtures::{TWO_OBJECTS, is_told};
+use fixtures::{TWO_OBJECTS, has_text};
 use link_out::{Keep, LinkFault, Linked};
 use link_session::AddFault;
 use std::alloc::{AllocError, Global};
@@ -81,16 +81,16 @@ fn fault_of(kind: u8, path: String) -> (CliFault, &'static str) {
 }
 
 /// Whether this is the fault's text, and its line has it.
-fn tells(alloc: Global, fault: CliFault, text: &str) -> Result<bool, AllocError> {
+fn has_text_and_line(alloc: Global, fault: CliFault, text: &str) -> Result<bool, AllocError> {
     let line = format!(in alloc; "v7: {text}\n")?;
-    Ok(writes(alloc, &fault, line.as_str()) && is_told(fault, text))
+    Ok(writes(alloc, &fault, line.as_str()) && has_text(fault, text))
 }
 
 #[test]
 fn fault_lines(rt: HostRuntime) -> Result<(), Fail> {
     for kind in 0..KINDS {
         let (fault, text) = fault_of(kind, String::from_str(rt.alloc(), "x.o")?);
-        assert!(rt; tells(rt.alloc(), fault, text)?, "{text}");
+        assert!(rt; has_text_and_line(rt.alloc(), fault, text)?, "{text}");
     }
     Ok(())
 }

@@ -49,8 +49,9 @@ fn reader_fails_everywhere(rt: HostRuntime) -> Result<(), Fail> {
     let alloc = rt.alloc();
     for place in 0..48 {
         for kind in [ErrorKind::Other, ErrorKind::Interrupted] {
-            let is_told = fails_to_read(alloc, place, kind) && fails_to_link(alloc, place, kind)?;
-            assert!(rt; is_told, "{place} bytes");
+            let is_reported = fails_to_read(alloc, place, kind)
+                && fails_to_link(alloc, place, kind)?;
+            assert!(rt; is_reported, "{place} bytes");
         }
     }
     Ok(())
@@ -92,11 +93,11 @@ fn fails_to_write(
 ) -> bool {
     let mut file = failing_writer(alloc, place, failing);
     let mut report = in_memory(alloc);
-    let is_told = fails_to_emit(linked, &mut file, &mut report);
+    let is_reported = fails_to_emit(linked, &mut file, &mut report);
     let is_latched = file.failed() && !report.failed();
     let report = report.into_inner();
     let file = file.into_inner();
-    is_told && is_latched && report.calls() == 0 && Some(file.taken()) == bytes.get(..place)
+    is_reported && is_latched && report.calls() == 0 && Some(file.taken()) == bytes.get(..place)
 }
 
 /// A link answers at each place that its file cannot be written there.
@@ -128,10 +129,12 @@ fn fails_to_report(
 ) -> bool {
     let mut file = in_memory(alloc);
     let mut report = failing_writer(alloc, place, failing);
-    let is_told = fails_to_emit(linked, &mut file, &mut report);
+    let is_reported = fails_to_emit(linked, &mut file, &mut report);
     let file = file.into_inner();
     let report = report.into_inner();
-    is_told && file.taken() == UNDEFINED.as_slice() && Some(report.taken()) == lines.get(..place)
+    is_reported
+        && file.taken() == UNDEFINED.as_slice()
+        && Some(report.taken()) == lines.get(..place)
 }
 
 /// A link answers at each place that its report cannot be written there.

@@ -10,10 +10,10 @@ use symtools::{NmOptions, ToolFault, nm, size};
 /// Whether nm answers a fault of the device, now and for no files, and has written a prefix of the list.
 fn fails_to_list(alloc: Global, files: &[(String, File)], before: usize, failure: Failing) -> bool {
     let mut out = failing_writer(alloc, before, failure);
-    let is_told = nm(alloc, files, NmOptions::default(), &mut out) == Err(ToolFault::Device)
+    let is_reported = nm(alloc, files, NmOptions::default(), &mut out) == Err(ToolFault::Device)
         && out.failed()
         && nm(alloc, &[], NmOptions::default(), &mut out) == Err(ToolFault::Device);
-    is_told && Some(out.into_inner().taken()) == S_O_LIST.as_bytes().get(..before)
+    is_reported && Some(out.into_inner().taken()) == S_O_LIST.as_bytes().get(..before)
 }
 
 /// The line of the sizes of `s.o`.
@@ -22,10 +22,10 @@ const SIZE_LINE: &str = "4+0+0 = 4b = 04b\n";
 /// Whether size answers a fault of the device, now and for no files, and has written a prefix of the line.
 fn fails_to_size(alloc: Global, files: &[(String, File)], before: usize, failure: Failing) -> bool {
     let mut out = failing_writer(alloc, before, failure);
-    let is_told = size(files, &mut out) == Err(ToolFault::Device)
+    let is_reported = size(files, &mut out) == Err(ToolFault::Device)
         && out.failed()
         && size(&[], &mut out) == Err(ToolFault::Device);
-    is_told && Some(out.into_inner().taken()) == SIZE_LINE.as_bytes().get(..before)
+    is_reported && Some(out.into_inner().taken()) == SIZE_LINE.as_bytes().get(..before)
 }
 
 #[test]

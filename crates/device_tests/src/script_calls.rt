@@ -3,7 +3,7 @@ ghost use Rattle.std.specs.Prelude.{◌<◌};
 
 use aout_core::Wire;
 use aout_core::samples::TestReader;
-use fixtures::{ASKED, SCRIPT, told};
+use fixtures::{ASKED, SCRIPT, answer_texts};
 use std::alloc::Global;
 use std::io::ErrorKind;
 use std::test::Fail;
@@ -70,23 +70,23 @@ fn in_pieces(bytes: &[u8], most: usize) -> TestReader<'_>
 }
 
 /// Whether a script gives this answer next.
-fn tells_next(script: &mut Script<TestReader<'_>>, wanted: (&str, &str)) -> bool {
-    told(&script.next_line()) == wanted
+fn gives_next(script: &mut Script<TestReader<'_>>, wanted: (&str, &str)) -> bool {
+    answer_texts(&script.next_line()) == wanted
 }
 
 /// Whether a script answers so, line after line.
-fn tells(script: &mut Script<TestReader<'_>>, wanted: &[(&str, &str)]) -> bool {
-    let mut is_told = true;
+fn gives_all(script: &mut Script<TestReader<'_>>, wanted: &[(&str, &str)]) -> bool {
+    let mut is_given = true;
     for answer in wanted {
-        is_told = is_told && tells_next(script, *answer);
+        is_given = is_given && gives_next(script, *answer);
     }
-    is_told
+    is_given
 }
 
 /// Whether a script that is read so answers so.
-fn script_tells(alloc: Global, reader: TestReader<'_>, wanted: &[(&str, &str)]) -> bool {
+fn script_gives(alloc: Global, reader: TestReader<'_>, wanted: &[(&str, &str)]) -> bool {
     match Script::new(alloc, Wire::new(reader)).ok() {
-        Some(mut script) => tells(&mut script, wanted),
+        Some(mut script) => gives_all(&mut script, wanted),
         None => false,
     }
 }
@@ -101,7 +101,7 @@ fn long_line(alloc: Global, path_length: usize) -> Result<Vec<u8>, Fail> {
 /// Whether the next line of a script asks to add a path of so many bytes.
 fn adds_longest(script: &mut Script<TestReader<'_>>, length: usize) -> bool {
     let answer = script.next_line();
-    let (command, path) = told(&answer);
+    let (command, path) = answer_texts(&answer);
     command == "add" && path.len() == length && path.as_bytes().iter().all(|byte| *byte == b'x')
 }
 
@@ -109,7 +109,7 @@ fn adds_longest(script: &mut Script<TestReader<'_>>, length: usize) -> bool {
 fn is_longest(alloc: Global, reader: TestReader<'_>) -> bool {
     match Script::new(alloc, Wire::new(reader)).ok() {
         Some(mut script) => {
-            adds_longest(&mut script, 4092) && tells_next(&mut script, ("end", ""))
+            adds_longest(&mut script, 4092) && gives_next(&mut script, ("end", ""))
         }
         None => false,
     }
@@ -120,7 +120,7 @@ fn script_pieces(rt: HostRuntime) -> Result<(), Fail> {
     let alloc = rt.alloc();
     let line = long_line(alloc, 4092)?;
     for most in [1, 5, 512] {
-        assert!(rt; script_tells(alloc, in_pieces(SCRIPT.as_bytes(), most), &ASKED));
+        assert!(rt; script_gives(alloc, in_pieces(SCRIPT.as_bytes(), most), &ASKED));
         assert!(rt; is_longest(alloc, in_pieces(&line, most)));
     }
     Ok(())
@@ -139,9 +139,9 @@ static LONGER: [(&str, &str); 2] = [("line too long", ""), ("line too long", "")
 #[test]
 fn script_faults_stay(rt: HostRuntime) -> Result<(), Fail> {
     let failing = TestReader::new(b"withdraw\nadd a.o\n", 512, 11, ErrorKind::Other);
-    assert!(rt; script_tells(rt.alloc(), failing, &FAILING));
+    assert!(rt; script_gives(rt.alloc(), failing, &FAILING));
     let mut lines = long_line(rt.alloc(), 4093)?;
     lines.extend_from_slice(b"\nwithdraw\n")?;
-    assert!(rt; script_tells(rt.alloc(), in_pieces(&lines, 512), &LONGER));
+    assert!(rt; script_gives(rt.alloc(), in_pieces(&lines, 512), &LONGER));
     Ok(())
 }

@@ -109,7 +109,7 @@ fn take_scripted(alloc: Global, asked: &mut Asked, line: u8) -> Ended {
 }
 
 /// Whether a step of `session_script` answers that it failed if and only if its answers fail.
-fn is_told(alloc: Global, asked: &mut Asked, line: u8) -> bool {
+fn is_reported(alloc: Global, asked: &mut Asked, line: u8) -> bool {
     match take_scripted(alloc, asked, line) {
         Ended::Done => !asked.answers.failed(),
         Ended::Unwritten => asked.answers.failed(),
@@ -120,8 +120,8 @@ fn is_told(alloc: Global, asked: &mut Asked, line: u8) -> bool {
 /// Takes a step of `session_script` with answers that may fail, beside a session whose answers do not: whether it ends
 /// as it should, and the sessions are then the same.
 fn is_alike(alloc: Global, line: u8, failing: &mut Asked, beside: &mut Asked) -> bool {
-    is_told(alloc, failing, line)
-        && is_told(alloc, beside, line)
+    is_reported(alloc, failing, line)
+        && is_reported(alloc, beside, line)
         && !beside.answers.failed()
         && is_same(&failing.session, &beside.session)
 }

@@ -15,9 +15,9 @@ static PASSING: [ErrorKind; 3] = [
 /// Whether a read that fails so turns the latch on, and the device was called once.
 fn is_read_once(kind: ErrorKind) -> bool {
     let mut wire = Wire::new(TestReader::new(b"ab", 1, 0, kind));
-    let mut room = [0; 2];
-    let is_latched = wire.read(&mut room).is_err() && wire.failed();
-    let is_refused = wire.read(&mut room).is_err() && wire.read(&mut []).is_err();
+    let mut buffer = [0; 2];
+    let is_latched = wire.read(&mut buffer).is_err() && wire.failed();
+    let is_refused = wire.read(&mut buffer).is_err() && wire.read(&mut []).is_err();
     let reader = wire.into_inner();
     is_latched && is_refused && reader.calls() == 1 && reader.left().len() == 2
 }
@@ -65,16 +65,16 @@ fn failed_writes_and_flushes_are_latched(rt: HostRuntime) {
 }
 
 /// Whether a read without room takes nothing and does not fail, and the next one has the bytes.
-fn reads_after_no_room() -> bool {
+fn reads_after_no_bytes() -> bool {
     let mut wire = Wire::new(TestReader::whole(b"ab"));
-    let mut room = [0; 4];
+    let mut buffer = [0; 4];
     let is_nothing = wire.read(&mut []).ok() == Some(0) && !wire.failed();
-    is_nothing && wire.read(&mut room).ok() == Some(2) && room == [b'a', b'b', 0, 0]
+    is_nothing && wire.read(&mut buffer).ok() == Some(2) && buffer == [b'a', b'b', 0, 0]
 }
 
 #[test]
-fn read_without_room(rt: HostRuntime) {
-    assert!(rt; reads_after_no_room());
+fn read_of_no_bytes(rt: HostRuntime) {
+    assert!(rt; reads_after_no_bytes());
 }
 
 /// How often a writer that takes at most `most` bytes a call is written to for these bytes, where it then has them all.

@@ -22,8 +22,8 @@ segment_name DataSeg = codes "data"
 segment_name BssSeg = codes "bss"
 segment_name _ = codes "text"
 
-unfoldable pub lies_text : Header → Segment → List ℕ
-lies_text h segment =
+unfoldable pub range_text : Header → Segment → List ℕ
+range_text h segment =
     segment_name segment ++ codes " lies from " ++ six_digits (segment_from h segment) ++ codes " to " ++ six_digits (segment_to h segment)
 
 -- a relocation word, and the address of its word
@@ -38,7 +38,7 @@ referring_text segment address = codes "the word at " ++ six_digits address ++ c
 -- it refers to another address
 unfoldable pub outside_reference_text : Header → Segment → ℕ → ℕ → List ℕ
 outside_reference_text h segment address target =
-    referring_text segment address ++ codes " and refers to " ++ six_digits target ++ codes "; " ++ lies_text h segment
+    referring_text segment address ++ codes " and refers to " ++ six_digits target ++ codes "; " ++ range_text h segment
 
 -- what a finding calls symbol n, which has this name
 unfoldable pub symbol_title : ℕ → List ℕ → List ℕ
@@ -77,4 +77,4 @@ value_text segment value = codes "of " ++ segment_name segment ++ codes " has va
 
 -- it is outside of the segment
 unfoldable pub outside_value_text : Header → Segment → List ℕ → ℕ → List ℕ
-outside_value_text h segment title value = title ++ codes " " ++ value_text segment value ++ codes ", and " ++ lies_text h segment
+outside_value_text h segment title value = title ++ codes " " ++ value_text segment value ++ codes ", and " ++ range_text h segment

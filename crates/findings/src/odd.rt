@@ -9,7 +9,7 @@ ghost use Rattle.aout_core.specs.WellFormed.{segment_of};
 ghost use Rattle.texts.specs.Texts.{Puts};
 ghost use Rattle.findings.specs.Found.{all_found, Finds, Holds};
 ghost use Rattle.findings.specs.Segments.{segment_meant};
-ghost use Rattle.findings.specs.OddTexts.{symbol_title, lies_text, common_size_text, value_text, referring_text};
+ghost use Rattle.findings.specs.OddTexts.{symbol_title, range_text, common_size_text, value_text, referring_text};
 ghost use Rattle.findings.specs.OddTexts.{entry_text, unused_text, bytes_after_text, ignored_bits_text};
 ghost use Rattle.findings.specs.OddTexts.{outside_reference_text, repeated_text, type_bits_text, unknown_type_text};
 ghost use Rattle.findings.specs.OddTexts.{common_text, outside_value_text};
@@ -28,9 +28,9 @@ use std::collections::BTreeMap;
 use texts::{Text, is_printable};
 
 /// Appends where a segment lies.
-#[tactic(auto, unfolding(crate::specs::OddTexts::lies_text))]
-fn put_lies(text: &mut Text, header: &Header, segment: Segment)
-    ensures { Puts text.old text.new (lies_text header.now segment) }
+#[tactic(auto, unfolding(crate::specs::OddTexts::range_text))]
+fn put_range(text: &mut Text, header: &Header, segment: Segment)
+    ensures { Puts text.old text.new (range_text header.now segment) }
 {
     let range = range_of(header, segment);
     text.put(segment_name(segment));
@@ -304,7 +304,7 @@ fn outside_value_text(
     text.put(" ");
     put_value(&mut text, segment, value);
     text.put(", and ");
-    put_lies(&mut text, header, segment);
+    put_range(&mut text, header, segment);
     text
 }
 
@@ -453,7 +453,7 @@ fn outside_reference_text(
     text.put(" and refers to ");
     text.put_six_digits(u32::from(target));
     text.put("; ");
-    put_lies(&mut text, header, segment);
+    put_range(&mut text, header, segment);
     text
 }
 

@@ -87,11 +87,11 @@ words_alike P place true c f g inside more pairs =
     let y = get_inside g c (omega (arith, inside refl)) in
     alike_some P place (slice_get f c) (slice_get g c) x.0 y.0 x.1 y.1 (pairs x.0 y.0 x.1 y.1)
 
-room : (a b : Bool) (n : ℕ) → (if a then 1 else 0) + (if b then 1 else 0) ≤ n → (a ≡ true → 0 < n) × (b ≡ true → (if a then 1 else 0) < n)
-room true true n h = (λ e. omega arith, λ e. omega arith)
-room true false n h = (λ e. omega arith, λ e. absurd cc)
-room false true n h = (λ e. absurd cc, λ e. omega arith)
-room false false n h = (λ e. absurd cc, λ e. absurd cc)
+has_both : (a b : Bool) (n : ℕ) → (if a then 1 else 0) + (if b then 1 else 0) ≤ n → (a ≡ true → 0 < n) × (b ≡ true → (if a then 1 else 0) < n)
+has_both true true n h = (λ e. omega arith, λ e. omega arith)
+has_both true false n h = (λ e. omega arith, λ e. absurd cc)
+has_both false true n h = (λ e. absurd cc, λ e. omega arith)
+has_both false false n h = (λ e. absurd cc, λ e. absurd cc)
 
 alike_by : (P : ℕ → ℕ → ℕ → Type 0) (place w : ℕ) (i : Instruction) (a b c d : Option ℕ) (cut other : Bool) → cut ≡ false → other ≡ false →
     AlikeWords P (place + 1) a c → AlikeWords P (place + 1 + word_count_of i.first) b d →
@@ -108,7 +108,7 @@ line_alike P place (Some i) w f g whole more pairs =
     let test : nat_lt (length f) (following_words i) ≡ false = whole in
     let enough : following_words i ≤ length f = grind (arith, nat_tests) in
     let other : nat_lt (length g) (following_words i) ≡ false = grind (arith, nat_tests) in
-    let r = room (takes_word i.first) (takes_word i.second) (length f) enough in
+    let r = has_both (takes_word i.first) (takes_word i.second) (length f) enough in
     let c : ℕ = word_count_of i.first in
     alike_by P place w i (word_for i.first 0 f) (word_for i.second c f) (word_for i.first 0 g) (word_for i.second c g)
     (nat_lt (length f) (following_words i)) (nat_lt (length g) (following_words i)) whole other

@@ -24,7 +24,7 @@ use Rattle.instructions.proofs.FieldReadLemmas.{field_clean}
 use Rattle.instructions.proofs.TableLemmas.{Sound, row_sound}
 use Rattle.instructions.proofs.LineLemmas.{identity, length_from, line_fits}
 use Rattle.instructions.proofs.AlikeLemmas.{lines_first}
-use Rattle.instructions.proofs.ReadLineLemmas.{word_at, room_first, room_second, words_from, unambiguous}
+use Rattle.instructions.proofs.ReadLineLemmas.{word_at, has_first_word, has_second_word, words_from, unambiguous}
 
 -- no line has a newline
 plain_free : (w : ℕ) → free 10 (six_digits w) ≡ true
@@ -64,8 +64,8 @@ free_by false r w f address h s t =
     let enough : following_words i ≤ length f = grind (arith, nat_tests) in
     let a : Option ℕ = word_for i.first 0 f in
     let b : Option ℕ = word_for i.second (word_count_of i.first) f in
-    let p = word_at (takes_word i.first) f 0 h (room_first (takes_word i.first) (takes_word i.second) (length f) enough) in
-    let q = word_at (takes_word i.second) f (word_count_of i.first) h (room_second (takes_word i.first) (takes_word i.second) (length f) enough) in
+    let p = word_at (takes_word i.first) f 0 h (has_first_word (takes_word i.first) (takes_word i.second) (length f) enough) in
+    let q = word_at (takes_word i.second) f (word_count_of i.first) h (has_second_word (takes_word i.first) (takes_word i.second) (length f) enough) in
     decoded_free r w a b address s p.fits q.fits
 
 missing_free : (missing : Bool) (r : Row) (w : ℕ) (f : List ℕ) (address : ℕ) → AreWords f → Sound r →
