@@ -38,10 +38,10 @@ found_at None left r found is encodes h = tt
 found_at (Some bytes) left r found is encodes h = sym is ∙ ap object_in (sym (encodes bytes h.0))
 
 -- an object that was found, and is within all limits, may want memory
-wants_room : (known : Option (List ℕ)) (forced : List (List ℕ)) (kept : List Labelled) (path : List ℕ) (o : Contents) → IsFound known (Ok o) → refusal forced (objects kept) o ≡ None → IfSome known (WantsMemory forced kept path)
-wants_room None forced kept path o h within = tt
-wants_room (Some bytes) forced kept path o (inl e) within = absurd (cc)
-wants_room (Some bytes) forced kept path o (inr e) within =
+wants_memory : (known : Option (List ℕ)) (forced : List (List ℕ)) (kept : List Labelled) (path : List ℕ) (o : Contents) → IsFound known (Ok o) → refusal forced (objects kept) o ≡ None → IfSome known (WantsMemory forced kept path)
+wants_memory None forced kept path o h within = tt
+wants_memory (Some bytes) forced kept path o (inl e) within = absurd (cc)
+wants_memory (Some bytes) forced kept path o (inr e) within =
     let accepted : with_input forced kept path bytes ≡ Ok (kept ++ (record { label = path; object = o }) ∷ []) =
     ap (kept_with forced kept path) (sym e) ∙ ap (λ (x : Option AddFault). unless not_added x (kept ++ (record { label = path; object = o }) ∷ [])) within in
     inr (subst IsOk (sym accepted) refl)
@@ -135,7 +135,7 @@ not_fit known old new path label o cause is_found same why real unchanged = (
 addition_refused : (known : Option (List ℕ)) (old new : Kept) (path label : String Global) (o : Contents) (cause : AddFault) → IsFound known (Ok o) → label ≡ path →
     IsCause (refusal old.forced (objects old.entries) o) cause → new ≡ old → IsAddition known old new path (Err (fault_of_addition label cause))
 addition_refused known old new path label o adds.Memory found same why unchanged =
-    (unchanged, inl (refl, wants_room known old.forced old.entries (string_bytes path) o found (within_limits old.forced (objects old.entries) o why)))
+    (unchanged, inl (refl, wants_memory known old.forced old.entries (string_bytes path) o found (within_limits old.forced (objects old.entries) o why)))
 addition_refused known old new path label o adds.TextFull found same why unchanged = not_fit known old new path label o adds.TextFull found same why (λ e. absurd (cc)) unchanged
 addition_refused known old new path label o adds.DataFull found same why unchanged = not_fit known old new path label o adds.DataFull found same why (λ e. absurd (cc)) unchanged
 addition_refused known old new path label o adds.BssFull found same why unchanged = not_fit known old new path label o adds.BssFull found same why (λ e. absurd (cc)) unchanged

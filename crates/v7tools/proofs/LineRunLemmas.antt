@@ -17,9 +17,9 @@ use Rattle.surroundings.specs.Events.{Event, History, Extends, opened, stored}
 use Rattle.v7tools.specs.FaultTexts.{cli_text, fault_of_link}
 use Rattle.v7tools.specs.Inputs.{Cause, kept_with}
 use Rattle.command_words.specs.Scripts.{Asked, to_add, to_withdraw, for_externals, for_undefined, to_link, for_nothing}
-use Rattle.v7tools.specs.LineRuns.{DoesStep, IsAddOf, IsLineOf, LineRun, OnlyTells, TakesLast, status_after}
+use Rattle.v7tools.specs.LineRuns.{DoesStep, IsAddOf, IsLineOf, LineRun, OnlyAnswers, TakesLast, status_after}
 use Rattle.v7tools.specs.internal.StepParts.{RefusesLink}
-use Rattle.v7tools.specs.internal.SessionParts.{AnswersLine, IsNoLink, IsOpenedAt, TakesPlainStep, TellsStep}
+use Rattle.v7tools.specs.internal.SessionParts.{AnswersLine, IsNoLink, IsOpenedAt, TakesPlainStep, AnswersStep}
 use Rattle.v7tools.specs.SessionSteps.{AddsIf, Does, GoesOut, IsAddBy, IsAddOn, IsStepOn, verdict_of}
 use Rattle.v7tools.specs.declared.session.commands.Command.{Command}
 use Rattle.v7tools.specs.declared.session.commands.Step.{Step}
@@ -80,11 +80,11 @@ module _ {W : Type 0} (contents : W → Option (List ℕ)) where
   broke_off refused answer fault before after h = (h.fault.0 refl, h.bytes)
   broke_off (to_store x) answer fault before after h = absurd (cc)
 
-  pub tells_fault : (did : Stepped) (left : Kept) (fault : CliFault) (result : Result ℕ CliFault) (before after : Latched W) → Does contents did left (Err fault) before after → fault ≡ faults.WriteFailed → result ≡ Err fault →
-      TellsStep contents did left result before after
-  tells_fault did left fault result before after h is e =
+  pub answers_fault : (did : Stepped) (left : Kept) (fault : CliFault) (result : Result ℕ CliFault) (before after : Latched W) → Does contents did left (Err fault) before after → fault ≡ faults.WriteFailed → result ≡ Err fault →
+      AnswersStep contents did left result before after
+  answers_fault did left fault result before after h is e =
       let out = broke_off did.verdict did.answer fault before after h.answer in
-      subst (λ (r : Result ℕ CliFault). TellsStep contents did left r before after) (sym e) (record {
+      subst (λ (r : Result ℕ CliFault). AnswersStep contents did left r before after) (sym e) (record {
         entries = h.kept;
         status = tt;
         write_failed = is;
@@ -99,9 +99,9 @@ module _ {W : Type 0} (contents : W → Option (List ℕ)) where
   wrote refused answer s status before after plain h = (h.fault, h.bytes)
   wrote (to_store x) answer s status before after plain h = absurd (plain x refl)
 
-  pub tells_status : (did : Stepped) (left : Kept) (s : Step) (status : ℕ) (before after : Latched W) → Does contents did left (Ok s) before after → ((x : Outcome) → verdict_of s ≡ to_store x → ⊥) → status ≡ status_after (verdict_of s) →
-      TellsStep contents did left (Ok status) before after
-  tells_status did left s status before after h plain is =
+  pub answers_status : (did : Stepped) (left : Kept) (s : Step) (status : ℕ) (before after : Latched W) → Does contents did left (Ok s) before after → ((x : Outcome) → verdict_of s ≡ to_store x → ⊥) → status ≡ status_after (verdict_of s) →
+      AnswersStep contents did left (Ok status) before after
+  answers_status did left s status before after h plain is =
       let out = wrote did.verdict did.answer s status before after (λ x e. plain x (h.verdict ∙ e)) h.answer in record {
         entries = h.kept;
         status = is ∙ ap status_after h.verdict;
@@ -116,7 +116,7 @@ module _ {W : Type 0} (contents : W → Option (List ℕ)) where
   abbrev run_of : Asked → List Event → Stepped → Kept → LineRun
   run_of asks events did left = record { line = asks; events = events; answer = did.answer; status = status_after did.verdict; kept = left }
 
-  answered_by : (o : Choices) (asks : Asked) (events : List Event) (did : Stepped) (kept left : Kept) (old new : History) (result : Result ℕ CliFault) (before after : Latched W) → TellsStep contents did left result before after → Extends old new events →
+  answered_by : (o : Choices) (asks : Asked) (events : List Event) (did : Stepped) (kept left : Kept) (old new : History) (result : Result ℕ CliFault) (before after : Latched W) → AnswersStep contents did left result before after → Extends old new events →
       IsLineOf o kept (run_of asks events did left) asks → AnswersLine contents o asks kept left old new result before after
   answered_by o asks events did kept left old new result before after told asked is = record {
     run = run_of asks events did left;
@@ -134,8 +134,8 @@ module _ {W : Type 0} (contents : W → Option (List ℕ)) where
   does_step asks events did left e = record { answer = refl; status = refl; entries = e }
 
   -- a line that only tells
-  tells_line : (asks : Asked) (did by : Stepped) (kept left : Kept) → did ≡ by → left.entries ≡ did.kept → left ≡ kept → OnlyTells by kept (run_of asks [] did left)
-  tells_line asks did by kept left e entries same = subst (λ (d : Stepped). OnlyTells d kept (run_of asks [] did left)) e (record { events = refl; does = does_step asks [] did left entries; same = same })
+  answers_line : (asks : Asked) (did by : Stepped) (kept left : Kept) → did ≡ by → left.entries ≡ did.kept → left ≡ kept → OnlyAnswers by kept (run_of asks [] did left)
+  answers_line asks did by kept left e entries same = subst (λ (d : Stepped). OnlyAnswers d kept (run_of asks [] did left)) e (record { events = refl; does = does_step asks [] did left entries; same = same })
 
   module _ {R : Type 0} (remaining : R → Option (List ℕ)) (o : Choices) (kept left : Kept) (result : Result ℕ CliFault) (before after : Latched W) where
     add_of : (wire : Latched R) (path : List ℕ) (did : Stepped) → IsAddBy remaining wire kept.forced kept.entries path did → IsAddOf (remaining wire.device) kept path did
@@ -164,13 +164,13 @@ module _ {W : Type 0} (contents : W → Option (List ℕ)) where
           (subst (λ (d : Stepped). TakesLast d kept (run_of to_withdraw [] did left)) e (record { events = refl; does = does_step to_withdraw [] did left told.entries; changes = changes }))
 
       pub externals_line : TakesPlainStep remaining contents o Externals kept left result before after → AnswersLine contents o for_externals kept left h h result before after
-      externals_line (did, e, changes, told) = answered_by o for_externals [] did kept left h h result before after told (nothing_asked h) (tells_line for_externals did _ kept left e told.entries changes)
+      externals_line (did, e, changes, told) = answered_by o for_externals [] did kept left h h result before after told (nothing_asked h) (answers_line for_externals did _ kept left e told.entries changes)
 
       pub undefined_line : TakesPlainStep remaining contents o Undefined kept left result before after → AnswersLine contents o for_undefined kept left h h result before after
-      undefined_line (did, e, changes, told) = answered_by o for_undefined [] did kept left h h result before after told (nothing_asked h) (tells_line for_undefined did _ kept left e told.entries changes)
+      undefined_line (did, e, changes, told) = answered_by o for_undefined [] did kept left h h result before after told (nothing_asked h) (answers_line for_undefined did _ kept left e told.entries changes)
 
       pub bad_line : TakesPlainStep remaining contents o Bad kept left result before after → AnswersLine contents o for_nothing kept left h h result before after
-      bad_line (did, e, changes, told) = answered_by o for_nothing [] did kept left h h result before after told (nothing_asked h) (tells_line for_nothing did _ kept left e told.entries changes)
+      bad_line (did, e, changes, told) = answered_by o for_nothing [] did kept left h h result before after told (nothing_asked h) (answers_line for_nothing did _ kept left e told.entries changes)
 
   module _ (o : Choices) (path : List ℕ) (kept : Kept) (result : Result ℕ CliFault) (before after : Latched W) where
     -- there is no link
@@ -179,7 +179,7 @@ module _ {W : Type 0} (contents : W → Option (List ℕ)) where
     refused_link h (fault, is, written) status write_failed =
         let did = refused_as kept.entries (cli_text (fault_of_link fault)) in
         answered_by o (to_link path) [] did kept kept h h result before after (record { entries = refl; status = status; write_failed = write_failed; fault = written.fault; bytes = written.bytes }) (nothing_asked h)
-        (inl (record { did = did; is_link = link_refused_by kept.entries (link kept.forced (objects kept.entries) o) fault is; refuses = refl; tells = tells_line (to_link path) did did kept kept refl refl refl }))
+        (inl (record { did = did; is_link = link_refused_by kept.entries (link kept.forced (objects kept.entries) o) fault is; refuses = refl; only_answer = answers_line (to_link path) did did kept kept refl refl refl }))
 
     -- there is a link, and it is known what became of its file
     pub stored_link : (old new : History) (made : Linked) (what : Stored) → link kept.forced (objects kept.entries) o ≡ Ok (outcome_of made) → Extends old new (stored path made.file what ∷ []) →

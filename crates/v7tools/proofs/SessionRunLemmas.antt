@@ -55,28 +55,28 @@ IsEmpty bytes left = left ≡ []
 
 -- a script gave these lines, and goes on or is at its end
 pub record Reading (first now : Option (List ℕ)) (n : ℕ) (settled : Option Stop) (lines : List Asked) : Type 0 where
-  pub told : WhereKnown first now (GivesFirst lines n)
+  pub gave : WhereKnown first now (GivesFirst lines n)
   pub goes : (settled ≡ None) ⊎ ((settled ≡ Some stops.End) × WhereKnown first now IsEmpty)
 
 pub reads_first : (first : Option (List ℕ)) (settled : Option Stop) → settled ≡ None → Reading first first 0 settled []
-reads_first None settled e = record { told = tt; goes = inl e }
-reads_first (Some bytes) settled e = record { told = refl; goes = inl e }
+reads_first None settled e = record { gave = tt; goes = inl e }
+reads_first (Some bytes) settled e = record { gave = refl; goes = inl e }
 
-told_on : (first mid now : Option (List ℕ)) (P Q S : List ℕ → List ℕ → Type 0) → ((a b c : List ℕ) → P a b → Q b c → S a c) → WhereKnown first mid P → WhereKnown mid now Q → WhereKnown first now S
-told_on None mid now P Q S f h k = tt
-told_on (Some a) None now P Q S f h k = absurd h
-told_on (Some a) (Some b) None P Q S f h k = absurd k
-told_on (Some a) (Some b) (Some c) P Q S f h k = f a b c h k
+known_on : (first mid now : Option (List ℕ)) (P Q S : List ℕ → List ℕ → Type 0) → ((a b c : List ℕ) → P a b → Q b c → S a c) → WhereKnown first mid P → WhereKnown mid now Q → WhereKnown first now S
+known_on None mid now P Q S f h k = tt
+known_on (Some a) None now P Q S f h k = absurd h
+known_on (Some a) (Some b) None P Q S f h k = absurd k
+known_on (Some a) (Some b) (Some c) P Q S f h k = f a b c h k
 
-told_alone : (first now : Option (List ℕ)) (P : List ℕ → List ℕ → Type 0) (Q : List ℕ → Type 0) → ((a b : List ℕ) → P a b → Q a) → WhereKnown first now P → IfSome first Q
-told_alone None now P Q f h = tt
-told_alone (Some a) None P Q f h = absurd h
-told_alone (Some a) (Some b) P Q f h = f a b h
+known_alone : (first now : Option (List ℕ)) (P : List ℕ → List ℕ → Type 0) (Q : List ℕ → Type 0) → ((a b : List ℕ) → P a b → Q a) → WhereKnown first now P → IfSome first Q
+known_alone None now P Q f h = tt
+known_alone (Some a) None P Q f h = absurd h
+known_alone (Some a) (Some b) P Q f h = f a b h
 
-told_both : (first now : Option (List ℕ)) (P Q S : List ℕ → List ℕ → Type 0) → ((a b : List ℕ) → P a b → Q a b → S a b) → WhereKnown first now P → WhereKnown first now Q → WhereKnown first now S
-told_both None now P Q S f h k = tt
-told_both (Some a) None P Q S f h k = absurd h
-told_both (Some a) (Some b) P Q S f h k = f a b h k
+known_both : (first now : Option (List ℕ)) (P Q S : List ℕ → List ℕ → Type 0) → ((a b : List ℕ) → P a b → Q a b → S a b) → WhereKnown first now P → WhereKnown first now Q → WhereKnown first now S
+known_both None now P Q S f h k = tt
+known_both (Some a) None P Q S f h k = absurd h
+known_both (Some a) (Some b) P Q S f h k = f a b h k
 
 -- a line after others
 before_and_given : (lines : List Asked) (a : Asked) (g : Given) → before_given lines (and_given a g) ≡ before_given (lines ++ a ∷ []) g
@@ -95,7 +95,7 @@ Stays settled answer = IfSome settled (λ stop. answer ≡ Err stop)
 
 reads_front : (first mid : Option (List ℕ)) (n : ℕ) (settled : Option Stop) (lines : List Asked) → Reading first mid n settled lines → AreFirst first lines
 reads_front first mid n settled lines h =
-    told_alone first mid (GivesFirst lines n) (λ a. (more : List Asked) × ((given a).lines ≡ lines ++ more)) (λ a b k. ((given_after n (lines_in b)).lines, ap (λ (g : Given). g.lines) k)) h.told
+    known_alone first mid (GivesFirst lines n) (λ a. (more : List Asked) × ((given a).lines ≡ lines ++ more)) (λ a b k. ((given_after n (lines_in b)).lines, ap (λ (g : Given). g.lines) k)) h.gave
 
 pub stays_alone : (settled : Option Stop) (answer : Answer) (same : Type 0) → IfSome settled (λ stop. (answer ≡ Err stop) × same) → Stays settled answer
 stays_alone None answer same h = tt
@@ -115,27 +115,27 @@ module _ (first mid now : Option (List ℕ)) (n : ℕ) (settled later : Option S
 
   -- a line more
   pub reads_line : (it : Line) (m : ℕ) → Stays settled (Ok it) → Settles (Ok it) later → Next mid now n settled later (Ok it) → m ≡ n + 1 → Reading first now m later (lines ++ asked_by it ∷ [])
-  reads_line it m stays settles next count = record { told = told; goes = goes later refl settles }
+  reads_line it m stays settles next count = record { gave = gave; goes = goes later refl settles }
     where
       next_told : WhereKnown mid now (λ bytes left. IsNextOf n bytes left later (Ok it))
       next_told = next (open_script (Ok it) stays (λ e. cc))
 
-      told : WhereKnown first now (GivesFirst (lines ++ asked_by it ∷ []) m)
-      told =
-          told_on first mid now (GivesFirst lines n) (λ bytes left. IsNextOf n bytes left later (Ok it)) (GivesFirst (lines ++ asked_by it ∷ []) m)
+      gave : WhereKnown first now (GivesFirst (lines ++ asked_by it ∷ []) m)
+      gave =
+          known_on first mid now (GivesFirst lines n) (λ bytes left. IsNextOf n bytes left later (Ok it)) (GivesFirst (lines ++ asked_by it ∷ []) m)
           (λ a b c first_given is.
           let g = given_after m (lines_in c) in
           first_given ∙ ap (before_given lines) (is.0.1 ∙ ap (λ (k : ℕ). and_given (asked_by it) (given_after k (lines_in c))) (sym count)) ∙ before_and_given lines (asked_by it) g)
-          h.told next_told
+          h.gave next_told
 
       goes : (s : Option Stop) → later ≡ s → IfSome s (λ stop. stop ≡ stops.End) → (later ≡ None) ⊎ ((later ≡ Some stops.End) × WhereKnown first now IsEmpty)
       goes None e settled_so = inl e
       goes (Some stop) e settled_so =
           inr (
             e ∙ ap (λ (s : Stop). let r : Option Stop = Some s in r) settled_so,
-            told_on first mid now (GivesFirst lines n) (λ bytes left. IsNextOf n bytes left later (Ok it)) IsEmpty
+            known_on first mid now (GivesFirst lines n) (λ bytes left. IsNextOf n bytes left later (Ok it)) IsEmpty
                 (λ a b c first_given is. is.0.0 ∙ after_last_line b (is.1.0 (subst (λ (o : Option Stop). IsSome o) (sym e) refl)))
-                h.told next_told,
+                h.gave next_told,
           )
 
   -- the same of what a call gave, once it is known to be a line
@@ -150,13 +150,13 @@ module _ (first mid now : Option (List ℕ)) (n : ℕ) (settled later : Option S
     where
       by : (settled ≡ None) ⊎ ((settled ≡ Some stops.End) × WhereKnown first mid IsEmpty) → AreLines first lines None
       by (inl e) =
-          told_alone first now (λ a c. given a ≡ record { lines = lines; fault = None }) (λ a. given a ≡ record { lines = lines; fault = None }) (λ a c k. k)
-          (told_on first mid now (GivesFirst lines n) (λ bytes left. IsNextOf n bytes left later (Err stops.End)) (λ a c. given a ≡ record { lines = lines; fault = None })
-          (λ a b c first_given is. first_given ∙ ap (before_given lines) is.1 ∙ before_end lines None) h.told (next e))
+          known_alone first now (λ a c. given a ≡ record { lines = lines; fault = None }) (λ a. given a ≡ record { lines = lines; fault = None }) (λ a c k. k)
+          (known_on first mid now (GivesFirst lines n) (λ bytes left. IsNextOf n bytes left later (Err stops.End)) (λ a c. given a ≡ record { lines = lines; fault = None })
+          (λ a b c first_given is. first_given ∙ ap (before_given lines) is.1 ∙ before_end lines None) h.gave (next e))
       by (inr (e, ended)) =
-          told_alone first mid (λ a b. given a ≡ record { lines = lines; fault = None }) (λ a. given a ≡ record { lines = lines; fault = None }) (λ a b k. k)
-          (told_both first mid (GivesFirst lines n) IsEmpty (λ a b. given a ≡ record { lines = lines; fault = None })
-          (λ a b first_given empty. first_given ∙ ap (λ (l : List ℕ). before_given lines (given_after n (lines_in l))) empty ∙ before_end lines None) h.told ended)
+          known_alone first mid (λ a b. given a ≡ record { lines = lines; fault = None }) (λ a. given a ≡ record { lines = lines; fault = None }) (λ a b k. k)
+          (known_both first mid (GivesFirst lines n) IsEmpty (λ a b. given a ≡ record { lines = lines; fault = None })
+          (λ a b first_given empty. first_given ∙ ap (λ (l : List ℕ). before_given lines (given_after n (lines_in l))) empty ∙ before_end lines None) h.gave ended)
 
   pub reads_ended : (answer : Answer) → answer ≡ Err stops.End → Stays settled answer → Next mid now n settled later answer → AreLines first lines None
   reads_ended answer is stays next = reads_end (subst (Stays settled) is stays) (subst (Next mid now n settled later) is next)
@@ -167,24 +167,24 @@ module _ (first mid now : Option (List ℕ)) (n : ℕ) (settled later : Option S
   stops_with stops.LongLine fault e next =
       let is : fault ≡ faults.LongLine = cc in
       subst (StopsAfter first lines) (sym is)
-      (told_alone first now (λ a c. given a ≡ record { lines = lines; fault = Some long_line }) (λ a. given a ≡ record { lines = lines; fault = Some long_line }) (λ a c k. k)
-      (told_on first mid now (GivesFirst lines n) (λ bytes left. IsNextOf n bytes left later (Err stops.LongLine)) (λ a c. given a ≡ record { lines = lines; fault = Some long_line })
-      (λ a b c first_given is. first_given ∙ ap (before_given lines) is.1 ∙ before_end lines (Some long_line)) h.told next))
+      (known_alone first now (λ a c. given a ≡ record { lines = lines; fault = Some long_line }) (λ a. given a ≡ record { lines = lines; fault = Some long_line }) (λ a c k. k)
+      (known_on first mid now (GivesFirst lines n) (λ bytes left. IsNextOf n bytes left later (Err stops.LongLine)) (λ a c. given a ≡ record { lines = lines; fault = Some long_line })
+      (λ a b c first_given is. first_given ∙ ap (before_given lines) is.1 ∙ before_end lines (Some long_line)) h.gave next))
   stops_with stops.ManyLines fault e next =
       let is : fault ≡ faults.ManyLines = cc in
       subst (StopsAfter first lines) (sym is)
-      (told_alone first now (λ a c. given a ≡ record { lines = lines; fault = Some many_lines }) (λ a. given a ≡ record { lines = lines; fault = Some many_lines }) (λ a c k. k)
-      (told_on first mid now (GivesFirst lines n) (λ bytes left. IsNextOf n bytes left later (Err stops.ManyLines)) (λ a c. given a ≡ record { lines = lines; fault = Some many_lines })
-      (λ a b c first_given is. first_given ∙ ap (before_given lines) is.1 ∙ before_end lines (Some many_lines)) h.told next))
+      (known_alone first now (λ a c. given a ≡ record { lines = lines; fault = Some many_lines }) (λ a. given a ≡ record { lines = lines; fault = Some many_lines }) (λ a c k. k)
+      (known_on first mid now (GivesFirst lines n) (λ bytes left. IsNextOf n bytes left later (Err stops.ManyLines)) (λ a c. given a ≡ record { lines = lines; fault = Some many_lines })
+      (λ a b c first_given is. first_given ∙ ap (before_given lines) is.1 ∙ before_end lines (Some many_lines)) h.gave next))
   stops_with stops.ReadFailed fault e next =
       let is : fault ≡ faults.ScriptFailed = cc in
       subst (StopsAfter first lines) (sym is) (reads_front first mid n settled lines h)
   stops_with stops.Memory fault e next =
       let is : fault ≡ faults.Memory = cc in
       subst (StopsAfter first lines) (sym is)
-      (told_alone first now (λ a c. (x : Asked) × (more : List Asked) × NamesPath x × ((given a).lines ≡ lines ++ x ∷ more)) (λ a. (x : Asked) × (more : List Asked) × NamesPath x × ((given a).lines ≡ lines ++ x ∷ more)) (λ a c k. k)
-      (told_on first mid now (GivesFirst lines n) (λ bytes left. IsNextOf n bytes left later (Err stops.Memory)) (λ a c. (x : Asked) × (more : List Asked) × NamesPath x × ((given a).lines ≡ lines ++ x ∷ more))
-      (λ a b c first_given is. (is.0, (given_after (n + 1) (lines_in c)).lines, is.1, ap (λ (g : Given). g.lines) (first_given ∙ ap (before_given lines) is.2.1))) h.told next))
+      (known_alone first now (λ a c. (x : Asked) × (more : List Asked) × NamesPath x × ((given a).lines ≡ lines ++ x ∷ more)) (λ a. (x : Asked) × (more : List Asked) × NamesPath x × ((given a).lines ≡ lines ++ x ∷ more)) (λ a c k. k)
+      (known_on first mid now (GivesFirst lines n) (λ bytes left. IsNextOf n bytes left later (Err stops.Memory)) (λ a c. (x : Asked) × (more : List Asked) × NamesPath x × ((given a).lines ≡ lines ++ x ∷ more))
+      (λ a b c first_given is. (is.0, (given_after (n + 1) (lines_in c)).lines, is.1, ap (λ (g : Given). g.lines) (first_given ∙ ap (before_given lines) is.2.1))) h.gave next))
 
   pub reads_fault : (answer : Answer) (fault : CliFault) → Err fault ≡ returned answer → Stays settled answer → Next mid now n settled later answer → StopsAfter first lines fault
   reads_fault (Ok it) fault e stays next = absurd (cc)

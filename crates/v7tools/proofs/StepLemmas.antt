@@ -161,8 +161,8 @@ no_value (Err e) P h = tt
 abbrev pub stepped : Step → Result Step CliFault
 stepped step = Ok step
 
-pub told_whole : {W T E : Type 0} {contents : W → Option (List ℕ)} {x : T} {a b : Latched W} {text : List ℕ} (step : Step) → Writes {T = T} {E = E} contents (Ok x) a b text → Writes contents (stepped step) a b text
-told_whole step p = record { fault = p.fault; latched = p.latched; bytes = p.bytes }
+pub written_whole : {W T E : Type 0} {contents : W → Option (List ℕ)} {x : T} {a b : Latched W} {text : List ℕ} (step : Step) → Writes {T = T} {E = E} contents (Ok x) a b text → Writes contents (stepped step) a b text
+written_whole step p = record { fault = p.fault; latched = p.latched; bytes = p.bytes }
 
 -- a call that failed has this fault
 pub only_fault : {T : Type 0} (r : Result T CliFault) (fault named : CliFault) → r ≡ Err fault → fault ≡ named → IfErr r (λ e. e ≡ named)

@@ -57,7 +57,7 @@ pub record OpensOne (old : Kept) (path : List ℕ) (r : LineRun) : Type 0 where
   pub changes : AddsIf did.verdict old r.kept
 
 -- nothing was opened or stored, and nothing is changed
-pub record OnlyTells (did : Stepped) (old : Kept) (r : LineRun) : Type 0 where
+pub record OnlyAnswers (did : Stepped) (old : Kept) (r : LineRun) : Type 0 where
   pub events : r.events ≡ []
   pub does : DoesStep did r
   pub same : r.kept ≡ old
@@ -73,7 +73,7 @@ pub record LinksNone (o : Choices) (old : Kept) (r : LineRun) : Type 0 where
   pub did : Stepped
   pub is_link : IsLinkBy old.entries (link old.forced (objects old.entries) o) did
   pub refuses : did.verdict ≡ refused
-  pub tells : OnlyTells did old r
+  pub only_answer : OnlyAnswers did old r
 
 -- the file of the link was to be stored at the path that is named, and the answer says what became of it
 pub record LinksInto (o : Choices) (old : Kept) (path : List ℕ) (r : LineRun) : Type 0 where
@@ -89,7 +89,7 @@ pub record LinksInto (o : Choices) (old : Kept) (path : List ℕ) (r : LineRun) 
 abbrev pub IsLineOf : Choices → Kept → LineRun → Asked → Type 0
 IsLineOf o old r (to_add path) = OpensNone o old path r ⊎ OpensOne old path r
 IsLineOf o old r to_withdraw = TakesLast (step old.forced o old.entries withdrawing) old r
-IsLineOf o old r for_externals = OnlyTells (step old.forced o old.entries listing_externals) old r
-IsLineOf o old r for_undefined = OnlyTells (step old.forced o old.entries listing_undefined) old r
+IsLineOf o old r for_externals = OnlyAnswers (step old.forced o old.entries listing_externals) old r
+IsLineOf o old r for_undefined = OnlyAnswers (step old.forced o old.entries listing_undefined) old r
 IsLineOf o old r (to_link path) = LinksNone o old r ⊎ LinksInto o old path r
-IsLineOf o old r for_nothing = OnlyTells (step old.forced o old.entries anything_else) old r
+IsLineOf o old r for_nothing = OnlyAnswers (step old.forced o old.entries anything_else) old r

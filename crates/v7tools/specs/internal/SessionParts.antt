@@ -23,7 +23,7 @@ IsNoLink Link = ⊥
 IsNoLink _ = Unit {0}
 
 -- the status of a step is returned, and its answer went out, or on a fault a prefix of it
-pub record TellsStep {W : Type 0} (contents : W → Option (List ℕ)) (did : Stepped) (left : Kept) (result : Result ℕ CliFault) (before after : Latched W) : Type 0 where
+pub record AnswersStep {W : Type 0} (contents : W → Option (List ℕ)) (did : Stepped) (left : Kept) (result : Result ℕ CliFault) (before after : Latched W) : Type 0 where
   pub entries : left.entries ≡ did.kept
   pub status : IfOk result (λ status. status ≡ status_after did.verdict)
   pub write_failed : IfErr result (λ fault. fault ≡ faults.WriteFailed)
@@ -33,7 +33,7 @@ pub record TellsStep {W : Type 0} (contents : W → Option (List ℕ)) (did : St
 -- a step on a command that is not a link was taken
 abbrev pub TakesPlainStep : {R W : Type 0} → (R → Option (List ℕ)) → (W → Option (List ℕ)) → Choices → Command R → Kept → Kept → Result ℕ CliFault → Latched W → Latched W → Type 0
 TakesPlainStep remaining contents o command old new result before after =
-    (did : Stepped) × IsStepOn remaining old o command did × Changes command did.verdict old new × TellsStep contents did new result before after
+    (did : Stepped) × IsStepOn remaining old o command did × Changes command did.verdict old new × AnswersStep contents did new result before after
 
 -- a line was run; its answer went out, or on a fault a prefix of it
 pub record AnswersLine {W : Type 0} (contents : W → Option (List ℕ)) (o : Choices) (asks : Asked) (kept left : Kept) (old new : History) (result : Result ℕ CliFault) (before after : Latched W) : Type 0 where

@@ -5,7 +5,7 @@ use Rattle.v7tools.specs.declared.session.commands.Step.TheVariants.{Done}
 use Rattle.v7tools.specs.Answers.{add_step}
 use Rattle.v7tools.specs.FaultTexts.{cli_text}
 use Rattle.aout_core.proofs.PutsLemmas.{writes_broke_off}
-use Rattle.v7tools.proofs.StepLemmas.{told_whole, added_by, not_added_by, refused_as, no_value, refused_verdict, label_is, worked_before, worked_after}
+use Rattle.v7tools.proofs.StepLemmas.{written_whole, added_by, not_added_by, refused_as, no_value, refused_verdict, label_is, worked_before, worked_after}
 use Rattle.v7tools.proofs.session.steps.add.Goals as goal
 
 pub returns-in_err-put_line-in-Ok-clause-step : goal.returns-in_err-put_line-in-Ok-clause-step
@@ -40,7 +40,7 @@ returns-in_ok-put_line-in-Ok-clause-step g c =
       add_step old.entries path (Ok new.entries),
       added_by g.R.Read.remaining c.args.wire.now c.add_file.new.wire old new path object working (worked_after c.add_file.new.wire c.args.path c.in-Ok.ensures.device) accepted,
       (_, accepted.adds),
-      record { kept = refl; verdict = refl; answer = told_whole Done told },
+      record { kept = refl; verdict = refl; answer = written_whole Done told },
     )
 
 pub returns-in-Err-clause-step : goal.returns-in-Err-clause-step

@@ -7,7 +7,7 @@ use Rattle.v7tools.specs.declared.session.commands.Step.{Step}
 use Rattle.v7tools.specs.declared.session.commands.Step.TheVariants.{Done, Refused}
 use Rattle.v7tools.specs.Answers.{step, adding, absent, listing_externals, listing_undefined, anything_else, withdraw_step}
 use Rattle.aout_core.proofs.PutsLemmas.{writes_broke_off}
-use Rattle.v7tools.proofs.StepLemmas.{told_whole, no_value, refused_verdict, added_over, links_not, links_to, refused_by, refused_with}
+use Rattle.v7tools.proofs.StepLemmas.{written_whole, no_value, refused_verdict, added_over, links_not, links_to, refused_by, refused_with}
 use Rattle.v7tools.proofs.session.steps.step.Goals as goal
 
 pub returns-in_err-put_externals-in-Externals-clause-step : goal.returns-in_err-put_externals-in-Externals-clause-step
@@ -22,7 +22,7 @@ pub returns-in_ok-put_externals-in-Externals-clause-step : goal.returns-in_ok-pu
 returns-in_ok-put_externals-in-Externals-clause-step g c =
     let s = c.args.session.now in
     let told = c.in_ok-put_externals-in-Externals.ensures in
-    rw c.in-Externals.is (step s.forced c.args.options.now s.entries listing_externals, refl, refl, record { kept = refl; verdict = refl; answer = told_whole Done told })
+    rw c.in-Externals.is (step s.forced c.args.options.now s.entries listing_externals, refl, refl, record { kept = refl; verdict = refl; answer = written_whole Done told })
 
 pub returns-in_err-put_undefined-in-Undefined-clause-step : goal.returns-in_err-put_undefined-in-Undefined-clause-step
 returns-in_err-put_undefined-in-Undefined-clause-step g c =
@@ -36,7 +36,7 @@ pub returns-in_ok-put_undefined-in-Undefined-clause-step : goal.returns-in_ok-pu
 returns-in_ok-put_undefined-in-Undefined-clause-step g c =
     let s = c.args.session.now in
     let told = c.in_ok-put_undefined-in-Undefined.ensures in
-    rw c.in-Undefined.is (step s.forced c.args.options.now s.entries listing_undefined, refl, refl, record { kept = refl; verdict = refl; answer = told_whole Done told })
+    rw c.in-Undefined.is (step s.forced c.args.options.now s.entries listing_undefined, refl, refl, record { kept = refl; verdict = refl; answer = written_whole Done told })
 
 pub returns-in_err-put_line-in-Bad-clause-step : goal.returns-in_err-put_line-in-Bad-clause-step
 returns-in_err-put_line-in-Bad-clause-step g c =
@@ -50,7 +50,7 @@ pub returns-in_ok-put_line-in-Bad-clause-step : goal.returns-in_ok-put_line-in-B
 returns-in_ok-put_line-in-Bad-clause-step g c =
     let s = c.args.session.now in
     let told = c.in_ok-put_line-in-Bad.ensures in
-    rw c.in-Bad.is (step s.forced c.args.options.now s.entries anything_else, refl, refl, record { kept = refl; verdict = refl; answer = told_whole Refused told })
+    rw c.in-Bad.is (step s.forced c.args.options.now s.entries anything_else, refl, refl, record { kept = refl; verdict = refl; answer = written_whole Refused told })
 
 pub returns-in-Some-clause-step : goal.returns-in-Some-clause-step
 returns-in-Some-clause-step g c =

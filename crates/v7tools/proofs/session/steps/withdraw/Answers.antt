@@ -1,7 +1,7 @@
 use Rattle.std.proofs.Common.{refl, rules}
 use Rattle.aout_core.proofs.PutsLemmas.{writes_broke_off}
 use Rattle.v7tools.specs.declared.session.commands.Step.TheVariants.{Done, Refused}
-use Rattle.v7tools.proofs.StepLemmas.{told_whole, no_value, takes_last, takes_none}
+use Rattle.v7tools.proofs.StepLemmas.{written_whole, no_value, takes_last, takes_none}
 use Rattle.v7tools.proofs.session.steps.withdraw.Goals as goal
 
 pub returns-in_err-put_line-in-Some-clause-step : goal.returns-in_err-put_line-in-Some-clause-step
@@ -13,7 +13,7 @@ returns-in_err-put_line-in-Some-clause-step g c =
 pub returns-in-Some-clause-step : goal.returns-in-Some-clause-step
 returns-in-Some-clause-step g c =
     let told = rw c.as_bytes.ensures.value at c.in_ok-put_line-in-Some.ensures in
-    takes_last c.args.session.now c.withdraw.new.self _ c.in-Some.ensures.last (record { kept = refl; verdict = refl; answer = told_whole Done told })
+    takes_last c.args.session.now c.withdraw.new.self _ c.in-Some.ensures.last (record { kept = refl; verdict = refl; answer = written_whole Done told })
 
 pub returns-in_err-put_line-in-None-clause-step : goal.returns-in_err-put_line-in-None-clause-step
 returns-in_err-put_line-in-None-clause-step g c =
@@ -24,4 +24,4 @@ returns-in_err-put_line-in-None-clause-step g c =
 pub returns-clause-step : goal.returns-clause-step
 returns-clause-step g c =
     let told = c.in_ok-put_line-in-None.ensures in
-    takes_none c.args.session.now c.withdraw.new.self (search rules) (search rules) (record { kept = search rules; verdict = refl; answer = told_whole Refused told })
+    takes_none c.args.session.now c.withdraw.new.self (search rules) (search rules) (record { kept = search rules; verdict = refl; answer = written_whole Refused told })
