@@ -1,10 +1,11 @@
 #!/usr/bin/env python3
 """Looks at the documents, the manual, v7.h and the doc comments as a reader would, as far as a script can: habits of language
 that keep a reader out, links and paths that lead nowhere, documents that nothing links to, and commands that no check runs. It
-prints each with its file and line. README.md and the documents of docs may have so many lines in all, and no more.
+looks at names in the code and in definitions too: functions, types, fields, variants, clauses, lemmas and modules. It prints each
+with its file and line. README.md and the documents of docs may have so many lines in all, and no more.
 
 usage: tests/prose.py             all documents of the repository
-       tests/prose.py FILE..      these alone, for their language and their links"""
+       tests/prose.py FILE..      these alone, for their language, their names and their links"""
 import glob
 import os
 import re
@@ -34,6 +35,17 @@ HABITS = [
     ("that of which, of which: turn the sentence round", r"\bof which (is|are|it|they)\b", "The page of which is full.", "The full page."),
     ("two semicolons: write sentences", r";[^.;`]*;", "It reads; it links; it writes.", "It reads. Then it links and writes."),
 ]
+# words of these habits that names do not have either, and what to say instead
+WORDS = {
+    "after": ("behind",),
+    "is, has, replaces, holds": ("stand", "stands"),
+    "is, is at": ("lie", "lies"),
+    "reports, answers, known": ("tell", "tells", "told"),
+    "capacity, space, memory, buffer": ("room", "rooms"),
+    "event": ("deed", "deeds"),
+    "file system": ("office", "offices"),
+    "the same plainly": ("unasked", "meanwhile", "thereby", "whereby", "therein", "hereby", "whoever"),
+}
 LONGEST = 50
 MOST_LINES = 2900
 
@@ -42,6 +54,15 @@ MOST_EXCEPTIONS = 40
 EXCEPTIONS = [
     ("docs/OBJECTS.md", "make MAKEINFO=true all-gas", "a target of GNU binutils"),
     ("docs/OBJECTS.md", "make MAKEINFO=true all-gcc", "targets of GCC"),
+]
+
+# where names have such a word: the crates, the words, how many names have one at most, and why
+NAME_EXCEPTIONS = [
+    ("surroundings device_tests", "office", 7, "`Office`, what a command asks of the system, is a public name"),
+    ("v7_c", "room", 1, "V7_NO_ROOM of v7.h, with which callers compare"),
+    ("link_session", "room tells told", 37, "not yet: memory that is requested before an addition, and which cells wait"),
+    ("link_out link_laws", "lie lies room rooms stand stands tells told", 41, "not yet: space of commons, partial links and replies"),
+    ("laws", "lie lies room stand stands told", 32, "not yet: where the words of a loaded program are"),
 ]
 
 # targets of make that a document may show although .ci/run does not run them, and why
@@ -80,6 +101,11 @@ def sources():
     """Where doc comments are: the code, and the definitions that a reader has to trust."""
     definitions = glob.glob("crates/*/specs/**/*.antt", recursive=True)
     return sorted(glob.glob("include/*.h") + glob.glob("crates/*/src/**/*.rt", recursive=True) + definitions)
+
+
+def lemmas():
+    """Where lemmas are, beside the proofs of functions."""
+    return sorted(glob.glob("crates/*/proofs/*.antt"))
 
 
 class Line:
@@ -146,6 +172,61 @@ def prose_of(path, lines):
     return list(prose_of_source(path, lines))
 
 
+DEFINED = re.compile(r"\b(?:fn|struct|enum|trait|type|mod|const|static) ([A-Za-z_]\w*)|\b(?:ensures|requires|invariant) (\w+) \{")
+BODY = re.compile(r"(\s*)(?:pub(?:\([^)]*\))? )?(?:struct|enum) \w[^;(]*\{$")
+MEMBER = re.compile(r"\s*(?:pub(?:\([^)]*\))? )?(\w+)(?:: |\(|,$| \{)")
+STATED = re.compile(r"(?:(?:pub|abbrev|unfoldable|record|data|mod) )*([^\s:(){}=]+)(?: [^:=]*)?(?: :|$)|  (?:pub )?([^\s:(){}=]+) : ")
+
+
+def names_of_code(lines):
+    """What a file of Rattle defines, each name with its line: items, clauses, fields and variants."""
+    inside = None
+    for number, text in enumerate(lines, 1):
+        if re.match(r"\s*//", text):
+            continue
+        for item, clause in DEFINED.findall(re.sub(r'"(?:\\.|[^"\\])*"', '""', text)):
+            yield number, item or clause
+        begins = BODY.match(text)
+        if begins:
+            inside = begins.group(1)
+        elif inside is not None and text.startswith(inside + "}"):
+            inside = None
+        elif inside is not None and (member := MEMBER.match(text)):
+            yield number, member.group(1)
+
+
+def names_of_definitions(lines):
+    """What a file of definitions or lemmas states, each name with its line, and the fields of its records."""
+    for number, text in enumerate(lines, 1):
+        stated = None if text.startswith(("use ", "pub use ", "--")) else STATED.match(text)
+        if stated:
+            yield number, stated.group(1) or stated.group(2)
+
+
+def names_in(path, lines):
+    """The names that a file of a crate defines, and its own, which is a module's. The files of a proof only have names of its goals."""
+    if path.endswith((".rt", ".antt")):
+        yield 1, os.path.basename(path).split(".")[0]
+    if path.endswith(".rt"):
+        yield from names_of_code(lines)
+    elif path.endswith(".antt") and not re.search(r"/proofs/.+/", path):
+        yield from names_of_definitions(lines)
+
+
+def words_of(name):
+    """The words of a name, as `HasRoom`, `make_room` or `room-named`."""
+    return [word.lower() for word in re.findall(r"[A-Z]+(?![a-z])|[A-Z]?[a-z]+", name)]
+
+
+def banned_in(path, lines):
+    """The names of a file that have a word of a habit, each with its line, the word, and what to say instead."""
+    for number, name in names_in(path, lines):
+        for cure, banned in WORDS.items():
+            for word in words_of(name):
+                if word in banned:
+                    yield number, name, word, cure
+
+
 def sentences(lines):
     """The sentences of lines of prose, each with the line on which it begins. A blank line, a list's or a table's begins anew."""
     start, words = None, []
@@ -185,6 +266,32 @@ def excused(path, raw, used):
             used.add(exception)
             return True
     return False
+
+
+def name_exception(path, word):
+    """The exception for a word in the names of a file, if there is one."""
+    for exception in NAME_EXCEPTIONS:
+        crates, words, _, _ = exception
+        if word in words.split() and f"{path}/".split("/")[1] in crates.split():
+            return exception
+    return None
+
+
+def name_faults(texts, are_all):
+    """The names with a word of a habit, each with its place, and the exceptions that are too large or not needed."""
+    seen = {exception: set() for exception in NAME_EXCEPTIONS}
+    for path, text in texts.items():
+        for number, name, word, cure in banned_in(path, text.splitlines()):
+            exception = name_exception(path, word)
+            if exception:
+                seen[exception].add((path, number, name))
+            else:
+                yield f"{path}:{number}: the name {name}: say {cure}"
+    for exception, names in seen.items():
+        if are_all and not names:
+            yield f"tests/prose.py: an exception that no name needs: {exception}"
+        if len(names) > exception[2]:
+            yield f"tests/prose.py: {len(names)} names, and {exception[2]} are the most, for: {exception}"
 
 
 PATH = re.compile(r"(?<![\w./-])((?:docs|tests|examples|crates|man|include|page|packaging|\.ci)/[\w./-]*\w)")
@@ -270,6 +377,17 @@ def commands_in(path, lines, checked, targets, run):
                     yield number, f"make {name}, which .ci/run does not make"
 
 
+# texts with three names, of which one has a word of a habit
+PLANTED_NAMES = [
+    ("a/src/x.rt", "/// A room.\nfn has_room(room: u8)\n    ensures value { result ≡ room }"),
+    ("a/src/x.rt", "pub struct Spaces {\n    /// How many.\n    pub has_room: bool,\n}"),
+    ("a/src/x.rt", "enum Kind {\n    has_room,\n}"),
+    ("a/specs/x.antt", "use Rattle.x.specs.A.{room}\nabbrev pub has_room : List ℕ → Bool\nhas_room room = true\nf : (room : ℕ) → ⊥"),
+    ("a/specs/x.antt", "pub record Rows (room : ℕ) : Type 0 where\n  pub has_room : room ≡ 0"),
+    ("a/proofs/x.antt", "mod has_room\nruled = room\n-- a room : no\nby : ℕ"),
+]
+
+
 def check_itself():
     """Each habit is found in its own example, and not in the cure."""
     faults = []
@@ -278,6 +396,9 @@ def check_itself():
             faults.append(f"tests/prose.py: \"{name}\" is not found in: {bad}")
         if any(re.search(other, good) for _, other, _, _ in HABITS):
             faults.append(f"tests/prose.py: a habit is found in: {good}")
+    for path, text in PLANTED_NAMES:
+        if [name for _, name, _, _ in banned_in(path, text.split("\n"))] != ["has_room"] or len(list(names_in(path, text.split("\n")))) != 3:
+            faults.append(f"tests/prose.py: the names of a text are not found: {text}")
     lines = [Line("x.md", 1, "word " * LONGEST + "and one more.")]
     if not list(habits_in(lines)):
         faults.append("tests/prose.py: a long sentence is not found")
@@ -324,6 +445,7 @@ def main():
         for number, fault in faults_of(path, text, checked, targets, run):
             if not excused(path, lines[number - 1], used):
                 faults.append(f"{path}:{number}: {fault}")
+    faults += name_faults(texts if chosen else {**texts, **{path: read(path) for path in lemmas()}}, not chosen)
     if not chosen:
         faults += unlinked({path: text for path, text in texts.items() if path.endswith(".md") or path in manual()})
         faults += too_long({path: text for path, text in texts.items() if path.endswith(".md")})
@@ -332,7 +454,8 @@ def main():
             faults.append(f"tests/prose.py: {len(EXCEPTIONS)} exceptions, and {MOST_EXCEPTIONS} are the most")
     for fault in faults:
         print(fault)
-    print(f"{len(texts)} texts, {len(HABITS) + 1} habits, {len(EXCEPTIONS)} exceptions: {len(faults)} faults")
+    excepted = len(EXCEPTIONS) + len(NAME_EXCEPTIONS)
+    print(f"{len(texts)} texts, {len(HABITS) + 1} habits, {excepted} exceptions: {len(faults)} faults")
     return 1 if faults else 0
 
 
